@@ -45,7 +45,7 @@ def first_lines() -> Optional[str]:
 
 TYPED_TESTS = ["conftest", "documents", "driver", "first_start", "gate", "lines", "package"]
 TYPED_TESTS += ["pages", "peers", "pipe", "puzzles", "scripts", "searches", "test_sessions"]
-TYPED_TESTS += ["wide_rules"]
+TYPED_TESTS += ["wide_puzzles", "wide_rules"]
 # Scripts and modules that are typed and laid out by black, by the folder that they are looked at in.
 TYPED = {
     "tools/start": ["*.py", "../../propbench"],

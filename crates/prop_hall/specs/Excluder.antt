@@ -9,8 +9,9 @@ use Rattle.prop_procedures.specs.declared.shape.Param.{Param}
 use Rattle.prop_procedures.specs.declared.shape.Param.TheVariants.{Rows}
 use Rattle.prop_procedures.specs.declared.shape.Shape.{Shape}
 use Rattle.prop_procedures.specs.declared.shape.Shape.TheVariants.{Any, From}
+use Rattle.prop_sets.specs.Relation.{Relation}
 use Rattle.prop_hall.specs.Excluding.{excluded_of}
-use Rattle.prop_hall.specs.Hulls.{all_of}
+use Rattle.prop_hall.specs.Hulls.{all_of, narrowed}
 use Rattle.prop_hall.specs.Points.{AreDifferent}
 use Rattle.prop_hall.specs.declared.excluder.Excluder.{Excluder}
 use Rattle.prop_hall.specs.declared.excluder.Excluder.TheVariants.{One, Two, Three, Four, Five, Six}
@@ -66,10 +67,12 @@ abbrev pub beside : ℕ → List Info → Info
 beside many [] = Nothing
 beside many (y ∷ others) = if length others == many then excluded_of y others else Nothing
 
--- what eight others tell of an element of the relation's first domain
+-- what eight others leave of the elements of the relation's first domain
+abbrev pub left_by : Relation → List Info → Info
+left_by m others = narrowed m.from.size (excluded_of (all_of m.from.size) others)
+
 abbrev pub among : Param → List Info → Info
-among (Rows m) others =
-    if length others == 8 then excluded_of (all_of m.from.size) others else Nothing
+among (Rows m) others = if length others == 8 then left_by m others else Nothing
 among param others = Nothing
 
 -- what a rule answers, and nothing to arguments that are more or fewer

@@ -29,9 +29,17 @@ hull_of (a ∷ rest) = hull_of_two a (hull_of rest)
 abbrev pub points_in : Info → ℕ
 points_in a = rank_of kinds.Span 0 a
 
--- all elements of a domain that has so many
+-- the bits of all elements of a domain that has so many, and these elements
+abbrev pub all_bits : ℕ → ℕ
+all_bits size = 2 ^ size - 1
+
 abbrev pub all_of : ℕ → Info
-all_of size = elements_from (2 ^ size - 1)
+all_of size = elements_from (all_bits size)
+
+-- what is left of so many elements, nothing where it is all of them
+abbrev pub narrowed : ℕ → Info → Info
+narrowed size (Set s) = if s.bits == all_bits size then Nothing else Set s
+narrowed size a = a
 
 -- ---- without some points
 

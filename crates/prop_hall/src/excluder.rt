@@ -1,14 +1,15 @@
 //! The rules of excluding: their names, their forms and what they answer.
-ghost use Rattle.std.specs.Prelude.{◌≡◌, ◌<◌};
+ghost use Rattle.std.specs.Prelude.{◌≡◌, ◌<◌, length};
 ghost use Rattle.prop_hall.specs.Excluder.{FormOf, Related, in_order, ins_of, name_of, need_of};
-ghost use Rattle.prop_hall.specs.Excluder.{among, beside, others_of, out_of, value_of};
+ghost use Rattle.prop_hall.specs.Excluder.{among, beside, left_by, others_of, out_of, value_of};
 ghost use Rattle.prop_hall.specs.laws.ExcluderLaws.{excluder_monotone, excluder_keeps_kind};
 ghost use Rattle.prop_hall.specs.laws.ExcluderLaws.{excluder_sound};
 
 use crate::excluding::exclude;
-use crate::hulls::all_of;
+use crate::hulls::all_bits;
 use prop_lattice::Info;
 use prop_procedures::{Need, Param, Rule, Shape};
+use prop_sets::Relation;
 
 /// The rules by how many others there are: from y and the others to y, which differs from each of
 /// them, as they do from each other. All places are of one kind, whichever that is.
@@ -64,14 +65,32 @@ fn beside(many: usize, args: &[Info]) -> Info
     }
 }
 
+/// What the others leave of the elements of the relation's first domain, nothing where it is all of
+/// them.
+fn left_by(relation: &Relation, others: &[Info]) -> Info
+    requires { length others.now < 9 }
+    ensures { result ≡ left_by relation.now others.now }
+{
+    let all = all_bits(relation.from().size);
+    let left = exclude(Info::from_bits(all), others);
+    match left {
+        Info::Set(elements) => {
+            if elements.bits() == all {
+                Info::Nothing
+            } else {
+                left
+            }
+        }
+        _ => left,
+    }
+}
+
 /// What eight others tell of an element of their domain.
 fn among(param: &Param, others: &[Info]) -> Info
     ensures { result ≡ among param.now others.now }
 {
     match param {
-        Param::Rows(relation) if others.len() == 8 => {
-            exclude(all_of(relation.from().size), others)
-        }
+        Param::Rows(relation) if others.len() == 8 => left_by(relation, others),
         _ => Info::Nothing,
     }
 }

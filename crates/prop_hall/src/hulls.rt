@@ -1,6 +1,6 @@
 //! Hulls, which hold the points of several informations, and informations without those points.
 ghost use Rattle.std.specs.Prelude.{◌≡◌, ◌≤◌};
-ghost use Rattle.prop_hall.specs.Hulls.{all_of, hull_of_two, points_in, without_of};
+ghost use Rattle.prop_hall.specs.Hulls.{all_bits, hull_of_two, points_in, without_of};
 ghost use Rattle.prop_hall.specs.Hulls.{first_without, last_without, is_between};
 
 use prop_lattice::{Info, Kind, Span};
@@ -25,13 +25,12 @@ pub(crate) fn points_in(info: Info) -> u64
     info.rank(Kind::Span, 0)
 }
 
-/// All elements of a domain that has so many, a contradiction where it has none.
-pub(crate) fn all_of(size: u8) -> Info
+/// The bits of all elements of a domain that has so many.
+pub(crate) fn all_bits(size: u8) -> u64
     requires { size ≤ 64 }
-    ensures { result ≡ all_of size }
+    ensures { result ≡ all_bits size }
 {
-    let bits = if size < 64 { (1 << size) - 1 } else { u64::MAX };
-    Info::from_bits(bits)
+    if size < 64 { (1 << size) - 1 } else { u64::MAX }
 }
 
 /// Whether a number lies in the span.

@@ -1,8 +1,8 @@
 -- The laws of the rules of excluding.
 use Rattle.std.specs.Prelude.{◌≡◌, ◌⊎◌, ℕ, ◌<◌, ◌≤◌, ◌-◌, ◌^◌, ◌==◌, Bool, true, false}
-use Rattle.std.specs.Prelude.{if◌then◌else◌, List, [], ◌∷◌, length, replicate}
+use Rattle.std.specs.Prelude.{if◌then◌else◌, List, [], ◌∷◌, length, map, replicate}
 use Rattle.std.specs.Int.{bit_at}
-use Rattle.std.proofs.Common.{arith, refl, rules, sym, subst, ap, inl, inr, eqb-true}
+use Rattle.std.proofs.Common.{arith, refl, rules, sym, subst, ap, ◌∙◌, inl, inr, eqb-true, eq-eqb}
 use Rattle.std.proofs.lemmas.Bool.{cases_lt}
 use Rattle.std.proofs.lemmas.Nat.Bits.{bit_at_ones, bit_at_ones_above}
 use Rattle.std.proofs.Math.Nat.{pow-le-pow_right}
@@ -10,10 +10,12 @@ use Rattle.prop_lattice.specs.Order.{Below}
 use Rattle.prop_lattice.specs.Points.{Point, Element, Holds, IsPointOf}
 use Rattle.prop_lattice.specs.Rank.{IsOf}
 use Rattle.prop_lattice.specs.declared.info.Info.{Info}
-use Rattle.prop_lattice.specs.declared.info.Info.TheVariants.{Nothing}
+use Rattle.prop_lattice.specs.declared.info.Info.TheVariants.{Nothing, Span, Set, Sym}
+use Rattle.prop_lattice.specs.declared.info.Info.TheVariants.{Contradiction}
 use Rattle.prop_lattice.specs.declared.info.Kind.{Kind}
 use Rattle.prop_lattice.specs.declared.info.Kind.TheVariants as kinds
-use Rattle.prop_lattice.specs.laws.OrderLaws.{info_laws}
+use Rattle.prop_lattice.specs.laws.OrderLaws.{info_laws, to_top}
+use Rattle.prop_lattice.specs.laws.PartLaws.{same_parts}
 use Rattle.prop_procedures.specs.declared.shape.Kinded.{Kinded}
 use Rattle.prop_procedures.specs.declared.shape.Need.{Need}
 use Rattle.prop_procedures.specs.declared.shape.Param.{Param}
@@ -22,15 +24,18 @@ use Rattle.prop_procedures.specs.declared.shape.Shape.{Shape}
 use Rattle.prop_procedures.specs.declared.shape.Shape.TheVariants.{Any, From}
 use Rattle.prop_procedures.specs.Rules.{IsMonotone, KeepsKind, IsSound, AreOf, AreSides, EachBelow}
 use Rattle.prop_procedures.specs.Rules.{EachHolds}
-use Rattle.prop_sets.specs.laws.NarrowestLaws.{elements_hold, elements_of_kind}
-use Rattle.prop_hall.specs.Excluder.{FormOf, Related, IsAnother, value_of, beside, among, others_of}
-use Rattle.prop_hall.specs.Excluding.{excluded_of}
-use Rattle.prop_hall.specs.Hulls.{all_of}
+use Rattle.prop_sets.specs.laws.NarrowestLaws.{elements_hold, elements_of_kind, bit_from_held}
+use Rattle.prop_hall.specs.Excluder.{FormOf, Related, IsAnother, value_of, beside, among, left_by}
+use Rattle.prop_hall.specs.Excluder.{others_of}
+use Rattle.prop_hall.specs.Excluding.{excluded_of, told_by}
+use Rattle.prop_hall.specs.Hulls.{all_bits, all_of, narrowed}
 use Rattle.prop_hall.specs.Points.{AreDifferent}
+use Rattle.prop_hall.specs.Selections.{selections}
 use Rattle.prop_hall.specs.declared.excluder.Excluder.{Excluder}
 use Rattle.prop_hall.specs.declared.excluder.Excluder.TheVariants.{One, Two, Three, Four, Five, Six}
 use Rattle.prop_hall.specs.declared.excluder.Excluder.TheVariants.{Seven, Eight}
-use Rattle.prop_hall.specs.laws.HullLaws.{never}
+use Rattle.prop_hall.specs.laws.HullLaws.{below_holds, never}
+use Rattle.prop_hall.specs.laws.MergeLaws.{all_above_first}
 use Rattle.prop_hall.specs.laws.ExcludingLaws.{excluded_monotone, excluded_kind, excluded_holds}
 use Rattle.prop_hall.specs.laws.ExcludingLaws.{same_length, hold_all}
 
@@ -63,6 +68,47 @@ all_kind domain size = elements_of_kind domain size (2 ^ size - 1) below
         by (inl l) = l
         by (inr g) = absurd (omega (arith, h, bit_at_ones_above size i g))
 
+-- nothing where it is all of them is no more than what it was, and so it stays with more
+narrowed_below : (size : ℕ) (a b : Info) → Below (all_of size) a → Below a b
+    → Below (narrowed size a) (narrowed size b)
+narrowed_below size Nothing b h p = tt
+narrowed_below size (Span a) (Span b) h p = p
+narrowed_below size (Sym a) (Sym b) h p = p
+narrowed_below size Contradiction Contradiction h p = tt
+narrowed_below size (Span a) Contradiction h p = tt
+narrowed_below size (Sym a) Contradiction h p = tt
+narrowed_below size (Set s) Contradiction h p = to_top (narrowed size (Set s))
+narrowed_below size (Set s) (Set t) h p = by (s.bits == all_bits size) refl (t.bits == all_bits size) refl
+  where
+    -- what has all of them is all of them
+    full : t.bits ≡ all_bits size → s.bits ≡ all_bits size
+    full e = same_parts s.bits (all_bits size) (λ i k. p i (ap (λ n. bit_at n i) e ∙ k))
+        (λ i k. bit_from_held (all_bits size) i (below_holds (all_of size) (Set s) (Element i) h k))
+
+    by : (r : Bool) → (s.bits == all_bits size) ≡ r → (q : Bool) → (t.bits == all_bits size) ≡ q
+        → Below (if r then Nothing else Set s) (if q then Nothing else Set t)
+    by true e q f = tt
+    by false e false f = p
+    by false e true f =
+        absurd (never (sym e ∙ eq-eqb s.bits (all_bits size) (full (eqb-true t.bits (all_bits size) f))))
+narrowed_below size a b h p = search rules
+
+narrowed_kind : (kind : Kind) (n size : ℕ) (a : Info) → IsOf kind n a → IsOf kind n (narrowed size a)
+narrowed_kind kind n size (Set s) h = by (s.bits == all_bits size)
+  where
+    by : (r : Bool) → IsOf kind n (if r then Nothing else Set s)
+    by true = search rules
+    by false = h
+narrowed_kind kind n size a h = h
+
+narrowed_holds : (size : ℕ) (a : Info) (p : Point) → Holds a p → Holds (narrowed size a) p
+narrowed_holds size (Set s) p h = by (s.bits == all_bits size)
+  where
+    by : (r : Bool) → Holds (if r then Nothing else Set s) p
+    by true = tt
+    by false = h
+narrowed_holds size a p h = h
+
 -- ---- where there are so many arguments
 
 so_many_below : (s t : Bool) (a b : Info) → s ≡ t → Below a b
@@ -91,9 +137,11 @@ more_among : (param : Param) (olds news : List Info) → EachBelow olds news
     → Below (among param olds) (among param news)
 more_among (Rows m) olds news p =
     let all = all_of m.from.size in
-    so_many_below (length olds == 8) (length news == 8) (excluded_of all olds)
-    (excluded_of all news) (ap (λ n. n == 8) (same_length olds news p))
-    (excluded_monotone all all olds news (info_laws.reflexive all) p)
+    so_many_below (length olds == 8) (length news == 8) (left_by m olds) (left_by m news)
+    (ap (λ n. n == 8) (same_length olds news p))
+    (narrowed_below m.from.size (excluded_of all olds) (excluded_of all news)
+    (all_above_first all (map (told_by all) (selections olds)))
+    (excluded_monotone all all olds news (info_laws.reflexive all) p))
 more_among Plain olds news p = tt
 more_among (Scale k) olds news p = tt
 
@@ -119,9 +167,10 @@ among_kind : (any : Shape → Kinded) (param : Param) (args : List Info) → Are
 among_kind any (Rows m) args s =
     let all = all_of m.from.size in
     subst (λ k. IsOf k.kind k.size (among (Rows m) args)) (sym s.0)
-    (so_many_kind (length args == 8) (kinds.Set m.from.domain) m.from.size (excluded_of all args)
+    (so_many_kind (length args == 8) (kinds.Set m.from.domain) m.from.size (left_by m args)
+    (narrowed_kind (kinds.Set m.from.domain) m.from.size m.from.size (excluded_of all args)
     (excluded_kind (kinds.Set m.from.domain) m.from.size all args
-    (all_kind m.from.domain m.from.size)))
+    (all_kind m.from.domain m.from.size))))
 among_kind any Plain args s = search rules
 among_kind any (Scale k) args s = search rules
 
@@ -165,15 +214,16 @@ left_among any (Rows m) args points point s p h d = by (length args == 8) refl
     of_kind = subst (λ k. IsPointOf k.kind k.size point) s.0 p
 
     by : (t : Bool) → (length args == 8) ≡ t
-        → Holds (if t then excluded_of all args else Nothing) point
+        → Holds (if t then left_by m args else Nothing) point
     by true e =
         let fits : length points < 64 = omega (
           arith,
           (hold_all args points h).0,
           eqb-true (length args) 8 e,
         ) in
-        excluded_holds all args point points fits
-        (all_holds m.from.domain m.from.size m.from.fits point of_kind) h d
+        narrowed_holds m.from.size (excluded_of all args) point
+        (excluded_holds all args point points fits
+        (all_holds m.from.domain m.from.size m.from.fits point of_kind) h d)
     by false e = tt
 left_among any Plain args points point s p h d = tt
 left_among any (Scale k) args points point s p h d = tt

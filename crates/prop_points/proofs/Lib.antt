@@ -1,0 +1,10 @@
+pub mod Singles
+pub mod Arguments
+pub mod Numbers
+pub mod Truths
+pub mod KitLaws
+pub mod WideNumbers
+pub mod WideTruths
+pub mod WideLaws
+pub mod ExcluderLaws
+pub mod NetworkLaws

@@ -1,0 +1,4 @@
+pub mod Singles
+pub mod Kit
+pub mod Wide
+pub mod Networks
