@@ -294,6 +294,10 @@ def divided(x: int, y: int, q: int, r: int) -> bool:
     return y != 0 and (q, r) == divmod(x, y)
 
 
+def euclidean(x: int, y: int, q: int, r: int) -> bool:
+    return x == y * q + r and 0 <= r < abs(y)
+
+
 def soft(belong: Callable[..., Any]) -> Callable[..., Any]:
     return lambda t, *points: t == "no" or belong(*points)
 
@@ -327,6 +331,9 @@ COMPOUNDS = [
     softened(Compound("alike", f"{S2} truth", lambda x, y, u: (u == "yes") == (x == y))),
     softened(Compound("not", "truth truth", lambda x, y: x != y)),
     Compound("divide", S4, divided),
+    Compound("euclid_divide", S4, euclidean),
+    Compound("euclid_quotient", S3, lambda x, y, q: euclidean(x, y, q, x - y * q)),
+    Compound("euclid_remainder", S3, lambda x, y, r: y and 0 <= r < abs(y) and (x - r) % y == 0),
     Compound("gate", f"truth {S2}", lambda t, x, y: t == "no" or x == y),
     *[
         Compound(f"count{n}", "truth " * n + "span", lambda *it: it[:-1].count("yes") == it[-1])

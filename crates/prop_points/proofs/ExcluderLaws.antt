@@ -1,6 +1,6 @@
 -- Of single points the rules of excluding answer another one, and only where no two are the same.
-use Rattle.std.specs.Prelude.{◌≡◌, ◌≢◌, ◌⊎◌, ℕ, zero, suc, ◌<◌, ◌≤◌, ℤ, ◌+ℤ◌, ◌-ℤ◌, ◌≤ℤ◌, pos, Bool, true, false, ◌==◌, List}
-use Rattle.std.specs.Prelude.{[], ◌∷◌, ◌++◌, map, length, replicate, if◌then◌else◌}
+use Rattle.std.specs.Prelude.{◌≡◌, ◌≢◌, ◌⊎◌, ℕ, zero, suc, ◌<◌, ℤ, ◌+ℤ◌, ◌-ℤ◌, ◌≤ℤ◌, pos, Bool, true, false}
+use Rattle.std.specs.Prelude.{◌==◌, List, [], ◌∷◌, map, length, replicate, if◌then◌else◌}
 use Rattle.std.specs.Int.{bit_at}
 use Rattle.std.specs.List.{AllByRecursion as Each}
 use Rattle.std.proofs.Common.{arith, refl, rules, ap, sym, subst, ◌∙◌, inl, inr, eqb-true, eq-eqb}
@@ -15,7 +15,6 @@ use Rattle.prop_lattice.specs.declared.info.Info.TheVariants.{Nothing, Span, Set
 use Rattle.prop_lattice.specs.declared.info.Kind.TheVariants as kinds
 use Rattle.prop_lattice.specs.laws.OrderLaws.{info_laws}
 use Rattle.prop_procedures.specs.declared.shape.Kinded.{Kinded}
-use Rattle.prop_procedures.specs.declared.shape.Need.{Need}
 use Rattle.prop_procedures.specs.declared.shape.Param.{Param}
 use Rattle.prop_procedures.specs.declared.shape.Param.TheVariants.{Plain, Scale, Rows}
 use Rattle.prop_procedures.specs.declared.shape.Shape.{Shape}
@@ -23,21 +22,20 @@ use Rattle.prop_procedures.specs.declared.shape.Shape.TheVariants.{Any, From}
 use Rattle.prop_procedures.specs.declared.shape.Need.TheVariants as needs
 use Rattle.prop_procedures.specs.Rules.{Admits, AreOf, AreSides}
 use Rattle.prop_sets.specs.laws.NarrowestLaws.{bit_from_held}
-use Rattle.prop_hall.specs.Excluder.{FormOf, IsAnother, among, beside, left_by, others_of, value_of}
+use Rattle.prop_hall.specs.Excluder.{IsAnother, among, beside, left_by, others_of}
 use Rattle.prop_hall.specs.Excluding.{excluded_of, told, told_by}
-use Rattle.prop_hall.specs.Hulls.{all_bits, all_of, hull_of, hull_of_two, narrowed, points_in, without_of}
+use Rattle.prop_hall.specs.Hulls.{all_bits, all_of, hull_of, narrowed, points_in, without_of}
 use Rattle.prop_hall.specs.Points.{AreDifferent, IsNoneOf}
 use Rattle.prop_hall.specs.Selections.{selections}
-use Rattle.prop_hall.specs.declared.excluder.Excluder.{Excluder}
 use Rattle.prop_hall.specs.declared.excluder.Excluder.TheVariants.{Eight}
-use Rattle.prop_hall.specs.laws.ExcludingLaws.{first_is, last_is, others_lacks, told_over, told_tight}
+use Rattle.prop_hall.specs.laws.ExcludingLaws.{first_is, last_is, others, others_lacks, told_over, told_tight}
 use Rattle.prop_hall.specs.laws.HullLaws.{below_holds, fewer_points, hull_greatest, never}
 use Rattle.prop_hall.specs.laws.MergeLaws.{all_above_each, all_above_first}
-use Rattle.prop_hall.specs.laws.SelectionLaws.{each_map, each_split, each_unmap, each_weaker}
-use Rattle.prop_points.specs.Singles.{IsExact, IsSingle, AreSingle}
+use Rattle.prop_hall.specs.laws.SelectionLaws.{each_split, each_unmap, each_weaker}
+use Rattle.prop_points.specs.Singles.{IsSingle, AreSingle}
 use Rattle.prop_points.specs.Wide.{ExcludersAreExact}
 use Rattle.prop_points.proofs.Numbers.{span_from_held}
-use Rattle.prop_points.proofs.Singles.{single_holds, single_only}
+use Rattle.prop_points.proofs.Singles.{single_only}
 
 -- ---- single points
 
@@ -174,7 +172,8 @@ unfolding elements_from
 element_left bits o i f h = by (some_or_not bits) h
   where
     by : (d : AreSome bits ⊎ ¬ (AreSome bits)) → Holds (without_of (elements_if bits d) (Set o)) (Element i) → ⊥
-    by (inl d) h = others_lacks _ o i (bit_from_held _ i h) f
+    by (inl d) h =
+        others_lacks (record { bits = bits; some = d.0; fits = d.1 }) o i (bit_from_held (others bits o.bits) i h) f
     by (inr d) h = h
 
 -- ---- the rules

@@ -1,38 +1,34 @@
 -- Of single points the kit's rules answer those that belong to them.
-use Rattle.std.specs.Prelude.{◌≡◌, ℕ, ◌<◌, ℤ, pos, ◌≤ℤ◌, Bool, true, false, List, [], ◌∷◌, if◌then◌else◌, Some}
-use Rattle.std.proofs.Common.{arith, refl, rules, sym, ap, ◌∙◌}
+use Rattle.std.specs.Prelude.{◌≡◌, ℕ, ◌<◌, ℤ, Bool, true, false, List, [], ◌∷◌, if◌then◌else◌}
+use Rattle.std.proofs.Common.{refl, sym, ◌∙◌}
 use Rattle.prop_intervals.specs.Spans.{product_of}
 use Rattle.prop_intervals.specs.laws.Relations.{IsInRange}
 use Rattle.prop_lattice.specs.Points.{Point, Number, Element, Holds, IsPointOf}
-use Rattle.prop_lattice.specs.Rank.{IsOf}
 use Rattle.prop_lattice.specs.declared.elements.Elements as sets
 use Rattle.prop_lattice.specs.declared.info.Info.{Info}
 use Rattle.prop_lattice.specs.declared.info.Info.TheVariants.{Nothing, Span, Set}
 use Rattle.prop_lattice.specs.declared.info.Kind.TheVariants as kinds
 use Rattle.prop_lattice.specs.declared.span.Span as spans
 use Rattle.prop_procedures.specs.declared.shape.Kinded.{Kinded}
-use Rattle.prop_procedures.specs.declared.shape.Need.{Need}
 use Rattle.prop_procedures.specs.declared.shape.Need.TheVariants as needs
 use Rattle.prop_procedures.specs.declared.shape.Param.{Param}
 use Rattle.prop_procedures.specs.declared.shape.Param.TheVariants.{Plain, Scale, Rows}
 use Rattle.prop_procedures.specs.declared.shape.Shape.{Shape}
 use Rattle.prop_procedures.specs.declared.shape.Shape.TheVariants as shapes
 use Rattle.prop_procedures.specs.Rules.{Admits, AreOf, AreSides, is_scale}
-use Rattle.prop_sets.specs.Truth.{IsNot, IsAnd, IsOr, LeavesJust, IsLeftByOne, IsLeftByTwo}
+use Rattle.prop_sets.specs.Truth.{IsNot, IsAnd, IsOr}
 use Rattle.prop_sets.specs.laws.TruthLaws.{not_just, and_just, and_back_just, or_just, or_back_just}
 use Rattle.prop_arith.specs.Comparing.{is_just}
-use Rattle.prop_arith.specs.Kit.{FormOf}
 use Rattle.prop_arith.specs.Points.{Related}
 use Rattle.prop_arith.specs.Values.{value_of}
-use Rattle.prop_arith.specs.declared.kit.Kit.{Kit}
 use Rattle.prop_arith.specs.declared.kit.Kit.TheVariants.{Add, Sub, Mul, Div, Square, Root, Less, Below, Above, Copy}
 use Rattle.prop_arith.specs.declared.kit.Kit.TheVariants.{Alike, Apart, Switch, Not, And, AndBack, Or, OrBack, Image}
 use Rattle.prop_arith.specs.declared.kit.Kit.TheVariants.{Coimage}
 use Rattle.prop_arith.specs.laws.NumberLaws.{at_least_one}
 use Rattle.prop_intervals.specs.Comparisons.{yes_bits}
 use Rattle.prop_hall.specs.laws.HullLaws.{never}
-use Rattle.prop_points.specs.Kit.{KitTells, KitIsExact}
-use Rattle.prop_points.specs.Singles.{IsExact, IsSingle, AreSingle}
+use Rattle.prop_points.specs.Kit.{KitIsExact}
+use Rattle.prop_points.specs.Singles.{IsSingle, AreSingle}
 use Rattle.prop_points.proofs.Arguments.{number_in, element_in, number_out, element_out, one_in, two_in}
 use Rattle.prop_points.proofs.Numbers.{sum_exact, difference_exact, product_exact, square_exact, root_exact}
 use Rattle.prop_points.proofs.Numbers.{less_exact, below_exact, above_exact}
@@ -173,8 +169,8 @@ imaged any (Rows m) s sides args points point o e p =
     element_out m.to.domain m.to.size point
     (λ r. Holds (value_of Image (Rows m) (Set s ∷ [])) r → Related Image (Rows m) (Element i ∷ []) r)
     (rw sides.1 at p) (λ j l h. image_exact m s i j d h)))
-imaged any Plain s = absurd s
-imaged any (Scale k) s = absurd s
+imaged any Plain s sides args points point o e p = absurd s
+imaged any (Scale k) s sides args points point o e p = absurd s
 
 coimaged : (any : Shape → Kinded) (param : Param) → Admits needs.Rows param → AreSides any param
     → (args : List Info) (points : List Point) (point : Point) → AreOf any (shapes.To ∷ []) args
@@ -189,16 +185,16 @@ coimaged any (Rows m) s sides args points point o e p =
     element_out m.from.domain m.from.size point
     (λ r. Holds (value_of Coimage (Rows m) (Set s ∷ [])) r → Related Coimage (Rows m) (Element j ∷ []) r)
     (rw sides.0 at p) (λ i l h. coimage_exact m s j i d h)))
-coimaged any Plain s = absurd s
-coimaged any (Scale k) s = absurd s
+coimaged any Plain s sides args points point o e p = absurd s
+coimaged any (Scale k) s sides args points point o e p = absurd s
 
 pub kit_is_exact : KitIsExact
 kit_is_exact Add ins out need f any param args points point c e p =
     two_numbers any (value_of Add param) (Related Add param) (λ a b x y z i. sum_exact a b x y z) args points point
     (rw f.0 at c.of_kinds) e (rw f.1 at p)
 kit_is_exact Sub ins out need f any param args points point c e p =
-    two_numbers any (value_of Sub param) (Related Sub param) (λ a b z x y i. difference_exact a b z x y) args points point
-    (rw f.0 at c.of_kinds) e (rw f.1 at p)
+    two_numbers any (value_of Sub param) (Related Sub param) (λ a b z x y i. difference_exact a b z x y) args points
+    point (rw f.0 at c.of_kinds) e (rw f.1 at p)
 kit_is_exact Mul ins out need f any param args points point c e p =
     multiplied any param (rw f.2 at c.admits) args points point (rw f.0 at c.of_kinds) e (rw f.1 at p)
 kit_is_exact Div ins out need f any param args points point c e p = λ h. tt

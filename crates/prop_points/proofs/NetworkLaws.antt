@@ -1,18 +1,16 @@
 -- The points of a solution in points satisfy all that is stated and attached.
 use Rattle.std.specs.Prelude.{◌≡◌, ◌≢◌, ℕ, zero, suc, ◌<◌, Bool, true, false, ◌||◌, List, [], ◌∷◌, ◌++◌, map, zip}
-use Rattle.std.specs.Prelude.{length, All, Some, slice_get, if◌then◌else◌}
+use Rattle.std.specs.Prelude.{length, All, Some, slice_get}
 use Rattle.std.specs.List.{list_all, list_any}
-use Rattle.std.proofs.Common.{arith, refl, sym, subst, get_or}
+use Rattle.std.proofs.Common.{arith, refl, subst, get_or}
 use Rattle.std.proofs.lemmas.List.{get_or-map, length-map}
 use Rattle.std.proofs.lemmas.List.Elements.{All-head, All-tail}
 use Rattle.std.proofs.lemmas.Option.{none-some, same_Some, slice_get-get_or}
-use Rattle.prop_lattice.specs.Order.{Below, is_contradiction}
+use Rattle.prop_lattice.specs.Order.{is_contradiction}
 use Rattle.prop_lattice.specs.Points.{Point, Holds, IsPointOf}
-use Rattle.prop_lattice.specs.Rank.{IsOf}
 use Rattle.prop_lattice.specs.declared.info.Info.{Info}
 use Rattle.prop_lattice.specs.declared.info.Info.TheVariants.{Contradiction}
 use Rattle.prop_procedures.specs.declared.shape.Kinded.{Kinded}
-use Rattle.prop_procedures.specs.declared.shape.Need.{Need}
 use Rattle.prop_procedures.specs.declared.shape.Param.{Param}
 use Rattle.prop_procedures.specs.declared.shape.Shape.{Shape}
 use Rattle.prop_procedures.specs.Fitting.{kind_at}
@@ -24,7 +22,7 @@ use Rattle.prop_cells.specs.Points.{Attached, AreFitting, ArePoints, problem_of}
 use Rattle.prop_cells.specs.Problems.{Assignment, IsSolution, Meets, Premises}
 use Rattle.prop_cells.proofs.Fitted.{and_both, same_kinded, any_at, right_at, is_call_at}
 use Rattle.prop_points.specs.Networks.{AreExactBy, AreSettled, SinglesSolve}
-use Rattle.prop_points.specs.Singles.{IsExact, IsSingle, AreSingle}
+use Rattle.prop_points.specs.Singles.{IsExact, AreSingle}
 use Rattle.prop_points.proofs.Singles.{below_single, single_clear, single_of_kind}
 
 -- ---- the arguments of an instance
@@ -72,45 +70,45 @@ out_kind any (s ∷ ss) out kinds (c ∷ cs) o l e =
 module _ (library : List Stored) (related : ℕ → Param → List Point → Point → Type 0)
     (exact : AreExactBy library related) (n : Attached) (s : Premises) (a : Assignment) (points : ℕ → Point)
     (fit : AreFitting library n) (solves : IsSolution (problem_of library n) s a) (settled : AreSettled n a points)
-    where
-  of_kind : (cell : ℕ) (k : Kinded) → slice_get n.kinds cell ≡ Some k → IsPointOf k.kind k.size (points cell)
-  of_kind cell k at =
-      single_of_kind k.kind k.size (a cell) (points cell) (solves.kinds.of_kind cell k at)
-      (settled.single cell (in_list n.kinds cell k at))
-    where
-      in_list : (kinds : List Kinded) (cell : ℕ) (k : Kinded) → slice_get kinds cell ≡ Some k → cell < length kinds
-      in_list [] cell k at = absurd (none-some k at)
-      in_list (d ∷ kinds) zero k at = omega arith
-      in_list (d ∷ kinds) (suc cell) k at = omega (arith, in_list kinds cell k at)
+  where
+    of_kind : (cell : ℕ) (k : Kinded) → slice_get n.kinds cell ≡ Some k → IsPointOf k.kind k.size (points cell)
+    of_kind cell k at =
+        single_of_kind k.kind k.size (a cell) (points cell) (solves.kinds.of_kind cell k at)
+        (settled.single cell (in_list n.kinds cell k at))
+      where
+        in_list : (kinds : List Kinded) (cell : ℕ) (k : Kinded) → slice_get kinds cell ≡ Some k → cell < length kinds
+        in_list [] cell k at = absurd (none-some k at)
+        in_list (d ∷ kinds) zero k at = omega arith
+        in_list (d ∷ kinds) (suc cell) k at = omega (arith, in_list kinds cell k at)
 
-  together : (x : Instance) → IsFitting library n.kinds x → IsWithin (length n.kinds) x
-      → Meets a (constraint_of library x)
-      → related x.procedure x.param (map points x.inputs) (points x.output)
-  together x f w m =
-      let p = f.procedure in
-      let any = any_at p n.kinds x in
-      let none = clear n a points settled x.inputs w.inputs in
-      let call = is_call_at p n.kinds x a f.fits w solves.kinds none in
-      let held : Holds (p.value x.param (map a x.inputs)) (points x.output) =
-      below_single _ (a x.output) (points x.output) (rw (f.at, none) at m.below)
-      (settled.single x.output w.output) in
-      let kind = out_kind any p.ins p.out n.kinds x.inputs x.output f.fits.count (right_at p n.kinds x f.fits) in
-      exact x.procedure p f.at any x.param (map a x.inputs) (map points x.inputs) (points x.output) call
-      (singles n a points settled x.inputs w.inputs)
-      (subst (λ d. IsPointOf d.kind d.size (points x.output)) kind
-      (of_kind x.output (kind_at n.kinds x.output) (slice_get-get_or n.kinds x.output span_kind w.output))) held
+    together : (x : Instance) → IsFitting library n.kinds x → IsWithin (length n.kinds) x
+        → Meets a (constraint_of library x)
+        → related x.procedure x.param (map points x.inputs) (points x.output)
+    together x f w m =
+        let p = f.procedure in
+        let any = any_at p n.kinds x in
+        let none = clear n a points settled x.inputs w.inputs in
+        let call = is_call_at p n.kinds x a f.fits w solves.kinds none in
+        let held : Holds (p.value x.param (map a x.inputs)) (points x.output) =
+        below_single _ (a x.output) (points x.output) (rw (f.at, none) at m.below)
+        (settled.single x.output w.output) in
+        let kind = out_kind any p.ins p.out n.kinds x.inputs x.output f.fits.count (right_at p n.kinds x f.fits) in
+        exact x.procedure p f.at any x.param (map a x.inputs) (map points x.inputs) (points x.output) call
+        (singles n a points settled x.inputs w.inputs)
+        (subst (λ d. IsPointOf d.kind d.size (points x.output)) kind
+        (of_kind x.output (kind_at n.kinds x.output) (slice_get-get_or n.kinds x.output span_kind w.output))) held
 
-  solved : ArePoints related n s points
-  solved = record {
-    of_kind = of_kind;
-    stated = λ k d l h. below_single _ _ _ (solves.statements k d l h)
-        (settled.single (get_or n.statements k d).cell (settled.within k d l));
-    together = λ k d l. together (get_or n.instances k d) (fit.fitting k d l) (fit.within k d l)
-        (subst (Meets a)
-        (get_or-map (constraint_of library) n.instances k d (constraint_of library d) l)
-        (solves.instances k (constraint_of library d)
-        (omega (arith, l, length-map n.instances (constraint_of library)))));
-  }
+    solved : ArePoints related n s points
+    solved = record {
+      of_kind = of_kind;
+      stated = λ k d l h. below_single _ _ _ (solves.statements k d l h)
+          (settled.single (get_or n.statements k d).cell (settled.within k d l));
+      together = λ k d l. together (get_or n.instances k d) (fit.fitting k d l) (fit.within k d l)
+          (subst (Meets a)
+          (get_or-map (constraint_of library) n.instances k d (constraint_of library d) l)
+          (solves.instances k (constraint_of library d)
+          (omega (arith, l, length-map n.instances (constraint_of library)))));
+    }
 
 pub singles_solve : (library : List Stored) (related : ℕ → Param → List Point → Point → Type 0)
     → AreExactBy library related → SinglesSolve library related

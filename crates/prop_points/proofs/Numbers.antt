@@ -10,7 +10,7 @@ use Rattle.prop_intervals.specs.Quotients.{int_div_floor, int_div_ceil}
 use Rattle.prop_intervals.specs.Relations.{IsSum, IsProduct, IsSquare, SaysLess}
 use Rattle.prop_intervals.specs.Roots.{IsRoot, root_of}
 use Rattle.prop_intervals.specs.Spans.{sum_of, difference_of, product_of, square_of, least_product, greatest_product}
-use Rattle.prop_intervals.specs.Spans.{holds_zero, least_square}
+use Rattle.prop_intervals.specs.Spans.{holds_zero}
 use Rattle.prop_intervals.specs.laws.QuotientLaws.{product-add, product-le, floor-parts, ceil-parts}
 use Rattle.prop_intervals.specs.laws.RootLaws.{root_of-narrowest}
 use Rattle.prop_intervals.specs.laws.SquareLaws.{zero_in}
@@ -144,9 +144,12 @@ square_exact a x y e h = by (holds_zero a) refl (clip_held _ _ y h)
 
 pub root_exact : (y x : spans.Span) (w u v : ℤ) → IsSingle (Span y) (Number w) → IsSingle (Span x) (Number u)
     → Holds (root_of y (Some x)) (Number v) → (v ≡ u) × IsSquare u w
-root_exact y x w u v e f h = (is, by_lt_z w (u *ℤ u) (λ l. absurd (none (λ r. omega (arith, ints, e.1, l, r.0))))
-    (λ g. by_lt_z (u *ℤ u) w (λ l. absurd (none (λ r. omega (arith, ints, e.0, l, r.1))))
-    (λ k. omega (arith, ints, g, k))))
+root_exact y x w u v e f h = (
+  is,
+  by_lt_z w (u *ℤ u) (λ l. absurd (none (λ r. omega (arith, ints, e.1, l, r.0))))
+      (λ g. by_lt_z (u *ℤ u) w (λ l. absurd (none (λ r. omega (arith, ints, e.0, l, r.1))))
+      (λ k. omega (arith, ints, g, k))),
+)
   where
     narrowest : IsNarrowest (IsRoot y (Some x)) (root_of y (Some x))
     narrowest = root_of-narrowest y (Some x)

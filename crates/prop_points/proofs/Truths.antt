@@ -1,6 +1,6 @@
 -- What the functions of truths, and of any kind, answer to single points.
-use Rattle.std.specs.Prelude.{◌≡◌, ◌≢◌, ◌↔◌, ℕ, ◌<◌, Bool, true, false, ◌&&◌, ◌==◌, if◌then◌else◌}
-use Rattle.std.proofs.Common.{arith, refl, rules, ap, sym, subst, ◌∙◌, eq-eqb, eqb-true}
+use Rattle.std.specs.Prelude.{◌≡◌, ◌≢◌, ◌↔◌, ℕ, ◌<◌, Bool, true, false, ◌&&◌, if◌then◌else◌}
+use Rattle.std.proofs.Common.{arith, refl, rules, ap, sym, subst, ◌∙◌, inl, inr, eq-eqb}
 use Rattle.prop_intervals.specs.Comparisons.{yes_bits, no_bits}
 use Rattle.prop_lattice.specs.Ends.{elements_from}
 use Rattle.prop_lattice.specs.Order.{Below, HasElement, merge_of, is_contradiction}
@@ -14,7 +14,6 @@ use Rattle.prop_sets.specs.Images.{image_of, coimage_of}
 use Rattle.prop_sets.specs.Relation.{Relation, HasPair}
 use Rattle.prop_sets.specs.Truth.{LeavesJust, IsLeftByOne, IsLeftByTwo}
 use Rattle.prop_sets.specs.laws.ImageLaws.{image_just, coimage_just}
-use Rattle.prop_sets.specs.laws.NarrowestLaws.{bit_from_held}
 use Rattle.prop_arith.specs.Comparing.{comparer_of, is_just, is_single}
 use Rattle.prop_arith.specs.laws.SingleLaws.{single_stays}
 use Rattle.prop_hall.specs.laws.HullLaws.{below_holds, never}

@@ -1,15 +1,12 @@
 -- Of single points the rules beside the kit's answer those that belong to them.
-use Rattle.std.specs.Prelude.{◌≡◌, ℕ, ◌<◌, ℤ, pos, ◌≤ℤ◌, Bool, true, false, List, [], ◌∷◌, if◌then◌else◌}
-use Rattle.std.proofs.Common.{arith, refl, sym, subst}
+use Rattle.std.specs.Prelude.{◌≡◌, ℤ, Bool, true, false, List, [], ◌∷◌, if◌then◌else◌}
 use Rattle.prop_intervals.specs.laws.Relations.{IsInRange}
-use Rattle.prop_lattice.specs.Points.{Point, Number, Element, Holds, IsPointOf}
-use Rattle.prop_lattice.specs.Rank.{IsOf}
+use Rattle.prop_lattice.specs.Points.{Point, Number, Holds, IsPointOf}
 use Rattle.prop_lattice.specs.declared.info.Info.{Info}
-use Rattle.prop_lattice.specs.declared.info.Info.TheVariants.{Nothing, Span, Set}
+use Rattle.prop_lattice.specs.declared.info.Info.TheVariants.{Nothing, Span}
 use Rattle.prop_lattice.specs.declared.info.Kind.TheVariants as kinds
 use Rattle.prop_lattice.specs.declared.span.Span as spans
 use Rattle.prop_procedures.specs.declared.shape.Kinded.{Kinded}
-use Rattle.prop_procedures.specs.declared.shape.Need.{Need}
 use Rattle.prop_procedures.specs.declared.shape.Need.TheVariants as needs
 use Rattle.prop_procedures.specs.declared.shape.Param.{Param}
 use Rattle.prop_procedures.specs.declared.shape.Param.TheVariants.{Plain, Scale, Rows}
@@ -19,12 +16,12 @@ use Rattle.prop_procedures.specs.Rules.{Admits, AreOf, is_scale}
 use Rattle.prop_arith.specs.laws.NumberLaws.{at_least_one}
 use Rattle.prop_hall.specs.laws.HullLaws.{never}
 use Rattle.prop_wide.specs.Points.{Related}
+use Rattle.prop_wide.specs.Squares.{root_of, square_of}
 use Rattle.prop_wide.specs.Values.{value_of}
-use Rattle.prop_wide.specs.Wide.{FormOf, AreTruths}
-use Rattle.prop_wide.specs.declared.wide.Wide.{Wide}
+use Rattle.prop_wide.specs.Wide.{AreTruths}
 use Rattle.prop_wide.specs.declared.wide.Wide.TheVariants.{Max, MaxBack, Min, MinBack, Abs, AbsBack, Choose, Decide}
 use Rattle.prop_wide.specs.declared.wide.Wide.TheVariants.{Count, CountBack, Square, Root, Quotient, Remainder, Divisor}
-use Rattle.prop_points.specs.Singles.{IsExact, IsSingle, AreSingle}
+use Rattle.prop_points.specs.Singles.{IsSingle, AreSingle}
 use Rattle.prop_points.specs.Wide.{WideIsExact}
 use Rattle.prop_points.proofs.Arguments.{number_in, element_in, number_out, element_out, three_in}
 use Rattle.prop_points.proofs.KitLaws.{one_number, two_numbers}
@@ -78,7 +75,13 @@ squared : (any : Shape → Kinded) (param : Param) → Admits needs.Scale param 
     → IsPointOf kinds.Span 0 point → Holds (value_of Square param args) point → Related Square param points point
 squared any (Scale k) s =
     one_number any (value_of Square (Scale k)) (Related Square (Scale k)) (λ a x y i d h.
-    square_exact k (at_least_one k s) a x y d (subst (λ t. Holds (if t then _ else Nothing) (Number y)) s h))
+    by a x y d (is_scale k) s h)
+  where
+    by : (a : spans.Span) (x y : ℤ) → IsSingle (Span a) (Number x) → (t : Bool) → t ≡ true
+        → Holds (if t then square_of k (Span a) else Nothing) (Number y)
+        → Related Square (Scale k) (Number x ∷ []) (Number y)
+    by a x y d true e h = square_exact k (at_least_one k s) a x y d h
+    by a x y d false e h = absurd (never e)
 squared any Plain s = absurd s
 squared any (Rows m) s = absurd s
 
@@ -87,8 +90,13 @@ rooted : (any : Shape → Kinded) (param : Param) → Admits needs.Scale param �
     → IsPointOf kinds.Span 0 point → Holds (value_of Root param args) point → Related Root param points point
 rooted any (Scale k) s =
     two_numbers any (value_of Root (Scale k)) (Related Root (Scale k)) (λ b a y x v i d e h.
-    root_exact k (at_least_one k s) b a y x v i d e
-    (subst (λ t. Holds (if t then _ else Nothing) (Number v)) s h))
+    by b a y x v i d e (is_scale k) s h)
+  where
+    by : (b a : spans.Span) (y x v : ℤ) → IsInRange v → IsSingle (Span b) (Number y) → IsSingle (Span a) (Number x)
+        → (t : Bool) → t ≡ true → Holds (if t then root_of k (Span b) (Span a) else Nothing) (Number v)
+        → Related Root (Scale k) (Number y ∷ Number x ∷ []) (Number v)
+    by b a y x v i d e true g h = root_exact k (at_least_one k s) b a y x v i d e h
+    by b a y x v i d e false g h = absurd (never g)
 rooted any Plain s = absurd s
 rooted any (Rows m) s = absurd s
 

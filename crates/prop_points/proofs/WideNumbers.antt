@@ -1,5 +1,5 @@
 -- What the functions beside the kit's answer to single numbers.
-use Rattle.std.specs.Prelude.{◌≡◌, ◌⊎◌, ℕ, ◌≤◌, ℤ, pos, neg_ℤ, ◌+ℤ◌, ◌-ℤ◌, ◌*ℤ◌, ◌≤ℤ◌, ◌<ℤ◌, Bool, true, false}
+use Rattle.std.specs.Prelude.{◌≡◌, ◌⊎◌, ◌≤◌, ℤ, pos, neg_ℤ, ◌+ℤ◌, ◌-ℤ◌, ◌*ℤ◌, ◌≤ℤ◌, ◌<ℤ◌, Bool, true, false}
 use Rattle.std.specs.Prelude.{◌&&◌, if◌then◌else◌, int_lt, int_le, unsigned_abs}
 use Rattle.std.specs.Int.{int_max, int_min}
 use Rattle.std.proofs.Common.{arith, refl, ap, sym, subst, ◌∙◌, inl, inr}
@@ -10,7 +10,6 @@ use Rattle.prop_intervals.specs.laws.QuotientLaws.{floor-parts, neg-product, pro
 use Rattle.prop_intervals.specs.laws.Relations.{IsInRange}
 use Rattle.prop_intervals.specs.laws.RootLaws.{least_root-to, greatest_root-to}
 use Rattle.prop_lattice.proofs.EndLemmas.{span_from-ends}
-use Rattle.prop_lattice.specs.Ends.{span_from}
 use Rattle.prop_lattice.specs.Points.{Number, Holds}
 use Rattle.prop_lattice.specs.Rank.{IsOf}
 use Rattle.prop_lattice.specs.declared.info.Info.{Info}
@@ -22,12 +21,11 @@ use Rattle.prop_wide.specs.Distances.{IsDistance, abs_of, abs_back_of, at_distan
 use Rattle.prop_wide.specs.Ends.{known, part_of}
 use Rattle.prop_wide.specs.Extremes.{max_of, max_back_of, min_of, min_back_of}
 use Rattle.prop_wide.specs.Hulls.{hull_of, narrowed}
-use Rattle.prop_wide.specs.Narrowest.{IsNarrowest, IsNumber, BelongsToTwo, Leaves}
+use Rattle.prop_wide.specs.Narrowest.{IsNarrowest, IsNumber, BelongsToTwo}
 use Rattle.prop_wide.specs.Quotients.{IsQuotient, IsRemainder, quotient_of, remainder_of, divisor_of, divisors_above}
-use Rattle.prop_wide.specs.Quotients.{divisors_below, is_zero}
+use Rattle.prop_wide.specs.Quotients.{divisors_below}
 use Rattle.prop_wide.specs.Squares.{IsSquareBy, square_of, root_of, times_itself, least_square, greatest_square}
 use Rattle.prop_wide.specs.laws.EndLaws.{part_kind}
-use Rattle.prop_wide.specs.laws.HullLaws.{hull_kind}
 use Rattle.prop_wide.specs.laws.NarrowestLaws.{known_from, part_from, span_from_from}
 use Rattle.prop_wide.specs.laws.QuotientNarrowest.{quotient_narrowest}
 use Rattle.prop_points.specs.Singles.{IsSingle}
@@ -321,7 +319,9 @@ quotient_exact a b x y q r e f h =
         inl (z, subst (λ t. (t *ℤ y) ≤ℤ x) (sym is) parts.0, subst (λ t. x <ℤ ((t *ℤ y) +ℤ y)) (sym is) parts.1)
       where
         only : (v : ℤ) → IsQuotient x y v → v ≡ int_div_floor x y
-        only v (inl p) = let parts = floor-parts x y z in one_quotient x y v (int_div_floor x y) z p.1 p.2 parts.0 parts.1
+        only v (inl p) =
+            let parts = floor-parts x y z in
+            one_quotient x y v (int_div_floor x y) z p.1 p.2 parts.0 parts.1
         only v (inr p) = absurd (omega (arith, ints, z, p.0))
 
     negative : y <ℤ pos 0 → IsQuotient x y q
@@ -330,8 +330,9 @@ quotient_exact a b x y q r e f h =
         only_held P (quotient_of (Span a) (Span b)) narrowest (int_div_floor (neg_ℤ x) (neg_ℤ y))
         (λ v i p. only v (belongs v p)) q r h in
         let parts = floor-parts (neg_ℤ x) (neg_ℤ y) (omega (arith, ints, z)) in
-        inr (z, turned q (subst (λ t. (t *ℤ neg_ℤ y) ≤ℤ neg_ℤ x) (sym is) parts.0)
-        (subst (λ t. neg_ℤ x <ℤ ((t *ℤ neg_ℤ y) +ℤ neg_ℤ y)) (sym is) parts.1))
+        let turn = turned q (subst (λ t. (t *ℤ neg_ℤ y) ≤ℤ neg_ℤ x) (sym is) parts.0)
+        (subst (λ t. neg_ℤ x <ℤ ((t *ℤ neg_ℤ y) +ℤ neg_ℤ y)) (sym is) parts.1) in
+        inr (z, turn.0, turn.1)
       where
         opposite : (v : ℤ) → (v *ℤ neg_ℤ y) ≡ neg_ℤ (v *ℤ y)
         opposite v = *ℤ_comm v (neg_ℤ y) ∙ neg-product y v ∙ ap neg_ℤ (*ℤ_comm y v)

@@ -1,14 +1,13 @@
 -- What the functions beside the kit's answer to single truths, and to single points of any kind.
-use Rattle.std.specs.Prelude.{◌≡◌, ◌⊎◌, ℕ, suc, ◌+◌, ◌<◌, ℤ, pos, Bool, true, false, not, cond, ◌==◌, ◌&&◌, List, []}
-use Rattle.std.specs.Prelude.{◌∷◌, length, filter, if◌then◌else◌, int_le}
-use Rattle.std.specs.List.{list_all}
+use Rattle.std.specs.Prelude.{◌≡◌, ◌⊎◌, ℕ, zero, suc, ◌+◌, ◌<◌, ℤ, pos, Bool, true, false, not, cond, ◌==◌, ◌&&◌}
+use Rattle.std.specs.Prelude.{List, [], ◌∷◌, length, filter, if◌then◌else◌}
 use Rattle.std.proofs.Common.{arith, refl, ap, sym, subst, ◌∙◌, inl, inr}
 use Rattle.std.proofs.lemmas.Int.{ints}
 use Rattle.prop_intervals.specs.Comparisons.{yes_bits, no_bits}
 use Rattle.prop_lattice.proofs.EndLemmas.{elements_from-bits}
 use Rattle.prop_lattice.specs.Ends.{elements_from}
 use Rattle.prop_lattice.specs.Order.{is_contradiction, merge_of}
-use Rattle.prop_lattice.specs.Points.{Point, Number, Element, Symbol, Holds}
+use Rattle.prop_lattice.specs.Points.{Point, Number, Element, Holds}
 use Rattle.prop_lattice.specs.declared.elements.Elements as sets
 use Rattle.prop_lattice.specs.declared.info.Info.{Info}
 use Rattle.prop_lattice.specs.declared.info.Info.TheVariants.{Nothing, Span, Set, Sym, Contradiction}
@@ -19,14 +18,14 @@ use Rattle.prop_procedures.specs.declared.shape.Shape.TheVariants as shapes
 use Rattle.prop_procedures.specs.Rules.{AreOf}
 use Rattle.prop_sets.specs.Images.{is_set}
 use Rattle.prop_sets.specs.Truth.{leaves}
-use Rattle.prop_arith.specs.Comparing.{comparer_of, is_just, is_single}
+use Rattle.prop_arith.specs.Comparing.{is_just, is_single}
 use Rattle.prop_hall.specs.laws.HullLaws.{never}
 use Rattle.prop_wide.specs.Choices.{agree, choose_of, decide_of}
 use Rattle.prop_wide.specs.Counts.{yes_among, sure_of, possible_of, count_of, count_back_of, may_lie}
 use Rattle.prop_wide.specs.Hulls.{hull_of}
 use Rattle.prop_wide.specs.Points.{IsChosen}
 use Rattle.prop_wide.specs.Truths.{told_of}
-use Rattle.prop_wide.specs.Wide.{AreTruths, is_truth}
+use Rattle.prop_wide.specs.Wide.{AreTruths}
 use Rattle.prop_wide.specs.laws.EndLaws.{both_to}
 use Rattle.prop_points.specs.Singles.{IsSingle, AreSingle}
 use Rattle.prop_points.proofs.Arguments.{element_in}
@@ -104,42 +103,41 @@ decide_exact a b o p q r t d e f h = record {
 
 -- ---- counting
 
+-- one truth more counts where it is `yes`
+one_more : (s : sets.Elements) (i : ℕ) (ts : List Info) (ps : List Point)
+    → ((i ≡ 0) × (s.bits ≡ yes_bits)) ⊎ ((i ≡ 1) × (s.bits ≡ no_bits))
+    → (sure_of ts ≡ yes_among ps) × (possible_of ts ≡ yes_among ps)
+    → (sure_of (Set s ∷ ts) ≡ yes_among (Element i ∷ ps)) × (possible_of (Set s ∷ ts) ≡ yes_among (Element i ∷ ps))
+one_more s i ts ps (inl z) rest =
+    let sure = filter (λ t. not (leaves t 1)) ts in
+    let possible = filter (λ t. leaves t 0) ts in
+    let left = yes_leaves s z.1 in
+    let all : yes_among (Element i ∷ ps) ≡ 1 + yes_among ps = ap (λ n. cond (n == 0) 1 0 + yes_among ps) z.0 in
+    let surely : sure_of (Set s ∷ ts) ≡ suc (sure_of ts) =
+    ap (λ b. length (cond (not b) (Set s ∷ sure) sure)) left.1 in
+    let possibly : possible_of (Set s ∷ ts) ≡ suc (possible_of ts) =
+    ap (λ b. length (cond b (Set s ∷ possible) possible)) left.0 in
+    (omega (arith, all, surely, rest.0), omega (arith, all, possibly, rest.1))
+one_more s i ts ps (inr z) rest =
+    let sure = filter (λ t. not (leaves t 1)) ts in
+    let possible = filter (λ t. leaves t 0) ts in
+    let left = no_leaves s z.1 in
+    let all : yes_among (Element i ∷ ps) ≡ 0 + yes_among ps = ap (λ n. cond (n == 0) 1 0 + yes_among ps) z.0 in
+    let surely : sure_of (Set s ∷ ts) ≡ sure_of ts =
+    ap (λ b. length (cond (not b) (Set s ∷ sure) sure)) left.1 in
+    let possibly : possible_of (Set s ∷ ts) ≡ possible_of ts =
+    ap (λ b. length (cond b (Set s ∷ possible) possible)) left.0 in
+    (omega (arith, all, surely, rest.0), omega (arith, all, possibly, rest.1))
+
 -- of single truths as many are sure as may be
 pub counts : (any : Shape → Kinded) (ins : List Shape) (truths : List Info) (points : List Point) → AreTruths ins
     → AreOf any ins truths → AreSingle truths points
     → (sure_of truths ≡ yes_among points) × (possible_of truths ≡ yes_among points)
 counts any [] [] [] a o e = (refl, refl)
 counts any (shapes.Truth ∷ ss) (t ∷ ts) (p ∷ ps) a o e =
+    let rest = counts any ss ts ps a o.1 e.1 in
     element_in 0 2 t p (λ t p. (sure_of (t ∷ ts) ≡ yes_among (p ∷ ps))
-    × (possible_of (t ∷ ts) ≡ yes_among (p ∷ ps))) o.0 e.0 (λ s i l d. one s i (truth_is s i l d))
-  where
-    rest : (sure_of ts ≡ yes_among ps) × (possible_of ts ≡ yes_among ps)
-    rest = counts any ss ts ps a o.1 e.1
-
-    sure : List Info
-    sure = filter (λ t. not (leaves t 1)) ts
-
-    possible : List Info
-    possible = filter (λ t. leaves t 0) ts
-
-    one : (s : sets.Elements) (i : ℕ) → ((i ≡ 0) × (s.bits ≡ yes_bits)) ⊎ ((i ≡ 1) × (s.bits ≡ no_bits))
-        → (sure_of (Set s ∷ ts) ≡ yes_among (Element i ∷ ps)) × (possible_of (Set s ∷ ts) ≡ yes_among (Element i ∷ ps))
-    one s i (inl z) =
-        let left = yes_leaves s z.1 in
-        let all : yes_among (Element i ∷ ps) ≡ 1 + yes_among ps = ap (λ n. cond (n == 0) 1 0 + yes_among ps) z.0 in
-        let surely : sure_of (Set s ∷ ts) ≡ suc (sure_of ts) =
-        ap (λ b. length (cond (not b) (Set s ∷ sure) sure)) left.1 in
-        let possibly : possible_of (Set s ∷ ts) ≡ suc (possible_of ts) =
-        ap (λ b. length (cond b (Set s ∷ possible) possible)) left.0 in
-        (omega (arith, all, surely, rest.0), omega (arith, all, possibly, rest.1))
-    one s i (inr z) =
-        let left = no_leaves s z.1 in
-        let all : yes_among (Element i ∷ ps) ≡ 0 + yes_among ps = ap (λ n. cond (n == 0) 1 0 + yes_among ps) z.0 in
-        let surely : sure_of (Set s ∷ ts) ≡ sure_of ts =
-        ap (λ b. length (cond (not b) (Set s ∷ sure) sure)) left.1 in
-        let possibly : possible_of (Set s ∷ ts) ≡ possible_of ts =
-        ap (λ b. length (cond b (Set s ∷ possible) possible)) left.0 in
-        (omega (arith, all, surely, rest.0), omega (arith, all, possibly, rest.1))
+    × (possible_of (t ∷ ts) ≡ yes_among (p ∷ ps))) o.0 e.0 (λ s i l d. one_more s i ts ps (truth_is s i l d) rest)
 counts any (shapes.Span ∷ ss) truths points a o e = absurd (never a)
 counts any (shapes.Any n ∷ ss) truths points a o e = absurd (never a)
 counts any (shapes.From ∷ ss) truths points a o e = absurd (never a)
@@ -159,8 +157,17 @@ pub count_back_exact : (a : spans.Span) (others : List Info) (points : List Poin
     → IsSingle (Span a) (Number n)
     → (sure_of others ≡ yes_among points) × (possible_of others ≡ yes_among points)
     → Holds (count_back_of (Span a) others) (Element t) → n ≡ pos (yes_among (Element t ∷ points))
-count_back_exact a others points n 0 l e c h =
-    let held = both_to _ _ _ _ (told_from_yes _ _ h) in omega (arith, ints, e.0, e.1, c.0, c.1, held.0, held.1)
-count_back_exact a others points n (suc 0) l e c h =
-    let held = both_to _ _ _ _ (told_from_no _ _ h) in omega (arith, ints, e.0, e.1, c.0, c.1, held.0, held.1)
+count_back_exact a others points n zero l e c h =
+    let one = pos (possible_of others + 1) in
+    let more = pos (sure_of others + 1) in
+    let held = both_to a.lo one more a.hi (told_from_yes (may_lie (Span a) more one)
+    (may_lie (Span a) (pos (sure_of others)) (pos (possible_of others))) h) in
+    omega (arith, ints, e.0, e.1, c.0, c.1, held.0, held.1)
+count_back_exact a others points n (suc zero) l e c h =
+    let most = pos (possible_of others) in
+    let least = pos (sure_of others) in
+    let held = both_to a.lo most least a.hi
+    (told_from_no (may_lie (Span a) (pos (sure_of others + 1)) (pos (possible_of others + 1)))
+    (may_lie (Span a) least most) h) in
+    omega (arith, ints, e.0, e.1, c.0, c.1, held.0, held.1)
 count_back_exact a others points n (suc (suc t)) l e c h = absurd (omega (arith, l))

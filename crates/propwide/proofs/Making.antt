@@ -38,9 +38,15 @@ use Rattle.prop_hall.specs.Excluder.{Related as ExcluderRelated, value_of as exc
 use Rattle.prop_hall.specs.declared.excluder.Excluder.TheVariants.{One, Two, Three, Four, Five, Six, Seven, Eight}
 use Rattle.prop_hall.specs.laws.ExcluderLaws.{excluder_sound}
 use Rattle.prop_cells.specs.Points.{AreSoundBy}
+use Rattle.prop_points.specs.Networks.{AreExactBy, SinglesSolve}
+use Rattle.prop_points.specs.Singles.{IsExact}
+use Rattle.prop_points.proofs.ExcluderLaws.{excluders_are_exact}
+use Rattle.prop_points.proofs.KitLaws.{kit_is_exact}
+use Rattle.prop_points.proofs.NetworkLaws.{singles_solve}
+use Rattle.prop_points.proofs.WideLaws.{wide_is_exact}
 use Rattle.prop_program.specs.Answering.{Stock, stocked}
 use Rattle.propwide.specs.Kits.{Mixed, Made, answer_of, RelatedBy, of_kit, of_wide, of_excluder, in_order, shown}
-use Rattle.propwide.specs.Kits.{wide, wide_related}
+use Rattle.propwide.specs.Kits.{wide, wide_related, wide_tells, TellsBy}
 use Rattle.propwide.specs.declared.entries.Entry.{Entry}
 
 -- the forms of a rule
@@ -265,3 +271,23 @@ wide_is_sound n p at = by in_order all_formed n p at
     by (m ∷ rest) h zero p at = let same : stored_made m ≡ p = same_Some (stored_made m) p at in rw (← same)
         (mixed_sound m.rule m.form.ins m.form.out m.form.need (All-head IsFormed m rest h).formed)
     by (m ∷ rest) h (suc k) p at = by rest (All-tail IsFormed m rest h) k p at
+
+-- of single points each rule answers those alone that it is sure of
+mixed_exact : (rule : Mixed) (ins : List Shape) (out : Shape) (need : Need) → FormBy rule ins out need
+    → IsExact (answer_of rule) (TellsBy rule) ins out need
+mixed_exact (boths.One rule) = kit_is_exact rule
+mixed_exact (boths.Two (boths.One rule)) = wide_is_exact rule
+mixed_exact (boths.Two (boths.Two rule)) = excluders_are_exact rule
+
+wide_exact : AreExactBy wide.library wide_tells
+wide_exact n p at = by in_order all_formed n p at
+  where
+    by : (made : List Made) → All IsFormed made → (n : ℕ) (p : Stored) → slice_get (map stored_made made) n ≡ Some p
+        → IsExact p.value (related_in (λ m. TellsBy m.rule) made n) p.ins p.out p.need
+    by [] h n p at = absurd (none-some p at)
+    by (m ∷ rest) h zero p at = let same : stored_made m ≡ p = same_Some (stored_made m) p at in rw (← same)
+        (mixed_exact m.rule m.form.ins m.form.out m.form.need (All-head IsFormed m rest h).formed)
+    by (m ∷ rest) h (suc k) p at = by rest (All-tail IsFormed m rest h) k p at
+
+pub wide_solves : SinglesSolve wide.library wide_tells
+wide_solves = singles_solve wide.library wide_tells wide_exact

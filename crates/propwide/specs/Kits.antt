@@ -22,6 +22,7 @@ use Rattle.prop_hall.specs.declared.excluder.Excluder.{Excluder}
 use Rattle.prop_hall.specs.Excluder.{in_order as excluders, ins_of, name_of}
 use Rattle.prop_hall.specs.Excluder.{need_of as excluder_need, out_of as excluder_out}
 use Rattle.prop_hall.specs.Excluder.{Related as ExcluderRelated, value_of as excluder_value}
+use Rattle.prop_points.specs.Kit.{KitTells}
 use Rattle.prop_program.specs.Answering.{Stock, stocked}
 use Rattle.propwide.specs.declared.entries.Entry as entries
 
@@ -39,6 +40,10 @@ answer_of = either_of kit_value wider_of
 
 abbrev pub RelatedBy : Mixed → Param → List Point → Point → Type 0
 RelatedBy = either_of KitRelated (either_of WideRelated ExcluderRelated)
+
+-- those that are sure to belong together where all are single
+abbrev pub TellsBy : Mixed → Param → List Point → Point → Type 0
+TellsBy = either_of KitTells (either_of WideRelated ExcluderRelated)
 
 -- a procedure's form, and its rule
 pub record Made : Type 0 where
@@ -76,6 +81,9 @@ wide = stocked (library_of (λ p. p.form) (λ p. answer_of p.rule) in_order) lin
 -- the points that belong together at the procedure of this number
 abbrev pub wide_related : ℕ → Param → List Point → Point → Type 0
 wide_related = related_in (λ p. RelatedBy p.rule) in_order
+
+abbrev pub wide_tells : ℕ → Param → List Point → Point → Type 0
+wide_tells = related_in (λ p. TellsBy p.rule) in_order
 
 -- what a procedure is made of in the program
 abbrev pub shown : entries.Entry → Made

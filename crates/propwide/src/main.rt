@@ -3,8 +3,9 @@
 //! The program's session over the kit, the wider rules, the excluders and their preludes writes a
 //! transcript of the workbench, or at a fault nothing or a prefix of one, with work behind it in
 //! the order that was chosen, from the seed that was given, and the procedures' answers hold the
-//! points that belong together. A fault tells which device failed, that there were too many reads,
-//! or that memory was refused before anything was read or written (`run`).
+//! points that belong together; those of a plan in points satisfy all that is attached. A fault
+//! tells which device failed, that there were too many reads, or that memory was refused before
+//! anything was read or written (`run`).
 #![tactic(auto)]
 
 mod entries;

@@ -4,8 +4,9 @@ ghost use Rattle.prop_engine.specs.Watched.{reader, writer, device, IsFresh, IsP
 ghost use Rattle.prop_program.specs.Faults.{TellsDevices};
 ghost use Rattle.prop_program.specs.Answering.{IsAnswered, IsAnsweredInPart, IsWorked};
 ghost use Rattle.prop_program.specs.Answering.{IsWorkedInPart};
-ghost use Rattle.propwide.specs.Kits.{answer_of, wide, wide_related};
+ghost use Rattle.propwide.specs.Kits.{answer_of, wide, wide_related, wide_tells};
 ghost use Rattle.prop_cells.specs.Points.{AreSoundBy};
+ghost use Rattle.prop_points.specs.Networks.{SinglesSolve};
 
 use crate::entries::{answer, copied, entries, lines};
 use prop_lattice::Info;
@@ -41,6 +42,8 @@ pub fn run<Rd: Read, W: Write>(
     ensures devices { TellsDevices result devices.old devices.new }
     // So values that belong together and satisfy all that is believed lie in each answer.
     ensures points { AreSoundBy wide.library wide_related }
+    // And a plan in points satisfies all that is attached.
+    ensures solved { SinglesSolve wide.library wide_tells }
 {
     let prelude = lines(alloc)?;
     let made = entries(alloc)?;

@@ -78,7 +78,8 @@ narrowed_below size Contradiction Contradiction h p = tt
 narrowed_below size (Span a) Contradiction h p = tt
 narrowed_below size (Sym a) Contradiction h p = tt
 narrowed_below size (Set s) Contradiction h p = to_top (narrowed size (Set s))
-narrowed_below size (Set s) (Set t) h p = by (s.bits == all_bits size) refl (t.bits == all_bits size) refl
+narrowed_below size (Set s) (Set t) h p =
+    by (s.bits == all_bits size) refl (t.bits == all_bits size) refl
   where
     -- what has all of them is all of them
     full : t.bits ≡ all_bits size → s.bits ≡ all_bits size
@@ -90,7 +91,8 @@ narrowed_below size (Set s) (Set t) h p = by (s.bits == all_bits size) refl (t.b
     by true e q f = tt
     by false e false f = p
     by false e true f =
-        absurd (never (sym e ∙ eq-eqb s.bits (all_bits size) (full (eqb-true t.bits (all_bits size) f))))
+        let all = full (eqb-true t.bits (all_bits size) f) in
+        absurd (never (sym e ∙ eq-eqb s.bits (all_bits size) all))
 narrowed_below size a b h p = search rules
 
 narrowed_kind : (kind : Kind) (n size : ℕ) (a : Info) → IsOf kind n a → IsOf kind n (narrowed size a)

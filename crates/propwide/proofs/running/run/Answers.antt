@@ -11,7 +11,8 @@ use Rattle.prop_procedures.specs.inner.Kept.{AllMean-push}
 use Rattle.prop_procedures.specs.Kept.{stored_as}
 use Rattle.prop_engine.specs.Watched.{device, reader, writer}
 use Rattle.propwide.specs.Kits.{answer_of, shown, wide}
-use Rattle.propwide.proofs.Making.{stored_made, stored_is, more, all_stored, entry_formed, wide_is_sound, with_stock}
+use Rattle.propwide.proofs.Making.{stored_made, stored_is, more, all_stored, entry_formed, wide_is_sound, wide_solves}
+use Rattle.propwide.proofs.Making.{with_stock}
 use Rattle.propwide.proofs.running.run.Goals as goal
 
 pub returns-in_err-prelude-clause-err : goal.returns-in_err-prelude-clause-err
@@ -28,6 +29,9 @@ returns-in_err-prelude-clause-earned_in_part g c =
 
 pub returns-in_err-prelude-clause-points : goal.returns-in_err-prelude-clause-points
 returns-in_err-prelude-clause-points g c = wide_is_sound
+
+pub returns-in_err-prelude-clause-solved : goal.returns-in_err-prelude-clause-solved
+returns-in_err-prelude-clause-solved g c = wide_solves
 
 pub returns-in_err-prelude-clause-devices : goal.returns-in_err-prelude-clause-devices
 returns-in_err-prelude-clause-devices g c =
@@ -50,6 +54,9 @@ returns-in_err-made-clause-earned_in_part g c =
 pub returns-in_err-made-clause-points : goal.returns-in_err-made-clause-points
 returns-in_err-made-clause-points g c = wide_is_sound
 
+pub returns-in_err-made-clause-solved : goal.returns-in_err-made-clause-solved
+returns-in_err-made-clause-solved g c = wide_solves
+
 pub returns-in_err-made-clause-devices : goal.returns-in_err-made-clause-devices
 returns-in_err-made-clause-devices g c =
     let p = err_from_is_err_and c.from_residual-in_err-made.result c.from_residual-in_err-made.ensures.1 in
@@ -70,6 +77,9 @@ returns-in_err-ins-clause-earned_in_part g c =
 
 pub returns-in_err-ins-clause-points : goal.returns-in_err-ins-clause-points
 returns-in_err-ins-clause-points g c = wide_is_sound
+
+pub returns-in_err-ins-clause-solved : goal.returns-in_err-ins-clause-solved
+returns-in_err-ins-clause-solved g c = wide_solves
 
 pub returns-in_err-ins-clause-devices : goal.returns-in_err-ins-clause-devices
 returns-in_err-ins-clause-devices g c =
@@ -92,6 +102,9 @@ returns-in_err-call-clause-earned_in_part g c =
 pub returns-in_err-call-clause-points : goal.returns-in_err-call-clause-points
 returns-in_err-call-clause-points g c = wide_is_sound
 
+pub returns-in_err-call-clause-solved : goal.returns-in_err-call-clause-solved
+returns-in_err-call-clause-solved g c = wide_solves
+
 pub returns-in_err-call-clause-devices : goal.returns-in_err-call-clause-devices
 returns-in_err-call-clause-devices g c =
     let p = err_from_is_err_and c.from_residual-in_err-call.result c.from_residual-in_err-call.ensures.1 in
@@ -112,6 +125,9 @@ returns-in_err-push-clause-earned_in_part g c =
 
 pub returns-in_err-push-clause-points : goal.returns-in_err-push-clause-points
 returns-in_err-push-clause-points g c = wide_is_sound
+
+pub returns-in_err-push-clause-solved : goal.returns-in_err-push-clause-solved
+returns-in_err-push-clause-solved g c = wide_solves
 
 pub returns-in_err-push-clause-devices : goal.returns-in_err-push-clause-devices
 returns-in_err-push-clause-devices g c =
@@ -193,3 +209,6 @@ returns-clause-earned_in_part g c =
 
 pub returns-clause-points : goal.returns-clause-points
 returns-clause-points g c = wide_is_sound
+
+pub returns-clause-solved : goal.returns-clause-solved
+returns-clause-solved g c = wide_solves
