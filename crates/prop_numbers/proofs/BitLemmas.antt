@@ -1,6 +1,7 @@
 -- The bits of one word.
 use Rattle.std.proofs.Common.{◌≡◌, ◌≢◌, ℕ, suc, ◌+◌, ◌-◌, ◌*◌, ◌%◌, ◌^◌, ◌<◌, ◌≤◌, Bool, true, false, not, ◌||◌, ◌&&◌}
 use Rattle.std.proofs.Common.{◌==◌, min, max, refl, sym, ap, ◌∙◌, arith, inl, inr, nat_lt, nat_eq, bit_and, bit_or}
+use Rattle.std.proofs.Common.{bit_xor}
 use Rattle.std.specs.Int.{bit_at, bit_not, w64, trailing_zeros, leading_zeros}
 use Rattle.std.proofs.Math.Pow.{pow-lt}
 use Rattle.std.proofs.Math.Nat.{pow-suc}
@@ -10,6 +11,7 @@ use Rattle.std.proofs.lemmas.Bool.Decides.{nat_tests}
 use Rattle.std.proofs.lemmas.Nat.Bits.{bit_at-zero, bit_at-lt, bit_at_and, bit_at_or, bit_at_not, bit_at-pow_same}
 use Rattle.std.proofs.lemmas.Nat.Bits.{bit_at-pow_other, bit_at_ones, bit_at_ones_above, bit_at_above, bit_at_cat_high}
 use Rattle.std.proofs.lemmas.Nat.Bits.{bit_at-trailing_zeros, bit_at_clear_same, bit_at_clear_other, and_pow}
+use Rattle.std.proofs.lemmas.Nat.Bits.{bit_at_xor, same_from_bits}
 use Rattle.prop_numbers.specs.Words.{is_set}
 
 and_true : (b : Bool) → (b && true) ≡ b
@@ -169,3 +171,36 @@ is_set-apart word other fits other_fits some =
         (ap (λ b. is_set word i && b) (sym (is_set-not other i other_fits l))
         ∙ sym (is_set-and word (bit_not w64 other) i) ∙ h) in
         (i, l, both.0, both.1)
+
+-- ---- two words together
+
+max_zero : (a b : ℕ) → max a b ≡ 0 → (a ≡ 0) × (b ≡ 0)
+max_zero a b e = (omega (arith, e), omega (arith, e))
+
+-- where two words have no bit together, neither has one
+pub both_zero : (a b : ℕ) → bit_or a b ≡ 0 → (a ≡ 0) × (b ≡ 0)
+both_zero a b e = (
+  same_from_bits a 0 (λ i. (bits i).0 ∙ sym (bit_at-zero i)),
+  same_from_bits b 0 (λ i. (bits i).1 ∙ sym (bit_at-zero i)),
+)
+  where
+    bits : (i : ℕ) → (bit_at a i ≡ 0) × (bit_at b i ≡ 0)
+    bits i = max_zero (bit_at a i) (bit_at b i) (sym (bit_at_or a b i) ∙ ap (λ n. bit_at n i) e ∙ bit_at-zero i)
+
+-- where two words have no bit in common, the bit of one is none of the other
+pub other_out : (a b i : ℕ) → bit_and a b ≡ 0 → is_set a i ≡ true → is_set b i ≡ false
+other_out a b i none on =
+    sym (ap (λ t. t && is_set b i) on) ∙ sym (is_set-and a b i) ∙ ap (λ n. is_set n i) none ∙ is_set-zero i
+
+one_of_two : (a b c : ℕ) → a < 2 → b < 2 → c ≡ (a + b) % 2 → ¬ ((a == 1) ≡ (b == 1)) → (c == 1) ≡ true
+one_of_two a b c l m e apart = elim (cases_eq a b) [
+  | inl same ↦ absurd (apart (ap (λ n. n == 1) same))
+  | inr other ↦ (let one : c ≡ 1 = omega (arith, l, m, e, other) in grind (arith, nat_tests))
+]
+
+-- a bit of just one of two words
+pub is_set-xor : (a b i : ℕ) → ¬ (is_set a i ≡ is_set b i) → is_set (bit_xor a b) i ≡ true
+unfolding is_set
+is_set-xor a b i apart =
+    one_of_two (bit_at a i) (bit_at b i) (bit_at (bit_xor a b) i) (bit_at-lt a i) (bit_at-lt b i) (bit_at_xor a b i)
+    apart

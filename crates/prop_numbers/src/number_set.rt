@@ -1,10 +1,10 @@
 //! Sets of numbers, of which those of one word stand in the value itself.
 ghost use Rattle.std.specs.Prelude.{◌≡◌, ◌↔◌, ◌<◌, ◌≤◌, ◌+◌, ◌*◌, ℕ, [], ◌∷◌, ◌++◌, length, nat_lt};
-ghost use Rattle.std.specs.Prelude.{filter, IsTrue, IsOk, IfOk, OnOk, OnErr};
+ghost use Rattle.std.specs.Prelude.{◌%◌, false, filter, IsTrue, IsOk, IfOk, OnOk, OnErr};
 ghost use Rattle.std.specs.List.Sorted.{IsStrictlyIncreasing};
 ghost use Rattle.prop_numbers.specs.Sets.{set_of, union, without, is_within, is_below};
 ghost use Rattle.prop_numbers.specs.Sets.{is_at_most_one_of, IsSame, IsBelow};
-ghost use Rattle.prop_numbers.specs.Signatures.{remainders, AreRemainders};
+ghost use Rattle.prop_numbers.specs.Signatures.{remainders, AreRemainders, CoversChange};
 ghost use Rattle.prop_numbers.specs.Words.{is_set};
 ghost use Rattle.prop_numbers.specs.inner.NumberSets.{numbers_in};
 
@@ -170,6 +170,40 @@ impl NumberSet {
             Form::One(one) => Signature::none().with_word(one.place, one.word),
             Form::Many(words) => words.signature(),
         }
+    }
+
+    /// Whether the words of the set are among the first two. It takes no memory.
+    #[inline]
+    fn is_low(&self) -> bool
+        ensures { IsTrue result → IsBelow 128 (set_of self.now) }
+    {
+        match &self.form {
+            Form::One(one) => one.place < 2,
+            Form::Many(words) => words.is_low(),
+        }
+    }
+
+    /// Which remainders the numbers leave that are in just one of the sets; all where a number of
+    /// either may be above 127. It takes no memory.
+    #[inline]
+    pub fn change(&self, other: &NumberSet) -> Signature
+        ensures { CoversChange (set_of self.now) (set_of other.now) (remainders result) }
+    {
+        if !self.is_low() || !other.is_low() {
+            return Signature::all();
+        }
+        let first = self.word_at(0) ^ other.word_at(0);
+        let second = self.word_at(1) ^ other.word_at(1);
+        Signature::none().with_word(0, first).with_word(1, second)
+    }
+
+    /// Whether some number of the set leaves one of these remainders. It takes no memory.
+    #[inline(always)]
+    pub fn meets(&self, change: Signature) -> bool
+        ensures { result ≡ false → (p : ℕ) → IsTrue (set_of self.now p)
+            → remainders change (p % 128) ≡ false }
+    {
+        self.signature().meets(change)
     }
 
     /// Whether the set has no number, or a single one that is in the other set. It takes no memory.

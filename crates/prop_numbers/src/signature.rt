@@ -1,6 +1,6 @@
 //! What is looked at first of a set, to tell that it is no part of another.
-ghost use Rattle.std.specs.Prelude.{◌↔◌, ◌≡◌, ◌≤◌, ◌+◌, ◌*◌, ◌/◌, ◌%◌, ◌||◌, ◌&&◌, ◌==◌, ℕ};
-ghost use Rattle.std.specs.Prelude.{false, length, IsTrue};
+ghost use Rattle.std.specs.Prelude.{◌↔◌, ◌≡◌, ◌<◌, ◌≤◌, ◌+◌, ◌*◌, ◌/◌, ◌%◌, ◌||◌, ◌&&◌, ◌==◌};
+ghost use Rattle.std.specs.Prelude.{ℕ, false, length, IsTrue};
 ghost use Rattle.prop_numbers.specs.Sets.{set_of, IsPart};
 ghost use Rattle.prop_numbers.specs.Signatures.{remainders, AreRemainders};
 ghost use Rattle.prop_numbers.specs.Words.{is_set, numbers_from};
@@ -43,12 +43,34 @@ impl Signature {
         }
     }
 
+    /// All remainders.
+    #[inline]
+    pub fn all() -> Signature
+        ensures { (i : ℕ) → i < 128 → IsTrue (remainders result i) }
+    {
+        Signature {
+            even: u64::MAX,
+            odd: u64::MAX,
+        }
+    }
+
     /// Whether each remainder is one of the other's.
     #[inline(always)]
     pub fn is_part_of(self, other: Signature) -> bool
         ensures { IsTrue result ↔ IsPart (remainders self) (remainders other) }
     {
-        self.even & !other.even == 0 && self.odd & !other.odd == 0
+        let missing = (self.even & !other.even) | (self.odd & !other.odd);
+        missing == 0
+    }
+
+    /// Whether some remainder is one of the other's.
+    #[inline(always)]
+    pub fn meets(self, other: Signature) -> bool
+        ensures { result ≡ false → (i : ℕ) → IsTrue (remainders self i)
+            → remainders other i ≡ false }
+    {
+        let common = (self.even & other.even) | (self.odd & other.odd);
+        common != 0
     }
 }
 

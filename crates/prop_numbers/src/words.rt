@@ -240,7 +240,7 @@ impl Words {
     }
 
     /// Whether the number is in the set. It takes no memory.
-    #[inline(never)]
+    #[inline(always)]
     pub fn has(&self, number: u16) -> bool
         ensures { result ≡ set_of self.now number }
     {
@@ -265,7 +265,7 @@ impl Words {
     }
 
     /// The bits of the numbers from 64 times the place on. It takes no memory.
-    #[inline(never)]
+    #[inline(always)]
     pub fn word_at(&self, place: usize) -> u64
         ensures { (i : ℕ) → i < 64 → is_set result i ≡ set_of self.now (64 * place + i) }
     {
@@ -277,6 +277,14 @@ impl Words {
         ensures { AreRemainders (set_of self.now) (remainders result) }
     {
         signature_of(self.first, &self.words)
+    }
+
+    /// Whether the words are among the first two. It takes no memory.
+    #[inline]
+    pub fn is_low(&self) -> bool
+        ensures { IsTrue result → IsBelow 128 (set_of self.now) }
+    {
+        self.first + self.words.len() <= 2
     }
 
     /// Whether each number of the set is below the bound. It takes no memory.

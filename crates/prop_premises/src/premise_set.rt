@@ -1,6 +1,6 @@
 //! Sets of premises.
 ghost use Rattle.std.specs.Prelude.{◌≡◌, ◌↔◌, ◌≤◌, List, ℕ, [], ◌∷◌, length, IsTrue, IfOk, OnOk};
-ghost use Rattle.std.specs.Prelude.{OnErr};
+ghost use Rattle.std.specs.Prelude.{◌%◌, false, OnErr};
 ghost use Rattle.std.specs.List.Sorted.{IsStrictlyIncreasing};
 ghost use Rattle.prop_numbers.specs.Sets.{set_of, union, without, is_below, is_within, is_alike};
 ghost use Rattle.prop_numbers.specs.Sets.{is_at_most_one_of, IsSame};
@@ -109,6 +109,16 @@ impl PremiseSet {
         ensures { AreRemainders (set_of self.now) (remainders result) }
     {
         self.numbers.signature()
+    }
+
+    /// Whether some premise of the set has a number that leaves one of these remainders. It takes no
+    /// memory.
+    #[inline]
+    pub fn meets(&self, change: Signature) -> bool
+        ensures { result ≡ false → (p : ℕ) → IsTrue (set_of self.now p)
+            → remainders change (p % 128) ≡ false }
+    {
+        self.numbers.meets(change)
     }
 
     /// Whether the same premises are in both sets. It takes no memory.

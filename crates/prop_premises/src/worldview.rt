@@ -2,7 +2,7 @@
 ghost use Rattle.std.specs.Prelude.{◌≡◌, List, [], ◌∷◌, ◌++◌, ℕ, nat_lt, filter, IsOk, IfOk, OnOk};
 ghost use Rattle.std.specs.Prelude.{OnErr};
 ghost use Rattle.prop_numbers.specs.Sets.{set_of, union, without, is_within, IsSame, IsBelow};
-ghost use Rattle.prop_numbers.specs.Signatures.{remainders, AreRemainders};
+ghost use Rattle.prop_numbers.specs.Signatures.{remainders, AreRemainders, CoversChange};
 
 use crate::premise_set::{Premise, PremiseSet};
 use prop_numbers::{NumberSet, Signature};
@@ -95,6 +95,15 @@ impl Worldview {
         ensures { AreRemainders (set_of self.now) (remainders result) }
     {
         self.beliefs.signature()
+    }
+
+    /// Which remainders the premises leave that are believed in just one of the worldviews, and
+    /// perhaps others. It takes no memory.
+    #[inline]
+    pub fn change(&self, other: &Worldview) -> Signature
+        ensures { CoversChange (set_of self.now) (set_of other.now) (remainders result) }
+    {
+        self.beliefs.change(&other.beliefs)
     }
 
     /// Whether each premise of the set is believed. It takes no memory.
