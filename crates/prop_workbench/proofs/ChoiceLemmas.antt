@@ -1,28 +1,38 @@
 -- Why a choice between values is refused, and what is made where it isn't.
-use Rattle.std.proofs.Common.{◌≡◌, ◌∙◌, ℕ, Bool, true, false, ◌||◌, List, [], ◌∷◌, All, Option, Some, None, Result, Ok}
+use Rattle.std.proofs.Common.{◌≡◌, ◌∙◌, ℕ, Bool, true, false, ◌||◌, List, [], ◌∷◌, ◌++◌, All, Option, Some, None}
+use Rattle.std.proofs.Common.{Result, Ok, ◌+◌, ◌<◌, ◌≤◌, length, map, subst, take, slice_index_or}
+use Rattle.std.specs.Bool.{then_some}
 use Rattle.std.proofs.Common.{Err, is_some, is_none, unwrap_or, ◌⊎◌, inl, inr, refl, sym, ap, arith}
 use Rattle.std.specs.Prelude.{⊤, OnOk, OnErr, IfErr}
 use Rattle.std.specs.List.{list_any}
 use Rattle.std.specs.Option.{option_map, option_map_or}
 use Rattle.std.specs.Result.{result_unwrap_or}
+use Rattle.std.proofs.lemmas.List.{length-map, map_more, map_push, take_all}
+use Rattle.std.proofs.lemmas.Bool.{le-leb, lt-leb}
 use Rattle.std.proofs.lemmas.List.Elements.{All-cons, All-head, All-tail}
+use Rattle.std.proofs.lemmas.List.Folds.{list_any-append}
 use Rattle.prop_lattice.specs.declared.info.Info.TheVariants.{Nothing}
 use Rattle.prop_lattice.specs.declared.info.Kind.{Kind}
 use Rattle.prop_refusals.specs.declared.refusal.Refusal.{Refusal}
 use Rattle.prop_refusals.specs.declared.refusal.Refusal.TheVariants.{NotAName, NotANumber, NameTaken, NoSuchCell}
 use Rattle.prop_refusals.specs.declared.refusal.Refusal.TheVariants.{WrongKind, NotInTheDomain, EmptyValue, Memory}
-use Rattle.prop_refusals.specs.Refusals.{first_of, when}
+use Rattle.prop_refusals.specs.Refusals.{first_of, when, number_of}
 use Rattle.prop_premises.specs.Origins.{premise_number, is_choice}
 use Rattle.prop_procedures.specs.Stored.{Stored}
 use Rattle.prop_procedures.specs.Fitting.{kind_at}
 use Rattle.prop_language.specs.Commands as commands
 use Rattle.prop_language.specs.Commands.{Value}
+use Rattle.prop_language.specs.declared.command.Value as declared
+use Rattle.prop_language.specs.Said.{value_of}
+use Rattle.prop_vocabulary.specs.declared.values.Meant as told
+use Rattle.prop_vocabulary.specs.Said.{meant_of}
 use Rattle.prop_vocabulary.specs.Values.{Meant, Known}
 use Rattle.prop_vocabulary.specs.Cells.{cell_named}
 use Rattle.prop_vocabulary.specs.Texts.{elements_of_kind}
 use Rattle.prop_vocabulary.specs.Vocabulary.{Vocabulary}
 use Rattle.prop_engine.specs.Answers.{Done, answer_done}
-use Rattle.prop_workbench.specs.inner.Choosing.{is_one_refused, values_refusal, meaning_of, Means, meanings_of}
+use Rattle.prop_workbench.specs.inner.Choosing.{is_one_refused, values_refusal, meaning_of, Means, IsMeaning}
+use Rattle.prop_workbench.specs.inner.Choosing.{meanings_of, earlier}
 use Rattle.prop_workbench.specs.Effects.{chosen}
 use Rattle.prop_workbench.specs.Machine.{State}
 use Rattle.prop_workbench.specs.Refusing.{refusal_of, meaning_at, is_error, value_at, meants_at, both_meant}
@@ -104,7 +114,7 @@ by_rows library s choice name values cell kind found is_kind =
     (one NotInTheDomain i) (one EmptyValue i) (choosing_limit_at s (meants_at s name values))
 
 -- a value that is refused, or the name
-pub choice_refused : (library : List Stored) (s : State) (choice name : List ℕ) (values : List Value) (cell : ℕ)
+choice_refused : (library : List Stored) (s : State) (choice name : List ℕ) (values : List Value) (cell : ℕ)
     (kind : Kind) (e : Refusal) → cell_named s.names name ≡ Some cell → kind ≡ (kind_at s.kinds cell).kind →
     values_refusal s.words kind (is_taken_in s choice) values ≡ Some e
     → refusal_of library s (choose choice name values) ≡ Some e
@@ -114,6 +124,14 @@ choice_refused library s choice name values cell kind e found is_kind h =
     (is_taken_in s choice) (is_one_refused s.words kind WrongKind values)
     (is_one_refused s.words kind NotInTheDomain values)
     (is_one_refused s.words kind EmptyValue values) (choosing_limit_at s (meants_at s name values)) e h
+
+pub choice_stops : (library : List Stored) (s : State) (choice name : List ℕ) (values : List Value) (cell : ℕ)
+    (kind : Kind) (e : Refusal) → cell_named s.names name ≡ Some cell → kind ≡ (kind_at s.kinds cell).kind →
+    (values_refusal s.words kind (is_taken_in s choice) values ≡ Some e) ⊎ (e ≡ Memory)
+    → (refusal_of library s (choose choice name values) ≡ Some e) ⊎ (e ≡ Memory)
+choice_stops library s choice name values cell kind e found is_kind (inl h) =
+    inl (choice_refused library s choice name values cell kind e found is_kind h)
+choice_stops library s choice name values cell kind e found is_kind (inr m) = inr m
 
 -- ---- no cell has the name
 
@@ -217,6 +235,182 @@ values_mean words kind taken values h =
     (is_one_refused words kind WrongKind values) (is_one_refused words kind NotInTheDomain values)
     (is_one_refused words kind EmptyValue values) h in
     all_mean words kind values x.0 x.1 x.3 x.4 x.5
+
+-- what the values mean is what they mean at a cell of the kind
+pub meanings_mean : (words : Vocabulary) (kind : Kind) (values : List Value) → All (Means words kind) values
+    → All (IsMeaning words kind) (meanings_of words kind values)
+meanings_mean words kind [] mean = λ k x l. absurd (omega (arith, l))
+meanings_mean words kind (value ∷ values) mean =
+    All-cons (IsMeaning words kind) (meaning_of words kind value) (meanings_of words kind values)
+    (value, All-head (Means words kind) value values mean)
+    (meanings_mean words kind values (All-tail (Means words kind) value values mean))
+
+-- the name is free
+pub free_name : (words : Vocabulary) (kind : Kind) (taken : Bool) (values : List Value)
+    → values_refusal words kind taken values ≡ None → taken ≡ false
+free_name words kind taken values h =
+    (rows_false (is_one_refused words kind NotAName values) (is_one_refused words kind NotANumber values) taken
+    (is_one_refused words kind WrongKind values) (is_one_refused words kind NotInTheDomain values)
+    (is_one_refused words kind EmptyValue values) h).2
+
+pub is_nobodys : (o : Option ℕ) (b : Bool) → (is_some o || b) ≡ false → (o ≡ None) × (b ≡ false)
+is_nobodys (Some p) b h = cc
+is_nobodys None b h = (refl, h)
+
+-- ---- one value after the other
+
+-- of two refusals, by their numbers
+pub earlier_before : (first : Option Refusal) (before now : Refusal) (a b : ℕ) → first ≡ Some before
+    → a ≡ number_of before → b ≡ number_of now → a ≤ b → before ≡ earlier first now
+earlier_before first before now a b is p q l =
+    subst (λ f. before ≡ earlier f now) (sym is)
+    (rw (le-leb (number_of before) (number_of now) (omega (arith, p, q, l))) refl)
+
+pub earlier_now : (first : Option Refusal) (before now : Refusal) (a b : ℕ) → first ≡ Some before
+    → a ≡ number_of before → b ≡ number_of now → b < a → now ≡ earlier first now
+earlier_now first before now a b is p q l =
+    subst (λ f. now ≡ earlier f now) (sym is)
+    (rw (lt-leb (number_of before) (number_of now) (omega (arith, p, q, l))) refl)
+
+-- what one value more adds to the rows
+row_more : (name number taken wrong outside empty : Bool) (e : Refusal) → IsValueRefusal e →
+    value_rows (name || (is_error NotAName (Err e) || false)) (number || (is_error NotANumber (Err e) || false)) taken
+    (wrong || (is_error WrongKind (Err e) || false)) (outside || (is_error NotInTheDomain (Err e) || false))
+    (empty || (is_error EmptyValue (Err e) || false))
+    ≡ Some (earlier (value_rows name number taken wrong outside empty) e)
+row_more true number taken wrong outside empty e no_name = refl
+row_more true number taken wrong outside empty e no_number = refl
+row_more true number taken wrong outside empty e wrong_kind = refl
+row_more true number taken wrong outside empty e not_inside = refl
+row_more true number taken wrong outside empty e no_element = refl
+row_more false true taken wrong outside empty e no_name = refl
+row_more false true taken wrong outside empty e no_number = refl
+row_more false true taken wrong outside empty e wrong_kind = refl
+row_more false true taken wrong outside empty e not_inside = refl
+row_more false true taken wrong outside empty e no_element = refl
+row_more false false true wrong outside empty e no_name = refl
+row_more false false true wrong outside empty e no_number = refl
+row_more false false true wrong outside empty e wrong_kind = refl
+row_more false false true wrong outside empty e not_inside = refl
+row_more false false true wrong outside empty e no_element = refl
+row_more false false false true outside empty e no_name = refl
+row_more false false false true outside empty e no_number = refl
+row_more false false false true outside empty e wrong_kind = refl
+row_more false false false true outside empty e not_inside = refl
+row_more false false false true outside empty e no_element = refl
+row_more false false false false true empty e no_name = refl
+row_more false false false false true empty e no_number = refl
+row_more false false false false true empty e wrong_kind = refl
+row_more false false false false true empty e not_inside = refl
+row_more false false false false true empty e no_element = refl
+row_more false false false false false true e no_name = refl
+row_more false false false false false true e no_number = refl
+row_more false false false false false true e wrong_kind = refl
+row_more false false false false false true e not_inside = refl
+row_more false false false false false true e no_element = refl
+row_more false false false false false false e no_name = refl
+row_more false false false false false false e no_number = refl
+row_more false false false false false false e wrong_kind = refl
+row_more false false false false false false e not_inside = refl
+row_more false false false false false false e no_element = refl
+
+or_none_more : (b : Bool) → (b || false) ≡ b
+or_none_more true = refl
+or_none_more false = refl
+
+one_more : (words : Vocabulary) (kind : Kind) (refusal : Refusal) (values : List Value) (value : Value) →
+    is_one_refused words kind refusal (values ++ value ∷ [])
+    ≡ (is_one_refused words kind refusal values || (is_error refusal (meaning_at words kind value) || false))
+one_more words kind refusal values value =
+    list_any-append (λ v. is_error refusal (meaning_at words kind v)) values (value ∷ [])
+
+-- a value that is refused
+pub refused_more : (words : Vocabulary) (kind : Kind) (taken : Bool) (values : List Value) (value : Value) (e : Refusal)
+    → meaning_at words kind value ≡ Err e →
+    values_refusal words kind taken (values ++ value ∷ []) ≡ Some (earlier (values_refusal words kind taken values) e)
+refused_more words kind taken values value e said =
+    (λ i. value_rows (one_more words kind NotAName values value i) (one_more words kind NotANumber values value i) taken
+    (one_more words kind WrongKind values value i) (one_more words kind NotInTheDomain values value i)
+    (one_more words kind EmptyValue values value i))
+    ∙ (λ i. value_rows (is_one_refused words kind NotAName values || (is_error NotAName (said i) || false))
+    (is_one_refused words kind NotANumber values || (is_error NotANumber (said i) || false)) taken
+    (is_one_refused words kind WrongKind values || (is_error WrongKind (said i) || false))
+    (is_one_refused words kind NotInTheDomain values || (is_error NotInTheDomain (said i) || false))
+    (is_one_refused words kind EmptyValue values || (is_error EmptyValue (said i) || false)))
+    ∙ row_more (is_one_refused words kind NotAName values) (is_one_refused words kind NotANumber values) taken
+    (is_one_refused words kind WrongKind values) (is_one_refused words kind NotInTheDomain values)
+    (is_one_refused words kind EmptyValue values) e
+    (value_refusal kind (elements_of_kind words kind) value e said)
+
+-- a value that means something
+pub meant_more : (words : Vocabulary) (kind : Kind) (taken : Bool) (values : List Value) (value : Value) (meant : Meant)
+    → meaning_at words kind value ≡ Ok meant →
+    values_refusal words kind taken (values ++ value ∷ []) ≡ values_refusal words kind taken values
+meant_more words kind taken values value meant said =
+    λ i. value_rows (same NotAName i) (same NotANumber i) taken (same WrongKind i) (same NotInTheDomain i)
+    (same EmptyValue i)
+  where
+    same : (e : Refusal) → is_one_refused words kind e (values ++ value ∷ []) ≡ is_one_refused words kind e values
+    same e = one_more words kind e values value
+        ∙ ap (λ r. is_one_refused words kind e values || (is_error e r || false)) said
+        ∙ or_none_more (is_one_refused words kind e values)
+
+-- These values were looked at: this is what refuses them, and where nothing does, this is what they mean.
+pub record IsJudged (words : Vocabulary) (kind : Kind) (taken : Bool) (values : List Value) (first : Option Refusal)
+    (meants : List Meant) : Type 0 where
+  pub first_is : first ≡ values_refusal words kind taken values
+  pub meants_are : first ≡ None → meants ≡ meanings_of words kind values
+
+pub judged_none : (words : Vocabulary) (kind : Kind) (taken : Bool) (first : Option Refusal) (meants : List Meant)
+    → first ≡ then_some taken NameTaken → meants ≡ [] → IsJudged words kind taken [] first meants
+judged_none words kind true first meants e none = record { first_is = e; meants_are = λ h. none }
+judged_none words kind false first meants e none = record { first_is = e; meants_are = λ h. none }
+
+pub judged_refused : (words : Vocabulary) (kind : Kind) (taken : Bool) (values : List Value) (value : Value)
+    (first : Option Refusal) (meants : List Meant) (e now : Refusal) → IsJudged words kind taken values first meants
+    → meaning_at words kind value ≡ Err e → now ≡ earlier first e
+    → IsJudged words kind taken (values ++ value ∷ []) (Some now) meants
+judged_refused words kind taken values value first meants e now judged said is = record {
+  first_is = ap Some (is ∙ ap (λ f. earlier f e) judged.first_is)
+      ∙ sym (refused_more words kind taken values value e said);
+  meants_are = λ h. cc;
+}
+
+pub judged_meant : (words : Vocabulary) (kind : Kind) (taken : Bool) (values : List Value) (value : Value)
+    (first : Option Refusal) (meants : List Meant) (meant : Meant) → IsJudged words kind taken values first meants
+    → meaning_at words kind value ≡ Ok meant
+    → IsJudged words kind taken (values ++ value ∷ []) first (meants ++ meant ∷ [])
+judged_meant words kind taken values value first meants meant judged said = record {
+  first_is = judged.first_is ∙ sym (meant_more words kind taken values value meant said);
+  meants_are = λ h.
+      (λ i. judged.meants_are h i ++ meant ∷ [])
+      ∙ ap (λ m. meanings_of words kind values ++ m ∷ [])
+      (sym (ap (λ r. result_unwrap_or r (Known Nothing)) said))
+      ∙ sym (map_push (meaning_of words kind) values value);
+}
+
+-- the values up to a place, and the one there
+pub first_values : (values : List declared.Value) (i : ℕ) (value : declared.Value) → i < length values
+    → value ≡ slice_index_or values i value →
+    map value_of (take (i + 1) values) ≡ map value_of (take i values) ++ value_of value ∷ []
+first_values values i value l is =
+    map_more value_of values i value l ∙ (λ j. map value_of (take i values) ++ value_of (sym is j) ∷ [])
+
+pub all_judged : (words : Vocabulary) (kind : Kind) (taken : Bool) (values : List declared.Value)
+    (first : Option Refusal) (meants : List Meant) (k : ℕ) → length values ≤ k
+    → IsJudged words kind taken (map value_of (take k values)) first meants
+    → IsJudged words kind taken (map value_of values) first meants
+all_judged words kind taken values first meants k l judged =
+    subst (λ vs. IsJudged words kind taken (map value_of vs) first meants) (take_all k values l) judged
+
+-- as many as there are values
+pub meants_count : (words : Vocabulary) (kind : Kind) (values : List declared.Value) (meants : List told.Meant)
+    → map meant_of meants ≡ meanings_of words kind (map value_of values) → length meants ≡ length values
+meants_count words kind values meants e =
+    sym (length-map meants meant_of) ∙ ap length e ∙ length-map (map value_of values) (meaning_of words kind)
+    ∙ length-map values value_of
+
+-- ---- the choice is made
 
 meants_are : (s : State) (name : List ℕ) (cell : ℕ) (kind : Kind) (values : List Value)
     → cell_named s.names name ≡ Some cell → kind ≡ (kind_at s.kinds cell).kind → All (Means s.words kind) values

@@ -33,8 +33,6 @@ use Rattle.prop_amb.proofs.RefutedLaws.{covered_choice}
 use Rattle.prop_workbench.specs.Machine.{State}
 use Rattle.prop_workbench.specs.Refusing.{choosing_limit}
 use Rattle.prop_scheduler.specs.Watching.{IsWatched}
-use Rattle.prop_workbench.proofs.PremiseLemmas.{under_way_agree, watched_agree}
-use Rattle.prop_workbench.proofs.StandingLemmas.{set_before}
 use Rattle.prop_workbench.specs.Sessions.{AreKnown, IsAtWork}
 
 -- ---- the limits

@@ -33,7 +33,7 @@ use Rattle.prop_workbench.specs.Machine.{State, problem_in, choices_in, worldvie
 use Rattle.prop_workbench.specs.inner.Questions.{MaySay}
 use Rattle.prop_workbench.specs.Running.{Settled, IsSettledValue, IsTooFewToReduce}
 use Rattle.prop_workbench.specs.declared.session.Session.{Session}
-use Rattle.prop_workbench.specs.Sessions.{state_from, library_of, AreKnown, IsInOrder}
+use Rattle.prop_workbench.specs.Sessions.{state_from, AreKnown, IsInOrder}
 use Rattle.prop_workbench.specs.inner.Sessions.{Keeps}
 use Rattle.prop_workbench.proofs.AskLemmas.{may_be_least, may_not_be_reduced, settled_value, worldview_in}
 use Rattle.prop_workbench.proofs.PremiseLemmas.{support_known}

@@ -1,24 +1,17 @@
 -- What is known of a line that was carried out.
-use Rattle.std.proofs.Common.{◌≡◌, ◌∙◌, ℕ, List, [], Option, Some, None, Result, Ok, Err, inl, inr, sym, ap, subst}
+use Rattle.std.proofs.Common.{◌≡◌, ℕ, List, [], Option, Result}
 use Rattle.std.proofs.lemmas.List.Elements.{All-nil}
 use Rattle.prop_refusals.specs.declared.refusal.Refusal.{Refusal}
 use Rattle.prop_refusals.specs.declared.refusal.Refusal.TheVariants.{Memory}
-use Rattle.prop_numbers.specs.Sets.{Members, set_of, IsSame}
-use Rattle.prop_premises.specs.Origins.{Origin, believed_in, choices_of}
-use Rattle.prop_premises.specs.ChoiceLists.{worldview}
+use Rattle.prop_numbers.specs.Sets.{set_of}
 use Rattle.prop_procedures.specs.Stored.{Stored}
-use Rattle.prop_cells.specs.Data.{Data}
 use Rattle.prop_amb.specs.Refuted.{IsCovered}
-use Rattle.prop_language.specs.Commands as commands
 use Rattle.prop_language.specs.Commands.{Command}
-use Rattle.prop_engine.specs.Answers.{Answer, Silent, Done, Text, Refused}
-use Rattle.prop_workbench.specs.Machine.{State, choices_in, worldview_at}
-use Rattle.prop_workbench.specs.Reasons.{IsLeanReply, IsLeanAnswer}
-use Rattle.prop_workbench.specs.Refusing.{refusal_of}
+use Rattle.prop_engine.specs.Answers.{Answer, Refused}
+use Rattle.prop_workbench.specs.Machine.{choices_in}
 use Rattle.prop_language.specs.Reading.{IsReading}
-use Rattle.prop_workbench.specs.Steps.{Shown, Covers, Runs, CarriesUnless, Follows, IsStepOf}
+use Rattle.prop_workbench.specs.Steps.{Shown, Covers, IsStepOf}
 use Rattle.prop_workbench.specs.inner.Steps.{IsFollowed}
-use Rattle.prop_workbench.proofs.PremiseLemmas.{same_set}
 use Rattle.prop_workbench.proofs.StepLemmas.{still_lacks}
 
 -- nothing that was named is covered by whatever was learned

@@ -1,7 +1,7 @@
 -- What is entailed holds the points that satisfy a state, and none satisfy what is refuted.
-use Rattle.std.proofs.Common.{◌≡◌, ℕ, List, get_or, map, refl}
+use Rattle.std.proofs.Common.{ℕ, List, get_or, map, refl}
 use Rattle.prop_lattice.specs.declared.info.Info.{Info}
-use Rattle.prop_lattice.specs.Points.{Point, Holds}
+use Rattle.prop_lattice.specs.Points.{Point}
 use Rattle.prop_numbers.specs.Sets.{Members, IsPart, set_of}
 use Rattle.prop_premises.specs.Origins.{IsNumbered}
 use Rattle.prop_premises.specs.ChoiceLists.{worldview}

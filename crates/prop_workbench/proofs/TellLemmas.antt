@@ -1,7 +1,6 @@
 -- Statements under a premise: what refuses one, and what it makes.
-use Rattle.std.proofs.Common.{◌≡◌, ◌∙◌, ℕ, ◌<◌, ◌≤◌, Bool, true, false, List, [], ◌∷◌, ◌++◌, ◌⊎◌, ◌↔◌, is_some}
+use Rattle.std.proofs.Common.{◌≡◌, ℕ, Bool, true, false, List, [], ◌∷◌, ◌++◌, is_some}
 use Rattle.std.proofs.Common.{if◌then◌else◌, refl}
-use Rattle.prop_refusals.specs.declared.refusal.Limit.TheVariants.{Statements}
 use Rattle.prop_vocabulary.specs.Names.{number_in}
 use Rattle.prop_vocabulary.specs.Vocabulary.{Vocabulary, with_symbol}
 

@@ -1,8 +1,8 @@
 -- What a value says at a cell, and why it is refused.
-use Rattle.std.proofs.Common.{◌≡◌, ◌∙◌, ℕ, ℤ, pos, neg_ℤ, ◌≤ℤ◌, ◌<◌, ◌≤◌, ◌^◌, ◌/◌, zero, suc, bytes_eq, length, Bool}
+use Rattle.std.proofs.Common.{◌≡◌, ◌∙◌, ℕ, ℤ, neg_ℤ, ◌≤ℤ◌, ◌<◌, ◌≤◌, ◌^◌, ◌/◌, zero, suc, bytes_eq, length, Bool}
 use Rattle.std.proofs.Common.{true, false, cond, ◌&&◌, ◌||◌, List, [], ◌∷◌, Option, Some, None, Result, Ok, Err}
 use Rattle.std.proofs.Common.{is_none, ◌⊎◌, inl, inr, refl, ap, subst, arith, slice_index_or, eq-eqb}
-use Rattle.std.specs.Prelude.{⊤, int_le, int_lt}
+use Rattle.std.specs.Prelude.{int_le, int_lt}
 use Rattle.std.specs.Option.{option_map_or, option_and_then}
 use Rattle.std.specs.List.{list_all}
 use Rattle.std.proofs.lemmas.Int.{ints}
@@ -15,7 +15,7 @@ use Rattle.prop_refusals.specs.declared.refusal.Refusal.TheVariants.{NotAName, N
 use Rattle.prop_refusals.specs.declared.refusal.Refusal.TheVariants.{NotInTheDomain, EmptyValue, IsAChoice}
 use Rattle.prop_lattice.specs.Ends.{AreEnds, AreSome, ends_or_not, some_or_not, span_if, span_from, elements_if}
 use Rattle.prop_lattice.specs.Ends.{elements_from}
-use Rattle.prop_refusals.specs.Refusals.{most, first_of, when}
+use Rattle.prop_refusals.specs.Refusals.{first_of, when}
 use Rattle.prop_procedures.specs.Stored.{Stored}
 use Rattle.prop_procedures.specs.declared.shape.Kinded.{Kinded}
 use Rattle.std.proofs.Math.Pow.{pow_mono}
@@ -34,7 +34,6 @@ use Rattle.prop_vocabulary.specs.Texts.{elements_of_kind}
 use Rattle.prop_workbench.specs.Machine.{State}
 use Rattle.prop_workbench.specs.Refusing.{refusal_of, stating_limit_at, meaning_at, is_error}
 use Rattle.prop_workbench.specs.inner.Refusing.{is_choice_told}
-use Rattle.prop_workbench.specs.Effects.{stated}
 use Rattle.prop_workbench.specs.inner.Effects.{stating, MayMean}
 use Rattle.prop_vocabulary.specs.Cells.{cell_named}
 

@@ -1,6 +1,6 @@
 -- What a vocabulary that grows keeps.
-use Rattle.std.proofs.Common.{◌≡◌, ◌∙◌, ℕ, ◌<◌, true, List, [], ◌∷◌, ◌++◌, Option, Some, None, All, length, slice_get}
-use Rattle.std.proofs.Common.{unwrap_or, if◌then◌else◌, rules, refl, sym, ap, arith}
+use Rattle.std.proofs.Common.{◌≡◌, ◌∙◌, ℕ, ◌<◌, List, [], ◌∷◌, ◌++◌, Option, Some, None, All, length, slice_get}
+use Rattle.std.proofs.Common.{unwrap_or, rules, refl, sym, ap, arith}
 use Rattle.std.proofs.lemmas.List.{length-append}
 use Rattle.std.proofs.lemmas.Option.{unwrap_or-slice_get}
 use Rattle.std.proofs.Math.ListN.{get_or-append}

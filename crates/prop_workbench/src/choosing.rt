@@ -1,14 +1,14 @@
 //! The command that makes a choice.
-ghost use Rattle.std.specs.Prelude.{◌≡◌, ◌≤◌, ◌⊎◌, ℕ, None, Some, Ok, All, IfOk, IfErr, OnOk};
+ghost use Rattle.std.specs.Prelude.{◌≡◌, ◌≤◌, ◌⊎◌, None, Some, IfOk, IfErr, OnOk};
 ghost use Rattle.std.specs.Prelude.{OnErr, map, length};
 ghost use Rattle.prop_refusals.specs.declared.refusal.Refusal.TheVariants.{Memory};
 ghost use Rattle.prop_language.specs.Said.{value_of};
+ghost use Rattle.prop_vocabulary.specs.Said.{meant_of};
 ghost use Rattle.prop_vocabulary.specs.Vocabulary.{with_first_symbols};
-ghost use Rattle.prop_workbench.specs.inner.Choosing.{is_one_refused, values_refusal, meaning_of};
-ghost use Rattle.prop_workbench.specs.inner.Choosing.{Means, meanings_of, infos_meant};
+ghost use Rattle.prop_workbench.specs.inner.Choosing.{earlier, values_refusal};
+ghost use Rattle.prop_workbench.specs.inner.Choosing.{meanings_of, infos_meant};
 ghost use Rattle.prop_workbench.specs.Effects.{info_meant, with_meants};
-ghost use Rattle.prop_workbench.specs.Refusing.{meaning_at, is_error, with_meant, naming_limit};
-ghost use Rattle.prop_workbench.specs.Refusing.{all_naming_limit};
+ghost use Rattle.prop_workbench.specs.Refusing.{with_meant, naming_limit, all_naming_limit};
 ghost use Rattle.prop_compound.specs.Kinds.{IsKnown};
 
 use crate::session::Session;
@@ -20,106 +20,91 @@ use prop_scheduler::{Order, state_sides};
 use prop_vocabulary::{Meant, Vocabulary};
 use std::alloc::Global;
 
-/// Whether the value is refused so at a cell of the kind.
-fn is_refused(words: &Vocabulary, kind: Kind, refusal: Refusal, value: &Value) -> bool
-    requires { IsKnown words.now kind }
-    ensures { result ≡ is_error refusal (meaning_at words.now kind (value_of value.now)) }
+/// Of what was met before, where there was anything, and what is met now, what comes first: of the
+/// refusals that a choice's name and values meet, the numbers are in the order of refusals.
+fn earlier(before: Option<Refusal>, now: Refusal) -> Refusal
+    ensures { result ≡ earlier before now }
 {
-    match meaning(words, kind, value) {
-        Ok(_) => false,
-        Err(other) => other.number() == refusal.number(),
-    }
-}
-
-/// Whether one of the values is refused so at a cell of the kind.
-fn is_one_refused(words: &Vocabulary, kind: Kind, refusal: Refusal, values: &[Value]) -> bool
-    requires { IsKnown words.now kind }
-    ensures { result ≡ is_one_refused words.now kind refusal (map value_of values.now) }
-{
-    for value in values {
-        if is_refused(words, kind, refusal, value) {
-            return true;
+    match before {
+        Some(before) => {
+            if before.number() <= now.number() {
+                before
+            } else {
+                now
+            }
         }
+        None => now,
     }
-    false
 }
 
-/// Why a choice between the values at a cell of the kind is refused, whose name may be taken: the
-/// first refusal in the order of refusals.
-fn first_refusal(
+/// What each value means at a cell of the kind, in order, or why a choice between them is refused,
+/// whose name may be taken: the first refusal in the order of refusals, or want of memory.
+fn meanings<'a>(
+    alloc: Global,
     words: &Vocabulary,
     kind: Kind,
     is_taken: bool,
-    values: &[Value],
-) -> Option<Refusal>
+    values: &[Value<'a>],
+) -> Result<Vec<Meant<'a>>, Refusal>
     requires { IsKnown words.now kind }
-    ensures { result ≡ values_refusal words.now kind is_taken (map value_of values.now) }
+    ensures ok { IfOk result (λ meants.
+        map meant_of meants.items ≡ meanings_of words.now kind (map value_of values.now)) }
+    ensures none { OnOk result
+        (values_refusal words.now kind is_taken (map value_of values.now) ≡ None) }
+    ensures err { IfErr result (λ e.
+        (values_refusal words.now kind is_taken (map value_of values.now) ≡ Some e)
+        ⊎ (e ≡ Memory)) }
 {
-    if is_one_refused(words, kind, Refusal::NotAName, values) {
-        Some(Refusal::NotAName)
-    } else if is_one_refused(words, kind, Refusal::NotANumber, values) {
-        Some(Refusal::NotANumber)
-    } else if is_taken {
-        Some(Refusal::NameTaken)
-    } else if is_one_refused(words, kind, Refusal::WrongKind, values) {
-        Some(Refusal::WrongKind)
-    } else if is_one_refused(words, kind, Refusal::NotInTheDomain, values) {
-        Some(Refusal::NotInTheDomain)
-    } else if is_one_refused(words, kind, Refusal::EmptyValue, values) {
-        Some(Refusal::EmptyValue)
-    } else {
-        None
+    let Ok(mut meants) = Vec::with_capacity(alloc, values.len()) else {
+        return Err(Refusal::Memory);
+    };
+    let mut first = is_taken.then_some(Refusal::NameTaken);
+    for value in values {
+        match meaning(words, kind, value) {
+            Ok(meant) => match meants.push(meant) {
+                Ok(()) => {}
+                Err(_) => return Err(Refusal::Memory),
+            },
+            Err(refusal) => first = Some(earlier(first, refusal)),
+        }
+    }
+    match first {
+        Some(refusal) => Err(refusal),
+        None => Ok(meants),
     }
 }
 
-/// The information that a value means; the symbol that it names is new or known.
-fn info_of(words: &mut Vocabulary, kind: Kind, value: &Value) -> Result<Info, Refusal>
-    requires known { IsKnown words.old kind }
-    requires means { Means words.old kind (value_of value.now) }
-    ensures info { IfOk result (λ i.
-        i ≡ info_meant words.old (meaning_of words.old kind (value_of value.now))) }
-    ensures words { OnOk result (words.new ≡ with_meant words.old
-        (meaning_of words.old kind (value_of value.now))) }
-    ensures fits { OnOk result (naming_limit words.old
-        (meaning_of words.old kind (value_of value.now)) ≡ None) }
+/// The information that is meant; the symbol that is named is new or known.
+fn info_of(words: &mut Vocabulary, meant: Meant) -> Result<Info, Refusal>
+    ensures info { IfOk result (λ i. i ≡ info_meant words.old (meant_of meant.entry)) }
+    ensures words { OnOk result (words.new ≡ with_meant words.old (meant_of meant.entry)) }
+    ensures fits { OnOk result (naming_limit words.old (meant_of meant.entry) ≡ None) }
     ensures err { IfErr result (λ e.
-        (naming_limit words.old (meaning_of words.old kind (value_of value.now)) ≡ Some e)
-        ⊎ (e ≡ Memory)) }
+        (naming_limit words.old (meant_of meant.entry) ≡ Some e) ⊎ (e ≡ Memory)) }
     ensures same { OnErr result (words.new ≡ words.old) }
 {
-    match meaning(words, kind, value)? {
+    match meant {
         Meant::Known(info) => Ok(info),
         Meant::Name(symbol) => Ok(Info::Sym(words.add_symbol(symbol)?)),
     }
 }
 
-/// The information that each value means, in order; the symbols that they name are new or known.
-fn infos_of(
-    alloc: Global,
-    words: &mut Vocabulary,
-    kind: Kind,
-    values: &[Value],
-) -> Result<Vec<Info>, Refusal>
-    requires known { IsKnown words.old kind }
-    requires mean { All (Means words.old kind) (map value_of values.now) }
+/// The information of each that is meant, in order; the symbols that are named are new or known.
+fn infos_of(alloc: Global, words: &mut Vocabulary, meants: &[Meant]) -> Result<Vec<Info>, Refusal>
     ensures infos { IfOk result (λ infos.
-        infos.items ≡ infos_meant words.old
-        (meanings_of words.old kind (map value_of values.now))) }
-    ensures words { OnOk result (words.new ≡ with_meants words.old
-        (meanings_of words.old kind (map value_of values.now))) }
-    ensures fits { OnOk result (all_naming_limit words.old
-        (meanings_of words.old kind (map value_of values.now)) ≡ None) }
+        infos.items ≡ infos_meant words.old (map meant_of meants.now)) }
+    ensures words { OnOk result (words.new ≡ with_meants words.old (map meant_of meants.now)) }
+    ensures fits { OnOk result (all_naming_limit words.old (map meant_of meants.now) ≡ None) }
     ensures err { IfErr result (λ e.
-        (all_naming_limit words.old (meanings_of words.old kind (map value_of values.now)) ≡ Some e)
-        ⊎ (e ≡ Memory)) }
+        (all_naming_limit words.old (map meant_of meants.now) ≡ Some e) ⊎ (e ≡ Memory)) }
     ensures domains { words.new.domains ≡ words.old.domains }
     ensures back { with_first_symbols words.new (length words.old.symbols) ≡ words.old }
 {
-    let Ok(mut infos) = Vec::with_capacity(alloc, values.len()) else {
+    let Ok(mut infos) = Vec::with_capacity(alloc, meants.len()) else {
         return Err(Refusal::Memory);
     };
-    for value in values {
-        match info_of(words, kind, value) {
+    for meant in meants {
+        match info_of(words, *meant) {
             Ok(info) => match infos.push(info) {
                 Ok(()) => {}
                 Err(_) => return Err(Refusal::Memory),
@@ -140,7 +125,8 @@ impl<R: Rule + Drop, O: Order + Drop> Session<R, O> {
     ghost use Rattle.prop_procedures.specs.Fitting.{kind_at};
     ghost use Rattle.prop_vocabulary.specs.Values.{Known};
     ghost use Rattle.prop_cells.specs.Sides.{sides_at};
-    ghost use Rattle.prop_workbench.specs.inner.Choosing.{Means, meanings_of};
+    ghost use Rattle.prop_vocabulary.specs.Said.{meant_of};
+    ghost use Rattle.prop_workbench.specs.inner.Choosing.{IsMeaning};
     ghost use Rattle.prop_workbench.specs.Effects.{chosen};
     ghost use Rattle.prop_workbench.specs.inner.Effects.{MayMean};
     ghost use Rattle.prop_workbench.specs.Refusing.{choosing_limit, choosing_limit_at};
@@ -173,9 +159,9 @@ impl<R: Rule + Drop, O: Order + Drop> Session<R, O> {
             None => return Err(Refusal::NoSuchCell),
         };
         let kind = self.live.network().data().kind(cell).kind;
-        match first_refusal(&self.words, kind, is_taken, values) {
-            Some(refusal) => Err(refusal),
-            None => self.choose_said(choice, cell, kind, values),
+        match meanings(self.alloc, &self.words, kind, is_taken, values) {
+            Ok(meants) => self.choose_meant(choice, cell, &meants),
+            Err(refusal) => Err(refusal),
         }
     }
 
@@ -188,41 +174,34 @@ impl<R: Rule + Drop, O: Order + Drop> Session<R, O> {
         premises.is_choice(name) || premises.find(name).is_ok()
     }
 
-    /// A choice with a new name between what the values say at a cell of the kind, each of which
-    /// means something there.
-    fn choose_said(
-        &mut self,
-        choice: &str,
-        cell: usize,
-        kind: Kind,
-        values: &[Value],
-    ) -> Result<(), Refusal>
+    /// A choice with a new name between what is meant at a cell, where there is room.
+    fn choose_meant(&mut self, choice: &str, cell: usize, meants: &[Meant]) -> Result<(), Refusal>
         requires sound { IsInOrder R.value_of self.old }
         requires cell { cell < length self.old.live.network.cells.kinds }
-        requires kind { kind ≡ (kind_at self.old.live.network.cells.kinds cell).kind }
-        requires mean { All (Means self.old.words kind) (map value_of values.now) }
+        requires mean { All
+            (IsMeaning self.old.words (kind_at self.old.live.network.cells.kinds cell).kind)
+            (map meant_of meants.now) }
         requires new { premise_number self.old.search.premises choice.now ≡ None }
         requires free { is_choice self.old.search.premises choice.now ≡ false }
-        requires some { 2 ≤ length values.now }
-        requires few { length values.now ≤ 8 }
+        requires some { 2 ≤ length meants.now }
+        requires few { length meants.now ≤ 8 }
         ensures keeps { Keeps R.value_of self.old self.new }
-        ensures fits { OnOk result (choosing_limit_at (state_of self.old)
-            (Some (meanings_of self.old.words kind (map value_of values.now))) ≡ None) }
+        ensures fits { OnOk result
+            (choosing_limit_at (state_of self.old) (Some (map meant_of meants.now)) ≡ None) }
         ensures ok { OnOk result (state_of self.new ≡ chosen (state_of self.old) choice.now cell
-            (meanings_of self.old.words kind (map value_of values.now))) }
+            (map meant_of meants.now)) }
         ensures err { IfErr result (λ e.
-            (choosing_limit_at (state_of self.old)
-            (Some (meanings_of self.old.words kind (map value_of values.now))) ≡ Some e)
+            (choosing_limit_at (state_of self.old) (Some (map meant_of meants.now)) ≡ Some e)
             ⊎ (e ≡ Memory)) }
         ensures err_same { OnErr result (state_of self.new ≡ state_of self.old) }
         ensures stirred { HasStirred self.old (self.old.search.list ++ 1 ∷ []) result self.new }
     {
-        match self.choosing_limit(values.len()) {
+        match self.choosing_limit(meants.len()) {
             Some(refusal) => return Err(refusal),
             None => {}
         }
         let count = self.words.symbol_count();
-        match infos_of(self.alloc, &mut self.words, kind, values) {
+        match infos_of(self.alloc, &mut self.words, meants) {
             Ok(infos) => match self.choose_between(choice, cell, &infos) {
                 Ok(()) => Ok(()),
                 Err(refusal) => {

@@ -1,5 +1,6 @@
 -- The values of a choice: what refuses them at a cell of a kind, and what they say there.
-use Rattle.std.specs.Prelude.{◌≡◌, Bool, List, [], ◌∷◌, Option, Ok, map}
+use Rattle.std.specs.Prelude.{◌≡◌, Bool, List, [], ◌∷◌, Option, Some, None, Ok, map, nat_le}
+use Rattle.std.specs.Prelude.{if◌then◌else◌}
 use Rattle.std.specs.List.{list_any}
 use Rattle.std.specs.Result.{result_unwrap_or}
 use Rattle.prop_lattice.specs.declared.info.Info.{Info}
@@ -9,12 +10,18 @@ use Rattle.prop_refusals.specs.declared.refusal.Refusal.{Refusal}
 use Rattle.prop_refusals.specs.declared.refusal.Refusal.TheVariants.{NotAName, NotANumber}
 use Rattle.prop_refusals.specs.declared.refusal.Refusal.TheVariants.{NameTaken, WrongKind}
 use Rattle.prop_refusals.specs.declared.refusal.Refusal.TheVariants.{NotInTheDomain, EmptyValue}
-use Rattle.prop_refusals.specs.Refusals.{first_of, when}
+use Rattle.prop_refusals.specs.Refusals.{first_of, when, number_of}
 use Rattle.prop_language.specs.Commands.{Value}
 use Rattle.prop_vocabulary.specs.Values.{Meant, Known}
 use Rattle.prop_vocabulary.specs.Vocabulary.{Vocabulary}
 use Rattle.prop_workbench.specs.Refusing.{meaning_at, is_error, with_meant}
 use Rattle.prop_workbench.specs.Effects.{info_meant}
+
+-- what comes first, of what was met before and what is met now, where their numbers are in the
+-- order of refusals
+abbrev pub earlier : Option Refusal → Refusal → Refusal
+earlier None now = now
+earlier (Some before) now = if nat_le (number_of before) (number_of now) then before else now
 
 -- one of the values is refused so at a cell of the kind
 abbrev pub is_one_refused : Vocabulary → Kind → Refusal → List Value → Bool
@@ -42,6 +49,10 @@ meaning_of words kind value = result_unwrap_or (meaning_at words kind value) (Kn
 -- the value means something at a cell of the kind
 abbrev pub Means : Vocabulary → Kind → Value → Type 0
 Means words kind value = meaning_at words kind value ≡ Ok (meaning_of words kind value)
+
+-- some value means it at a cell of the kind
+abbrev pub IsMeaning : Vocabulary → Kind → Meant → Type 0
+IsMeaning words kind meant = (value : Value) × (meaning_at words kind value ≡ Ok meant)
 
 abbrev pub meanings_of : Vocabulary → Kind → List Value → List Meant
 meanings_of words kind values = map (meaning_of words kind) values

@@ -9,7 +9,7 @@ use Rattle.prop_procedures.specs.declared.shape.Param.{Param}
 use Rattle.prop_procedures.specs.Stored.{Stored}
 use Rattle.prop_scheduler.specs.Turns.{IsSettled}
 use Rattle.prop_amb.specs.declared.outcome.Outcome as ends
-use Rattle.prop_amb.specs.declared.outcome.Outcome.TheVariants.{Settled, Contradiction, Unsettled}
+use Rattle.prop_amb.specs.declared.outcome.Outcome.TheVariants.{Settled, Unsettled}
 use Rattle.prop_amb.specs.Refuted.{IsCovered}
 use Rattle.prop_amb.specs.Settling.{IfContradiction}
 use Rattle.prop_amb.specs.Search as search

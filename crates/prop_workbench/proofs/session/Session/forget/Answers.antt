@@ -1,6 +1,5 @@
-use Rattle.std.proofs.Common.{◌≡◌, ◌∙◌, false, Some, Ok, Err, refl, ap, inl, inr}
+use Rattle.std.proofs.Common.{◌≡◌, ◌∙◌, false, Some, Ok, Err, refl, ap, inl}
 use Rattle.std.proofs.lemmas.Result.{err_from_is_err_and}
-use Rattle.prop_refusals.specs.declared.refusal.Refusal.TheVariants.{Memory}
 use Rattle.prop_procedures.specs.Kept.{stored_of}
 use Rattle.prop_numbers.specs.Sets.{set_of}
 use Rattle.prop_premises.specs.Origins.{premise_number, is_choice}
@@ -10,7 +9,7 @@ use Rattle.prop_cells.specs.Forgetting.{forgotten}
 use Rattle.prop_cells.proofs.ForgettingLaws.{forgets_data}
 use Rattle.prop_amb.specs.Search.{Stand}
 use Rattle.prop_amb.specs.Moving.{restarted}
-use Rattle.prop_workbench.specs.Sessions.{state_of, state_from, shown_of, work_of}
+use Rattle.prop_workbench.specs.Sessions.{state_of, state_from, shown_of}
 use Rattle.prop_workbench.proofs.BeliefLemmas.{found_free}
 use Rattle.prop_workbench.proofs.StandingLemmas.{forgotten_at_work}
 use Rattle.prop_workbench.proofs.ForgettingLemmas.{forget_obeyed, forget_refused, missing_from}

@@ -1,5 +1,4 @@
 use Rattle.std.proofs.Common.{◌≡◌, ◌∙◌, List, ℕ, codes, refl, ap, inl, inr, Some}
-use Rattle.prop_lattice.specs.declared.info.Info.{Info}
 use Rattle.prop_numbers.specs.Sets.{Members, set_of}
 use Rattle.prop_procedures.specs.Kept.{stored_of}
 use Rattle.prop_cells.specs.Data.{beliefs}

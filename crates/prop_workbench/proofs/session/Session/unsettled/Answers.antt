@@ -1,9 +1,7 @@
-use Rattle.std.proofs.Common.{refl, inr}
+use Rattle.std.proofs.Common.{refl}
 use Rattle.prop_procedures.specs.Kept.{stored_of}
 use Rattle.prop_workbench.specs.Machine.{worldview_at}
 use Rattle.prop_workbench.specs.Sessions.{state_of, work_of}
-use Rattle.prop_workbench.specs.inner.Questions.{command_of}
-use Rattle.prop_refusals.specs.declared.refusal.Refusal.TheVariants.{Memory}
 use Rattle.prop_workbench.proofs.AskLemmas.{may_say_unsettled}
 use Rattle.prop_workbench.proofs.ReasonLemmas.{lean_bare, so_far_bare}
 use Rattle.prop_workbench.proofs.session.Session.unsettled.Goals as goal
