@@ -52,12 +52,12 @@ pub fn alert_shifted<R: Rule + Drop>(live: &mut Live<R>, before: &Worldview, aft
 {
     let network = &live.network;
     let agenda = &mut live.agenda;
-    for cell in 0..network.cells() {
-        if network.shifted(cell, before, after) {
-            agenda.alert_all(network.readers(cell));
-            agenda.alert_all(network.writers(cell));
-            agenda.watch(cell);
-        }
+    let mut next = network.next_shifted(0, before, after);
+    while let Some(cell) = next {
+        agenda.alert_all(network.readers(cell));
+        agenda.alert_all(network.writers(cell));
+        agenda.watch(cell);
+        next = network.next_shifted(cell + 1, before, after);
     }
 }
 
@@ -76,10 +76,10 @@ pub fn alert_grown<R: Rule + Drop>(live: &mut Live<R>, before: &Worldview, after
 {
     let network = &live.network;
     let agenda = &mut live.agenda;
-    for cell in 0..network.cells() {
-        if network.shifted(cell, before, after) {
-            agenda.alert_all(network.readers(cell));
-            agenda.watch(cell);
-        }
+    let mut next = network.next_shifted(0, before, after);
+    while let Some(cell) = next {
+        agenda.alert_all(network.readers(cell));
+        agenda.watch(cell);
+        next = network.next_shifted(cell + 1, before, after);
     }
 }
