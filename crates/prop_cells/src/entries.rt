@@ -1,11 +1,12 @@
 //! The entries of the cells, and which premises bear on which of them.
-ghost use Rattle.std.specs.Prelude.{◌≡◌, ◌≢◌, ◌<◌, ◌≤◌, ℕ, [], ◌∷◌, ◌++◌, length, map, take};
-ghost use Rattle.std.specs.Prelude.{IfSome, OnOk, OnErr, Contains, IsTrue};
+ghost use Rattle.std.specs.Prelude.{◌≡◌, ◌≢◌, ◌<◌, ◌≤◌, ◌+◌, ℕ, [], ◌∷◌, ◌++◌, length, map};
+ghost use Rattle.std.specs.Prelude.{take, OnOk, OnErr, Contains, IsTrue};
 ghost use Rattle.prop_numbers.specs.Sets.{set_of, is_at_most_one_of};
 ghost use Rattle.prop_cells.specs.Data.{beliefs, AddsAt, TrimsAt, Entry, content_of};
 ghost use Rattle.prop_cells.specs.Forgetting.{not_on};
 ghost use Rattle.prop_cells.specs.inner.Sides.{StandsAt, entries_below};
 
+use crate::bearing::{agree_at, bear};
 use crate::contents::{add_to, drop_from, is_shifted, trim_at};
 use crate::dropping::drop_entries;
 use prop_lattice::Info;
@@ -20,8 +21,9 @@ const BLOCK: usize = 64;
 /// How many cells are a region: as many blocks as a block has cells.
 const REGION: usize = 4_096;
 
-/// The entries of each cell, and for each block and each region the premises that some entry of it
-/// may rest on. Where another worldview believes the same of these, no cell of it shifts.
+/// The entries of each cell, and for each block and each region of cells the premises on which some
+/// entry of theirs may rest. Where two worldviews believe the same of these, they believe the same
+/// of the cells. What an entry rests on stays there when the entry goes.
 #[derive(Drop)]
 pub(crate) struct Entries {
     cells: Vec<Tms<Info>>,
@@ -32,14 +34,14 @@ pub(crate) struct Entries {
 impl Model for Entries {
     ghost use Rattle.std.specs.Prelude.{List};
     ghost use Rattle.prop_cells.specs.Data.{Entry};
-    ghost use Rattle.prop_cells.specs.inner.Bearing.{BearOn, AreAmong};
+    ghost use Rattle.prop_cells.specs.inner.Bearing.{BearOn};
 
     ghost Value = { List (List Entry) };
 
     ghost view = { λ e. e.cells.items };
 
-    ghost invariant = { λ e. BearOn e.cells.items e.blocks.items × AreAmong e.blocks.items
-        e.regions.items };
+    ghost invariant = { λ e. BearOn 64 e.cells.items e.blocks.items
+        × BearOn 4_096 e.cells.items e.regions.items };
 }
 
 impl Entries {
@@ -63,17 +65,11 @@ impl Entries {
     }
 
     /// One more cell, without entries. After want of memory nothing has changed.
-    pub(crate) fn push_cell(&mut self, alloc: Global) -> Result<(), AllocError>
+    pub(crate) fn push_cell(&mut self) -> Result<(), AllocError>
         ensures ok { OnOk result (self.new ≡ self.old ++ [] ∷ []) }
         ensures err { OnErr result (self.new ≡ self.old) }
     {
-        let cell = self.cells.len();
-        if cell / REGION >= self.regions.len() {
-            self.regions.push(PremiseSet::empty(alloc))?;
-        }
-        if cell / BLOCK >= self.blocks.len() {
-            self.blocks.push(PremiseSet::empty(alloc))?;
-        }
+        let alloc = *self.cells.allocator();
         self.cells.push(Tms::new(alloc))?;
         Ok(())
     }
@@ -83,15 +79,6 @@ impl Entries {
         ensures { self.new ≡ take count self.old }
     {
         self.cells.truncate(count);
-    }
-
-    /// Some entry of a cell may rest on these premises.
-    fn bear(&mut self, cell: usize, support: &PremiseSet) -> Result<(), AllocError>
-        requires { cell < length self.old }
-        ensures { self.new ≡ self.old }
-    {
-        self.regions[cell / REGION].unite(support)?;
-        self.blocks[cell / BLOCK].unite(support)
     }
 
     /// Adds an entry to a cell. After want of memory nothing has changed.
@@ -108,8 +95,10 @@ impl Entries {
             (record { value = value; support = support })) }
         ensures err { OnErr result (self.new ≡ self.old) }
     {
-        self.bear(cell, &support)?;
-        add_to(&mut self.cells, cell, value, support)
+        bear(&mut self.regions, cell / REGION, &support)?;
+        bear(&mut self.blocks, cell / BLOCK, &support)?;
+        add_to(&mut self.cells, cell, value, support)?;
+        Ok(())
     }
 
     /// Drops entries of a cell as `trim_at` does. It takes no memory.
@@ -138,34 +127,47 @@ impl Entries {
         drop_entries(&mut self.cells, premise);
     }
 
-    /// The first cell from this one on of which two worldviews believe different things. It looks
-    /// at no cell of a block or region that no premise bears on of which they differ, and takes no
-    /// memory.
-    pub(crate) fn next_shifted(
-        &self,
-        from: usize,
-        before: &Worldview,
-        after: &Worldview,
-    ) -> Option<usize>
-        ensures shifted { IfSome result (λ cell. (from ≤ cell) × (cell < length self.now)
-            × (beliefs (set_of before.now) self.now cell ≢ beliefs (set_of after.now) self.now
-            cell)) }
-        ensures stay { (cell : ℕ) → from ≤ cell → IfSome result (λ next. cell < next)
-            → beliefs (set_of before.now) self.now cell ≡ beliefs (set_of after.now) self.now
-            cell }
+    /// How many cells from this one on are known to stay, as far as one look tells: those of the
+    /// region or of the block that begins here, where the worldviews agree on what bears on it, and
+    /// else this one. None where this one shifts. It takes no memory.
+    fn staying(&self, cell: usize, before: &Worldview, after: &Worldview) -> usize
+        requires { cell < length self.now }
+        ensures few { result ≤ 4_096 }
+        ensures same { (k : ℕ) → cell ≤ k → k < cell + result
+            → beliefs (set_of before.now) self.now k ≡ beliefs (set_of after.now) self.now k }
+        ensures shifted { result ≡ 0 → beliefs (set_of before.now) self.now cell
+            ≢ beliefs (set_of after.now) self.now cell }
+    {
+        if cell % REGION == 0 && agree_at(&self.regions, cell / REGION, before, after) {
+            return REGION;
+        }
+        if cell % BLOCK == 0 && agree_at(&self.blocks, cell / BLOCK, before, after) {
+            return BLOCK;
+        }
+        if is_shifted(&self.cells, cell, before, after) {
+            return 0;
+        }
+        1
+    }
+
+    /// The first cell from this one on of which two worldviews believe different things, and the
+    /// number of cells where there is none. It takes no memory.
+    pub(crate) fn next_shifted(&self, from: usize, before: &Worldview, after: &Worldview) -> usize
+        requires { from ≤ length self.now }
+        ensures range { (from ≤ result) × (result ≤ length self.now) }
+        ensures passed { (k : ℕ) → from ≤ k → k < result
+            → beliefs (set_of before.now) self.now k ≡ beliefs (set_of after.now) self.now k }
+        ensures shifted { result < length self.now → beliefs (set_of before.now) self.now result
+            ≢ beliefs (set_of after.now) self.now result }
     {
         let mut cell = from;
         while cell < self.cells.len() {
-            if cell % REGION == 0 && !before.differs_at(after, &self.regions[cell / REGION]) {
-                cell += REGION;
-            } else if cell % BLOCK == 0 && !before.differs_at(after, &self.blocks[cell / BLOCK]) {
-                cell += BLOCK;
-            } else if is_shifted(&self.cells, cell, before, after) {
-                return Some(cell);
-            } else {
-                cell += 1;
+            let stay = self.staying(cell, before, after);
+            if stay == 0 {
+                return cell;
             }
+            cell += stay;
         }
-        None
+        self.cells.len()
     }
 }

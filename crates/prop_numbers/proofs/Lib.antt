@@ -7,4 +7,3 @@ pub mod PlaceLemmas
 pub mod OneLemmas
 pub mod WithinLemmas
 pub mod SignatureLemmas
-pub mod ApartLemmas
