@@ -2,6 +2,7 @@
 use Rattle.std.proofs.Common.{◌≡◌, ◌≢◌, ◌∙◌, ℕ, suc, ◌<◌, ◌≤◌, ◌/◌, ◌&&◌, ◌||◌, Bool, true, false, ◌==◌}
 use Rattle.std.proofs.Common.{if◌then◌else◌, not, Contains, List, [], ◌∷◌, ◌++◌, length, take, map, filter, slice_set}
 use Rattle.std.proofs.Common.{slice_index_or, refl, sym, ap, subst, arith, inl, inr, ◌⊎◌, All}
+use Rattle.std.proofs.Math.Bool.{beq}
 use Rattle.std.proofs.lemmas.Bool.{cases_eq, cases_lt}
 use Rattle.std.proofs.lemmas.Bool.Decides.{eqb_tells}
 use Rattle.std.proofs.lemmas.List.{get_or-set_other, get_or-set_same, get_or-take, get_or_past, length-take}
@@ -149,6 +150,12 @@ agree_more w z (x ∷ xs) p h same q t = elim (or_cases (x == q) (set_of (xs ++ 
   | inl e ↦ h q (or_left (x == q) (set_of xs q) e)
   | inr e ↦ agree_more w z xs p (λ k u. h k (or_right (x == k) (set_of xs k) u)) same q e
 ]
+
+pub same_bits : (a b : Bool) → not (beq a b) ≡ false → a ≡ b
+same_bits true true h = refl
+same_bits true false h = cc
+same_bits false true h = cc
+same_bits false false h = refl
 
 -- both believe all of them
 pub agree_both : (w z : Members) (ps : List ℕ) → is_within w ps ≡ true → is_within z ps ≡ true → Agree w z ps

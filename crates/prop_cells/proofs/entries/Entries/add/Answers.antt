@@ -8,3 +8,40 @@ invariant_of-self c =
       c.self.invariant.0,
       bear_same 4_096 n.cells.items n.regions.items c.bear.new.sets.items c.in_err-bear.ensures.err c.self.invariant.1,
     )
+
+pub invariant_of-self-2 : goal.invariant_of-self-2
+invariant_of-self-2 c =
+    let n = c.self.inside in (
+      bear_same 64 n.cells.items n.blocks.items c.bear-2.new.sets.items c.in_err-bear-2.ensures.err c.self.invariant.0,
+      bear_united 4_096 n.cells.items n.regions.items c.bear.new.sets.items (c.args.cell / 4_096) c.args.support
+          c.in_ok-bear.ensures.ok c.self.invariant.1,
+    )
+
+pub invariant_of-self-3 : goal.invariant_of-self-3
+invariant_of-self-3 c =
+    let n = c.self.inside in
+    let blocks = bear_united 64 n.cells.items n.blocks.items c.bear-2.new.sets.items (c.args.cell / 64) c.args.support
+    c.in_ok-bear-2.ensures.ok c.self.invariant.0 in
+    let regions = bear_united 4_096 n.cells.items n.regions.items c.bear.new.sets.items (c.args.cell / 4_096)
+    c.args.support c.in_ok-bear.ensures.ok c.self.invariant.1 in (
+      bear_equal 64 n.cells.items c.add_to.new.contents.items c.bear-2.new.sets.items c.in_err-add_to.ensures.err blocks,
+      bear_equal 4_096 n.cells.items c.add_to.new.contents.items c.bear.new.sets.items c.in_err-add_to.ensures.err
+          regions,
+    )
+
+pub invariant_of-self-4 : goal.invariant_of-self-4
+invariant_of-self-4 c =
+    let n = c.self.inside in
+    let blocks = bear_united 64 n.cells.items n.blocks.items c.bear-2.new.sets.items (c.args.cell / 64) c.args.support
+    c.in_ok-bear-2.ensures.ok c.self.invariant.0 in
+    let regions = bear_united 4_096 n.cells.items n.regions.items c.bear.new.sets.items (c.args.cell / 4_096)
+    c.args.support c.in_ok-bear.ensures.ok c.self.invariant.1 in (
+      bear_added 64 n.cells.items c.add_to.new.contents.items c.bear-2.new.sets.items c.args.cell _
+          c.in_ok-add_to.ensures.ok
+          (united n.blocks.items c.bear-2.new.sets.items (c.args.cell / 64) c.args.support c.in_ok-bear-2.ensures.ok)
+          blocks,
+      bear_added 4_096 n.cells.items c.add_to.new.contents.items c.bear.new.sets.items c.args.cell _
+          c.in_ok-add_to.ensures.ok
+          (united n.regions.items c.bear.new.sets.items (c.args.cell / 4_096) c.args.support c.in_ok-bear.ensures.ok)
+          regions,
+    )
