@@ -1,5 +1,5 @@
 use Rattle.std.proofs.Common.{◌/◌}
-use Rattle.prop_cells.proofs.BearingLemmas.{bear_same, bear_united, bear_equal, bear_added, united}
+use Rattle.prop_cells.proofs.BearingLemmas.{bear_same, bear_united, bear_added, united}
 use Rattle.prop_cells.proofs.entries.Entries.add.Goals as goal
 
 pub invariant_of-self : goal.invariant_of-self
@@ -11,26 +11,6 @@ invariant_of-self c =
 
 pub invariant_of-self-2 : goal.invariant_of-self-2
 invariant_of-self-2 c =
-    let n = c.self.inside in (
-      bear_same 64 n.cells.items n.blocks.items c.bear-2.new.sets.items c.in_err-bear-2.ensures.err c.self.invariant.0,
-      bear_united 4_096 n.cells.items n.regions.items c.bear.new.sets.items (c.args.cell / 4_096) c.args.support
-          c.in_ok-bear.ensures.ok c.self.invariant.1,
-    )
-
-pub invariant_of-self-3 : goal.invariant_of-self-3
-invariant_of-self-3 c =
-    let n = c.self.inside in
-    let blocks = bear_united 64 n.cells.items n.blocks.items c.bear-2.new.sets.items (c.args.cell / 64) c.args.support
-    c.in_ok-bear-2.ensures.ok c.self.invariant.0 in
-    let regions = bear_united 4_096 n.cells.items n.regions.items c.bear.new.sets.items (c.args.cell / 4_096)
-    c.args.support c.in_ok-bear.ensures.ok c.self.invariant.1 in (
-      bear_equal 64 n.cells.items c.add_to.new.contents.items c.bear-2.new.sets.items c.in_err-add_to.ensures.err blocks,
-      bear_equal 4_096 n.cells.items c.add_to.new.contents.items c.bear.new.sets.items c.in_err-add_to.ensures.err
-          regions,
-    )
-
-pub invariant_of-self-4 : goal.invariant_of-self-4
-invariant_of-self-4 c =
     let n = c.self.inside in
     let blocks = bear_united 64 n.cells.items n.blocks.items c.bear-2.new.sets.items (c.args.cell / 64) c.args.support
     c.in_ok-bear-2.ensures.ok c.self.invariant.0 in
