@@ -38,8 +38,8 @@ alert_all-requires g c =
     rw c.readers.ensures (All-weaker (λ j. j < length xs) (λ j. j < c.loop-cell.agenda.room)
     (λ j h. omega (arith, h, room, same)) (readers_of xs c.loop-cell.cell) (readers_are xs c.loop-cell.cell).below)
 
-pub alert_all-requires-2 : goal.alert_all-requires-2
-alert_all-requires-2 g c =
+pub alert_all-requires-in-loop-cell : goal.alert_all-requires-in-loop-cell
+alert_all-requires-in-loop-cell g c =
     let xs = c.args.live.now.network.cells.instances in
     let room = c.args.live.now.room in
     let same = c.loop-cell.invariant.room in
@@ -53,7 +53,7 @@ watch-requires g c =
     let cells = c.args.live.now.cells in
     let same = c.loop-cell.invariant.cells in
     let read = c.alert_all.ensures.cells in
-    let written = c.alert_all-2.ensures.cells in
+    let written = c.alert_all-in-loop-cell.ensures.cells in
     let count = c.cells-count.ensures.count in
     let below = c.loop-cell-test.true in
     omega (arith, cells, same, read, written, count, below)
@@ -64,29 +64,29 @@ loop-cell-preserved g c =
     let t = set_of c.args.after.now in
     let d = c.args.live.now.network.cells in
     let h = c.loop-cell.invariant in
-    let next = c.next_shifted.ensures in
+    let next = c.next_shifted-cell-in-loop-cell.ensures in
     let within : c.loop-cell.cell < length d.kinds = let count = c.cells-count.ensures.count in let below =
     c.loop-cell-test.true in omega (arith, count, below) in
     let read : AllAlerted c.loop-cell.agenda.line c.alert_all.new.self.line
     (readers_of d.instances c.loop-cell.cell) = rw c.readers.ensures at c.alert_all.ensures.alerted in
-    let written : AllAlerted c.alert_all.new.self.line c.alert_all-2.new.self.line
-    (writers_of d.instances c.loop-cell.cell) = rw c.writers.ensures at c.alert_all-2.ensures.alerted in
+    let written : AllAlerted c.alert_all.new.self.line c.alert_all-in-loop-cell.new.self.line
+    (writers_of d.instances c.loop-cell.cell) = rw c.writers.ensures at c.alert_all-in-loop-cell.ensures.alerted in
     record {
       within = next.range.1;
       here = next.shifted;
-      shifted = rw c.watch.ensures.line (shifted_on s t d (c.loop-cell.cell + 1) c.next_shifted.result
-          c.args.live.now.agenda.line c.alert_all-2.new.self.line
+      shifted = rw c.watch.ensures.line (shifted_on s t d (c.loop-cell.cell + 1) c.next_shifted-cell-in-loop-cell.result
+          c.args.live.now.agenda.line c.alert_all-in-loop-cell.new.self.line
           (shifted_more s t d c.loop-cell.cell c.args.live.now.agenda.line c.loop-cell.agenda.line
-          c.alert_all.new.self.line c.alert_all-2.new.self.line h.shifted (h.here within) read written
+          c.alert_all.new.self.line c.alert_all-in-loop-cell.new.self.line h.shifted (h.here within) read written
           (rw c.readers.ensures at c.alert_all.ensures.line)
-          (rw c.writers.ensures at c.alert_all-2.ensures.line)) next.passed);
-      room = c.watch.ensures.room ∙ c.alert_all-2.ensures.room ∙ c.alert_all.ensures.room ∙ h.room;
-      cells = c.watch.ensures.cells ∙ c.alert_all-2.ensures.cells ∙ c.alert_all.ensures.cells ∙ h.cells;
-      looked = looked_on s t d (c.loop-cell.cell + 1) c.next_shifted.result c.args.live.now.agenda.watched
+          (rw c.writers.ensures at c.alert_all-in-loop-cell.ensures.line)) next.passed);
+      room = c.watch.ensures.room ∙ c.alert_all-in-loop-cell.ensures.room ∙ c.alert_all.ensures.room ∙ h.room;
+      cells = c.watch.ensures.cells ∙ c.alert_all-in-loop-cell.ensures.cells ∙ c.alert_all.ensures.cells ∙ h.cells;
+      looked = looked_on s t d (c.loop-cell.cell + 1) c.next_shifted-cell-in-loop-cell.result c.args.live.now.agenda.watched
           c.watch.new.self.watched
           (looked_more s t d c.loop-cell.cell c.args.live.now.agenda.watched c.loop-cell.agenda.watched
           c.watch.new.self.watched h.looked within
-          (rw (c.alert_all-2.ensures.watched, c.alert_all.ensures.watched) at c.watch.ensures.watched)) next.passed;
+          (rw (c.alert_all-in-loop-cell.ensures.watched, c.alert_all.ensures.watched) at c.watch.ensures.watched)) next.passed;
     }
 
 -- every cell was looked at
