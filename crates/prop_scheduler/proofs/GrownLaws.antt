@@ -186,7 +186,8 @@ module _ (library : List Stored) (s t : Premises) (d : Data) (made : IsWellMade 
   -- further cells are believed as before
   pub potential_on : (n m : ℕ) (line : List ℕ) → n ≤ m
       → ((cell : ℕ) → n ≤ cell → cell < m → beliefs s d.contents cell ≡ beliefs t d.contents cell)
-      → potential (problem_of library d) (partly s t d m) line ≤ potential (problem_of library d) (partly s t d n) line
+      → potential (problem_of library d) (partly s t d m) line
+      ≤ potential (problem_of library d) (partly s t d n) line
   potential_on n m line l alike =
       let each : (k : ℕ) → partly s t d m k ≡ partly s t d n k =
       λ k. elim (leb_tells n k) as (λ _. partly s t d m k ≡ partly s t d n k) [

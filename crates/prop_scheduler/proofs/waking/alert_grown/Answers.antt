@@ -63,6 +63,7 @@ loop-cell-preserved g c =
     let made = c.requires.alive.under_way.kept.made in
     let h = c.loop-cell.invariant in
     let next = c.next_shifted-cell-in-loop-cell.ensures in
+    let to = c.next_shifted-cell-in-loop-cell.result in
     let line = c.alert_all.new.self.line in
     let within : c.loop-cell.cell < length d.kinds = let count = c.cells-count.ensures.count in let below =
     c.loop-cell-test.true in omega (arith, count, below) in
@@ -70,20 +71,20 @@ loop-cell-preserved g c =
     rw c.readers.ensures at c.alert_all.ensures.alerted in
     let less = potential_falls library s t d made c.requires.more c.loop-cell.cell c.loop-cell.agenda.line line within
     (h.here within) read in
-    let on = potential_on library s t d made c.requires.more (c.loop-cell.cell + 1) c.next_shifted-cell-in-loop-cell.result line
+    let on = potential_on library s t d made c.requires.more (c.loop-cell.cell + 1) to line
     next.range.0 next.passed in
     let so_far = h.falls in
     record {
       within = next.range.1;
       here = next.shifted;
-      grown = rw c.watch.ensures.line (grown_on s t d (c.loop-cell.cell + 1) c.next_shifted-cell-in-loop-cell.result
+      grown = rw c.watch.ensures.line (grown_on s t d (c.loop-cell.cell + 1) to
           c.args.live.now.agenda.line line
           (grown_more s t d c.loop-cell.cell c.args.live.now.agenda.line c.loop-cell.agenda.line line h.grown
           (h.here within) read (rw c.readers.ensures at c.alert_all.ensures.line)) next.passed);
       falls = rw c.watch.ensures.line (omega (arith, less, on, so_far));
       room = c.watch.ensures.room ∙ c.alert_all.ensures.room ∙ h.room;
       cells = c.watch.ensures.cells ∙ c.alert_all.ensures.cells ∙ h.cells;
-      looked = looked_on s t d (c.loop-cell.cell + 1) c.next_shifted-cell-in-loop-cell.result c.args.live.now.agenda.watched
+      looked = looked_on s t d (c.loop-cell.cell + 1) to c.args.live.now.agenda.watched
           c.watch.new.self.watched
           (looked_more s t d c.loop-cell.cell c.args.live.now.agenda.watched c.loop-cell.agenda.watched
           c.watch.new.self.watched h.looked within (rw c.alert_all.ensures.watched at c.watch.ensures.watched))

@@ -65,6 +65,7 @@ loop-cell-preserved g c =
     let d = c.args.live.now.network.cells in
     let h = c.loop-cell.invariant in
     let next = c.next_shifted-cell-in-loop-cell.ensures in
+    let to = c.next_shifted-cell-in-loop-cell.result in
     let within : c.loop-cell.cell < length d.kinds = let count = c.cells-count.ensures.count in let below =
     c.loop-cell-test.true in omega (arith, count, below) in
     let read : AllAlerted c.loop-cell.agenda.line c.alert_all.new.self.line
@@ -74,7 +75,7 @@ loop-cell-preserved g c =
     record {
       within = next.range.1;
       here = next.shifted;
-      shifted = rw c.watch.ensures.line (shifted_on s t d (c.loop-cell.cell + 1) c.next_shifted-cell-in-loop-cell.result
+      shifted = rw c.watch.ensures.line (shifted_on s t d (c.loop-cell.cell + 1) to
           c.args.live.now.agenda.line c.alert_all-in-loop-cell.new.self.line
           (shifted_more s t d c.loop-cell.cell c.args.live.now.agenda.line c.loop-cell.agenda.line
           c.alert_all.new.self.line c.alert_all-in-loop-cell.new.self.line h.shifted (h.here within) read written
@@ -82,11 +83,12 @@ loop-cell-preserved g c =
           (rw c.writers.ensures at c.alert_all-in-loop-cell.ensures.line)) next.passed);
       room = c.watch.ensures.room ∙ c.alert_all-in-loop-cell.ensures.room ∙ c.alert_all.ensures.room ∙ h.room;
       cells = c.watch.ensures.cells ∙ c.alert_all-in-loop-cell.ensures.cells ∙ c.alert_all.ensures.cells ∙ h.cells;
-      looked = looked_on s t d (c.loop-cell.cell + 1) c.next_shifted-cell-in-loop-cell.result c.args.live.now.agenda.watched
+      looked = looked_on s t d (c.loop-cell.cell + 1) to c.args.live.now.agenda.watched
           c.watch.new.self.watched
           (looked_more s t d c.loop-cell.cell c.args.live.now.agenda.watched c.loop-cell.agenda.watched
           c.watch.new.self.watched h.looked within
-          (rw (c.alert_all-in-loop-cell.ensures.watched, c.alert_all.ensures.watched) at c.watch.ensures.watched)) next.passed;
+          (rw (c.alert_all-in-loop-cell.ensures.watched, c.alert_all.ensures.watched) at c.watch.ensures.watched))
+          next.passed;
     }
 
 -- every cell was looked at

@@ -7,8 +7,8 @@ invariant_of-self c =
     let n = c.self.inside in
     let within : c.args.cell < length n.cells.items = rw (← c.self.view_is) at c.requires in
     let among : AreAmong n.cells.items c.drop_from.new.contents.items =
-    subst (AreAmong n.cells.items) (sym c.drop_from.ensures) (below_among c.args.premise n.cells.items c.args.cell within)
-    in (
+    subst (AreAmong n.cells.items) (sym c.drop_from.ensures)
+    (below_among c.args.premise n.cells.items c.args.cell within) in (
       bear_fewer 64 n.cells.items c.drop_from.new.contents.items n.blocks.items among c.self.invariant.0,
       bear_fewer 4_096 n.cells.items c.drop_from.new.contents.items n.regions.items among c.self.invariant.1,
     )
