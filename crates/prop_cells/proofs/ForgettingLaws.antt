@@ -128,7 +128,7 @@ forgets_data library p d = record {
   constraints = All-contains_itself _;
 }
 
-content_forgotten : (p : ℕ) (contents : List (List Entry)) (cell : ℕ)
+pub content_forgotten : (p : ℕ) (contents : List (List Entry)) (cell : ℕ)
     → content_of (map (λ entries. not_on p entries) contents) cell ≡ not_on p (content_of contents cell)
 content_forgotten p [] cell = refl
 content_forgotten p (entries ∷ contents) zero = refl

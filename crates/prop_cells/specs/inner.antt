@@ -1,3 +1,4 @@
+pub mod Bearing
 pub mod Data
 pub mod Rooms
 pub mod Back

@@ -34,16 +34,17 @@ grown_none s t d line = record {
   waits = λ cell l. absurd (omega (arith, l));
 }
 
--- the next cell is believed as before
-pub grown_same : (s t : Premises) (d : Data) (n : ℕ) (old new : List ℕ) → AreGrown s t d n old new
-    → beliefs s d.contents n ≡ beliefs t d.contents n → AreGrown s t d (n + 1) old new
-grown_same s t d n old new h same = record {
+-- further cells are believed as before
+pub grown_on : (s t : Premises) (d : Data) (n m : ℕ) (old new : List ℕ) → AreGrown s t d n old new
+    → ((cell : ℕ) → n ≤ cell → cell < m → beliefs s d.contents cell ≡ beliefs t d.contents cell)
+    → AreGrown s t d m old new
+grown_on s t d n m old new h same = record {
   behind = h.behind;
   waits = λ cell l.
-      elim (eqb_tells cell n) as (λ _. (beliefs s d.contents cell ≡ beliefs t d.contents cell)
+      elim (leb_tells n cell) as (λ _. (beliefs s d.contents cell ≡ beliefs t d.contents cell)
       ⊎ All (Contains new) (readers_of d.instances cell)) [
-        | inl e ↦ inl (rw e.1 same)
-        | inr e ↦ h.waits cell (let ne = e.1 in omega (arith, l, ne))
+        | inl past ↦ inl (same cell past.1 l)
+        | inr below ↦ h.waits cell below.1
       ];
 }
 
@@ -182,19 +183,23 @@ module _ (library : List Stored) (s t : Premises) (d : Data) (made : IsWellMade 
       (input_places (problem_of library d)) in
       omega (arith, same)
 
-  pub potential_same : (n : ℕ) (line : List ℕ) → beliefs s d.contents n ≡ beliefs t d.contents n
-      → potential (problem_of library d) (partly s t d (n + 1)) line ≤ potential (problem_of library d) (partly s t d n)
-      line
-  potential_same n line alike =
-      let here : partly s t d (n + 1) n ≡ partly s t d n n = before_it s t d (n + 1) n (omega arith) ∙ sym alike
-      ∙ sym (from_there s t d n n (omega arith)) in
-      let each : (k : ℕ) → partly s t d (n + 1) k ≡ partly s t d n k =
-      λ k. elim (eqb_tells k n) as (λ _. partly s t d (n + 1) k ≡ partly s t d n k) [
-        | inl e ↦ rw e.1 here
-        | inr e ↦ but_for_it s t d n k e.1
+  -- further cells are believed as before
+  pub potential_on : (n m : ℕ) (line : List ℕ) → n ≤ m
+      → ((cell : ℕ) → n ≤ cell → cell < m → beliefs s d.contents cell ≡ beliefs t d.contents cell)
+      → potential (problem_of library d) (partly s t d m) line
+      ≤ potential (problem_of library d) (partly s t d n) line
+  potential_on n m line l alike =
+      let each : (k : ℕ) → partly s t d m k ≡ partly s t d n k =
+      λ k. elim (leb_tells n k) as (λ _. partly s t d m k ≡ partly s t d n k) [
+        | inl past ↦ elim (leb_tells m k) as (λ _. partly s t d m k ≡ partly s t d n k) [
+          | inl beyond ↦ from_there s t d m k beyond.1 ∙ sym (from_there s t d n k past.1)
+          | inr below ↦ before_it s t d m k below.1 ∙ sym (alike k past.1 below.1)
+              ∙ sym (from_there s t d n k past.1)
+        ]
+        | inr below ↦ (let low = below.1 in before_it s t d m k (omega (arith, l, low)))
+            ∙ sym (before_it s t d n k below.1)
       ] in
-      let same = ranks_same d.kinds (partly s t d n) (partly s t d (n + 1)) each (input_places (problem_of library d))
-      in
+      let same = ranks_same d.kinds (partly s t d n) (partly s t d m) each (input_places (problem_of library d)) in
       omega (arith, same)
 
   -- each reader that now waits is paid for by its places

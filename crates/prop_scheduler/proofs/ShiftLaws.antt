@@ -1,6 +1,7 @@
 -- What is kept as the readers and the writers of shifted cells are alerted.
-use Rattle.std.proofs.Common.{◌≡◌, ◌≢◌, ◌<◌, ◌⊎◌, ℕ, ◌+◌, List, Some, All, Contains, length, slice_get, refl, sym}
+use Rattle.std.proofs.Common.{◌≡◌, ◌≢◌, ◌<◌, ◌≤◌, ◌⊎◌, ℕ, ◌+◌, List, Some, All, Contains, length, slice_get, refl, sym}
 use Rattle.std.proofs.Common.{subst, arith, inl, inr}
+use Rattle.std.proofs.lemmas.Bool.{cases_lt}
 use Rattle.std.proofs.lemmas.Bool.Decides.{eqb_tells}
 use Rattle.std.proofs.lemmas.List.Elements.{All-contains, All-weaker}
 use Rattle.prop_lattice.specs.declared.info.Info.{Info}
@@ -25,16 +26,17 @@ shifted_none s t d line = record {
   waits = λ cell l. absurd (omega (arith, l));
 }
 
--- the next cell is believed as before
-pub shifted_same : (s t : Premises) (d : Data) (n : ℕ) (old new : List ℕ) → AreShifted s t d n old new
-    → beliefs s d.contents n ≡ beliefs t d.contents n → AreShifted s t d (n + 1) old new
-shifted_same s t d n old new h same = record {
+-- further cells are believed as before
+pub shifted_on : (s t : Premises) (d : Data) (n m : ℕ) (old new : List ℕ) → AreShifted s t d n old new
+    → ((cell : ℕ) → n ≤ cell → cell < m → beliefs s d.contents cell ≡ beliefs t d.contents cell)
+    → AreShifted s t d m old new
+shifted_on s t d n m old new h same = record {
   behind = h.behind;
   waits = λ cell l.
-      elim (eqb_tells cell n) as (λ _. (beliefs s d.contents cell ≡ beliefs t d.contents cell)
+      elim (cases_lt cell n) as (λ _. (beliefs s d.contents cell ≡ beliefs t d.contents cell)
       ⊎ (All (Contains new) (readers_of d.instances cell) × All (Contains new) (writers_of d.instances cell))) [
-        | inl e ↦ inl (rw e.1 same)
-        | inr e ↦ h.waits cell (let ne = e.1 in omega (arith, l, ne))
+        | inl below ↦ h.waits cell below
+        | inr past ↦ inl (same cell past l)
       ];
 }
 

@@ -122,15 +122,17 @@ pub looked_none : (s t : Premises) (d : Data) (old : List ℕ) → All (λ cell.
     → AreLooked s t d 0 old old
 looked_none s t d old below = record { below = below; kept = λ cell k. k; each = λ cell l. absurd (omega (arith, l)) }
 
-pub looked_same : (s t : Premises) (d : Data) (n : ℕ) (old new : List ℕ) → AreLooked s t d n old new
-    → beliefs s d.contents n ≡ beliefs t d.contents n → AreLooked s t d (n + 1) old new
-looked_same s t d n old new h same = record {
+-- further cells are believed as before
+pub looked_on : (s t : Premises) (d : Data) (n m : ℕ) (old new : List ℕ) → AreLooked s t d n old new
+    → ((cell : ℕ) → n ≤ cell → cell < m → beliefs s d.contents cell ≡ beliefs t d.contents cell)
+    → AreLooked s t d m old new
+looked_on s t d n m old new h same = record {
   below = h.below;
   kept = h.kept;
-  each = λ cell l. elim (eqb_tells cell n) as (λ _. (beliefs s d.contents cell ≡ beliefs t d.contents cell)
+  each = λ cell l. elim (cases_lt cell n) as (λ _. (beliefs s d.contents cell ≡ beliefs t d.contents cell)
       ⊎ Contains new cell) [
-        | inl e ↦ inl (rw e.1 same)
-        | inr e ↦ h.each cell (let ne = e.1 in omega (arith, l, ne))
+        | inl below ↦ h.each cell below
+        | inr past ↦ inl (same cell past l)
       ];
 }
 

@@ -52,12 +52,13 @@ pub fn alert_shifted<R: Rule + Drop>(live: &mut Live<R>, before: &Worldview, aft
 {
     let network = &live.network;
     let agenda = &mut live.agenda;
-    for cell in 0..network.cells() {
-        if network.shifted(cell, before, after) {
-            agenda.alert_all(network.readers(cell));
-            agenda.alert_all(network.writers(cell));
-            agenda.watch(cell);
-        }
+    let count = network.cells();
+    let mut cell = network.next_shifted(0, before, after);
+    while cell < count {
+        agenda.alert_all(network.readers(cell));
+        agenda.alert_all(network.writers(cell));
+        agenda.watch(cell);
+        cell = network.next_shifted(cell + 1, before, after);
     }
 }
 
@@ -76,10 +77,11 @@ pub fn alert_grown<R: Rule + Drop>(live: &mut Live<R>, before: &Worldview, after
 {
     let network = &live.network;
     let agenda = &mut live.agenda;
-    for cell in 0..network.cells() {
-        if network.shifted(cell, before, after) {
-            agenda.alert_all(network.readers(cell));
-            agenda.watch(cell);
-        }
+    let count = network.cells();
+    let mut cell = network.next_shifted(0, before, after);
+    while cell < count {
+        agenda.alert_all(network.readers(cell));
+        agenda.watch(cell);
+        cell = network.next_shifted(cell + 1, before, after);
     }
 }

@@ -8,7 +8,6 @@ ghost use Rattle.prop_cells.specs.Sides.{sides_at, StatesAll};
 ghost use Rattle.prop_cells.specs.inner.Sides.{statements_back};
 
 use super::Cells;
-use crate::contents::drop_from;
 use crate::instance::Statement;
 use prop_lattice::Info;
 use prop_premises::Premise;
@@ -23,7 +22,7 @@ impl Cells {
         ensures { self.new ≡ statements_back count cell premise self.old }
     {
         self.statements.truncate(count);
-        drop_from(&mut self.contents, cell, premise);
+        self.contents.drop_from(cell, premise);
     }
 
     /// Makes a statement at a cell for each information, the first under this premise and each

@@ -1,4 +1,4 @@
-use Rattle.std.proofs.Common.{◌≡◌, ◌∙◌, ◌<◌, ◌≤◌, ℕ, List, length, refl, subst, arith}
+use Rattle.std.proofs.Common.{◌≡◌, ◌∙◌, ◌+◌, ◌<◌, ◌≤◌, ℕ, List, length, refl, subst, arith}
 use Rattle.std.proofs.lemmas.List.Elements.{All-weaker}
 use Rattle.prop_numbers.specs.Sets.{set_of}
 use Rattle.prop_procedures.specs.Kept.{stored_of}
@@ -8,24 +8,33 @@ use Rattle.prop_cells.specs.Instances.{readers_of}
 use Rattle.prop_cells.proofs.Reading.{readers_are}
 use Rattle.prop_scheduler.specs.Agendas.{AllAlerted}
 use Rattle.prop_scheduler.specs.Shifts.{AreGrown}
-use Rattle.prop_scheduler.proofs.GrownLaws.{grown_none, grown_same, grown_more, under_way_grown, potential_at_first}
-use Rattle.prop_scheduler.proofs.GrownLaws.{potential_same, potential_falls, potential_at_last}
-use Rattle.prop_scheduler.proofs.WatchLaws.{AreLooked, looked_none, looked_same, looked_more, watched_shifted}
+use Rattle.prop_scheduler.proofs.GrownLaws.{grown_none, grown_on, grown_more, under_way_grown, potential_at_first}
+use Rattle.prop_scheduler.proofs.GrownLaws.{potential_on, potential_falls, potential_at_last}
+use Rattle.prop_scheduler.proofs.WatchLaws.{AreLooked, looked_none, looked_on, looked_more, watched_shifted}
 use Rattle.prop_scheduler.proofs.waking.alert_grown.Goals as goal
-use Rattle.prop_scheduler.proofs.waking.alert_grown.Goals.{then-shifted, else-shifted}
 
 pub loop-cell-init : goal.loop-cell-init
 loop-cell-init g c =
     let s = set_of c.args.before.now in
     let t = set_of c.args.after.now in
     let d = c.args.live.now.network.cells in
+    let library = stored_of g.R.Rule.value_of c.args.live.now.network.library in
+    let made = c.requires.alive.under_way.kept.made in
+    let line = c.args.live.now.agenda.line in
+    let next = c.next_shifted-cell.ensures in
+    let first = potential_at_first library s t d made c.requires.more line in
+    let on = potential_on library s t d made c.requires.more 0 c.next_shifted-cell.result line next.range.0 next.passed
+    in
     record {
-      grown = grown_none s t d c.args.live.now.agenda.line;
-      falls = potential_at_first (stored_of g.R.Rule.value_of c.args.live.now.network.library) s t d
-          c.requires.alive.under_way.kept.made c.requires.more c.args.live.now.agenda.line;
+      within = next.range.1;
+      here = next.shifted;
+      grown = grown_on s t d 0 c.next_shifted-cell.result line line (grown_none s t d line) next.passed;
+      falls = omega (arith, first, on);
       room = refl;
       cells = refl;
-      looked = looked_none s t d c.args.live.now.agenda.watched c.requires.alive.watched.below;
+      looked = looked_on s t d 0 c.next_shifted-cell.result c.args.live.now.agenda.watched
+          c.args.live.now.agenda.watched
+          (looked_none s t d c.args.live.now.agenda.watched c.requires.alive.watched.below) next.passed;
     }
 
 pub alert_all-requires : goal.alert_all-requires
@@ -41,7 +50,7 @@ watch-requires g c =
     let cells = c.args.live.now.cells in
     let same = c.loop-cell.invariant.cells in
     let read = c.alert_all.ensures.cells in
-    let count = c.cells-cell-end.ensures.count in
+    let count = c.cells-count.ensures.count in
     let below = c.loop-cell-test.true in
     omega (arith, cells, same, read, count, below)
 
@@ -53,60 +62,53 @@ loop-cell-preserved g c =
     let library = stored_of g.R.Rule.value_of c.args.live.now.network.library in
     let made = c.requires.alive.under_way.kept.made in
     let h = c.loop-cell.invariant in
-    let within : c.loop-cell.cell < length d.kinds = let count = c.cells-cell-end.ensures.count in let below =
+    let next = c.next_shifted-cell-in-loop-cell.ensures in
+    let to = c.next_shifted-cell-in-loop-cell.result in
+    let line = c.alert_all.new.self.line in
+    let within : c.loop-cell.cell < length d.kinds = let count = c.cells-count.ensures.count in let below =
     c.loop-cell-test.true in omega (arith, count, below) in
-    elim c.if-shifted.branch [
-      | then-shifted w ↦
-          let read : AllAlerted c.loop-cell.agenda.line w.alert_all.new.self.line
-          (readers_of d.instances c.loop-cell.cell) = rw w.readers.ensures at w.alert_all.ensures.alerted in
-          let less = potential_falls library s t d made c.requires.more c.loop-cell.cell c.loop-cell.agenda.line
-          w.alert_all.new.self.line within (c.shifted.ensures.shifted w.if-shifted.true) read in
-          let so_far = h.falls in
-          rw w.agenda-is record {
-            grown = rw w.watch.ensures.line (grown_more s t d c.loop-cell.cell c.args.live.now.agenda.line
-                c.loop-cell.agenda.line w.alert_all.new.self.line h.grown (c.shifted.ensures.shifted
-                w.if-shifted.true)
-                read (rw w.readers.ensures at w.alert_all.ensures.line));
-            falls = rw w.watch.ensures.line (omega (arith, less, so_far));
-            room = w.watch.ensures.room ∙ w.alert_all.ensures.room ∙ h.room;
-            cells = w.watch.ensures.cells ∙ w.alert_all.ensures.cells ∙ h.cells;
-            looked = looked_more s t d c.loop-cell.cell c.args.live.now.agenda.watched c.loop-cell.agenda.watched
-                w.watch.new.self.watched h.looked within (rw w.alert_all.ensures.watched at w.watch.ensures.watched);
-          }
-      | else-shifted w ↦
-          let less = potential_same library s t d made c.requires.more c.loop-cell.cell c.loop-cell.agenda.line
-          (c.shifted.ensures.stays w.if-shifted.false) in
-          let so_far = h.falls in
-          rw w.agenda-is record {
-            grown = grown_same s t d c.loop-cell.cell c.args.live.now.agenda.line c.loop-cell.agenda.line h.grown
-                (c.shifted.ensures.stays w.if-shifted.false);
-            falls = omega (arith, less, so_far);
-            room = h.room;
-            cells = h.cells;
-            looked = looked_same s t d c.loop-cell.cell c.args.live.now.agenda.watched c.loop-cell.agenda.watched
-                h.looked
-                (c.shifted.ensures.stays w.if-shifted.false);
-          }
-    ]
+    let read : AllAlerted c.loop-cell.agenda.line line (readers_of d.instances c.loop-cell.cell) =
+    rw c.readers.ensures at c.alert_all.ensures.alerted in
+    let less = potential_falls library s t d made c.requires.more c.loop-cell.cell c.loop-cell.agenda.line line within
+    (h.here within) read in
+    let on = potential_on library s t d made c.requires.more (c.loop-cell.cell + 1) to line
+    next.range.0 next.passed in
+    let so_far = h.falls in
+    record {
+      within = next.range.1;
+      here = next.shifted;
+      grown = rw c.watch.ensures.line (grown_on s t d (c.loop-cell.cell + 1) to
+          c.args.live.now.agenda.line line
+          (grown_more s t d c.loop-cell.cell c.args.live.now.agenda.line c.loop-cell.agenda.line line h.grown
+          (h.here within) read (rw c.readers.ensures at c.alert_all.ensures.line)) next.passed);
+      falls = rw c.watch.ensures.line (omega (arith, less, on, so_far));
+      room = c.watch.ensures.room ∙ c.alert_all.ensures.room ∙ h.room;
+      cells = c.watch.ensures.cells ∙ c.alert_all.ensures.cells ∙ h.cells;
+      looked = looked_on s t d (c.loop-cell.cell + 1) to c.args.live.now.agenda.watched
+          c.watch.new.self.watched
+          (looked_more s t d c.loop-cell.cell c.args.live.now.agenda.watched c.loop-cell.agenda.watched
+          c.watch.new.self.watched h.looked within (rw c.alert_all.ensures.watched at c.watch.ensures.watched))
+          next.passed;
+    }
 
 -- every cell was looked at
-at_end : (end cell n : ℕ) → end ≡ n → end ≤ cell → cell ≤ end → cell ≡ n
+at_end : (end cell n : ℕ) → end ≡ n → end ≤ cell → cell ≤ n → cell ≡ n
 at_end end cell n count least most = omega (arith, count, least, most)
 
 all_grown : (s t : Premises) (d : Data) (end cell : ℕ) (old new : List ℕ) → end ≡ length d.kinds → end ≤ cell
-    → cell ≤ end → AreGrown s t d cell old new → AreGrown s t d (length d.kinds) old new
+    → cell ≤ length d.kinds → AreGrown s t d cell old new → AreGrown s t d (length d.kinds) old new
 all_grown s t d end cell old new count least most h =
     subst (λ (n : ℕ). AreGrown s t d n old new) (at_end end cell (length d.kinds) count least most) h
 
 all_looked : (s t : Premises) (d : Data) (end cell : ℕ) (old new : List ℕ) → end ≡ length d.kinds → end ≤ cell
-    → cell ≤ end → AreLooked s t d cell old new → AreLooked s t d (length d.kinds) old new
+    → cell ≤ length d.kinds → AreLooked s t d cell old new → AreLooked s t d (length d.kinds) old new
 all_looked s t d end cell old new count least most h =
     subst (λ (n : ℕ). AreLooked s t d n old new) (at_end end cell (length d.kinds) count least most) h
 
 pub returns-clause-grown : goal.returns-clause-grown
 returns-clause-grown g c =
-    all_grown _ _ _ c.cells-cell-end.result c.loop-cell.cell _ _ c.cells-cell-end.ensures.count
-    c.loop-cell-test.false c.loop-cell.auto.cell-end c.loop-cell.invariant.grown
+    all_grown _ _ _ c.cells-count.result c.loop-cell.cell _ _ c.cells-count.ensures.count
+    c.loop-cell-test.false c.loop-cell.invariant.within c.loop-cell.invariant.grown
 
 pub returns-clause-alive : goal.returns-clause-alive
 returns-clause-alive g c =
@@ -114,18 +116,18 @@ returns-clause-alive g c =
       under_way = (under_way_grown (stored_of g.R.Rule.value_of c.args.live.now.network.library) (set_of
           c.args.before.now)
           (set_of c.args.after.now) c.args.live.now.network.cells c.args.live.now.agenda.line c.loop-cell.agenda.line
-          c.requires.more c.cells-cell-end.ensures.within c.requires.alive.under_way
-          (all_grown _ _ _ c.cells-cell-end.result c.loop-cell.cell _ _ c.cells-cell-end.ensures.count
+          c.requires.more c.cells-count.ensures.within c.requires.alive.under_way
+          (all_grown _ _ _ c.cells-count.result c.loop-cell.cell _ _ c.cells-count.ensures.count
           c.loop-cell-test.false
-          c.loop-cell.auto.cell-end c.loop-cell.invariant.grown));
+          c.loop-cell.invariant.within c.loop-cell.invariant.grown));
       watched = (let s = set_of c.args.before.now in
           let t = set_of c.args.after.now in
           let d = c.args.live.now.network.cells in
           watched_shifted s t d c.args.live.now.agenda.watched c.loop-cell.agenda.watched
-          c.cells-cell-end.ensures.contents
-          (all_looked s t d c.cells-cell-end.result c.loop-cell.cell c.args.live.now.agenda.watched
+          c.cells-count.ensures.contents
+          (all_looked s t d c.cells-count.result c.loop-cell.cell c.args.live.now.agenda.watched
           c.loop-cell.agenda.watched
-          c.cells-cell-end.ensures.count c.loop-cell-test.false c.loop-cell.auto.cell-end
+          c.cells-count.ensures.count c.loop-cell-test.false c.loop-cell.invariant.within
           c.loop-cell.invariant.looked)
           c.requires.alive.watched);
     }
@@ -136,10 +138,10 @@ returns-clause-falls g c =
     let t = set_of c.args.after.now in
     let d = c.args.live.now.network.cells in
     let library = stored_of g.R.Rule.value_of c.args.live.now.network.library in
-    let end = at_end c.cells-cell-end.result c.loop-cell.cell (length d.kinds) c.cells-cell-end.ensures.count
-    c.loop-cell-test.false c.loop-cell.auto.cell-end in
+    let end = at_end c.cells-count.result c.loop-cell.cell (length d.kinds) c.cells-count.ensures.count
+    c.loop-cell-test.false c.loop-cell.invariant.within in
     let so_far = rw end at c.loop-cell.invariant.falls in
     let last = potential_at_last library s t d c.requires.alive.under_way.kept.made c.requires.more
     c.loop-cell.agenda.line
-    c.cells-cell-end.ensures.contents in
+    c.cells-count.ensures.contents in
     omega (arith, so_far, last)

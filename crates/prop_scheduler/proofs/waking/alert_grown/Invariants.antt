@@ -1,4 +1,4 @@
-use Rattle.std.proofs.Common.{◌≡◌, ◌≤◌}
+use Rattle.std.proofs.Common.{◌≡◌, ◌≢◌, ◌<◌, ◌≤◌, ◌-◌, length}
 use Rattle.prop_numbers.specs.Sets.{set_of}
 use Rattle.prop_procedures.specs.Kept.{stored_of}
 use Rattle.prop_cells.specs.Data.{beliefs, problem_of}
@@ -10,6 +10,10 @@ use Rattle.prop_scheduler.proofs.waking.alert_grown.Given as goal
 
 abbrev pub invariant-loop-cell : goal.invariant-loop-cell
 invariant-loop-cell g l = record {
+  within : l.cell ≤ length l.network.cells.kinds;
+  here : l.cell < length l.network.cells.kinds
+      → beliefs (set_of l.before) l.network.cells.contents l.cell ≢ beliefs (set_of l.after) l.network.cells.contents
+      l.cell;
   grown : AreGrown (set_of l.before) (set_of l.after) l.network.cells l.cell l.initial.agenda.line l.agenda.line;
   falls : potential (problem_of (stored_of g.R.Rule.value_of l.network.library) l.network.cells)
       (partly (set_of l.before) (set_of l.after) l.network.cells l.cell) l.agenda.line
@@ -20,3 +24,6 @@ invariant-loop-cell g l = record {
   looked : AreLooked (set_of l.before) (set_of l.after) l.network.cells l.cell l.initial.agenda.watched
       l.agenda.watched;
 }
+
+abbrev pub decreases-loop-cell : goal.decreases-loop-cell
+decreases-loop-cell g l = length l.network.cells.kinds - l.cell

@@ -12,5 +12,5 @@ invariant_of-self c =
     ap row_items c.truncate-3.ensures.items ∙ sym (take-map (λ row. row.items) c.args.count n.readers.items) in
     let writing : row_items c.truncate-4.new.self.items ≡ take c.args.count (row_items n.writers.items) =
     ap row_items c.truncate-4.ensures.items ∙ sym (take-map (λ row. row.items) c.args.count n.writers.items) in
-    rw (c.truncate.ensures.items, c.truncate-2.ensures.items, reading, writing, c.truncate-5.ensures.items)
+    rw (c.truncate.ensures.items, c.truncate-2.ensures, reading, writing, c.truncate-5.ensures.items)
     (stored_taken _ _ _ _ c.args.count made c.self.invariant)

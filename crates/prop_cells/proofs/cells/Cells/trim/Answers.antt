@@ -11,8 +11,8 @@ invariant_of-self c =
     let count = c.self.invariant.told.count in
     let told = read_there n.told.items c.args.cell c.index.result.now [] (omega (arith, within, count)) c.index.ensures
     in
-    stored_trim _ c.trim_at.new.contents.items n.told.items (set_of c.args.worldview.now) _ c.args.cell
-    c.trim_at.ensures.trims (rw told at c.trim_at.ensures.kept) _ _ c.self.invariant
+    stored_trim _ c.trim.new.self n.told.items (set_of c.args.worldview.now) _ c.args.cell
+    c.trim.ensures.trims (rw told at c.trim.ensures.kept) _ _ c.self.invariant
 
 pub returns-clause-trims : goal.returns-clause-trims
 returns-clause-trims c =
@@ -22,9 +22,9 @@ returns-clause-trims c =
     let told = read_there n.told.items c.args.cell c.index.result.now [] (omega (arith, within, count)) c.index.ensures
     in
     subst (λ (d : Data). TrimsAt (set_of c.args.worldview.now) (told_of d.statements c.args.cell) d.contents
-    c.trim_at.new.contents.items c.args.cell) c.self.view_is
+    c.trim.new.self c.args.cell) c.self.view_is
     (trims_told (set_of c.args.worldview.now) _ _ _ _ c.args.cell
-    (told_part _ n.told.items c.args.cell c.self.invariant.told) (rw told at c.trim_at.ensures.trims))
+    (told_part _ n.told.items c.args.cell c.self.invariant.told) (rw told at c.trim.ensures.trims))
 
 pub returns-clause-made : goal.returns-clause-made
 returns-clause-made c = (invariant_of-self c).made

@@ -1,0 +1,66 @@
+//! Which premises bear on which cells: sets of premises, one for so many cells in a row.
+ghost use Rattle.std.specs.Prelude.{◌≡◌, ◌<◌, ℕ, [], length, slice_index_or, IsTrue, OnOk, OnErr};
+ghost use Rattle.prop_numbers.specs.Sets.{set_of};
+ghost use Rattle.prop_cells.specs.inner.Bearing.{AreSame, UnitesAt};
+
+use prop_premises::{PremiseSet, Worldview};
+use std::alloc::AllocError;
+
+/// There is a set at this place, of no premises where there was none. The others stay.
+fn reach(sets: &mut Vec<PremiseSet>, place: usize) -> Result<(), AllocError>
+    ensures same { AreSame sets.old.items sets.new.items }
+    ensures there { OnOk result (place < length sets.new.items) }
+{
+    let alloc = *sets.allocator();
+    while sets.len() <= place {
+        sets.push(PremiseSet::empty(alloc))?;
+    }
+    Ok(())
+}
+
+/// The set at this place has these premises too. After want of memory each set is as before.
+pub(crate) fn bear(
+    sets: &mut Vec<PremiseSet>,
+    place: usize,
+    support: &PremiseSet,
+) -> Result<(), AllocError>
+    ensures ok { OnOk result (UnitesAt sets.old.items sets.new.items place support.now) }
+    ensures err { OnErr result (AreSame sets.old.items sets.new.items) }
+{
+    reach(sets, place)?;
+    sets[place].unite(support)?;
+    Ok(())
+}
+
+/// Whether two worldviews believe the same of each premise of a set. It takes no memory.
+fn agree_on(premises: &PremiseSet, before: &Worldview, after: &Worldview) -> bool
+    ensures { IsTrue result → (p : ℕ) → IsTrue (set_of premises.now p)
+        → set_of before.now p ≡ set_of after.now p }
+{
+    if before.believes(premises) && after.believes(premises) {
+        return true;
+    }
+    for premise in premises.iter() {
+        if before.has(premise) != after.has(premise) {
+            return false;
+        }
+    }
+    true
+}
+
+/// Whether two worldviews believe the same of each premise of the set at a place. It takes no
+/// memory.
+pub(crate) fn agree_at(
+    sets: &[PremiseSet],
+    place: usize,
+    before: &Worldview,
+    after: &Worldview,
+) -> bool
+    ensures { IsTrue result → (p : ℕ) → IsTrue (set_of (slice_index_or sets.now place []) p)
+        → set_of before.now p ≡ set_of after.now p }
+{
+    match sets.get(place) {
+        Some(premises) => agree_on(premises, before, after),
+        None => true,
+    }
+}
