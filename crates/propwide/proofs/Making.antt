@@ -6,15 +6,12 @@ use Rattle.std.proofs.lemmas.List.Elements.{All-head, All-tail, All-map, All-app
 use Rattle.std.proofs.lemmas.Option.{none-some, same_Some}
 use Rattle.std.specs.Borrow.{Bor}
 use Rattle.std.specs.Prelude.{Some, slice_get}
-use Rattle.prop_lattice.specs.declared.info.Info.{Info}
-use Rattle.prop_procedures.specs.declared.both.Both.{Both}
 use Rattle.prop_procedures.specs.declared.both.Both.TheVariants as boths
 use Rattle.prop_procedures.specs.declared.procedure.Procedure.{Procedure}
 use Rattle.prop_procedures.specs.declared.shape.Need.{Need}
-use Rattle.prop_procedures.specs.declared.shape.Param.{Param}
 use Rattle.prop_procedures.specs.declared.shape.Shape.{Shape}
 use Rattle.prop_procedures.specs.Both.{either_of}
-use Rattle.prop_procedures.specs.Forms.{Form, form, library_of, related_in, stored_rule}
+use Rattle.prop_procedures.specs.Forms.{form, related_in, stored_rule}
 use Rattle.prop_procedures.specs.Kept.{stored_as}
 use Rattle.prop_procedures.specs.Rules.{IsSound}
 use Rattle.prop_procedures.specs.Stored.{Stored}

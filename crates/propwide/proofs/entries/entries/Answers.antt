@@ -1,9 +1,8 @@
-use Rattle.std.proofs.Common.{◌≡◌, ◌∙◌, ◌++◌, [], ap, arith, map, refl, subst, sym}
+use Rattle.std.proofs.Common.{◌∙◌, ◌++◌, [], ap, arith, map, sym}
 use Rattle.std.proofs.lemmas.List.{append-nil, append_assoc, take_all}
 use Rattle.prop_arith.specs.Kit.{in_order as kits}
 use Rattle.prop_wide.specs.Procedures.{in_order as named}
 use Rattle.prop_hall.specs.Excluder.{in_order as excluders}
-use Rattle.prop_wide.specs.declared.procedures.TheConstants.{PROCEDURES}
 use Rattle.propwide.specs.Kits.{of_kit, of_wide, of_excluder, shown}
 use Rattle.propwide.proofs.Making.{more, of_row, from_rows, kit_shown, wide_shown, excluder_shown}
 use Rattle.propwide.proofs.entries.entries.Goals as goal
