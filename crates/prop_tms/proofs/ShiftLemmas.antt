@@ -1,9 +1,11 @@
 -- Entries that are believed in both of two worldviews or in neither.
 use Rattle.std.proofs.Common.{if◌then◌else◌, ◌≡◌, ◌∙◌, ℕ, Bool, true, false, not, ◌&&◌, ◌||◌, List, [], ◌∷◌, ◌++◌, map}
-use Rattle.std.proofs.Common.{refl, sym, ap}
+use Rattle.std.proofs.Common.{refl, sym, ap, ◌≢◌, ◌⊎◌, ◌%◌, inl, inr}
 use Rattle.std.specs.List.{list_any}
 use Rattle.std.proofs.lemmas.List.Elements.{filter-append}
-use Rattle.prop_numbers.specs.Sets.{Members, is_within}
+use Rattle.prop_numbers.specs.Sets.{Members, set_of, is_within}
+use Rattle.prop_numbers.specs.Signatures.{CoversChange}
+use Rattle.prop_numbers.proofs.WithinLemmas.{within_has, within_from}
 use Rattle.prop_tms.specs.Beliefs.{merge_of_all, belief_of, believed_of}
 use Rattle.prop_tms.specs.Values.{entries_of, entries_of_one}
 use Rattle.prop_tms.specs.inner.Values.{is_in_one}
@@ -52,3 +54,28 @@ pub belief_alike : {V : Type 0} (bottom : V) (join : V → V → V) (w z : Membe
     list_any (λ x. list_any (is_in_one w z) x.supports.items) xs ≡ false
     → belief_of bottom join w (entries_of xs) ≡ belief_of bottom join z (entries_of xs)
 belief_alike bottom join w z xs h = ap (merge_of_all bottom join) (believed_alike w z xs h)
+
+-- ---- premises that both worldviews have or lack alike
+
+tells : (a b : Bool) → (a ≡ b) ⊎ (a ≢ b)
+tells true true = inl refl
+tells true false = inr (λ e. cc e)
+tells false true = inr (λ e. cc e)
+tells false false = inl refl
+
+both_or_neither : (a b : Bool) → (a ≡ true → b ≡ true) → (b ≡ true → a ≡ true)
+    → ((a && not b) || (b && not a)) ≡ false
+both_or_neither true true f g = refl
+both_or_neither true false f g = cc (f refl)
+both_or_neither false true f g = cc (g refl)
+both_or_neither false false f g = refl
+
+-- a support without a premise that may be in just one of two worldviews is believed in both or in neither
+pub not_in_one : (w z rs : Members) (s : List ℕ) → CoversChange w z rs
+    → ((p : ℕ) → set_of s p ≡ true → rs (p % 128) ≡ false) → is_in_one w z s ≡ false
+not_in_one w z rs s covers out = both_or_neither (is_within w s) (is_within z s)
+    (λ t. within_from z s (λ p h. sym (same p h) ∙ within_has w s p t h))
+    (λ t. within_from w s (λ p h. same p h ∙ within_has z s p t h))
+  where
+    same : (p : ℕ) → set_of s p ≡ true → w p ≡ z p
+    same p h = elim (tells (w p) (z p)) [ inl e ↦ e | inr apart ↦ cc (covers p apart, out p h) ]

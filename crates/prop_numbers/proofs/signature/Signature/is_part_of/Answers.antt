@@ -16,8 +16,10 @@ returns c =
           let each = both_zero first second none in
           part_of_both s.even s.odd o.even o.odd (omega arith) (omega arith) (omega arith) (omega arith) each.0 each.1,
       λ part.
-          let even = first_part s.even s.odd o.even o.odd (omega arith) (omega arith) (omega arith) (omega arith) part in
-          let odd = second_part s.even s.odd o.even o.odd (omega arith) (omega arith) (omega arith) (omega arith) part in
+          let even = first_part s.even s.odd o.even o.odd (omega arith) (omega arith) (omega arith) (omega arith)
+          part in
+          let odd = second_part s.even s.odd o.even o.odd (omega arith) (omega arith) (omega arith) (omega arith)
+          part in
           let none : bit_or first second ≡ 0 = rw (even, odd) refl in
           grind (arith, nat_tests),
     )
