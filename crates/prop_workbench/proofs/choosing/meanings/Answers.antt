@@ -8,8 +8,8 @@ use Rattle.prop_workbench.proofs.choosing.meanings.Goals.{in-Ok-meaning+in-Ok-pu
 
 pub loop-value-init : goal.loop-value-init
 loop-value-init c =
-    judged_none c.args.words.now c.args.kind c.args.is_taken c.then_some-first.result (map meant_of c.in-Ok.meants.items)
-    c.then_some-first.ensures (ap (map meant_of) c.in-Ok.ensures.items)
+    judged_none c.args.words.now c.args.kind c.args.is_taken c.then_some-first.result
+    (map meant_of c.in-Ok.meants.items) c.then_some-first.ensures (ap (map meant_of) c.in-Ok.ensures.items)
 
 pub loop-value-preserved : goal.loop-value-preserved
 loop-value-preserved c =

@@ -11,8 +11,8 @@ choose_between-requires-clause-may g c =
     let s = c.args.self.now in
     let sized = c.requires.sound.sized c.args.cell span_kind c.requires.cell in
     let infos = c.deref.ensures.value ∙ c.in-Ok.ensures.infos in
-    rw infos (infos_may_be s.words s.words (kind_at s.live.network.cells.kinds c.args.cell) (map meant_of c.args.meants.now)
-    sized.1 (few_elements s.words (kind_at s.live.network.cells.kinds c.args.cell).kind
+    rw infos (infos_may_be s.words s.words (kind_at s.live.network.cells.kinds c.args.cell)
+    (map meant_of c.args.meants.now) sized.1 (few_elements s.words (kind_at s.live.network.cells.kinds c.args.cell).kind
     c.symbol_count-count.ensures.whole sized.0) c.requires.mean)
 
 pub choose_between-requires-clause-fits : goal.choose_between-requires-clause-fits
@@ -39,5 +39,5 @@ returns-in-Ok-choose_between-clause-ok g c =
     let infos = c.deref.ensures.value ∙ c.in-Ok.ensures.infos in
     chosen_state (state_of s) (state_from s.names c.infos_of.new.words s.definitions s.search.premises
     s.live.network.cells s.limit) _ c.args.choice.now c.args.cell (map meant_of c.args.meants.now) c.deref.result.now
-    (λ i. state_from s.names (c.in-Ok.ensures.words i) s.definitions s.search.premises s.live.network.cells s.limit) infos
-    c.in-Ok-choose_between.ensures.ok
+    (λ i. state_from s.names (c.in-Ok.ensures.words i) s.definitions s.search.premises s.live.network.cells s.limit)
+    infos c.in-Ok-choose_between.ensures.ok
