@@ -98,11 +98,10 @@ def excluded(count: int, infos: list[Known], size: int) -> Case:
     lines.append(f"attach excluder{count} {first}{' '.join(cells[1:])} y{by}")
     lines += [*fixed(cells, infos), "ask y"]
     found = left(infos, 0, whole)
-    if infos[0] is None and found and (count < 8 or found == whole):
-        # (of y nothing is known: a rule that knows no domain can leave nothing out)
-        answer = "y = nothing"
-    else:
-        answer = told("y", found)
+    if infos[0] is None and count < 8:
+        # (a rule that knows no domain can leave nothing out of y, of which nothing is known)
+        found = whole if matched([it for it in infos[1:] if it is not None]) else frozenset()
+    answer = "y = nothing" if infos[0] is None and found == whole else told("y", found)
     title = f"wide puzzles: {'; '.join(lines[3:])}"
     return Case(title, as_bytes(*lines), as_bytes(*["ok"] * (len(lines) - 1), answer))
 
