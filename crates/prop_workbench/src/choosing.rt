@@ -170,8 +170,10 @@ impl<R: Rule + Drop, O: Order + Drop> Session<R, O> {
         ensures { result ≡ (is_some (premise_number self.now.search.premises name.now) || is_choice
             self.now.search.premises name.now) }
     {
-        let premises = self.search.premises();
-        premises.is_choice(name) || premises.find(name).is_ok()
+        !matches!(
+            self.search.premises().find(name),
+            Err(Refusal::NoSuchPremise)
+        )
     }
 
     /// A choice with a new name between what is meant at a cell, where there is room.
