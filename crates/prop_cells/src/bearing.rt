@@ -37,8 +37,11 @@ fn agree_on(premises: &PremiseSet, before: &Worldview, after: &Worldview) -> boo
     ensures { IsTrue result → (p : ℕ) → IsTrue (set_of premises.now p)
         → set_of before.now p ≡ set_of after.now p }
 {
-    if before.believes(premises) && after.believes(premises) {
-        return true;
+    if before.believes(premises) {
+        return after.believes(premises);
+    }
+    if after.believes(premises) {
+        return false;
     }
     for premise in premises.iter() {
         if before.has(premise) != after.has(premise) {

@@ -3,10 +3,10 @@ use Rattle.prop_numbers.specs.Sets.{set_of}
 use Rattle.prop_cells.proofs.BearingLemmas.{Agree, agree_both, agree_more, agree_none, same_bits}
 use Rattle.prop_cells.proofs.bearing.agree_on.Goals as goal
 
-pub returns-then-believes-2 : goal.returns-then-believes-2
-returns-then-believes-2 c = λ t.
+pub returns-then-believes : goal.returns-then-believes
+returns-then-believes c = λ t.
     agree_both (set_of c.args.before.now) (set_of c.args.after.now) c.args.premises.now
-    (sym c.believes.ensures ∙ c.if-believes.true) (sym c.believes-then-believes.ensures ∙ c.if-believes-2.true)
+    (sym c.believes.ensures ∙ c.if-believes.true) (sym c.believes-then-believes.ensures ∙ t)
 
 pub loop-premise-init : goal.loop-premise-init
 loop-premise-init c = record {
