@@ -11,11 +11,12 @@
 """
 
 import os
-from collections.abc import Iterable, Mapping, Sequence
+from collections.abc import Iterable, Iterator, Mapping, Sequence
 from datetime import date
 from types import TracebackType
 from typing import TypeVar, overload
 
+from propbench.finding import find_wide
 from propbench.model.answers import Answer, Conflict, NotSettled, ends_of
 from propbench.model.blaming import always, beyond
 from propbench.model.cells import Cell, ElementCell, NumberCell, SymbolCell, TruthCell, words_of
@@ -50,6 +51,7 @@ from propbench.session import Session
 # What each alternative of a choice states: one constraint or several.
 Stated = Truth | bool | Sequence[Truth | bool]
 SomeCell = TypeVar("SomeCell", bound=Cell)
+_LACKS = "The program has no rule of its own for {}: answers may be wider than those of propwide."
 
 
 class Workbench(Questions):
@@ -75,13 +77,12 @@ class Workbench(Questions):
         seed: int = 0,
         limit: int | None = None,
     ) -> None:
-        """Starts the program, found as a `Session` finds it, with its options."""
-
-        def open_session() -> Session:
-            return Session(program, order=order, seed=seed, limit=limit)
-
+        """Starts the program: the one given, else that of $PROPWIDE or $PROPBENCH, else propwide,
+        and else propbench, which has fewer rules (`lacks` tells what is missed). Its options are
+        those of a `Session`."""
+        found = find_wide(program).path
         self._owner = object()
-        self._network = Network(open_session)
+        self._network = Network(Session(found, order=order, seed=seed, limit=limit))
         self._cells: dict[str, Cell] = {}
 
     def __enter__(self) -> "Workbench":
@@ -113,6 +114,12 @@ class Workbench(Questions):
     def proved(self) -> bool:
         """Whether the program is known to be built from proofs."""
         return self._network.session.proved
+
+    @property
+    def lacks(self) -> tuple[str, ...]:
+        """What was written so far for which the program has no procedure of its own. At single
+        values it is decided all the same; before that answers may be wider than propwide's."""
+        return tuple(self._network.lacks)
 
     # --- cells ---
 
@@ -306,7 +313,7 @@ class Workbench(Questions):
             for cell, reply in zip(declared, replies)
             if isinstance(reply, Value)
         )
-        return Table(answers, read.choices(plan), () if self.proved else (UNPROVED,))
+        return Table(answers, read.choices(plan), tuple(self._notes()))
 
     def show(self, *cells: Cell) -> None:
         """Prints what follows for these cells, or for all; at a conflict, what can't all hold."""
@@ -399,6 +406,13 @@ class Workbench(Questions):
         """Ends the copy, and puts back the network that it stood for."""
         self._network.session.close()
         self._network = kept
+
+    def _notes(self) -> Iterator[str]:
+        """What is to be known of the program."""
+        if self.lacks:
+            yield _LACKS.format(", ".join(self.lacks))
+        if not self.proved:
+            yield UNPROVED
 
     def _reader(self) -> Reader:
         return Reader(self._network.vocabulary, self._network.premises)

@@ -21,7 +21,6 @@ from propbench.questions.rooms import (
     whole_room,
 )
 from propbench.replies import Contradiction, Reply, Settled, Unsettled, Value
-from propbench.session import Session
 from propbench.values import Held, Nothing
 from propbench.words import is_silent
 
@@ -71,7 +70,7 @@ class Trial:
         self._asks = [f"ask {line}" for line in self.cell_line.values()]
         # Whether the last look saw values: then the next one asks for them at once.
         self._expects_values = False
-        self.session = Session(model.session.program)
+        self.session = model.session.fresh()
         try:
             self._begin()
         except BaseException:
