@@ -286,14 +286,19 @@ class Workbench(Questions):
             if over != "all plans":
                 raise ValueError(f'an answer may be over="all plans", and not over={over!r}')
             return self._over_all_plans(cell, seconds)
-        line = f"{command} {self._network.vocabulary.cells.line(cell.name)}"
-        reply = self.session.send(line, seconds=seconds)
+        network = self._network
+        reply = network.session.send(
+            f"{command} {network.vocabulary.cells.line(cell.name)}", seconds=seconds
+        )
         if isinstance(reply, Contradiction):
             raise self._conflict(reply)
         assert isinstance(reply, Value)
-        if command == "core" and reply.settled and self._network.premises.choices:
+        reply.read()
+        if not network.premises.choices:
+            return self._reader().answer(cell, reply, {})
+        if command == "core" and reply.settled:
             # (after a core every procedure is called once more, before the plan is known)
-            self.session.send("worldview", seconds=seconds)
+            network.session.send("worldview", seconds=seconds)
         return self._reader().answer(cell, reply, self._plan())
 
     def table(self, *cells: Cell, seconds: float | None = None) -> Table:

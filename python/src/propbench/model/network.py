@@ -112,6 +112,13 @@ class Network:
                 self._base.lines_of(event)
         return [*self._base.writer.lines, *self.kicks()]
 
+    @property
+    def forks(self) -> list[str]:
+        """Inner truths of the base, by which one way or another is taken where one of some holds."""
+        self.base()
+        assert self._base
+        return list(dict.fromkeys(self._base.translation.forks))
+
     def lines_of(self, constraint: Node) -> list[str]:
         """The lines of the base that state a constraint, wherever it was required."""
         lines: dict[str, None] = {}
