@@ -249,13 +249,13 @@ BUGS = [
         "model/answers.py",
         "None if value.low == -MOST else value.low",
         "None if value.low == MOST else value.low",
-        "workbench::a_first_model workbench::values_of_each_kind",
+        "workbench::ends_that_are_not_known",
     ),
     # Questions.
     Bug(
         "questions/bounding.py",
-        "self._low, self.tree = most + 1, outcome.tree",
-        "self._low, self.tree = most + 2, outcome.tree",
+        "self.proved = self._low == best",
+        "self.proved = self._low >= best - 1",
         f"{_BOUNDS} {_PROJECTS}",
     ),
     Bug(
