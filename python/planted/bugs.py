@@ -297,8 +297,8 @@ BUGS = [
     Bug(
         "questions/hitting.py",
         "            if not conflict & seen:\n",
-        "            if conflict & seen != conflict:\n",
-        "hitting::each_least_set_comes_once_cheapest_first",
+        "            if conflict:\n",
+        "hitting::sets_that_overlap_are_hit_at_once",
     ),
     Bug(
         "questions/trial.py",
