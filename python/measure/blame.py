@@ -146,11 +146,11 @@ def marco(made: Translated, most: float) -> tuple[Sets, Sets, bool]:
 # --- both ---
 
 
-def ours(made: Compiled, most: float) -> tuple[Sets, Sets, bool]:
-    """The same by the workbench."""
+def ours(made: Compiled, most: float, count: int) -> tuple[Sets, Sets, bool]:
+    """The same by the workbench, so many of each at the most."""
     with Workbench() as workbench:
         built = Built(made.flat, workbench)
-        conflicts, repairs = blamed(built, made, Asked(most=100_000, seconds=most))
+        conflicts, repairs = blamed(built, made, Asked(most=count, seconds=most))
         found = {frozenset(each) for each in conflicts}, {frozenset(each) for each in repairs}
         return (*found, repairs.complete)
 
@@ -160,6 +160,9 @@ def main() -> int:
     read = argparse.ArgumentParser(description=__doc__.split("\n", maxsplit=1)[0])
     read.add_argument("seeds", nargs="*", type=int, metavar="SEED", default=range(1, 11))
     read.add_argument("--most", type=float, default=60, metavar="N", help="seconds of each (60)")
+    read.add_argument(
+        "--count", type=int, default=100_000, metavar="N", help="of each at most (all)"
+    )
     options = read.parse_args()
     wrong = 0
     print("project  constraints  conflicts  repairs  propbench      z3")
@@ -169,7 +172,7 @@ def main() -> int:
             file.write_text(data(seed))
             made = compiled(MODEL, [file])
         began = time.monotonic()
-        found = ours(made, options.most)
+        found = ours(made, options.most, options.count)
         middle = time.monotonic()
         other = marco(Translated(made.flat), options.most)
         end = time.monotonic()
