@@ -22,6 +22,8 @@ from case import SECONDS, Check, as_bytes
 TOP = os.path.dirname(os.path.dirname(os.path.realpath(__file__)))
 # What the names of its cases begin with.
 PREFIX = "package: "
+# The programs that it brings.
+PROGRAMS = ["propbench", "propwide"]
 # What each Debian machine has, and so no package has to name.
 ESSENTIAL = ["dash", "dpkg"]
 MERGED = ["bin", "lib", "lib64", "sbin"]
@@ -47,9 +49,15 @@ def room() -> str:
     return folder
 
 
+def wide(program: str) -> str:
+    """What is packaged as propwide: the one that is built here, and else the same program."""
+    built = f"{TOP}/crates/propwide/out/propwide"
+    return built if os.access(built, os.X_OK) else program
+
+
 def made(program: str, to: str, **env: str) -> str:
     """The path of a package that is made now."""
-    words = [f"{TOP}/tools/package", "--program", program, "--to", to]
+    words = [f"{TOP}/tools/package", "--program", program, "--wide", wide(program), "--to", to]
     done = ran(words, env={**os.environ, **env})
     if done.returncode:
         raise OSError(done.stderr.decode() + done.stdout.decode())
@@ -209,6 +217,24 @@ def first_session(program: str) -> Optional[str]:
     return None if got == wanted else f"{got}, wanted {wanted}"
 
 
+def wide_runs(program: str) -> Optional[str]:
+    """propwide in the root: a sum as propbench has it, and where it is built, a rule of its own."""
+    sent, wanted = as_bytes("cell x span", "fix x 3..5", "ask x"), "ok\nok\nx = 3..5\n"
+    done = inside(installed(program), "propwide", sent=sent)
+    if (done.returncode, done.stdout.decode()) != (0, wanted):
+        return f"status {done.returncode}: {done.stdout.decode()}{done.stderr.decode()}"
+    with open(f"{unpacked(program)}/usr/bin/propwide", "rb") as one, open(
+        wide(program), "rb"
+    ) as it:
+        if one.read() != it.read():
+            return "it is another program"
+    if wide(program) == program:
+        return None
+    sent = as_bytes("cell x span", "cell y span", "attach abs x y", "fix x -9..1", "ask y")
+    got = inside(installed(program), "propwide", sent=sent).stdout.decode()
+    return None if got.endswith("\ny = 0..9\n") else got
+
+
 def examples_run(program: str) -> Optional[str]:
     """Each example that is installed, in the root, with the replies that lie beside it."""
     root = installed(program)
@@ -262,6 +288,9 @@ def pages_are_clean(program: str) -> Optional[str]:
     for wanted in [*re.findall(r"--\w+", told), *documents.COMMANDS, "because morning evening"]:
         if not re.search(rf"^\W*{wanted}\b|{wanted}$", text, flags=re.M):
             return f"propbench.1 lacks {wanted}"
+    for wanted in [".SH EXAMPLE", r"\fBmax\fR (x S, y S, z S)", r"\fBremainderer\fR (y S, r S)"]:
+        if wanted not in page(program, "propwide") or wanted[0] != "." and wanted in text:
+            return f"{wanted} is not where it belongs"
     wanted = [".SH SYNOPSIS", ".SH PROPDESK RUN", ".SH PROPDESK SHELL", r"\-\-program"]
     lacks = [it for it in wanted if it not in page(program, "propdesk")]
     return f"propdesk.1 lacks {lacks}" if lacks else None
@@ -289,6 +318,7 @@ def completion_offers(program: str) -> Optional[str]:
         ("propbench", "--order", "=", "m"): ["mixed"],
         ("propbench", "--order", "lifo", "--s"): ["--seed"],
         ("propbench", "--limit", ""): [],
+        ("propwide", "--order", ""): ["fifo", "lifo", "mixed"],
     }
     for words, offers in wanted.items():
         if offered(program, *words) != offers:
@@ -361,20 +391,21 @@ def removed(program: str) -> Optional[str]:
         output_of("cp", "-al", f"{installed(program)}/.", root)
         dpkg(root, "--purge", "propbench")
         found = glob.glob(f"{root}/usr/**", recursive=True)
-        left = [it for it in found if re.search("prop(bench|desk)", it.removeprefix(root))]
+        left = [it for it in found if re.search("prop(bench|wide|desk)", it.removeprefix(root))]
         return f"it leaves {left}" if left else None
 
 
-def knows_proof(root: str) -> bool:
-    """Whether the Python package of a folder's files takes the program there for proved."""
+def knows_proof(root: str, name: str = "propbench") -> bool:
+    """Whether the Python package of a folder's files takes a program there for proved."""
     env = {
         "PATH": f"{root}/usr/bin:/usr/bin",
         "PYTHONPATH": f"{root}/usr/lib/python3/dist-packages",
     }
-    asks = "from propbench import find_program as find; print(find().path, find().proved)"
+    find = "find_program" if name == "propbench" else "find_wide"
+    asks = f"from propbench.finding import {find} as find; print(find().path, find().proved)"
     done = ran(["/usr/bin/python3", "-B", "-c", asks], env=env)
     path, _, is_proved = done.stdout.decode().strip().rpartition(" ")
-    if path != f"{root}/usr/bin/propbench":
+    if path != f"{root}/usr/bin/{name}":
         raise OSError(f"found {path}: {done.stderr.decode()}")
     return is_proved == "True"
 
@@ -385,7 +416,8 @@ def lacks_proof(program: str) -> Optional[str]:
     fields = output_of("dpkg-deb", "--field", package(program))
     if "~unproved" not in fields or "NOT the proved one" not in fields:
         return fields
-    return "Python takes it for proved" if knows_proof(unpacked(program)) else None
+    known = [name for name in PROGRAMS if knows_proof(unpacked(program), name)]
+    return f"Python takes {known} for proved" if known else None
 
 
 def copy_without_program(to: str) -> None:
@@ -394,35 +426,44 @@ def copy_without_program(to: str) -> None:
         shutil.copytree(f"{TOP}/{folder}", f"{to}/{folder}")
     for name in ("README.md", "crates.txt"):
         shutil.copy(f"{TOP}/{name}", to)
-    os.makedirs(f"{to}/crates/propbench/src")
+    for name in PROGRAMS:
+        os.makedirs(f"{to}/crates/{name}/src")
 
 
 def tells_proof(program: str) -> Optional[str]:
-    """The program that is built is said to be proved; another in its place is not."""
+    """The programs that are built are said to be proved; others in their places are not."""
     with tempfile.TemporaryDirectory(prefix="package-") as copy:
         copy_without_program(copy)
-        os.makedirs(f"{copy}/crates/propbench/out")
-        shutil.copy(program, f"{copy}/crates/propbench/out/propbench")
+        for name in PROGRAMS:
+            os.makedirs(f"{copy}/crates/{name}/out")
+            shutil.copy(program, f"{copy}/crates/{name}/out/{name}")
         built = output_of(f"{copy}/tools/package").strip()
         fields = output_of("dpkg-deb", "--field", built)
         if "~unproved" in fields or "Every answer is proved" not in fields:
             return fields
         root = f"{copy}/root"
         output_of("dpkg-deb", "--extract", built, root)
-        if not knows_proof(root):
-            return "Python does not know that it is proved"
-        with open(f"{root}/usr/bin/propbench", "ab") as it:
-            it.write(b" ")
-        return "Python takes another one for proved" if knows_proof(root) else None
+        for name in PROGRAMS:
+            if not knows_proof(root, name):
+                return f"Python does not know that {name} is proved"
+            with open(f"{root}/usr/bin/{name}", "ab") as it:
+                it.write(b" ")
+            if knows_proof(root, name):
+                return f"Python takes another {name} for proved"
+        return None
 
 
-def refuses_without_program(_program: str) -> Optional[str]:
-    """Without a proved program there is no package, and it says what to do."""
+def refuses_without_program(program: str) -> Optional[str]:
+    """Without the proved programs there is no package, and it says what to do."""
     with tempfile.TemporaryDirectory(prefix="package-") as copy:
         copy_without_program(copy)
-        done = ran([f"{copy}/tools/package"])
-        if done.returncode != 1 or b"run tools/build first" not in done.stdout:
-            return f"{done}"
+        for lacks in (b"no proved propbench and propwide of", b"no proved propwide of"):
+            done = ran([f"{copy}/tools/package"])
+            said = [lacks, b"run tools/build first"]
+            if done.returncode != 1 or any(it not in done.stdout for it in said):
+                return f"{done}"
+            os.makedirs(f"{copy}/crates/propbench/out", exist_ok=True)
+            shutil.copy(program, f"{copy}/crates/propbench/out/propbench")
         return "it writes a package" if os.path.exists(f"{copy}/out") else None
 
 
@@ -430,6 +471,7 @@ HOLDS: dict[str, Callable[[str], Optional[str]]] = {
     "two runs give the same bytes": same_bytes,
     "owners, modes and times": owners_and_modes,
     "README's first session, in a root of its own": first_session,
+    "propwide, in a root of its own": wide_runs,
     "the examples, in a root of its own": examples_run,
     "propdesk, in a root of its own": desk_runs,
     "links of the documents": links_hold,
@@ -439,8 +481,8 @@ HOLDS: dict[str, Callable[[str], Optional[str]]] = {
     "pygments' lexers": pygments_knows,
     "nothing is left once it is removed": removed,
     "a program that is named is not said to be proved": lacks_proof,
-    "the program that is built is said to be proved": tells_proof,
-    "no package without a proved program": refuses_without_program,
+    "the programs that are built are said to be proved": tells_proof,
+    "no package without the proved programs": refuses_without_program,
 }
 
 

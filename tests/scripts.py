@@ -48,7 +48,7 @@ TYPED_TESTS += ["pages", "peers", "pipe", "puzzles", "scripts", "searches", "tes
 TYPED_TESTS += ["wide_rules"]
 # Scripts and modules that are typed and laid out by black, by the folder that they are looked at in.
 TYPED = {
-    "tools/start": ["*.py", "../../propbench"],
+    "tools/start": ["*.py", "../../propbench", "../../propwide"],
     "tools/deb": ["*.py", "../package"],
     "tools": ["pipe_speed", "python_gate"],
     "tests": [f"{it}.py" for it in TYPED_TESTS],

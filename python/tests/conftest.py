@@ -1,6 +1,7 @@
 """What all tests use: the program, and what it answers on a bare pipe.
 
-The program is the one that is found, $PROPBENCH first. $PROPBENCH_TESTS is how many times as many
+The program is the one that is found, $PROPBENCH first; tests of the workbench are run over propwide
+too, where that is named by $PROPWIDE, built or installed. $PROPBENCH_TESTS is how many times as many
 random cases as usual are drawn (1 where it is not set).
 """
 
@@ -8,18 +9,23 @@ import os
 import signal
 import subprocess
 import sys
-from collections.abc import Callable, Iterable
+from collections.abc import Callable, Iterable, Iterator
+from contextlib import suppress
 from pathlib import Path
 
 import pytest
 from hypothesis import HealthCheck, settings
 
-from propbench import find_program
+from propbench.finding import NoProgram, find_program, find_wide
 from propbench.words import encoded
 
 REPOSITORY = Path(__file__).resolve().parents[2]
 sys.path.append(str(REPOSITORY / "tests"))
 
+OF_A_WORKBENCH = """
+test_certificates test_planning test_questions test_questions_page test_shown test_what_ifs
+test_workbench test_workbench_files test_workbench_page test_workbench_random
+""".split()
 TIMES = int(os.environ.get("PROPBENCH_TESTS", "1"))
 
 settings.register_profile(
@@ -40,8 +46,37 @@ def interrupts() -> None:
     signal.signal(signal.SIGINT, signal.default_int_handler)
 
 
+def programs() -> dict[str, str]:
+    """The programs that a workbench is tested over, by name."""
+    found = {"propbench": find_program().path}
+    with pytest.MonkeyPatch.context() as patch, suppress(NoProgram):
+        patch.delenv("PROPBENCH", raising=False)
+        wide = find_wide()
+        if Path(wide.path).name == "propwide" and not wide.builds:
+            found["propwide"] = wide.path
+    return found
+
+
+PROGRAMS = programs()
+
+
+def pytest_generate_tests(metafunc: pytest.Metafunc) -> None:
+    """Has each test of a workbench and of its questions run over both programs."""
+    if metafunc.module.__name__ in OF_A_WORKBENCH:
+        metafunc.parametrize("over", PROGRAMS, indirect=True, scope="session")
+
+
+@pytest.fixture(scope="session", autouse=True)
+def over(request: pytest.FixtureRequest) -> Iterator[None]:
+    """The program that a test is run over, which $PROPBENCH names for all that begin one."""
+    with pytest.MonkeyPatch.context() as patch:
+        patch.setenv("PROPBENCH", PROGRAMS[getattr(request, "param", "propbench")])
+        patch.delenv("PROPWIDE", raising=False)
+        yield
+
+
 @pytest.fixture(scope="session")
-def program() -> str:
+def program(over: None) -> str:
     """The path of the program."""
     return find_program().path
 

@@ -61,6 +61,9 @@ class LineModel(Questions):
     def base(self) -> list[str]:
         return list(self.lines)
 
+    def forks(self) -> list[str]:
+        return []
+
     def premises(self) -> list[str]:
         return list(dict.fromkeys(line.split()[1] for line in self.lines if line[:5] == "tell "))
 

@@ -56,7 +56,7 @@ def certificates(model: LineModel) -> dict[str, Certificate]:
 
 
 @pytest.fixture(scope="module")
-def found() -> dict[str, Certificate]:
+def found(program: str) -> dict[str, Certificate]:
     with Session() as session:
         return certificates(LineModel(session, WISHES))
 

@@ -8,7 +8,7 @@ from pathlib import Path
 import pytest
 
 from propbench import NoProgram, ProgramEnded, Session, finding
-from propbench.finding import Found, find_program
+from propbench.finding import SAVED, Found, find_for, find_program, find_wide
 
 
 def script(path: Path, text: str) -> Path:
@@ -24,6 +24,7 @@ def repository(tmp_path: Path, monkeypatch: pytest.MonkeyPatch) -> Path:
     """A repository with sources alone, with no program named or on the path."""
     top = tmp_path / "repository"
     script(top / "propbench", "exit 0")
+    script(top / "propwide", "exit 0")
     (top / "crates.txt").write_text("", encoding="utf-8")
     monkeypatch.setattr(finding, "repository", lambda: top)
     monkeypatch.delenv("PROPBENCH", raising=False)
@@ -46,6 +47,31 @@ def test_the_order_of_finding(
     assert find_program("propbench") == Found(str(on_path), False)
 
 
+def test_a_workbench_finds_the_wider_program_first(
+    repository: Path, tmp_path: Path, monkeypatch: pytest.MonkeyPatch
+) -> None:
+    """An unproved build is the last, and what is named the first."""
+    assert find_wide() == Found(str(repository / "propwide"), False, builds=True)
+    plain = script(tmp_path / "bin/propbench", "exit 0")
+    assert find_wide() == Found(str(plain), False)
+    plain = script(repository / "crates/propbench/out/propbench", "exit 0")
+    assert find_wide() == find_program() == Found(str(plain), True)
+    on_path = script(tmp_path / "bin/propwide", "exit 0")
+    assert find_wide() == Found(str(on_path), False)
+    built = script(repository / "crates/propwide/out/propwide", "exit 0")
+    assert find_wide() == Found(str(built), True)
+    assert find_wide(repository / "propwide") == Found(str(built), True)
+    assert find_program() == Found(str(plain), True)
+    assert find_for([SAVED, "cell x span"]) == find_wide()
+    assert find_for(["cell x span", SAVED]) == find_for([]) == find_program()
+    monkeypatch.setenv("PROPBENCH", str(on_path))
+    assert find_wide() == find_program() == Found(str(on_path), False)
+    monkeypatch.setenv("PROPWIDE", str(plain))
+    assert find_wide() == Found(str(plain), True)
+    assert find_program() == Found(str(on_path), False)
+    assert find_wide("propwide") == find_for([SAVED], "propwide") == Found(str(on_path), False)
+
+
 def test_a_program_of_a_package_is_proved_where_its_checksum_is_told(
     repository: Path, tmp_path: Path
 ) -> None:
@@ -57,6 +83,11 @@ def test_a_program_of_a_package_is_proved_where_its_checksum_is_told(
     link = tmp_path / "link"
     link.symlink_to(installed)
     assert find_program(link) == Found(str(link), True)
+    wide = script(tmp_path / "bin/propwide", "exit 2")
+    assert find_wide() == Found(str(wide), False)
+    with told.open("a") as file:
+        file.write(f"{hashlib.sha256(wide.read_bytes()).hexdigest()}  propwide\n")
+    assert find_wide() == Found(str(wide), True)
     script(installed, "exit 1")
     assert not find_program().proved
     told.write_text("")

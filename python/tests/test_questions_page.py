@@ -9,9 +9,7 @@ from pathlib import Path
 
 import pytest
 from conftest import REPOSITORY
-from test_workbench_page import examples
-
-from propbench.overview import UNPROVED
+from test_workbench_page import examples, without_notes
 
 PAGE = REPOSITORY / "docs/QUESTIONS.md"
 PLANNER = REPOSITORY / "examples/planner.py"
@@ -29,7 +27,7 @@ def test_the_page(
     assert len(found) == 5
     for code, wanted in found:
         exec(code, names)
-        assert capsys.readouterr().out.replace(f"{UNPROVED}\n", "") == wanted
+        assert without_notes(capsys.readouterr().out) == wanted
 
 
 def test_the_planner(program: str) -> None:

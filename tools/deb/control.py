@@ -3,6 +3,8 @@ import hashlib
 import re
 import subprocess
 
+from proved import PROGRAMS
+
 MAINTAINER = "Weirnoos maintainers <maintainers@users.noreply.weirnoos.example>"
 SAYS = """\
  Cells gather partial information, procedures between them carry it in every
@@ -13,12 +15,12 @@ SAYS = """\
  .
 """
 PROVED = """\
- Every answer is proved: the program in this package was built only once each
- of its functions was proved to meet its contract.
+ Every answer is proved: the programs in this package were built only once each
+ of their functions was proved to meet its contract.
 """
 UNPROVED = """\
- The program in this package is NOT the proved one: it was given to the
- packager as a file, so nothing is known of how it was built.
+ A program in this package is NOT the proved one: it was given to the packager
+ as a file, so nothing is known of how it was built.
 """
 COMPILES = """\
 #!/bin/sh
@@ -36,9 +38,10 @@ fi
 """
 
 
-def needs(program: bytes) -> str:
-    """The packages that have to be there, the C library as new as the program's symbols ask for."""
-    found = re.findall(rb"GLIBC_(\d+)\.(\d+)\b", program)
+def needs(files: dict[str, bytes]) -> str:
+    """The packages that have to be there, the C library as new as the programs' symbols ask for."""
+    programs = b"".join(files.get(f"usr/bin/{it}", b"") for it in PROGRAMS)
+    found = re.findall(rb"GLIBC_(\d+)\.(\d+)\b", programs)
     newest = max((int(major), int(minor)) for major, minor in found)
     return f"libc6 (>= {newest[0]}.{newest[1]}), python3 (>= 3.10)"
 
@@ -56,7 +59,7 @@ def control(files: dict[str, bytes], version: str, is_proved: bool) -> str:
         "Architecture": architecture(),
         "Maintainer": MAINTAINER,
         "Installed-Size": sum(-(-len(it) // 1024) for it in files.values()),
-        "Depends": needs(files["usr/bin/propbench"]),
+        "Depends": needs(files),
         "Recommends": "python3-prompt-toolkit, python3-pygments",
         "Suggests": "python3-starlette, python3-uvicorn, graphviz",
         "Section": "math",

@@ -6,6 +6,7 @@ import tempfile
 
 TOP = os.path.dirname(os.path.dirname(os.path.dirname(os.path.realpath(__file__))))
 NAME = "a workbench for propagator networks with truth maintenance"
+NAMES = {"propbench": NAME, "propwide": f"{NAME}, with more rules"}
 NAME_OF_DESK = "work with propbench by files and in a shell"
 COMMANDS = """
 A line is answered
@@ -18,7 +19,7 @@ SEE_ALSO = """
 The documents and examples lie in
 .IR /usr/share/doc/propbench :
 README.md says what is proved, docs/TUTORIAL.md begins from nothing, docs/LANGUAGE.md has every
-command, reply and refusal, and docs/PIPE.md is for who drives the program from another one.
+command, reply and refusal, docs/WIDE.md what propwide has beside that, and docs/PIPE.md is for who drives the program from another one.
 """
 
 
@@ -82,14 +83,25 @@ def first_session() -> str:
     return found[0].rstrip("\n")
 
 
-def sections() -> dict[str, str]:
-    """What stands in the page behind what --help prints."""
+def more_rules() -> str:
+    """The rules and compounds that propwide has beside the kit's, as entries."""
+    wide = document("docs/WIDE.md")
+    listed = [*rows(section(wide, "Compounds")), *rows(section(wide, "Procedures"))]
+    # (of the rows of one compound the first tells what it means)
+    first = {name: (cells, meaning) for name, cells, meaning, *_ in reversed(listed)}
+    found = {name: first[name] for name, *_ in listed}
+    return "\n".join(entry(f"{name} ({cells})", said) for name, (cells, said) in found.items())
+
+
+def sections(name: str) -> dict[str, str]:
+    """What stands in the page of a program behind what --help prints."""
     language, pipe = document("docs/LANGUAGE.md"), document("docs/PIPE.md")
-    begins = language.split("\n\n")[1]
+    begins = language.split("\n\n")[1].replace("propbench", name)
     ends = [row for row in rows(section(pipe, "How it ends")) if "./propbench" not in row[1]]
     return {
         "DESCRIPTION": paragraphs(f"{begins}\n\n{section(language, 'Lines')}"),
         "COMMANDS": f"{COMMANDS.strip()}\n{commands(language)}",
+        **({"MORE RULES": more_rules()} if name == "propwide" else {}),
         "EXIT STATUS": "\n".join(entry(status, why) for status, why in ends),
         "EXAMPLE": paragraphs(first_session()),
         "SEE ALSO": SEE_ALSO.strip(),
@@ -111,16 +123,16 @@ def page(command: str, name: str, version: str, seconds: int, *more: str) -> str
     return ran(["help2man", *said, *more, command], SOURCE_DATE_EPOCH=str(seconds))
 
 
-def of_program(program: str, version: str, seconds: int) -> str:
-    """The page of the program, whose --help is asked, dated by seconds since 1970.
+def of_program(name: str, program: str, version: str, seconds: int) -> str:
+    """The page of a program, whose --help is asked, dated by seconds since 1970.
 
     Errors: OSError where help2man says what went wrong."""
     with tempfile.TemporaryDirectory(prefix="manual-") as room:
-        named, more = f"{room}/propbench", f"{room}/more"
+        named, more = f"{room}/{name}", f"{room}/more"
         os.symlink(os.path.abspath(program), named)
         with open(more, "w", encoding="utf-8") as it:
-            it.writelines(f"[{title}]\n{text}\n\n" for title, text in sections().items())
-        return page(named, NAME, version, seconds, "--include", more)
+            it.writelines(f"[{title}]\n{text}\n\n" for title, text in sections(name).items())
+        return page(named, NAMES[name], version, seconds, "--include", more)
 
 
 def desk_help(*command: str) -> str:

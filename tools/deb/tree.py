@@ -15,8 +15,8 @@ from manual import TOP, document
 PYTHON = f"{TOP}/python/src/propbench"
 MODULES = "usr/lib/python3/dist-packages/propbench"
 DOC = "usr/share/doc/propbench"
-# The checksum of the program, where that is the proved one. By it the Python package knows so, and
-# `sha256sum --check` does.
+# The checksums of the programs, where these are the proved ones. By them the Python package knows
+# so, and `sha256sum --check` does.
 CHECKSUM = "usr/share/propbench/proved.sha256"
 VIM = "usr/share/vim/vimfiles"
 COMPLETIONS = "usr/share/bash-completion/completions"
@@ -39,10 +39,10 @@ Comment: The repository of propbench names no licence.
 
 @dataclass
 class Build:
-    """What a package is made from: the program, whether it is known to be proved, what it is called,
-    and the moment that it bears."""
+    """What a package is made from: the programs by name, whether they are known to be proved, what
+    it is called, and the moment that it bears."""
 
-    program: str
+    programs: dict[str, str]
     is_proved: bool
     version: str
     # Seconds since 1970.
@@ -104,12 +104,23 @@ def of_python(build: Build) -> dict[str, bytes]:
     return files
 
 
+def of_program(build: Build, name: str) -> dict[str, bytes]:
+    """A program, its page, and what bash offers behind it."""
+    page = manual.of_program(name, build.programs[name], build.version, build.moment)
+    told = document(f"tools/start/texts/{name}.help")
+    return {
+        f"usr/bin/{name}": read(build.programs[name]),
+        f"usr/share/man/man1/{name}.1.gz": packed(page),
+        f"{COMPLETIONS}/{name}": completion.script(name, told, {}).encode(),
+    }
+
+
 def of_proof(build: Build) -> dict[str, bytes]:
-    """What tells that the program is the proved one."""
+    """What tells that the programs are the proved ones."""
     if not build.is_proved:
         return {}
-    checksum = hashlib.sha256(read(build.program)).hexdigest()
-    return {CHECKSUM: f"{checksum}  /usr/bin/propbench\n".encode()}
+    sums = {name: hashlib.sha256(read(path)).hexdigest() for name, path in build.programs.items()}
+    return {CHECKSUM: "".join(f"{it}  /usr/bin/{name}\n" for name, it in sums.items()).encode()}
 
 
 def of_documents() -> dict[str, bytes]:
@@ -124,17 +135,13 @@ def files(build: Build) -> dict[str, bytes]:
     """Each file of the package, by its path.
 
     Errors: OSError where a page of the manual can't be made."""
-    page = manual.of_program(build.program, build.version, build.moment)
-    told = document("tools/start/help.txt")
     found = {
-        "usr/bin/propbench": read(build.program),
-        "usr/share/man/man1/propbench.1.gz": packed(page),
-        f"{COMPLETIONS}/propbench": completion.script("propbench", told, {}).encode(),
         f"{VIM}/syntax/propbench.vim": read(f"{TOP}/tools/deb/propbench.vim"),
         f"{VIM}/ftdetect/propbench.vim": DETECTS.encode(),
         f"{VIM}/ftplugin/propbench.vim": NOTES.encode(),
         f"{DOC}/copyright": COPYRIGHT.encode(),
         f"{DOC}/changelog.gz": packed(build.changes),
+        **{path: it for name in build.programs for path, it in of_program(build, name).items()},
         **of_proof(build),
         **of_documents(),
         **of_python(build),

@@ -1,9 +1,9 @@
 #!/usr/bin/python3 -IS
-"""Builds the unproved program and keeps it. ./propbench starts this, and may end before it does.
+"""Builds an unproved program and keeps it. ./propbench starts this, and may end before it does.
 
-usage: tools/start/building.py STATE FOLDER [--soon]
+usage: tools/start/building.py PROGRAM STATE FOLDER [--soon]
 
-STATE is the checksum of the sources, FOLDER where programs are kept. What it is at is told in lines
+PROGRAM is propbench or propwide, STATE the checksum of the sources, FOLDER where programs are kept. What it is at is told in lines
 on standard output, of a word and what belongs to it:
 
     waiting                 another one builds in this folder; this one goes on once that has ended
@@ -67,9 +67,9 @@ def answers(program: str) -> bool:
 class Build:
     """A build in a folder of its own: `rt try`, and beside it the compiler over its module."""
 
-    def __init__(self, room: str, is_soon: bool) -> None:
+    def __init__(self, room: str, of: str, is_soon: bool) -> None:
         self.room, self.is_soon = room, is_soon
-        self.tried = Try(room)
+        self.tried = Try(room, of)
         self.compiler: subprocess.Popen[bytes] | None = None
         self.has_told = False
 
@@ -111,9 +111,9 @@ class Build:
             self.compiler.wait()
 
 
-def built(room: str, is_soon: bool) -> str | None:
+def built(room: str, of: str, is_soon: bool) -> str | None:
     """Builds in a folder of its own. Errors and None as `Build.program` has them."""
-    build = Build(room, is_soon)
+    build = Build(room, of, is_soon)
     try:
         while not build.has_ended():
             build.step()
@@ -125,16 +125,16 @@ def built(room: str, is_soon: bool) -> str | None:
 
 
 def main(words: list[str]) -> int:
-    state, where, is_soon = words[0], words[1], "--soon" in words
+    of, state, where, is_soon = *words[:3], "--soon" in words
     with kept.held(where, lambda: tell("waiting"), pause):
         # (another start may have built it meanwhile)
-        program = kept.kept_program(state)
+        program = kept.kept_program(of, state)
         if not program:
             tell("building")
             kept.swept(where)
             with tempfile.TemporaryDirectory(prefix=kept.BUILD, dir=where) as room:
-                program = built(room, is_soon)
-                program = program and kept.keep(program, where, state)
+                program = built(room, of, is_soon)
+                program = program and kept.keep(program, where, of, state)
     tell(f"done {program}" if program else "elsewhere")
     return 0
 

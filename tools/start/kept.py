@@ -15,10 +15,10 @@ MOST = 8
 BUILD = "build-"
 
 
-def state() -> str:
+def state(of: str) -> str:
     """A checksum of the sources of an unproved program, and one of the toolchain if it is there."""
     found = hashlib.sha256()
-    for path in sorted(it.path for it in sources("src")):
+    for path in sorted(it.path for it in sources(of, "src")):
         with open(path, "rb") as it:
             text = it.read()
         found.update(f"{os.path.relpath(path, TOP)} {len(text)}\n".encode() + text)
@@ -57,11 +57,11 @@ def folder() -> str | None:
     return None
 
 
-def kept_program(state_of: str) -> str | None:
-    """The path of the program that is kept for a state, or None; without a toolchain any one's."""
+def kept_program(of: str, state_of: str) -> str | None:
+    """The path of a program that is kept for a state, or None; without a toolchain any one's."""
     name = f"{state_of}*" if state_of.endswith("-") else state_of
     for path in candidates():
-        for program in glob.glob(f"{glob.escape(path)}/{name}/propbench"):
+        for program in glob.glob(f"{glob.escape(path)}/{name}/{of}"):
             if os.access(program, os.X_OK):
                 with contextlib.suppress(OSError):
                     os.utime(os.path.dirname(program))
@@ -100,14 +100,15 @@ def swept(where: str) -> None:
             shutil.rmtree(it.path, ignore_errors=True)
 
 
-def keep(program: str, where: str, state_of: str) -> str:
-    """Puts a program, which lies below the same folder, where it is kept, and drops the oldest."""
+def keep(program: str, where: str, of: str, state_of: str) -> str:
+    """Puts a program, which lies below the same folder, where it is kept under its name, and drops
+    the oldest."""
     place = f"{where}/{state_of}"
     os.makedirs(place, exist_ok=True)
     os.chmod(program, 0o755)
-    os.replace(program, f"{place}/propbench")
+    os.replace(program, f"{place}/{of}")
     others = [it for it in os.scandir(where) if it.is_dir()]
     others = [it for it in others if it.name != state_of and not it.name.startswith(BUILD)]
     for it in sorted(others, key=lambda it: it.stat().st_mtime, reverse=True)[MOST - 1 :]:
         shutil.rmtree(it.path, ignore_errors=True)
-    return f"{place}/propbench"
+    return f"{place}/{of}"

@@ -8,17 +8,17 @@ import time
 BETWEEN = 15.0
 
 
-def say(text: str) -> None:
-    """Tells one line."""
-    print(f"propbench: {text}", file=sys.stderr, flush=True)
+def say(of: str, text: str) -> None:
+    """Tells a text in the name of a program."""
+    print(f"{of}: {text}", file=sys.stderr, flush=True)
 
 
 class Progress:
     """How long a work has taken so far, and what it is at."""
 
-    def __init__(self, expected: int) -> None:
-        """The work takes about so many seconds."""
-        self.expected, self.began = expected, time.monotonic()
+    def __init__(self, of: str, expected: int) -> None:
+        """The work, for a program, takes about so many seconds."""
+        self.of, self.expected, self.began = of, expected, time.monotonic()
         self.is_moving = sys.stderr.isatty()
         self.last = self.began
 
@@ -33,9 +33,9 @@ class Progress:
         self.last = now
         text = f"{at}, {self.seconds():.0f} seconds so far, of about {self.expected}"
         if self.is_moving:
-            print(f"\r\x1b[Kpropbench: {text}", end="", file=sys.stderr, flush=True)
+            print(f"\r\x1b[K{self.of}: {text}", end="", file=sys.stderr, flush=True)
         else:
-            say(text)
+            say(self.of, text)
 
     def end(self) -> None:
         """Takes the line that moves away."""

@@ -11,10 +11,10 @@ OWN = re.compile(r"^(?:checked: ended status=|run=ended status=.* proved=no$)")
 SECONDS = "86400"
 
 
-def run(words: list[str]) -> int:
-    """Runs the program with these arguments on standard input. Returns its status."""
+def run(of: str, words: list[str]) -> int:
+    """Runs a program with these arguments on standard input. Returns its status."""
     said = ["rt", "try", "--seconds", SECONDS, "--", *words]
-    done = subprocess.run(said, cwd=f"{TOP}/crates/propbench", stderr=subprocess.PIPE, text=True)
+    done = subprocess.run(said, cwd=f"{TOP}/crates/{of}", stderr=subprocess.PIPE, text=True)
     for line in done.stderr.splitlines():
         if not OWN.match(line):
             print(line, file=sys.stderr)

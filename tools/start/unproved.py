@@ -1,4 +1,6 @@
-"""Runs an unproved program of the sources, which is built where none is kept."""
+"""Runs an unproved program of the sources, which is built where none is kept.
+
+`of` is the program's name throughout."""
 import os
 import select
 import shutil
@@ -21,27 +23,27 @@ NONE, INTERRUPTED = 5, 130
 UNPROVED = "this session runs unproved; tools/build proves and builds the program"
 FIRST = """\
 no program is built here for these sources yet: an unproved one is built now, once,
-propbench: in about {} seconds; what you send meanwhile is answered then"""
+{of}: in about {seconds} seconds; what you send meanwhile is answered then"""
 SLOWLY = """\
 this session runs unproved, and slowly: later ones, from about half a minute on, are fast;
-propbench: tools/build proves and builds the program"""
+{of}: tools/build proves and builds the program"""
 # What it is at, by the word that it tells.
 AT = {"waiting": "waiting", "building": "reading the sources"}
 WAITING = "another start builds the program already; waiting for it"
 NO_RT = """\
 no program is built here, and rt, which builds it, is not on the path:
-propbench: put the folder bin/ of rattle-kit-13f there, or install the Debian package"""
+{of}: put the folder bin/ of rattle-kit-13f there, or install the Debian package"""
 NO_FOLDER = "no folder can be written to for the program that has to be built: {}"
 ELSEWHERE = "this kit keeps its program where it can't be taken, so rt try runs the session"
-AT_TERMINAL = "which needs a file: ./propbench < examples/first.prop"
+AT_TERMINAL = "which needs a file: ./{of} < examples/first.prop"
 
 
 class Builder:
     """The process that builds. It goes on where this one has become a program that runs already."""
 
-    def __init__(self, state: str, where: str, is_soon: bool) -> None:
+    def __init__(self, of: str, state: str, where: str, is_soon: bool) -> None:
         """With `is_soon` it tells a program too that runs already, and is slow."""
-        words = [f"{TOP}/tools/start/building.py", state, where, *["--soon"] * is_soon]
+        words = [f"{TOP}/tools/start/building.py", of, state, where, *["--soon"] * is_soon]
         self.process = subprocess.Popen(
             words,
             stdin=subprocess.DEVNULL,
@@ -49,7 +51,7 @@ class Builder:
             stderr=subprocess.STDOUT,
             start_new_session=True,
         )
-        self.progress = Progress(SOON if is_soon else FAST)
+        self.progress = Progress(of, SOON if is_soon else FAST)
 
     def lines(self) -> Iterator[str]:
         """What it tells, line by line, while the time that it takes is told."""
@@ -75,15 +77,15 @@ class Builder:
             self.process.wait()
 
 
-def outcome(builder: Builder) -> tuple[str, str]:
+def outcome(of: str, builder: Builder) -> tuple[str, str]:
     """The word that says how the build went, and what belongs to it."""
     lines = builder.lines()
     for line in lines:
         word, _, text = line.partition(" ")
         if word == "waiting":
-            say(WAITING)
+            say(of, WAITING)
         elif word == "building":
-            say(FIRST.format(builder.progress.expected))
+            say(of, FIRST.format(of=of, seconds=builder.progress.expected))
         elif word in ("done", "soon", "elsewhere"):
             return word, text
         elif word == "failed":
@@ -93,16 +95,16 @@ def outcome(builder: Builder) -> tuple[str, str]:
     return "failed", "what builds the program ended without a word"
 
 
-def build(state: str, is_soon: bool) -> tuple[str, str]:
+def build(of: str, state: str, is_soon: bool) -> tuple[str, str]:
     """How a build went: `done` or `soon` and a program, or `elsewhere`. Errors: NotBuilt."""
     if not shutil.which("rt"):
-        raise NotBuilt(NO_RT)
+        raise NotBuilt(NO_RT.format(of=of))
     where = kept.folder()
     if not where:
         raise NotBuilt(NO_FOLDER.format(", ".join(kept.candidates())))
-    builder = Builder(state, where, is_soon)
+    builder = Builder(of, state, where, is_soon)
     try:
-        word, text = outcome(builder)
+        word, text = outcome(of, builder)
     except BaseException:
         builder.end()
         raise
@@ -120,26 +122,26 @@ def end_on_signals() -> None:
             signal.signal(it, lambda number, _: sys.exit(128 + number))
 
 
-def run_unproved(become: Callable[[str, list[str]], int], words: list[str]) -> int:
+def run_unproved(of: str, become: Callable[[str, list[str]], int], words: list[str]) -> int:
     """Runs the session unproved: `become` is given the program and these arguments.
 
     Returns a status where that can't be."""
     end_on_signals()
     is_terminal = os.isatty(0)
-    state = kept.state()
-    program = kept.kept_program(state)
+    state = kept.state(of)
+    program = kept.kept_program(of, state)
     word = "done"
     try:
         if not program:
-            word, program = build(state, is_soon=not is_terminal)
+            word, program = build(of, state, is_soon=not is_terminal)
     except NotBuilt as error:
-        say(f"{error}")
+        say(of, f"{error}")
         return NONE
     except KeyboardInterrupt:
         return INTERRUPTED
     if word == "elsewhere":
-        say(f"{ELSEWHERE}, {AT_TERMINAL}" if is_terminal else ELSEWHERE)
+        say(of, f"{ELSEWHERE}, {AT_TERMINAL.format(of=of)}" if is_terminal else ELSEWHERE)
         if is_terminal:
             return NONE
-    say(SLOWLY if word == "soon" else UNPROVED)
-    return tried.run(words) if word == "elsewhere" else become(program, words)
+    say(of, SLOWLY.format(of=of) if word == "soon" else UNPROVED)
+    return tried.run(of, words) if word == "elsewhere" else become(program, words)

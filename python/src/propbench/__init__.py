@@ -6,7 +6,7 @@ constraint, which word of a line is at fault, what to complete) is translated fr
 description, and nothing is concluded from it.
 """
 
-from propbench.finding import NoProgram, find_program
+from propbench.finding import NoProgram, find_program, find_wide
 from propbench.model.answers import Answer, Conflict, NotSettled
 from propbench.model.expressions import (
     all_different,
@@ -111,6 +111,7 @@ __all__ = [
     "count",
     "element",
     "find_program",
+    "find_wide",
     "if_else",
     "implies",
     "maximum",

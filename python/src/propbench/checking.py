@@ -10,7 +10,7 @@ import re
 from collections.abc import Iterator, Mapping
 from dataclasses import dataclass
 
-from propbench.finding import find_program
+from propbench.finding import find_wide
 from propbench.overview import UNPROVED
 from propbench.questions.certificate import check_base, check_lines
 from propbench.questions.checker import HEAD, CertificateError
@@ -88,7 +88,7 @@ def check_file(path: str, program: str | None, base: str | None = None) -> int:
         raise NoReport(
             f"{printable(path)}: no report of `propdesk run --json`, and no certificate"
         ) from error
-    with begun.session(program) as session:
+    with begun.session(program, lines) as session:
         again = told_in(report(session, name, lines, begun))
         proved = session.proved
     found = list(differences(told, again))
@@ -103,7 +103,7 @@ def check_file(path: str, program: str | None, base: str | None = None) -> int:
 
 def _check_certificate(lines: list[str], program: str | None, base: str | None) -> int:
     """The same for a certificate."""
-    found = find_program(program)
+    found = find_wide(program)
     try:
         if base is not None:
             check_base(lines, base)

@@ -3,12 +3,13 @@
 import argparse
 import sys
 from collections.abc import Sequence
+from contextlib import suppress
 from pathlib import Path
 
 from propbench.checking import NoReport, check_file
 from propbench.finding import NoProgram
 from propbench.program import ProgramEnded
-from propbench.running import Way, run_as_json, run_file
+from propbench.running import Way, lines_of, run_as_json, run_file
 from propbench.session import ORDERS
 from propbench.showing import said_of
 
@@ -16,6 +17,7 @@ DESCRIPTION = """\
 A desk for the workbench propbench: runs files of its language, and speaks it with you line by line.
 Every answer is a reply of the program, which is the one that --program or $PROPBENCH names, else
 the built one of this repository, else `propbench` on the path, else this repository's unproved one.
+For what a workbench has saved it is propwide, found in the same way, where there is one.
 """
 
 STATUS = """\
@@ -151,9 +153,15 @@ def _done(options: argparse.Namespace) -> int:
     if options.command == "shell":
         from propbench.shell import run_shell
 
-        with Way(**begin).session(options.program) as session:
+        with Way(**begin).session(options.program, _lines(options.file)) as session:
             return run_shell(session, options.file)
     way = Way(options.keep_going, options.seconds, **begin)
-    with way.session(options.program) as session:
-        run = run_as_json if options.json else run_file
-        return run(session, options.file, way)
+    run = run_as_json if options.json else run_file
+    return run(options.file, options.program, way)
+
+
+def _lines(path: str | None) -> list[str]:
+    """The lines of the file that a shell begins with, none where it can't be read."""
+    with suppress(OSError):
+        return lines_of(path) if path else []
+    return []

@@ -1,16 +1,20 @@
-"""Where the program is found, and whether it is known to be proved."""
+"""Where the programs are found, and whether they are known to be proved."""
 
 import hashlib
 import os
 import shutil
+from collections.abc import Sequence
 from contextlib import suppress
 from dataclasses import dataclass
 from pathlib import Path
 
-_BUILT = Path("crates/propbench/out/propbench")
-# Where the Debian package that brings a proved program tells the checksum of that, by where the
-# folder of the program lies.
-_CHECKSUM = Path("../share/propbench/proved.sha256")
+# The program, and the one with more rules, for plans and measurements.
+PLAIN, WIDE = "propbench", "propwide"
+# The first line of a file that a workbench has saved, which is for the program of a workbench.
+SAVED = "# A workbench: the lines beginning with #: tell what the others are for."
+# Where the Debian package that brings proved programs tells their checksums, by where the folder of
+# the programs lies.
+_CHECKSUMS = Path("../share/propbench/proved.sha256")
 
 
 class NoProgram(Exception):
@@ -41,20 +45,41 @@ def find_program(given: str | os.PathLike[str] | None = None) -> Found:
     A program is known to be proved where it is the built one of a repository, or has the checksum
     that the Debian package tells which brought it. Raises NoProgram where none is found.
     """
-    named = given if given is not None else os.environ.get("PROPBENCH")
+    return _find(given, (PLAIN,))
+
+
+def find_wide(given: str | os.PathLike[str] | None = None) -> Found:
+    """The program for a workbench: the one given, else that of $PROPWIDE or $PROPBENCH, else
+    `propwide` and else `propbench`, each found as `find_program` does. An unproved build is the
+    last. Raises NoProgram where none is found."""
+    return _find(given, (WIDE, PLAIN))
+
+
+def find_for(lines: Sequence[str], given: str | os.PathLike[str] | None = None) -> Found:
+    """The program to carry out lines with: that for a workbench, where one has saved them. Raises
+    NoProgram where none is found."""
+    return find_wide(given) if SAVED in lines[:1] else find_program(given)
+
+
+def _find(given: str | os.PathLike[str] | None, names: Sequence[str]) -> Found:
+    """The program given or found by one of these names, the first that there is."""
+    told = [os.environ.get(name.upper()) for name in names]
+    named = given if given is not None else next(filter(None, told), "")
     if named:
         path = shutil.which(named)
         if path is None:
             raise NoProgram(f"{os.fspath(named)!r} is no program that can be run")
         return _found(Path(path))
     top = repository()
-    if top and _is_built(top):
-        return Found(str(top / _BUILT), True)
-    installed = shutil.which("propbench")
-    if installed:
-        return _found(Path(installed))
-    if top:
-        return _found(top / "propbench")
+    for name in names:
+        if top and _is_built(top, name):
+            return Found(str(_built(top, name)), True)
+        installed = shutil.which(name)
+        if installed:
+            return _found(Path(installed))
+    for name in names:
+        if top and (top / name).is_file():
+            return _found(top / name)
     raise NoProgram(
         "no program `propbench` was found: name it by $PROPBENCH, or build it with tools/build"
     )
@@ -63,26 +88,35 @@ def find_program(given: str | os.PathLike[str] | None = None) -> Found:
 def _found(path: Path) -> Found:
     """What is found at a path where a program is."""
     program = path.resolve()
-    if program.name == "propbench" and _is_repository(program.parent):
-        built = _is_built(program.parent)
-        return Found(str(program.parent / _BUILT if built else path.absolute()), built, not built)
+    top, name = program.parent, program.name
+    if name in (PLAIN, WIDE) and _is_repository(top):
+        built = _is_built(top, name)
+        return Found(str(_built(top, name) if built else path.absolute()), built, not built)
     return Found(str(path.absolute()), _is_proved(program))
 
 
+def _built(top: Path, name: str) -> Path:
+    """Where a repository's tools/build puts the program of a name."""
+    return top / "crates" / name / "out" / name
+
+
 def _is_repository(top: Path) -> bool:
-    return (top / "crates.txt").is_file() and (top / "propbench").is_file()
+    return (top / "crates.txt").is_file() and (top / PLAIN).is_file()
 
 
-def _is_built(top: Path) -> bool:
+def _is_built(top: Path, name: str) -> bool:
     """Whether a repository's tools/build has proved the program there."""
-    return os.access(top / _BUILT, os.X_OK)
+    return os.access(_built(top, name), os.X_OK)
 
 
 def _is_proved(program: Path) -> bool:
     """Whether it is a repository's built program, or the one of a package that tells so."""
-    if program.parts[-4:] == _BUILT.parts and _is_repository(program.parents[3]):
-        return True
+    if len(program.parts) > 4:
+        top = program.parents[3]
+        if program == _built(top, program.name) and _is_repository(top):
+            return True
     with suppress(OSError):
-        told = (program.parent / _CHECKSUM).read_text(encoding="utf-8").split()
-        return told[:1] == [hashlib.sha256(program.read_bytes()).hexdigest()]
+        told = (program.parent / _CHECKSUMS).read_text(encoding="utf-8").splitlines()
+        checksum = hashlib.sha256(program.read_bytes()).hexdigest()
+        return checksum in (line.partition(" ")[0] for line in told)
     return False

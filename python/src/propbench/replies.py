@@ -60,15 +60,21 @@ class Value:
 
         def __getattr__(self, name: str) -> object:
             """What isn't there. Where the fields are still to be read, they are read now."""
-            held = vars(self)
-            unread = held.get("_unread")
-            if unread:
-                # (another thread may do the same, so they are there before the text goes)
-                held.update(_fields(*unread))
-                held.pop("_unread", None)
+            held = vars(self.read())
             if name not in held:
                 raise AttributeError(f"a Value has no {name!r}")
             return held[name]
+
+    def read(self) -> "Value":
+        """The same, of which all fields are read: to be called where they are looked at anyway,
+        since to find one unread takes longer."""
+        held = vars(self)
+        unread = held.get("_unread")
+        if unread:
+            # (another thread may do the same, so they are there before the text goes)
+            held.update(_fields(*unread))
+            held.pop("_unread", None)
+        return self
 
     def __str__(self) -> str:
         text = f"{self.cell} = {self.value}"

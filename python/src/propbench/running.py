@@ -5,10 +5,11 @@ A refused line doesn't go unnoticed: the run stops there with the place, the wor
 
 import json
 import sys
-from collections.abc import Iterator
+from collections.abc import Iterator, Sequence
 from dataclasses import asdict, dataclass, field
 from typing import TextIO
 
+from propbench.finding import find_for
 from propbench.grammar import ASKING
 from propbench.overview import overview
 from propbench.refusals import Refused
@@ -47,9 +48,10 @@ class Way:
     seed: int = 0
     limit: int | None = None
 
-    def session(self, program: str | None) -> Session:
-        """A session that begins so. Raises as `Session` does."""
-        return Session(program, order=self.order, seed=self.seed, limit=self.limit)
+    def session(self, program: str | None, lines: Sequence[str] = ()) -> Session:
+        """A session that begins so, of the program for these lines. Raises as `Session` does."""
+        found = find_for(lines, program).path
+        return Session(found, order=self.order, seed=self.seed, limit=self.limit)
 
 
 @dataclass
@@ -107,22 +109,29 @@ def _exchange(line: str, reply: Reply) -> str:
     return f"{printable(line.strip())}\n{answered}"
 
 
-def run_file(session: Session, path: str, way: Way) -> int:
+def run_file(path: str, program: str | None, way: Way) -> int:
     """Runs a file, and gives the status: 0, or 1 where a line was refused. Raises OSError where the
-    file can't be read."""
+    file can't be read, and as `Session` does."""
     lines = lines_of(path)
-    ran = FileRun(session, _name_of(path), way.keep_going)
+    with way.session(program, lines) as session:
+        return _ran(FileRun(session, _name_of(path), way.keep_going), lines, way.seconds)
+
+
+def _ran(ran: FileRun, lines: list[str], seconds: float) -> int:
+    """Runs the lines, shows what follows, and gives the status."""
     if ran.run(lines, sys.stdout, sys.stderr):
-        end = overview(session, way.seconds)
+        end = overview(ran.session, seconds)
         print(f"\n{end}" if ran.asked else str(end))
     else:
         print("Stopped at a refused line; --keep-going goes on behind such lines.", file=sys.stderr)
     return 1 if ran.refused else 0
 
 
-def run_as_json(session: Session, path: str, way: Way) -> int:
+def run_as_json(path: str, program: str | None, way: Way) -> int:
     """The same, but that a report is written, one JSON object."""
-    told = report(session, _name_of(path), lines_of(path), way)
+    lines = lines_of(path)
+    with way.session(program, lines) as session:
+        told = report(session, _name_of(path), lines, way)
     text = json.dumps(told, ensure_ascii=False, indent=2)
     # (a byte that is no text stands as JSON escapes it)
     print(text.encode("utf-8", "backslashreplace").decode("utf-8"))

@@ -51,6 +51,7 @@ class Session:
             raise ValueError(f"the limit is not a number from 0 to {MOST_STEPS}: {limit}")
         found = find_program(program)
         self._found = found
+        self._order, self._seed = order, seed
         self._command = [found.path, "--order", order, "--seed", str(seed)]
         self._first_limit = STEPS if limit is None else limit
         self._sent = 0
@@ -67,6 +68,10 @@ class Session:
         trace: TracebackType | None,
     ) -> None:
         self.close()
+
+    def fresh(self) -> "Session":
+        """A session of its own, of the same program, that begins as this one did."""
+        return Session(self.program, order=self._order, seed=self._seed, limit=self._first_limit)
 
     @property
     def program(self) -> str:

@@ -11,11 +11,12 @@
 """
 
 import os
-from collections.abc import Iterable, Mapping, Sequence
+from collections.abc import Iterable, Iterator, Mapping, Sequence
 from datetime import date
 from types import TracebackType
 from typing import TypeVar, overload
 
+from propbench.finding import find_wide
 from propbench.model.answers import Answer, Conflict, NotSettled, ends_of
 from propbench.model.blaming import always, beyond
 from propbench.model.cells import Cell, ElementCell, NumberCell, SymbolCell, TruthCell, words_of
@@ -51,6 +52,7 @@ from propbench.session import Session
 # What each alternative of a choice states: one constraint or several.
 Stated = Truth | bool | Sequence[Truth | bool]
 SomeCell = TypeVar("SomeCell", bound=Cell)
+_LACKS = "The program has no rule of its own for {}: answers may be wider than those of propwide."
 
 
 class Workbench(Questions):
@@ -76,13 +78,12 @@ class Workbench(Questions):
         seed: int = 0,
         limit: int | None = None,
     ) -> None:
-        """Starts the program, found as a `Session` finds it, with its options."""
-
-        def open_session() -> Session:
-            return Session(program, order=order, seed=seed, limit=limit)
-
+        """Starts the program: the one given, else that of $PROPWIDE or $PROPBENCH, else propwide,
+        and else propbench, which has fewer rules (`lacks` tells what is missed). Its options are
+        those of a `Session`."""
+        found = find_wide(program).path
         self._owner = object()
-        self._network = Network(open_session)
+        self._network = Network(Session(found, order=order, seed=seed, limit=limit))
         self._cells: dict[str, Cell] = {}
 
     def __enter__(self) -> "Workbench":
@@ -114,6 +115,12 @@ class Workbench(Questions):
     def proved(self) -> bool:
         """Whether the program is known to be built from proofs."""
         return self._network.session.proved
+
+    @property
+    def lacks(self) -> tuple[str, ...]:
+        """What was written so far for which the program has no procedure of its own. At single
+        values it is decided all the same; before that answers may be wider than propwide's."""
+        return tuple(self._network.lacks)
 
     # --- cells ---
 
@@ -290,14 +297,19 @@ class Workbench(Questions):
             if over != "all plans":
                 raise ValueError(f'an answer may be over="all plans", and not over={over!r}')
             return self._over_all_plans(cell, seconds)
-        line = f"{command} {self._network.vocabulary.cells.line(cell.name)}"
-        reply = self.session.send(line, seconds=seconds)
+        network = self._network
+        reply = network.session.send(
+            f"{command} {network.vocabulary.cells.line(cell.name)}", seconds=seconds
+        )
         if isinstance(reply, Contradiction):
             raise self._conflict(reply)
         assert isinstance(reply, Value)
-        if command == "core" and reply.settled and self._network.premises.choices:
+        reply.read()
+        if not network.premises.choices:
+            return self._reader().answer(cell, reply, {})
+        if command == "core" and reply.settled:
             # (after a core every procedure is called once more, before the plan is known)
-            self.session.send("worldview", seconds=seconds)
+            network.session.send("worldview", seconds=seconds)
         return self._reader().answer(cell, reply, self._plan())
 
     def table(self, *cells: Cell, seconds: float | None = None) -> Table:
@@ -317,7 +329,7 @@ class Workbench(Questions):
             for cell, reply in zip(declared, replies)
             if isinstance(reply, Value)
         )
-        return Table(answers, read.choices(plan), () if self.proved else (UNPROVED,))
+        return Table(answers, read.choices(plan), tuple(self._notes()))
 
     def show(self, *cells: Cell) -> None:
         """Prints what follows for these cells, or for all; at a conflict, what can't all hold."""
@@ -410,6 +422,13 @@ class Workbench(Questions):
         """Ends the copy, and puts back the network that it stood for."""
         self._network.session.close()
         self._network = kept
+
+    def _notes(self) -> Iterator[str]:
+        """What is to be known of the program."""
+        if self.lacks:
+            yield _LACKS.format(", ".join(self.lacks))
+        if not self.proved:
+            yield UNPROVED
 
     def _reader(self) -> Reader:
         return Reader(self._network.vocabulary, self._network.premises)

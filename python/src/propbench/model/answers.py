@@ -31,8 +31,24 @@ class Answer:
     high: int | None
     settled: bool
     because: tuple[str, ...]
-    choices: Mapping[str, object] = field(default_factory=dict)
-    reduced: bool | None = None
+    choices: Mapping[str, object]
+    reduced: bool | None
+
+    def __init__(
+        self,
+        name: str,
+        value: Left,
+        low: int | None,
+        high: int | None,
+        settled: bool,
+        because: tuple[str, ...],
+        choices: Mapping[str, object] | None = None,
+        reduced: bool | None = None,
+    ) -> None:
+        # (past the freeze all at once: one by one it would take three times as long)
+        held = vars(self)
+        held.update(name=name, value=value, low=low, high=high, settled=settled)
+        held.update(because=because, choices={} if choices is None else choices, reduced=reduced)
 
     def __str__(self) -> str:
         text = f"{printable(self.name)} = {self.value_text}"
@@ -75,13 +91,11 @@ def _alternative(chosen: object) -> str:
 
 def ends_of(value: Left) -> tuple[int | None, int | None]:
     """The ends of a number, None where nothing is known."""
-    if isinstance(value, bool):
-        return None, None
-    if isinstance(value, int):
-        return value, value
     if isinstance(value, Span):
         low = None if value.low == -MOST else value.low
         return low, None if value.high == MOST else value.high
+    if isinstance(value, int) and not isinstance(value, bool):
+        return value, value
     return None, None
 
 

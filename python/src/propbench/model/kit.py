@@ -1,20 +1,21 @@
 """Which procedures of the wider kit a program has."""
 
-from collections.abc import Iterable
+from collections.abc import Container, Iterable
 
 from propbench.refusals import NoSuchProcedure, Refused
 from propbench.session import Session
 
-# What is used where it is there; else the translation does with the kit that is always there.
-WIDER = (
-    "max",
-    "min",
-    "abs",
-    "if",
-    "divide",
-    *(f"count{number}" for number in range(1, 9)),
-    *(f"different{number}" for number in range(2, 9)),
-)
+# What is used where it is there, with what a user writes for it; else the translation does with the
+# kit that is always there.
+WIDER = {
+    "max": "maximum",
+    "min": "minimum",
+    "abs": "abs",
+    "if": "if_else",
+    "divide": "`//` and `%`",
+    **{f"count{number}": "count" for number in range(1, 9)},
+    **{f"different{number}": "all_different" for number in range(2, 9)},
+}
 
 
 def offered(session: Session, cell: str, names: Iterable[str] = WIDER) -> frozenset[str]:
@@ -27,3 +28,8 @@ def offered(session: Session, cell: str, names: Iterable[str] = WIDER) -> frozen
         for name, reply in zip(asked, replies)
         if isinstance(reply, Refused) and not isinstance(reply, NoSuchProcedure)
     )
+
+
+def written(names: Container[str]) -> list[str]:
+    """What a user writes for these, each once."""
+    return list(dict.fromkeys(said for name, said in WIDER.items() if name in names))

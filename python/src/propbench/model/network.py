@@ -3,7 +3,7 @@
 An event is carried out whole or not at all. A copy has a session of its own.
 """
 
-from collections.abc import Callable, Sequence
+from collections.abc import Sequence
 
 from propbench.model.events import (
     CellMade,
@@ -15,7 +15,7 @@ from propbench.model.events import (
     ValueChoice,
 )
 from propbench.model.kinds import Domain
-from propbench.model.kit import offered
+from propbench.model.kit import offered, written
 from propbench.model.nodes import Declared, Node
 from propbench.model.premises import Premises
 from propbench.model.script import Script
@@ -29,9 +29,9 @@ from propbench.session import Session
 class Network:
     """Events in order, premises, and the program that was told all of it."""
 
-    def __init__(self, open_session: Callable[[], Session]) -> None:
-        self._open_session = open_session
-        self.session = open_session()
+    def __init__(self, session: Session) -> None:
+        """Nothing as yet, in a session to which nothing was said."""
+        self.session = session
         self.vocabulary = Vocabulary(self._is_taken_as_name)
         self.premises = Premises()
         self.events: list[Event] = []
@@ -48,7 +48,7 @@ class Network:
 
     def copy(self, events: Sequence[Event] | None = None) -> "Network":
         """The same in a session of its own; with other events where these are given."""
-        made = Network(self._open_session)
+        made = Network(self.session.fresh())
         made.vocabulary, made.offered = self.vocabulary, self.offered
         made.cells, made.domains = dict(self.cells), dict(self.domains)
         made.first = self.first
@@ -102,6 +102,11 @@ class Network:
         self.events = [each for each in self.events if premise_of(each) != premise]
         self._base = None
 
+    @property
+    def lacks(self) -> list[str]:
+        """What was written for which the program has no procedure, as a user writes it."""
+        return written(self._script.writer.missed)
+
     def base(self) -> list[str]:
         """The lines that make the network as it is: a fresh session that is sent these is in the
         state of this one."""
@@ -110,6 +115,13 @@ class Network:
             for event in self.events:
                 self._base.lines_of(event)
         return [*self._base.writer.lines, *self.kicks()]
+
+    @property
+    def forks(self) -> list[str]:
+        """Inner truths of the base, by which one way or another is taken where one of some holds."""
+        self.base()
+        assert self._base
+        return list(dict.fromkeys(self._base.translation.forks))
 
     def lines_of(self, constraint: Node) -> list[str]:
         """The lines of the base that state a constraint, wherever it was required."""

@@ -22,12 +22,18 @@ class Reader:
 
     def answer(self, cell: Declared, reply: Value, plan: Mapping[str, int]) -> Answer:
         """A reply about a cell, under the plan on which the choices stand."""
-        value = self._value(cell, reply.value)
+        value = self._value(cell, reply.read().value)
         low, high = ends_of(value)
-        # (two sides may stand for one alternative)
-        because = tuple(dict.fromkeys(self.premise(each, plan) for each in reply.because or ()))
-        choices = self.choices(plan)
+        because = self._because(reply.because or (), plan)
+        choices = self.choices(plan) if plan else {}
         return Answer(cell.name, value, low, high, reply.settled, because, choices, reply.reduced)
+
+    def _because(self, names: tuple[str, ...], plan: Mapping[str, int]) -> tuple[str, ...]:
+        """What the user calls premises and sides."""
+        if not self._premises.choices:
+            return tuple(map(self._vocabulary.premises.text, names))
+        # (two sides may stand for one alternative)
+        return tuple(dict.fromkeys(self.premise(each, plan) for each in names))
 
     def premise(self, line_name: str, plan: Mapping[str, int]) -> str:
         """What the user calls a premise, or the alternative of a choice (`venue: uni`) on which a

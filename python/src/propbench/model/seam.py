@@ -31,6 +31,11 @@ class BenchModel:
         this one."""
         return self._network.base()
 
+    def forks(self) -> Sequence[str]:
+        """Truths on lines of the base by which one way or another is taken, where one of some
+        constraints has to hold."""
+        return self._network.forks
+
     def premises(self) -> Sequence[str]:
         """The user's premises, in the order of their first mention."""
         return list(self._network.premises.believed)

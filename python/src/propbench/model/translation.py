@@ -26,6 +26,8 @@ class Translation:
         # The cells of an expression within gates, and the one that joins them.
         self._gated: dict[Node, list[tuple[Context, str]]] = {}
         self._joints: dict[Node, str] = {}
+        # The truths of what is stated as one or another, each but the last.
+        self.forks: list[str] = []
 
     @property
     def vocabulary(self) -> Vocabulary:
@@ -154,8 +156,14 @@ class Translation:
             cell = self._known(holds, context)
             (self._truths.any_into if holds else self._truths.all_into)(core, cell, context)
             self._is_known(core, holds, context)
+            self._fork(core, context)
         else:
             self._narrow(core, _word(holds), context)
+            self._fork(core, where)
+
+    def _fork(self, each: Node, context: Context) -> None:
+        """Takes in that one or another of these holds, or not all of them."""
+        self.forks += [self.cell_of(arg, context) for arg in each.args[:-1]]
 
     def _place(self, each: Node, context: Context) -> Context:
         """Where the cell of an expression is to stand of which something is stated: where it tells

@@ -20,7 +20,9 @@ class Writer:
 
     def __init__(self, vocabulary: Vocabulary, offers: Callable[[str], bool]) -> None:
         self.vocabulary = vocabulary
-        self.offers = offers
+        self._offers = offers
+        # What was looked for and isn't there.
+        self.missed: set[str] = set()
         self.root = Context(YES, "")
         self._log = [f"cell {YES} truth", f"fix {YES} yes"]
         self._taken = 0
@@ -32,6 +34,13 @@ class Writer:
         self._constants: dict[tuple[str, str], str] = {}
         self._relations: dict[object, str] = {}
         self._alternatives: dict[int, Domain] = {}
+
+    def offers(self, name: str) -> bool:
+        """Whether the program has a procedure or compound of this name."""
+        if self._offers(name):
+            return True
+        self.missed.add(name)
+        return False
 
     @property
     def position(self) -> int:

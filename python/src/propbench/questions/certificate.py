@@ -6,7 +6,7 @@ import os
 from collections.abc import Iterable, Mapping, Sequence
 from dataclasses import dataclass, field
 
-from propbench.finding import find_program
+from propbench.finding import find_wide
 from propbench.questions import checker
 from propbench.questions.checker import CertificateError
 from propbench.questions.model import Model
@@ -36,13 +36,13 @@ class Certificate:
     ) -> bool:
         """True where a fresh session of the program answers so that the claims hold.
 
-        The program is the one given, or the one that is found. Where a base is given, lines or the
+        The program is the one given, or the one that a workbench finds. Where a base is given, lines or the
         file that a workbench was saved to, the network has to be made of these lines. Raises
         CertificateError where something differs, OSError and NoProgram.
         """
         if base is not None:
             check_base(self.lines, base)
-        return check_lines(self.lines, find_program(program).path)
+        return check_lines(self.lines, find_wide(program).path)
 
     def save(self, path: str | os.PathLike[str]) -> None:
         """Writes the certificate into a file, for `propdesk check`. Raises OSError."""

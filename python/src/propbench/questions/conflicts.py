@@ -1,6 +1,7 @@
 """Conflicts, the least sets of premises that can't all hold, and repairs, the least to give up."""
 
 from collections.abc import Iterable, Iterator, Mapping, Sequence
+from weakref import WeakKeyDictionary
 
 from propbench.questions.asking import premises_named, tried
 from propbench.questions.certificate import Certificate, Evidence
@@ -10,6 +11,7 @@ from propbench.questions.hitting import bits_of
 from propbench.questions.model import Model
 from propbench.questions.shown import NOT_REFUTED, Shown, listed, shortened
 from propbench.questions.trial import Trial
+from propbench.session import Session
 
 
 class Premises(frozenset[str]):
@@ -124,11 +126,12 @@ def find_conflicts(
 ) -> Conflicts:
     """The least sets of believed premises that can't all hold beside those that are kept, so many
     at the most."""
-    explored = _explore(model, {}, keep, Clock(seconds, progress))
+    explored = _explore(model, {}, keep, most, Clock(seconds, progress))
 
     def run() -> None:
         while explored.step() and len(explored.conflicts) < most:
             _tell(explored)
+        _keep(model, explored)
 
     return tried(explored.trial, run, lambda: _conflicts(explored, _texts(model)))
 
@@ -143,14 +146,15 @@ def find_both(
 ) -> tuple[Conflicts, Repairs]:
     """The least conflicts and the least repairs, so many of each at the most, from one search. What
     premises say is told by these texts, where they have one."""
-    explored = _explore(model, {}, keep, Clock(seconds, progress))
+    explored = _explore(model, {}, keep, most, Clock(seconds, progress))
 
     def run() -> None:
         while explored.step() and max(len(explored.conflicts), len(explored.repairs)) < most:
             _tell(explored)
+        _keep(model, explored)
 
     def result() -> tuple[Conflicts, Repairs]:
-        return _conflicts(explored, {**_texts(model), **texts}), _repairs(explored)
+        return _conflicts(explored, {**_texts(model), **texts}), _repairs(explored, {})
 
     return tried(explored.trial, run, result)
 
@@ -169,13 +173,14 @@ def find_repairs(
     for premise, value in weight.items():
         if not value >= 0:
             raise ValueError(f"the weight of {premise} is less than nothing: {value}")
-    explored = _explore(model, weight, keep, Clock(seconds, progress))
+    explored = _explore(model, weight, keep, most, Clock(seconds, progress))
 
     def run() -> None:
         while explored.step() and len(explored.repairs) < most:
             _tell(explored)
+        _keep(model, explored)
 
-    return tried(explored.trial, run, lambda: _repairs(explored))
+    return tried(explored.trial, run, lambda: _repairs(explored, weight))
 
 
 def _conflicts(explored: Exploring, texts: Mapping[str, str]) -> Conflicts:
@@ -188,22 +193,41 @@ def _conflicts(explored: Exploring, texts: Mapping[str, str]) -> Conflicts:
     return Conflicts(found, explored.complete, texts, explored.kept, certificate)
 
 
-def _repairs(explored: Exploring) -> Repairs:
-    """The repairs that are known."""
+def _repairs(explored: Exploring, weight: Mapping[str, float]) -> Repairs:
+    """The repairs that are known, the cheapest first."""
     found = []
     for mask in explored.repairs:
         found.append(Repair(explored.names(mask)))
-        found[-1].cost = explored.cost(mask)
+        found[-1].cost = sum(weight.get(premise, 1) for premise in found[-1])
+    found.sort(key=lambda repair: repair.cost)
     certificate = _certificate(explored, explored.repairs)
     return Repairs(found, explored.complete, explored.kept, certificate)
 
 
+# The last search of a session's network that found all conflicts and repairs, with the lines of
+# that network: another question of the same is answered by it.
+_all_found: "WeakKeyDictionary[Session, tuple[list[str], Exploring]]" = WeakKeyDictionary()
+
+
 def _explore(
-    model: Model, weight: Mapping[str, float], keep: Iterable[str], clock: Clock
+    model: Model, weight: Mapping[str, float], keep: Iterable[str], most: int, clock: Clock
 ) -> Exploring:
+    """The search for conflicts and repairs: a new one, or one that has found all there are, so many
+    at the most."""
     believed = model.believed()
     kept = set(premises_named(model, keep)) & set(believed)
+    known = _all_found.get(model.session)
+    if known and known[0] == list(model.base()):
+        found = known[1]
+        if set(found.kept) == kept and max(len(found.conflicts), len(found.repairs)) <= most:
+            return found
     return Exploring(Trial(model, kept, clock), believed, weight)
+
+
+def _keep(model: Model, explored: Exploring) -> None:
+    """Keeps a search that has found all."""
+    if explored.complete:
+        _all_found[model.session] = list(model.base()), explored
 
 
 def _tell(explored: Exploring) -> None:

@@ -65,10 +65,6 @@ class Exploring:
         """The set of those among these premises that are not kept anyway."""
         return sum(self._bit.get(premise, 0) for premise in premises)
 
-    def cost(self, mask: int) -> float:
-        """The sum of the weights of a set."""
-        return self._hitting.cost(mask)[0]
-
     def step(self) -> bool:
         """Finds one conflict or repair more; whether there may be others."""
         hit = self._hitting.next()

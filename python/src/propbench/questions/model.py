@@ -29,6 +29,11 @@ class Model(Protocol):
         is in the same state (statements, premises, what is kicked out, choices)."""
         ...
 
+    def forks(self) -> Sequence[str]:
+        """Truths on lines of the base that a search may decide first: each is yes or no in any
+        plan, and much hangs on it."""
+        ...
+
     def premises(self) -> Sequence[str]:
         """The user's premises, as the user wrote them, in the order of their first mention."""
         ...

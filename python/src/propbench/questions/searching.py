@@ -60,8 +60,16 @@ def _searched(trial: Trial, premises: tuple[str, ...], told: tuple[Case, ...]) -
         if not loose:
             fits = _plan_in(trial, premises, seen)
             return fits or _forked(trial, premises, told, _beside(trial, seen, told))
-        if not trial.cover_some(loose):
+        if trial.cover_forks():
+            continue
+        corner: Fits | None = None
+        if trial.has_forks:
             corner = _plan_in(trial, premises, trial.look_at_corner(premises, told, seen))
+        if corner:
+            return corner
+        if not trial.cover_some(loose):
+            if not trial.has_forks:
+                corner = _plan_in(trial, premises, trial.look_at_corner(premises, told, seen))
             return corner or _forked(trial, premises, told, _halved(trial, loose, seen, told))
     return Open("there was no time for more")
 

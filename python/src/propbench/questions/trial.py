@@ -12,6 +12,7 @@ from propbench.questions.checker import digits
 from propbench.questions.clock import Clock
 from propbench.questions.model import Model
 from propbench.questions.rooms import (
+    Names,
     Numbers,
     Room,
     choices_in,
@@ -21,15 +22,19 @@ from propbench.questions.rooms import (
     whole_room,
 )
 from propbench.replies import Contradiction, Reply, Settled, Unsettled, Value
-from propbench.session import Session
 from propbench.values import Held, Nothing
 from propbench.words import is_silent
 
 # A run takes so many steps before the clock is looked at, and the trial has so many choices and
 # premises of its own at most.
 _STEPS, _CHOICES, _CASES = 20_000, 64, 2000
+# So many choices are kept for cells.
+_KEPT = 8
 # Of the cells that have more than one value, this part is covered before the next look.
 _PART = 3
+
+# What a truth may be.
+_EITHER = Names(("no", "yes"))
 
 # A cell of the user's, and what it is supposed to be.
 Case = tuple[str, Room]
@@ -61,6 +66,9 @@ class Trial:
         # The choices that were made, each a cell of a line and its sides, "" for digits.
         self.choices: list[tuple[str, str]] = []
         self._covered: set[str] = set()
+        # Truths that a search decides first: those that are to be covered, and whether some are.
+        self._forks: list[str] = []
+        self.has_forks = False
         self._cases: OrderedDict[tuple[str, str], str] = OrderedDict()
         self._inside: set[str] = set()
         # Lines that are to be sent before the next question.
@@ -78,7 +86,7 @@ class Trial:
         self._from_top = {cell for is_from_top, cell, _ in first if is_from_top}
         # Whether the last look saw values: then the next one asks for them at once.
         self._expects_values = False
-        self.session = Session(model.session.program)
+        self.session = model.session.fresh()
         try:
             self._begin()
         except BaseException:
@@ -106,19 +114,21 @@ class Trial:
         told = dict.fromkeys(line.split()[1] for line in made if line.split()[0] == "tell")
         self._choices_left = _CHOICES - len(chosen)
         brought = [self.line[premise] for premise in self.basis]
-        replies = self.session.send_all(
+        forks = list(self.model.forks())
+        self.session.send_all(
             [
                 *made,
                 *(f"kick {premise}" for premise in told),
                 *(f"bring {premise}" for premise in brought),
                 f"limit {_STEPS}",
-                *self._asks,
-                *chosen,
             ]
         )
+        asks = [*self._asks, *(f"ask {fork}" for fork in forks)]
+        replies = self.session.send_all([*asks, *chosen])
         self._inside = set(brought)
-        end = len(replies) - len(chosen)
-        held = self._values(replies[end - len(self._asks) : end])
+        held = self._values(replies)
+        known = map(_held_in, replies[len(self._asks) :])
+        self._forks = [fork for fork, it in zip(forks, known) if isinstance(it, Nothing)]
         # All that a cell may have, and what is left of that whatever the choices take.
         self.whole = {cell: self._whole(cell) for cell in self.cells}
         self.rooms = {cell: room_left(held[cell], self.whole[cell]) for cell in self.cells}
@@ -219,6 +229,18 @@ class Trial:
         seen = self.look(premises, told, *lines)
         self._inside.add(self._corners)
         return seen
+
+    def cover_forks(self) -> bool:
+        """Makes choices of truths that are to be decided first, as many as there is room for; whether
+        that was done."""
+        forks, self._forks = self._forks[: max(0, self._choices_left - _KEPT)], []
+        if not forks:
+            return False
+        self._choices_left -= len(forks)
+        for fork in forks:
+            self._cover(fork, _EITHER, [["yes", "no"]])
+        self.has_forks = True
+        return True
 
     def cover_some(self, loose: Sequence[str]) -> bool:
         """Makes choices that cover a few more of these cells, whose turn is first and then the

@@ -1,0 +1,27 @@
+"""The bugs that tools/planted plants: each fits one place, and names tests that are there."""
+
+import ast
+import sys
+
+import pytest
+from conftest import REPOSITORY
+
+sys.path.append(str(REPOSITORY / "python/planted"))
+
+from bugs import BUGS, Bug  # noqa: E402
+
+PACKAGE = REPOSITORY / "python/src/propbench"
+
+
+def test_there_are_enough() -> None:
+    assert len({bug.name for bug in BUGS}) == len(BUGS) >= 40
+
+
+@pytest.mark.parametrize("bug", BUGS, ids=lambda bug: bug.name)
+def test_each_fits(bug: Bug) -> None:
+    text = (PACKAGE / bug.file).read_text(encoding="utf-8")
+    assert text.count(bug.old) == 1
+    # (what is planted is a program: else any test would find it out)
+    assert ast.dump(ast.parse(text)) != ast.dump(ast.parse(text.replace(bug.old, bug.new)))
+    tests = REPOSITORY / "python/tests"
+    assert bug.tests and all((tests / f"test_{name}.py").is_file() for name in bug.tests.split())
