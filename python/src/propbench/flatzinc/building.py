@@ -6,8 +6,9 @@ stands in its place, and the other conditions of its definition hold always.
 
 from collections.abc import Iterable
 
-from propbench.flatzinc import meaning
+from propbench.flatzinc import meaning, symbolic
 from propbench.flatzinc.arithmetic import NO, YES, constant, every, same_truth, within
+from propbench.flatzinc.meaning import differing
 from propbench.flatzinc.terms import (
     Call,
     Constraint,
@@ -19,8 +20,16 @@ from propbench.flatzinc.terms import (
     Text,
     Variable,
 )
-from propbench.model.cells import Cell, NumberCell, TruthCell
-from propbench.model.expressions import Number, Truth, count
+from propbench.model.cells import Cell, ElementCell, NumberCell, TruthCell
+from propbench.model.expressions import (
+    Element,
+    Number,
+    Truth,
+    count,
+    domain_of_element,
+    element,
+)
+from propbench.model.kinds import Domain
 from propbench.workbench import Workbench
 
 # The constraint by which a model's own constraint has a name: it holds where that is believed.
@@ -36,9 +45,11 @@ class Built:
         """States all of the model. Raises NotSupported, and ValueError where there is no room."""
         self.flat, self.workbench = flat, workbench
         self.cells: dict[str, Cell] = {}
-        self._expressions: dict[str, Number | Truth] = {}
+        self._expressions: dict[str, Number | Truth | Element] = {}
         self._deep: dict[str, int] = {}
         self._titles = _titles(flat)
+        self._values = symbolic.domains(flat)
+        self._domains: dict[tuple[int, ...], Domain] = {}
         kept = {each.text for each in _kept(flat)}
         self._definitions = {
             each.defined: each
@@ -71,8 +82,11 @@ class Built:
     # --- what terms stand for ---
 
     def number(self, term: Term) -> Number:
-        """A number: a truth counts as 0 or 1."""
+        """A number: a truth counts as 0 or 1, and an element is looked up."""
         found = self._value(term)
+        if isinstance(found, Element):
+            names = domain_of_element(found).elements
+            return element(found, {name: int(name) for name in names})
         if isinstance(found, Truth):
             return constant(int(found.node is YES.node)) if _is_plain(found) else count([found])
         return found
@@ -80,7 +94,7 @@ class Built:
     def truth(self, term: Term) -> Truth:
         """A truth: a number of 0 or 1 counts as one."""
         found = self._value(term)
-        return found if isinstance(found, Truth) else found >= 1
+        return found if isinstance(found, Truth) else self.number(term) >= 1
 
     def elements(self, term: Term) -> list[Term]:
         """The elements of an array, as they stand."""
@@ -101,13 +115,44 @@ class Built:
         found = [self.flat.resolved(each) for each in self.elements(term)]
         return [int(each) for each in found if isinstance(each, int)]
 
+    def told_apart(self, constraint: Constraint) -> Truth | None:
+        """What a constraint says of variables that are elements; None where they are none."""
+        compared = symbolic.compared(self.flat, constraint)
+        if compared is None:
+            return None
+        elements = [each for term in compared for each in self._elements(term)]
+        if len(elements) < len(compared) or not any(isinstance(each, Element) for each in elements):
+            return None
+        name = constraint.name.removesuffix("_reif")
+        if name == "set_in":
+            return self._one_of(elements[0], self.values(constraint.args[1]))
+        if name == "fzn_all_different_int":
+            return differing(elements)
+        first, second = sorted(elements, key=lambda each: isinstance(each, str))
+        assert isinstance(first, Element)
+        return first == second if name.endswith("eq") else first != second
+
+    def _elements(self, term: Term) -> list[Element | str]:
+        """The element that a term stands for, as a list; an empty one where it is none."""
+        found = self.flat.resolved(term)
+        if isinstance(found, int):
+            return [str(found)]
+        value = self._value(found)
+        return [value] if isinstance(value, Element) else []
+
+    def _one_of(self, made: object, values: Numbers) -> Truth:
+        assert isinstance(made, Element)
+        names = domain_of_element(made).elements
+        kept = [each for each in names if values.has(int(each))]
+        return made.among(*kept) if kept else NO
+
     def values(self, term: Term) -> Numbers:
         """A constant set."""
         found = self.flat.resolved(term)
         assert isinstance(found, Numbers), f"no set: {term!r}"
         return found
 
-    def _value(self, term: Term) -> Number | Truth:
+    def _value(self, term: Term) -> Number | Truth | Element:
         found = self.flat.resolved(term)
         if isinstance(found, bool):
             return YES if found else NO
@@ -119,7 +164,7 @@ class Built:
 
     # --- variables ---
 
-    def _expression(self, name: str) -> Number | Truth:
+    def _expression(self, name: str) -> Number | Truth | Element:
         """What a variable is: its cell, or what it is defined as."""
         if name not in self._expressions:
             made = self._defined(name) if name in self._definitions else None
@@ -141,13 +186,15 @@ class Built:
         self._require(every([beside, self._is_possible(self.flat.variables[name], value)]))
         return value
 
-    def _cell(self, name: str) -> Number | Truth:
+    def _cell(self, name: str) -> Number | Truth | Element:
         """A cell for a variable, with what its declaration says of it."""
         variable = self.flat.variables[name]
         title = self._titles.get(name, name)
-        made: NumberCell | TruthCell
+        made: NumberCell | TruthCell | ElementCell
         if variable.is_truth:
             made = self.workbench.truth(title)
+        elif name in self._values:
+            made = self.workbench.element(title, self._domain(self._values[name]))
         elif variable.values is not None and not variable.values.ranges:
             # (no number is possible)
             made = self.workbench.number(title, 0, 0)
@@ -160,8 +207,18 @@ class Built:
         self._require(self._is_possible(variable, made))
         return made
 
-    def _is_possible(self, variable: Variable, made: Number | Truth) -> Truth:
+    def _domain(self, values: tuple[int, ...]) -> Domain:
+        """The domain of these numbers, the same each time."""
+        if values not in self._domains:
+            title = f"numbers {len(self._domains) + 1}"
+            self._domains[values] = self.workbench.domain(title, map(str, values))
+        return self._domains[values]
+
+    def _is_possible(self, variable: Variable, made: Number | Truth | Element) -> Truth:
         """What a variable's declaration says of its value."""
+        if isinstance(made, Element):
+            assert variable.values is not None
+            return self._one_of(made, variable.values)
         said = []
         if isinstance(made, Number) and variable.values is not None and variable.values.ranges:
             said.append(within(made, variable.values))

@@ -12,6 +12,7 @@ from propbench.flatzinc import arithmetic
 from propbench.flatzinc.arithmetic import every, picked, same_truth, sides_of, some, sum_of
 from propbench.flatzinc.terms import Constraint, Name, NotSupported, Numbers, Term
 from propbench.model.expressions import (
+    Expression,
     Number,
     Truth,
     all_different,
@@ -46,6 +47,9 @@ class Terms(Protocol):
     def constants(self, term: Term) -> list[int]:
         """An array of constants."""
 
+    def told_apart(self, constraint: Constraint) -> Truth | None:
+        """What a constraint says of variables that are elements; None where they are none."""
+
     def values(self, term: Term) -> Numbers:
         """A constant set."""
 
@@ -59,6 +63,11 @@ Gives = Callable[[Terms, Args], "tuple[Number | Truth, Truth] | None"]
 def stated(terms: Terms, constraint: Constraint) -> Truth:
     """What the constraint says. Raises NotSupported."""
     name, args = constraint.name, constraint.args
+    told_apart = terms.told_apart(constraint)
+    if told_apart is not None:
+        return (
+            same_truth(told_apart, terms.truth(args[-1])) if name.endswith("_reif") else told_apart
+        )
     if name == "bool_xor" and len(args) == 2:
         return _either(*(terms.truth(each) for each in args))
     for ending in ("_reif", "_imp"):
@@ -77,10 +86,13 @@ def defined(terms: Terms, constraint: Constraint) -> tuple[Number | Truth, Truth
     """What the variable is that the constraint defines, and what has to hold beside; None where
     that can't be said."""
     name, args = constraint.name, _with_value_last(constraint)
-    if name == "int_lin_eq":
+    if name == "int_lin_eq" and terms.told_apart(constraint) is None:
         return _solved(terms, args, constraint.defined)
     if args[-1] != Name(constraint.defined or ""):
         return None
+    told_apart = terms.told_apart(constraint)
+    if told_apart is not None:
+        return told_apart, arithmetic.YES
     if name.endswith("_reif") and name.removesuffix("_reif") in _SAYS:
         return _SAYS[name.removesuffix("_reif")](terms, args[:-1]), arithmetic.YES
     if name in _GIVES and (name, len(args)) != ("bool_xor", 2):
@@ -151,13 +163,13 @@ def _different(terms: Terms, args: Args) -> Truth:
     return differing(terms.numbers(args[0]))
 
 
-def differing(numbers: Sequence[Number]) -> Truth:
+def differing(values: Sequence[Expression | str]) -> Truth:
     """That all of these differ: any two, and more at once where more is to be learned so."""
-    if len(numbers) <= _AT_ONCE:
-        return all_different(numbers)
+    if len(values) <= _AT_ONCE:
+        return all_different(values)
     step = _AT_ONCE // 2
-    groups = [numbers[place : place + _AT_ONCE] for place in range(0, len(numbers) - step, step)]
-    return every([all_different(numbers), *map(all_different, groups)])
+    groups = [values[place : place + _AT_ONCE] for place in range(0, len(values) - step, step)]
+    return every([all_different(values), *map(all_different, groups)])
 
 
 def _either(first: Truth, second: Truth) -> Truth:

@@ -5,6 +5,7 @@ from dataclasses import dataclass
 from propbench.flatzinc.building import Built
 from propbench.flatzinc.order import order_of
 from propbench.flatzinc.terms import Name
+from propbench.model.cells import ElementCell
 from propbench.questions import Interrupted, Optimum, Plan, Plans
 
 # More solutions than there can be time for.
@@ -31,18 +32,28 @@ def solve(built: Built, most: int, seconds: float | None) -> Solutions:
             show = [name for name in shown if name in own]
             found = built.workbench.plans(show, most=most, seconds=seconds)
             is_best = goal.sort != "satisfy" and len(found) > 0
-            return Solutions(list(found.whole), found.complete or is_best)
+            return Solutions(_whole(built, found), found.complete or is_best)
         cell = built.cells[goal.objective.text]
         is_least = goal.sort == "minimize"
         ask = built.workbench.least if is_least else built.workbench.greatest
-        return _best(ask(cell, seconds=seconds))
+        return _best(built, ask(cell, seconds=seconds))
     except Interrupted as interrupted:
         so_far = interrupted.so_far
         if isinstance(so_far, Plans):
-            return Solutions(list(so_far.whole), False)
+            return Solutions(_whole(built, so_far), False)
         assert isinstance(so_far, Optimum)
-        return _best(so_far)
+        return _best(built, so_far)
 
 
-def _best(found: Optimum) -> Solutions:
-    return Solutions([] if found.plan is None else [found.plan], found.proved)
+def _whole(built: Built, found: Plans) -> list[Plan]:
+    return [_in_numbers(built, plan) for plan in found.whole]
+
+
+def _best(built: Built, found: Optimum) -> Solutions:
+    return Solutions([] if found.plan is None else [_in_numbers(built, found.plan)], found.proved)
+
+
+def _in_numbers(built: Built, plan: Plan) -> Plan:
+    """A plan in which elements are the numbers for which they stand."""
+    elements = {cell.name for cell in built.cells.values() if isinstance(cell, ElementCell)}
+    return {name: int(value) if name in elements else value for name, value in plan.items()}

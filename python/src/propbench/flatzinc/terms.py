@@ -57,6 +57,10 @@ class Numbers:
         """The numbers from one to another."""
         return Numbers(((low, high),) if low <= high else ())
 
+    def has(self, value: int) -> bool:
+        """Whether a number is one of these."""
+        return any(low <= value <= high for low, high in self.ranges)
+
     @property
     def gaps(self) -> Iterator[tuple[int, int]]:
         """The last number before each gap, and the first behind it."""
