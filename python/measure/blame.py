@@ -13,13 +13,15 @@ import random
 import sys
 import tempfile
 import time
+from collections.abc import Sequence
 from pathlib import Path
 
-import z3
+import z3  # type: ignore[import]
 
 PYTHON = Path(__file__).resolve().parents[1]
 sys.path += [str(PYTHON / "src")]
 
+from marco import Sets, marco  # noqa: E402
 from propbench import Workbench  # noqa: E402
 from propbench.flatzinc.blame import Asked, blamed  # noqa: E402
 from propbench.flatzinc.building import BLAMED, Built  # noqa: E402
@@ -27,7 +29,6 @@ from propbench.flatzinc.compiling import Compiled, compiled  # noqa: E402
 from propbench.flatzinc.terms import Flat, Name, Term, Text  # noqa: E402
 
 MODEL = PYTHON / "tests/models/projects/project.mzn"
-Sets = set[frozenset[str]]
 
 
 def data(seed: int) -> str:
@@ -55,7 +56,7 @@ def data(seed: int) -> str:
     )
 
 
-def _rows(rows: list[tuple[int, ...]]) -> str:
+def _rows(rows: Sequence[tuple[int, ...]]) -> str:
     return "[|" + "|".join(",".join(map(str, row)) for row in rows) + "|]"
 
 
@@ -88,7 +89,9 @@ class Translated:
         return self.known[found.text] if isinstance(found, Name) else z3.IntVal(found)
 
     def all(self, term: Term) -> list[z3.ExprRef]:
-        return [self.of(each) for each in self.flat.resolved(term)]
+        found = self.flat.resolved(term)
+        assert isinstance(found, tuple)
+        return [self.of(each) for each in found]
 
     def says(self, name: str, args: tuple[Term, ...]) -> z3.BoolRef:
         if name.endswith("_reif"):
@@ -105,42 +108,12 @@ class Translated:
             return self.of(args[1]) == joined(self.all(args[0]))
         raise ValueError(name)
 
-
-def marco(made: Translated, most: float) -> tuple[Sets, Sets, bool]:
-    """All least conflicts and repairs by z3, and whether that was done in time."""
-    until = time.monotonic() + most
-    names = list(made.marks)
-    switch = {name: z3.Bool(f"switch {name}") for name in names}
-    for name in names:
-        made.solver.add(z3.Implies(switch[name], z3.And(made.marks[name])))
-    back = {str(switch[name]): name for name in names}
-    seeds = z3.Solver()
-    taken = {name: z3.Bool(f"take {name}") for name in names}
-
-    def fits(some: set[str]) -> bool:
-        return made.solver.check([switch[name] for name in some]) == z3.sat
-
-    conflicts: Sets = set()
-    repairs: Sets = set()
-    while time.monotonic() < until:
-        if seeds.check() != z3.sat:
-            return conflicts, repairs, True
-        model = seeds.model()
-        seed = {name for name in names if not z3.is_false(model.eval(taken[name]))}
-        if fits(seed):
-            for name in names:
-                if name not in seed and fits(seed | {name}):
-                    seed = seed | {name}
-            repairs.add(frozenset(names) - seed)
-            seeds.add(z3.Or([taken[name] for name in names if name not in seed]))
-            continue
-        core = {back[str(each)] for each in made.solver.unsat_core()}
-        for name in sorted(core):
-            if name in core and not fits(core - {name}):
-                core = {back[str(each)] for each in made.solver.unsat_core()}
-        conflicts.add(frozenset(core))
-        seeds.add(z3.Or([z3.Not(taken[name]) for name in core]))
-    return conflicts, repairs, False
+    def conflicts(self, most: float, count: int) -> tuple[Sets, Sets, bool]:
+        """All least conflicts and repairs, and whether that was done in time."""
+        flags = {name: z3.Bool(f"flag {name}") for name in self.marks}
+        for name, held in self.marks.items():
+            self.solver.add(z3.Implies(flags[name], z3.And(held)))
+        return marco(z3, self.solver, flags, count, most)
 
 
 # --- both ---
@@ -174,7 +147,7 @@ def main() -> int:
         began = time.monotonic()
         found = ours(made, options.most, options.count)
         middle = time.monotonic()
-        other = marco(Translated(made.flat), options.most)
+        other = Translated(made.flat).conflicts(options.most, options.count)
         end = time.monotonic()
         is_same = found[:2] == other[:2] or not (found[2] and other[2])
         wrong += not is_same

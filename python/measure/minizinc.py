@@ -1,12 +1,12 @@
 #!/usr/bin/python3
 """Solves the models of python/tests/models by propbench and by Gecode, and says where they differ.
 
-usage: python/measure/minizinc.py [--write] [--most SECONDS] [MODEL ..]
+usage: python/measure/minizinc.py [--harder] [--write] [--most SECONDS] [MODEL ..]
 
 For each model all solutions are counted, or the best one is found; printed are what both say, and
-how long each took from reading FlatZinc to the end of its process. With --write the FlatZinc and
-what Gecode says are written beside the models, which the tests compare with. Needs `minizinc` and
-`fzn-gecode`, which Debian's minizinc brings.
+how long each took from reading FlatZinc to the end of its process. With --harder it is those of
+python/measure/models. With --write the FlatZinc and what Gecode says are written beside the models,
+which the tests compare with. Needs `minizinc` and `fzn-gecode`, which Debian's minizinc brings.
 """
 
 import argparse
@@ -22,7 +22,7 @@ PYTHON = Path(__file__).resolve().parents[1]
 sys.path += [str(PYTHON / "src"), str(PYTHON / "tests")]
 
 from propbench.flatzinc.compiling import CONFIGURATION  # noqa: E402
-from solved_models import MODELS, NAMES, answer, answers, printed_in  # noqa: E402
+from solved_models import MODELS, answer, answers, printed_in  # noqa: E402
 
 # Gecode has no powers.
 BY_HAND = {
@@ -64,15 +64,19 @@ def timed(words: list[str], text: str, most: float) -> tuple[str, float]:
 def main() -> int:
     assert __doc__
     read = argparse.ArgumentParser(description=__doc__.split("\n", maxsplit=1)[0])
-    read.add_argument("models", nargs="*", metavar="MODEL", default=NAMES)
+    read.add_argument("models", nargs="*", metavar="MODEL", help="names of models (all)")
+    read.add_argument("--harder", action="store_true", help="models that take longer")
     read.add_argument("--write", action="store_true", help="write FlatZinc and Gecode's answers")
     read.add_argument("--most", type=float, default=120, metavar="N", help="seconds of each (120)")
     options = read.parse_args()
+    if options.harder and options.write:
+        read.error("what is written is of the models of the tests")
     known = answers() if (MODELS / "answers.json").exists() else {}
     wrong = 0
     print(f"{'model':16} {'gecode':>8} {'propbench':>10}  answer")
-    for name in options.models:
-        model = MODELS / f"{name}.mzn"
+    folder = PYTHON / "measure/models" if options.harder else MODELS
+    for name in options.models or sorted(path.stem for path in folder.glob("*.mzn")):
+        model = folder / f"{name}.mzn"
         ours, theirs = flattened(model, ["--solver", str(CONFIGURATION)]), flattened(
             model, ["-G", "std"]
         )

@@ -14,6 +14,7 @@ from conftest import REPOSITORY
 
 from propbench.desk import main, parser
 from propbench.flatzinc import compiling
+from propbench.flatzinc.marking import marked
 
 PAGE = REPOSITORY / "docs/MINIZINC.md"
 WEEK = Path(__file__).parent / "models/page/week.mzn"
@@ -51,5 +52,4 @@ def from_file(model: Path, text: str, data: Sequence[Path]) -> str:
 
 @pytest.mark.skipif(shutil.which("minizinc") is None, reason="MiniZinc isn't there")
 def test_minizinc_makes_what_stands_there() -> None:
-    marked = compiling.marked(WEEK.read_text()).text
-    assert compiling._flattened(WEEK, marked, []) == FLAT.read_text()
+    assert compiling._flattened(WEEK, marked(WEEK.read_text()).text, []) == FLAT.read_text()
