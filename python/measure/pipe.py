@@ -1,12 +1,14 @@
 #!/usr/bin/python3
-"""Prints how many replies a second a Session gives, beside those of a bare pipe, in one run.
+"""Prints how many replies a second a Session gives, and how many answers a workbench, beside the
+replies of a bare pipe, in one run.
 
 usage: python/measure/pipe.py [PROGRAM] [--lines N] [--rounds N]
 
 On the bare pipe lines that are pipelined are written by a thread while line feeds of the replies are
-counted; lines one by one are an `os.write` and an `os.read` each. The
-two are timed in turn, each the given number of rounds, and the best of each counts: on a machine
-that does other work too, short rounds find a moment in which it doesn't.
+counted; lines one by one are an `os.write` and an `os.read` each. A workbench asks cells that are
+joined by sums, and each answer is looked at. What stands beside is timed in turn, each the given
+number of rounds, and the best of each counts: on a machine that does other work too, short rounds
+find a moment in which it doesn't.
 """
 
 import argparse
@@ -20,7 +22,8 @@ from pathlib import Path
 
 sys.path.insert(0, str(Path(__file__).resolve().parents[1] / "src"))
 
-from propbench import Session, find_program  # noqa: E402
+from propbench import Session, Workbench, find_program  # noqa: E402
+from propbench.model.cells import NumberCell  # noqa: E402
 
 # The least share of the bare pipe's speed that is wanted.
 WANTED = {
@@ -28,6 +31,7 @@ WANTED = {
     "questions pipelined": 1 / 3,
     "questions one by one": 1 / 2,
     "statements one by one": 1 / 2,
+    "answers of a workbench": 1 / 3,
 }
 
 
@@ -150,6 +154,36 @@ def measured(program: str, count: int, rounds: int) -> dict[str, tuple[float, fl
     return found
 
 
+# How many cells are joined by sums in a workbench.
+JOINED = 500
+
+
+def joined(workbench: Workbench) -> list[NumberCell]:
+    """Cells, each one more than the one before, of which the first is told."""
+    cells = [workbench.number(f"x{i}", 0, 10**6) for i in range(JOINED)]
+    for one, other in zip(cells, cells[1:]):
+        workbench.require(other == one + 1)
+    workbench.tell("start", cells[0], 3, 5)
+    return cells
+
+
+def of_answers(program: str, count: int, rounds: int) -> tuple[float, float]:
+    """The best replies a second of the bare pipe, and answers of a workbench to the same."""
+    with Workbench(program) as workbench:
+        cells = joined(workbench)
+        bare = Bare(program)
+        bare.pipelined([*workbench.model.base(), "settle"])
+        asked = [cells[i * 7 % JOINED] for i in range(count)]
+        lines = [f"why {cell.name}" for cell in asked]
+
+        def ask() -> None:
+            assert all(cell.ask().high is not None for cell in asked)
+
+        pairs = [(seconds(lambda: bare.one_by_one(lines)), seconds(ask)) for _ in range(rounds)]
+        bare.end()
+    return count / min(pair[0] for pair in pairs), count / min(pair[1] for pair in pairs)
+
+
 def main() -> int:
     """Prints the table; the status is 1 where a ratio is below what is wanted."""
     parser = argparse.ArgumentParser(description="Session beside a bare pipe")
@@ -160,7 +194,9 @@ def main() -> int:
     program = find_program(options.program).path
     print(f"{'replies a second':24}{'bare pipe':>12}{'Session':>12}{'ratio':>8}{'wanted':>8}")
     is_slow = False
-    for name, (plain, ours) in measured(program, options.lines, options.rounds).items():
+    found = measured(program, options.lines, options.rounds)
+    found["answers of a workbench"] = of_answers(program, options.lines // 10, options.rounds)
+    for name, (plain, ours) in found.items():
         ratio = ours / plain
         print(f"{name:24}{plain:12,.0f}{ours:12,.0f}{ratio:8.2f}{WANTED[name]:8.2f}")
         is_slow = is_slow or ratio < WANTED[name]

@@ -23,6 +23,8 @@ class Bug:
         return f"{self.file}: {self.old.strip().splitlines()[0].strip()}"
 
 
+_MEANING = "meaning::each_operation_at_all_points"
+_RANGES = "meaning::ranges_have_each_value"
 _POINTS = "workbench_files::what_points_violate"
 _JUDGED = "workbench_random::points_are_judged_as_by_brute_force"
 _LEFT = "workbench_random::no_solution_is_left_out"
@@ -40,31 +42,31 @@ BUGS = [
         "model/meaning.py",
         "Op.DIFFERENCE: lambda node, numbers: numbers[0] - numbers[1]",
         "Op.DIFFERENCE: lambda node, numbers: numbers[1] - numbers[0]",
-        _POINTS,
+        _MEANING,
     ),
     Bug(
         "model/meaning.py",
         "int(values[0]) <= int(values[1])",
         "int(values[0]) < int(values[1])",
-        _POINTS,
+        _MEANING,
     ),
     Bug(
         "model/meaning.py",
         "    return left // right\n",
         "    return int(left / right)\n",
-        _POINTS,
+        _MEANING,
     ),
     Bug(
         "model/meaning.py",
         "node.args[1] if self.value(node.args[0]) else node.args[2]",
         "node.args[2] if self.value(node.args[0]) else node.args[1]",
-        _POINTS,
+        _MEANING,
     ),
     Bug(
         "model/meaning.py",
         "Op.OR: any,",
         "Op.OR: all,",
-        _POINTS,
+        _MEANING,
     ),
     # What it stands for in fewer operations.
     Bug(
@@ -107,13 +109,13 @@ BUGS = [
         "model/ranges.py",
         "return left_low - right_high, left_high - right_low",
         "return left_low - right_low, left_high - right_high",
-        f"{_LEFT} {_JUDGED} workbench::divisions",
+        _RANGES,
     ),
     Bug(
         "model/ranges.py",
         "return min(low + 1, 0), max(high - 1, 0)",
         "return min(low + 1, 0), max(high - 2, 0)",
-        f"{_LEFT} {_JUDGED} workbench::divisions",
+        _RANGES,
     ),
     # The lines that state it.
     Bug(
@@ -247,13 +249,13 @@ BUGS = [
         "model/answers.py",
         "None if value.low == -MOST else value.low",
         "None if value.low == MOST else value.low",
-        "workbench::a_first_model workbench::values_of_each_kind",
+        "workbench::ends_that_are_not_known",
     ),
     # Questions.
     Bug(
         "questions/bounding.py",
-        "self._low, self.tree = most + 1, outcome.tree",
-        "self._low, self.tree = most + 2, outcome.tree",
+        "self.proved = self._low == best",
+        "self.proved = self._low >= best - 1",
         f"{_BOUNDS} {_PROJECTS}",
     ),
     Bug(

@@ -73,6 +73,13 @@ def test_values_of_each_kind(w: Workbench) -> None:
     assert w.cell("review") is d
 
 
+def test_ends_that_are_not_known(w: Workbench) -> None:
+    up, down, free = w.number("up", 3), w.number("down", high=3), w.number("free")
+    asked = [up.ask(), down.ask(), free.ask()]
+    assert [(each.low, each.high) for each in asked] == [(3, None), (None, 3), (None, None)]
+    assert [str(each) for each in asked] == ["up = 3..", "down = ..3", "free = nothing"]
+
+
 def test_what_is_out_says_nothing(w: Workbench) -> None:
     """False, beyond all numbers, divided by zero: no matter while it is kicked out."""
     x, y, z = w.number("x", 1, 10**18), w.number("y", 10**10), w.number("z")

@@ -8,10 +8,10 @@ import os
 import time
 import weakref
 from collections.abc import Iterable
-from types import TracebackType
 from typing import Literal, overload
 
 from propbench.batch import Batch, as_lines
+from propbench.closing import Closing
 from propbench.conversation import Conversation
 from propbench.finding import find_program
 from propbench.grammar import FORMS, RUNNING
@@ -26,7 +26,7 @@ MOST_SEED = 2**64 - 1
 ORDERS = ("fifo", "lifo", "mixed")
 
 
-class Session:
+class Session(Closing):
     """A session of the program. It is not to be used by two threads at once."""
 
     def __init__(
@@ -57,17 +57,6 @@ class Session:
         self._sent = 0
         self._closed = False
         self._begin()
-
-    def __enter__(self) -> "Session":
-        return self
-
-    def __exit__(
-        self,
-        kind: type[BaseException] | None,
-        error: BaseException | None,
-        trace: TracebackType | None,
-    ) -> None:
-        self.close()
 
     def fresh(self) -> "Session":
         """A session of its own, of the same program, that begins as this one did."""

@@ -13,9 +13,9 @@
 import os
 from collections.abc import Iterable, Iterator, Mapping, Sequence
 from datetime import date
-from types import TracebackType
 from typing import TypeVar, overload
 
+from propbench.closing import Closing
 from propbench.finding import find_wide
 from propbench.model.answers import Answer, Conflict, NotSettled, ends_of
 from propbench.model.blaming import always, beyond
@@ -55,7 +55,7 @@ SomeCell = TypeVar("SomeCell", bound=Cell)
 _LACKS = "The program has no rule of its own for {}: answers may be wider than those of propwide."
 
 
-class Workbench(Questions):
+class Workbench(Questions, Closing):
     """A network of cells with constraints, some of them under premises, and what follows.
 
     Cells come from `number`, `truth`, `element` (of a `domain`) and `symbol`. What holds between
@@ -85,17 +85,6 @@ class Workbench(Questions):
         self._owner = object()
         self._network = Network(Session(found, order=order, seed=seed, limit=limit))
         self._cells: dict[str, Cell] = {}
-
-    def __enter__(self) -> "Workbench":
-        return self
-
-    def __exit__(
-        self,
-        kind: type[BaseException] | None,
-        error: BaseException | None,
-        trace: TracebackType | None,
-    ) -> None:
-        self.close()
 
     def close(self) -> None:
         """Ends the program. Nothing can be stated or asked after that."""

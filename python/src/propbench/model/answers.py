@@ -45,10 +45,10 @@ class Answer:
         choices: Mapping[str, object] | None = None,
         reduced: bool | None = None,
     ) -> None:
-        # (past the freeze all at once: one by one it would take three times as long)
-        held = vars(self)
-        held.update(name=name, value=value, low=low, high=high, settled=settled)
-        held.update(because=because, choices={} if choices is None else choices, reduced=reduced)
+        # (past the freeze, all at once: one by one it would take three times as long)
+        held: dict[str, object] = {"name": name, "value": value, "low": low, "high": high}
+        held |= {"settled": settled, "because": because, "choices": choices or {}}
+        object.__setattr__(self, "__dict__", {**held, "reduced": reduced})
 
     def __str__(self) -> str:
         text = f"{printable(self.name)} = {self.value_text}"

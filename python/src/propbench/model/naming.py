@@ -1,7 +1,7 @@
 """Names: any text that a user gives, and the name that stands for it on the program's lines."""
 
 import re
-from collections.abc import Callable
+from collections.abc import Callable, Iterable
 
 from propbench.words import MOST_BYTES, is_name
 
@@ -34,6 +34,11 @@ class Names:
     def text(self, line: str) -> str:
         """What a user calls what has this name on a line."""
         return self._texts[line]
+
+    def texts(self, lines: Iterable[str]) -> tuple[str, ...]:
+        """What a user calls several of them."""
+        known = self._texts
+        return tuple([known[line] for line in lines])
 
     def has(self, line: str) -> bool:
         """Whether something has this name on a line."""

@@ -31,7 +31,7 @@ class Reader:
     def _because(self, names: tuple[str, ...], plan: Mapping[str, int]) -> tuple[str, ...]:
         """What the user calls premises and sides."""
         if not self._premises.choices:
-            return tuple(map(self._vocabulary.premises.text, names))
+            return self._vocabulary.premises.texts(names)
         # (two sides may stand for one alternative)
         return tuple(dict.fromkeys(self.premise(each, plan) for each in names))
 

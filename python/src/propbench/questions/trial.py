@@ -6,8 +6,8 @@ here; what is supposed for a while is told under premises of the trial's own, wh
 
 from collections import OrderedDict
 from collections.abc import Collection, Iterable, Sequence
-from types import TracebackType
 
+from propbench.closing import Closing
 from propbench.questions.checker import digits
 from propbench.questions.clock import Clock
 from propbench.questions.model import Model
@@ -50,7 +50,7 @@ def mark_for(base: Iterable[str], form: str = "_q{}_") -> str:
     return mark
 
 
-class Trial:
+class Trial(Closing):
     """A second session of a model's network, with choices that cover what may be."""
 
     def __init__(self, model: Model, basis: Collection[str], clock: Clock) -> None:
@@ -92,17 +92,6 @@ class Trial:
         except BaseException:
             self.session.close()
             raise
-
-    def __enter__(self) -> "Trial":
-        return self
-
-    def __exit__(
-        self,
-        kind: type[BaseException] | None,
-        error: BaseException | None,
-        trace: TracebackType | None,
-    ) -> None:
-        self.close()
 
     def close(self) -> None:
         """Ends the session."""

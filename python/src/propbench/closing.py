@@ -1,0 +1,25 @@
+"""What is closed at the end of a `with`."""
+
+from types import TracebackType
+from typing import TypeVar
+
+Some = TypeVar("Some", bound="Closing")
+
+
+class Closing:
+    """Something that is to be closed: by `close`, or at the end of a `with`."""
+
+    def __enter__(self: Some) -> Some:
+        return self
+
+    def __exit__(
+        self,
+        kind: type[BaseException] | None,
+        error: BaseException | None,
+        trace: TracebackType | None,
+    ) -> None:
+        self.close()
+
+    def close(self) -> None:
+        """Ends it. Nothing can be said or asked after that."""
+        raise NotImplementedError

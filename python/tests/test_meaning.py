@@ -1,0 +1,88 @@
+"""What expressions mean at all points, by Python's own arithmetic, and between which numbers they
+are said to lie."""
+
+from collections.abc import Iterator
+from typing import Any
+
+import pytest
+from modelling import (
+    COMPARISONS,
+    ENDS,
+    Bench,
+    NoValue,
+    Recipe,
+    all_points,
+    bench,
+    built,
+    cell,
+    meant,
+    names_in,
+)
+
+from propbench.model.kinds import Plain
+from propbench.model.meaning import Undefined, value_of
+from propbench.model.ranges import range_of
+
+X, Y, Z = map(cell, ENDS)
+TWO = ("sum", "difference", "product", "quotient", "remainder", "maximum", "minimum")
+TRUTH = ("less", X, ("constant", 1))
+
+
+def numbers(*of: Recipe) -> Iterator[Recipe]:
+    """Each operation on these numbers, in each order, and on constants."""
+    for first in of:
+        yield ("absolute", first)
+        yield ("negative", first)
+        for other in (*of, ("constant", -2), ("constant", 3)):
+            for name in TWO:
+                yield (name, first, other)
+            yield ("if", TRUTH, first, other)
+
+
+def recipes() -> list[Recipe]:
+    """Operations on cells, and on what is made of two of them; and comparisons of these."""
+    simple = [*numbers(X, Y), ("count", TRUTH, cell("b")), ("table", cell("d"))]
+    within = [each for one in simple for each in numbers(one, Z)]
+    orders = sorted(COMPARISONS - {"later", "early", "different"})
+    compared = [(name, one, other) for name in orders for one in simple for other in (X, Z)]
+    truths = [(name, TRUTH, cell("b")) for name in ("and", "or", "xor", "implies")]
+    days = [("later", cell("d"), cell("e")), ("early", cell("d")), ("different", X, Y, Z)]
+    return [*simple, *within[::7], *compared, *truths, ("not", TRUTH), *days]
+
+
+@pytest.fixture(scope="module")
+def made(program: str) -> Iterator[Bench]:
+    found = bench(program)
+    with found.workbench:
+        yield found
+
+
+def value(recipe: Recipe, at: dict[str, Any]) -> Any:
+    """What a recipe means at a point, None for nothing."""
+    try:
+        return meant(recipe, at)
+    except NoValue:
+        return None
+
+
+def test_each_operation_at_all_points(made: Bench) -> None:
+    declared = {name: each.declared for name, each in made.cells.items()}
+    for recipe in recipes():
+        node = built(recipe, made.cells).node
+        for at in all_points(names_in(recipe)):
+            points = {declared[name]: point for name, point in at.items()}
+            try:
+                found = value_of(node, points)
+            except Undefined:
+                found = None  # type: ignore[assignment]
+            assert found == value(recipe, at), (recipe, at)
+
+
+def test_ranges_have_each_value(made: Bench) -> None:
+    for recipe in recipes():
+        node = built(recipe, made.cells).node
+        if node.kind is Plain.NUMBER:
+            low, high = range_of(node)
+            for at in all_points(names_in(recipe)):
+                found = value(recipe, at)
+                assert found is None or low <= found <= high, (recipe, at)
