@@ -382,7 +382,7 @@ BUGS = [
         "flatzinc/meaning.py",
         "return give(left, right), right != 0",
         "return give(left, right), arithmetic.YES",
-        _FLAT,
+        "flatzinc::what_a_definition_needs_holds_always",
     ),
     Bug(
         "flatzinc/meaning.py",

@@ -168,3 +168,19 @@ def test_what_is_told_apart() -> None:
     )
     values = (1, 2, 3, 4, 5, 6, 9)
     assert domains(flat) == {"a": values, "b": values}
+
+
+def test_what_a_definition_needs_holds_always(program: str) -> None:
+    text = (
+        "var -1..1: x; var 0..2: y; var bool: b;\n"
+        "var -1..1: z :: var_is_introduced :: is_defined_var;\n"
+        "constraint int_div(x,y,z) :: defines_var(z);\n"
+        "constraint int_le_reif(z,0,b);\nsolve satisfy;\n"
+    )
+    with Workbench(program) as workbench:
+        built = Built(read(text), workbench)
+        assert len(built.cells) == 3
+        found = solve(built, 100, None).plans
+    pairs = [(x, y) for x in (-1, 0, 1) for y in (1, 2)]
+    right = [{"x": x, "y": y, "b": not (x, y) == (1, 1)} for x, y in pairs]
+    assert sorted(map(str, found)) == sorted(map(str, right))
