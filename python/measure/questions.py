@@ -28,7 +28,7 @@ from typing import Any, Generic, TypeVar
 sys.path.insert(0, str(Path(__file__).resolve().parents[1] / "src"))
 
 import schedules  # noqa: E402
-from wishes import bench_of, marco, wishes  # noqa: E402
+from wishes import bench_of, conflicts_by_z3, wishes  # noqa: E402
 
 MOST = 100
 PRODUCTS = ((3, 4, 5, 6), (10, 10, 10, 10))
@@ -84,7 +84,7 @@ def measure_wishes(counts: list[int], seeds: int, seconds: float) -> Iterator[st
             )
             peer: Spent[Any] | None = None
             if z3 is not None:
-                peer = Spent.of(partial(marco, z3, wishes(count, seed), MOST, seconds))
+                peer = Spent.of(partial(conflicts_by_z3, z3, wishes(count, seed), MOST, seconds))
                 conflicts, repairs, is_all = peer.result
                 said += f"; {len(conflicts)} and {len(repairs)}{'' if is_all else ' so far'}"
                 assert not is_all or not found.complete or set(found) == conflicts

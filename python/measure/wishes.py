@@ -1,14 +1,14 @@
 """Wishes over ten numbers, of which many can't all hold: as a workbench, and by MARCO over z3."""
 
 import random
-import time
 from dataclasses import dataclass
 from typing import Any
+
+from marco import Sets, marco
 
 from propbench import Workbench
 
 CELLS, HIGHEST = 10, 30
-Sets = set[frozenset[str]]
 
 
 @dataclass(frozen=True)
@@ -55,43 +55,16 @@ def bench_of(made: list[Wish]) -> Workbench:
     return w
 
 
-def marco(z3: Any, made: list[Wish], most: int, seconds: float) -> tuple[Sets, Sets, bool]:
+def conflicts_by_z3(
+    z3: Any, made: list[Wish], most: int, seconds: float
+) -> tuple[Sets, Sets, bool]:
     """Conflicts, so many at the most, repairs that were found meanwhile, and whether these are all:
-    MARCO over z3, from the largest sets down."""
-    until = time.monotonic() + seconds
+    MARCO over z3."""
     x = [z3.Int(f"x{i}") for i in range(CELLS)]
-    names = [f"w{i}" for i in range(len(made))]
-    flags = {name: z3.Bool(name) for name in names}
-    solver, themap = z3.Solver(), z3.Solver()
+    flags = {f"w{i}": z3.Bool(f"w{i}") for i in range(len(made))}
+    solver = z3.Solver()
     for each in x:
         solver.add(each >= 0, each <= HIGHEST)
-    for name, wish in zip(names, made):
-        solver.add(z3.Implies(flags[name], wish.of(x)))
-
-    def fits(some: set[str]) -> bool:
-        return bool(solver.check([flags[name] for name in some]) == z3.sat)
-
-    def core() -> set[str]:
-        return {str(name) for name in solver.unsat_core()}
-
-    conflicts, repairs = Sets(), Sets()
-    while themap.check() == z3.sat:
-        if time.monotonic() > until or len(conflicts) >= most:
-            return conflicts, repairs, False
-        model = themap.model()
-        seed = {name for name in names if not z3.is_false(model.eval(flags[name]))}
-        if fits(seed):
-            for name in names:
-                if name not in seed and fits(seed | {name}):
-                    seed |= {name}
-            out = frozenset(names) - seed
-            repairs.add(out)
-            themap.add(z3.Or([flags[name] for name in out]))
-        else:
-            seed = core()
-            for name in sorted(seed):
-                if name in seed and not fits(seed - {name}):
-                    seed = core()
-            conflicts.add(frozenset(seed))
-            themap.add(z3.Or([z3.Not(flags[name]) for name in seed]))
-    return conflicts, repairs, True
+    for flag, wish in zip(flags.values(), made):
+        solver.add(z3.Implies(flag, wish.of(x)))
+    return marco(z3, solver, flags, most, seconds)

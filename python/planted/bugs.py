@@ -35,6 +35,9 @@ _CONFLICTS = "questions::conflicts_and_repairs_are_all_there_are"
 _BOUNDS = "questions::bounds_are_those_of_all_plans"
 _PLANS = "questions::plans_are_all_there_are"
 _PROJECTS = "planning::best_plans_are_those_of_all"
+_FLAT = "flatzinc_meaning::each_constraint_at_all_points"
+_APART = "flatzinc_random::values_that_are_told_apart_are_elements"
+_BLAMED = "flatzinc_blame::conflicts_and_repairs_are_those_of_brute_force"
 
 BUGS = [
     # What an expression means.
@@ -361,5 +364,60 @@ BUGS = [
         "        while found < wanted:\n",
         "        while found <= wanted:\n",
         "planning::dates",
+    ),
+    # Models in FlatZinc.
+    Bug(
+        "flatzinc/arithmetic.py",
+        "return if_else((left < 0) == (right < 0), found, -found)",
+        "return if_else(left < 0, -found, found)",
+        _FLAT,
+    ),
+    Bug(
+        "flatzinc/arithmetic.py",
+        "return (plus, minus + bound) if bound >= 0 else",
+        "return (plus, minus) if bound >= 0 else",
+        _FLAT,
+    ),
+    Bug(
+        "flatzinc/meaning.py",
+        "return give(left, right), right != 0",
+        "return give(left, right), arithmetic.YES",
+        "flatzinc::what_a_definition_needs_holds_always",
+    ),
+    Bug(
+        "flatzinc/meaning.py",
+        "negative = [~each for each in terms.truths(args[1])]",
+        "negative = list(terms.truths(args[1]))",
+        _FLAT,
+    ),
+    Bug(
+        "flatzinc/building.py",
+        "return first == second if name.endswith",
+        "return first != second if name.endswith",
+        _APART,
+    ),
+    Bug(
+        "flatzinc/symbolic.py",
+        "        numbers = {each for each in group if isinstance(each, int)}\n",
+        "        numbers = set[int]()\n",
+        f"flatzinc::what_is_told_apart {_APART}",
+    ),
+    Bug(
+        "flatzinc/building.py",
+        "            self._require(self.truth(holds), label.text)\n",
+        "            self._require(self.truth(holds))\n",
+        _BLAMED,
+    ),
+    Bug(
+        "flatzinc/marking.py",
+        'if "/\\\\" in plain:',
+        'if False and "/\\\\" in plain:',
+        "flatzinc_blame::marks_stand_around_each_constraint",
+    ),
+    Bug(
+        "flatzinc/writing.py",
+        "        yield UNSATISFIABLE if solutions.is_complete else UNKNOWN\n",
+        "        yield UNSATISFIABLE\n",
+        "flatzinc::no_time_is_unknown_and_statistics",
     ),
 ]

@@ -10,6 +10,7 @@ from itertools import product
 from propbench import Session
 from propbench.listing import Statement, Told, told_by
 from propbench.questions import Model, Point, Questions
+from propbench.questions.model import First
 
 TRUTHS = ("no", "yes")
 
@@ -127,6 +128,9 @@ class LineModel(Questions):
             pairs = next(w for w in map(str.split, self.lines) if w[:2] == ["relation", given])[5:]
             return f"{plan[cells[0]]} {plan[cells[1]]}" in " ".join(pairs).split(" ; ")
         return bool(RULES[words[0]](*(plan[cell] for cell in words[1:])))
+
+    def first(self) -> list[First]:
+        return []
 
     def text(self, premise: str) -> str:
         return ", ".join(map(str, self.told.premises[premise]))

@@ -7,6 +7,7 @@ import tempfile
 TOP = os.path.dirname(os.path.dirname(os.path.dirname(os.path.realpath(__file__))))
 NAME = "a workbench for propagator networks with truth maintenance"
 NAMES = {"propbench": NAME, "propwide": f"{NAME}, with more rules"}
+NAME_OF_SOLVER = "solve a MiniZinc model by propbench"
 NAME_OF_DESK = "work with propbench by files and in a shell"
 COMMANDS = """
 A line is answered
@@ -156,15 +157,27 @@ THE END
 """
 
 
-def desk_page(room: str, version: str, seconds: int, *command: str) -> str:
-    """What help2man makes of propdesk's help, or of one of its commands'."""
-    text = desk_help(*command)
+def shown(room: str, name: str, text: str, about: str, version: str, seconds: int) -> str:
+    """What help2man makes of the help that a command of this name shows."""
     for head, capital in HEADS:
         text = re.sub(rf"^{head}", capital, text, flags=re.M)
-    with open(f"{room}/propdesk", "w", encoding="utf-8") as it:
+    with open(f"{room}/{name}", "w", encoding="utf-8") as it:
         it.write(SHOWS.format(text=text))
-    os.chmod(f"{room}/propdesk", 0o755)
-    return page(f"{room}/propdesk", NAME_OF_DESK, version, seconds)
+    os.chmod(f"{room}/{name}", 0o755)
+    return page(f"{room}/{name}", about, version, seconds)
+
+
+def desk_page(room: str, version: str, seconds: int, *command: str) -> str:
+    """What help2man makes of propdesk's help, or of one of its commands'."""
+    return shown(room, "propdesk", desk_help(*command), NAME_OF_DESK, version, seconds)
+
+
+def of_solver(version: str, seconds: int) -> str:
+    """The page of fzn-propbench. Errors: OSError where help2man says what went wrong."""
+    words = ["/usr/bin/python3", f"{TOP}/python/src/propbench/flatzinc/fzn-propbench", "--help"]
+    text = ran(words, PYTHONDONTWRITEBYTECODE="1", COLUMNS="1000")
+    with tempfile.TemporaryDirectory(prefix="manual-") as room:
+        return shown(room, "fzn-propbench", text, NAME_OF_SOLVER, version, seconds)
 
 
 def of_desk(version: str, seconds: int) -> str:

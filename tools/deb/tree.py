@@ -2,6 +2,7 @@
 import glob
 import gzip
 import hashlib
+import json
 import os
 import stat
 import subprocess
@@ -29,6 +30,16 @@ DESK = """\
 import runpy
 
 runpy.run_module("propbench", run_name="__main__", alter_sys=True)
+"""
+SOLVER = "usr/bin/fzn-propbench"
+SOLVES = """\
+#!/usr/bin/python3
+# The solver that MiniZinc calls by propbench.msc.
+import sys
+
+from propbench.flatzinc.command import main
+
+sys.exit(main())
 """
 COPYRIGHT = """\
 Format: https://www.debian.org/doc/packaging-manuals/copyright-format/1.0/
@@ -104,6 +115,19 @@ def of_python(build: Build) -> dict[str, bytes]:
     return files
 
 
+def of_minizinc(build: Build) -> dict[str, bytes]:
+    """The solver that MiniZinc calls, and what tells MiniZinc of it: as in the Python package, by
+    where things are in this one."""
+    told = json.loads(document("python/src/propbench/flatzinc/propbench.msc"))
+    told |= {"executable": f"/{SOLVER}", "mznlib": f"/{MODULES}/flatzinc/mznlib"}
+    page = manual.of_solver(build.version, build.moment)
+    return {
+        SOLVER: SOLVES.encode(),
+        "usr/share/man/man1/fzn-propbench.1.gz": packed(page),
+        "usr/share/minizinc/solvers/propbench.msc": f"{json.dumps(told, indent=2)}\n".encode(),
+    }
+
+
 def of_program(build: Build, name: str) -> dict[str, bytes]:
     """A program, its page, and what bash offers behind it."""
     page = manual.of_program(name, build.programs[name], build.version, build.moment)
@@ -145,6 +169,7 @@ def files(build: Build) -> dict[str, bytes]:
         **of_proof(build),
         **of_documents(),
         **of_python(build),
+        **of_minizinc(build),
     }
     return dict(sorted(found.items()))
 

@@ -4,6 +4,7 @@ import argparse
 import sys
 from collections.abc import Sequence
 from contextlib import suppress
+from pathlib import Path
 
 from propbench.checking import NoReport, check_file
 from propbench.finding import NoProgram
@@ -71,7 +72,26 @@ def parser() -> argparse.ArgumentParser:
     check.add_argument(
         "--base", metavar="FILE", help="the saved workbench that the certificate has to be of"
     )
-    for each in (run, shell, check):
+    blame = commands.add_parser(
+        "blame",
+        help="say which constraints of a MiniZinc model can't all hold",
+        description="Has MiniZinc make FlatZinc of a model and its data, and says which of its"
+        " constraints can't all hold and which to give up, all least sets of both; and solves the"
+        " model without what the cheapest repair gives up. Ends with status 1 where that was not"
+        " found out in time.",
+    )
+    blame.add_argument("file", metavar="MODEL", help="the model, .mzn, or FlatZinc with marks")
+    blame.add_argument("data", metavar="DATA", nargs="*", help="its data, .dzn")
+    blame.add_argument(
+        "--keep", metavar="NAME", action="append", default=[], help="a constraint to keep: `line 4`"
+    )
+    blame.add_argument(
+        "--most", type=int, default=100, metavar="N", help="so many of each at the most (100)"
+    )
+    blame.add_argument("--seconds", type=_seconds, metavar="N", help="how long it may take")
+    blame.add_argument("--picture", metavar="FILE", help="draw the conflicts: .svg, .png or .dot")
+    blame.add_argument("--certificate", metavar="FILE", help="save what `propdesk check` checks")
+    for each in (run, shell, check, blame):
         each.add_argument("--program", metavar="PATH", help="the program that answers")
     for each in (run, shell):
         _add_begin(each)
@@ -111,9 +131,24 @@ def main(words: Sequence[str] | None = None) -> int:
         return 3
 
 
+def _blamed(options: argparse.Namespace) -> int:
+    from propbench.flatzinc.blame import Asked, blame_file
+
+    asked = Asked(
+        options.keep,
+        options.most,
+        options.seconds,
+        Path(options.picture) if options.picture else None,
+        Path(options.certificate) if options.certificate else None,
+    )
+    return blame_file(Path(options.file), list(map(Path, options.data)), asked, options.program)
+
+
 def _done(options: argparse.Namespace) -> int:
     if options.command == "check":
         return check_file(options.file, options.program, options.base)
+    if options.command == "blame":
+        return _blamed(options)
     begin = {"order": options.order, "seed": options.seed, "limit": options.limit}
     if options.command == "shell":
         from propbench.shell import run_shell

@@ -45,6 +45,7 @@ from propbench.nearby import near_names
 from propbench.overview import UNPROVED
 from propbench.planning import Calendar, Project
 from propbench.questions import Questions
+from propbench.questions.model import First
 from propbench.replies import Contradiction, Settled, Value, Worldview
 from propbench.session import Session
 
@@ -256,6 +257,16 @@ class Workbench(Questions, Closing):
         self._network.do(event)
 
     # --- questions ---
+
+    def try_first(self, *groups: tuple[Sequence[Cell], bool]) -> None:
+        """Has questions that take many asks try out values of these cells before those of others,
+        group by group, and in each the cell with the fewest values first. A group is some cells,
+        and whether of their values the greatest comes first. It changes no answer, but when it
+        comes."""
+        self._network.first = tuple(
+            First(tuple(self._own(cell).name for cell in cells), is_from_top)
+            for cells, is_from_top in groups
+        )
 
     def settle(self, *, seconds: float | None = None) -> bool:
         """Whether all that follows was found, and nothing speaks against it: False at a conflict.

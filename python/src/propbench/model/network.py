@@ -21,6 +21,7 @@ from propbench.model.premises import Premises
 from propbench.model.script import Script
 from propbench.model.vocabulary import Vocabulary
 from propbench.model.writer import YES
+from propbench.questions.model import First
 from propbench.refusals import LimitReached, LineTooLong, NotAName, Refused
 from propbench.session import Session
 
@@ -37,6 +38,8 @@ class Network:
         self.cells: dict[str, Declared] = {}
         self.domains: dict[str, Domain] = {}
         self.offered: frozenset[str] = frozenset()
+        # Whose values questions try out first.
+        self.first: tuple[First, ...] = ()
         # What makes the network from nothing, while that is known.
         self._base: Script | None = None
         self._script = self.new_script()
@@ -48,6 +51,7 @@ class Network:
         made = Network(self.session.fresh())
         made.vocabulary, made.offered = self.vocabulary, self.offered
         made.cells, made.domains = dict(self.cells), dict(self.domains)
+        made.first = self.first
         if events is None:
             made.premises = self.premises.copy()
         made.events = list(self.events if events is None else events)

@@ -11,6 +11,7 @@ from propbench.model.meaning import Beyond
 from propbench.model.nodes import Declared
 from propbench.model.network import Network, premise_of
 from propbench.model.writing import text_of
+from propbench.questions.model import First
 from propbench.session import Session
 
 
@@ -106,6 +107,10 @@ class BenchModel:
             for premise, stated in self._network.premises.statements.items()
             if all(_against(each, points) is None for each in stated)
         ]
+
+    def first(self) -> Sequence[First]:
+        """The cells of which values are tried out before those of others."""
+        return self._network.first
 
     def text(self, premise: str) -> str:
         """What the premise states, for people."""

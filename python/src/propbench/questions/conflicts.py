@@ -133,13 +133,28 @@ def find_conflicts(
             _tell(explored)
         _keep(model, explored)
 
-    def result() -> Conflicts:
-        found = []
-        for refuted in explored.conflicts:
-            found.append(Conflict(explored.names(refuted.mask)))
-            found[-1].least = refuted.least
-        certificate = _certificate(explored, [])
-        return Conflicts(found, explored.complete, _texts(model), explored.kept, certificate)
+    return tried(explored.trial, run, lambda: _conflicts(explored, _texts(model)))
+
+
+def find_both(
+    model: Model,
+    texts: Mapping[str, str],
+    keep: Iterable[str],
+    most: int,
+    seconds: float | None,
+    progress: Progress | None = None,
+) -> tuple[Conflicts, Repairs]:
+    """The least conflicts and the least repairs, so many of each at the most, from one search. What
+    premises say is told by these texts, where they have one."""
+    explored = _explore(model, {}, keep, most, Clock(seconds, progress))
+
+    def run() -> None:
+        while explored.step() and max(len(explored.conflicts), len(explored.repairs)) < most:
+            _tell(explored)
+        _keep(model, explored)
+
+    def result() -> tuple[Conflicts, Repairs]:
+        return _conflicts(explored, {**_texts(model), **texts}), _repairs(explored, {})
 
     return tried(explored.trial, run, result)
 
@@ -165,16 +180,28 @@ def find_repairs(
             _tell(explored)
         _keep(model, explored)
 
-    def result() -> Repairs:
-        found = []
-        for mask in explored.repairs:
-            found.append(Repair(explored.names(mask)))
-            found[-1].cost = sum(weight.get(premise, 1) for premise in found[-1])
-        found.sort(key=lambda repair: repair.cost)
-        certificate = _certificate(explored, explored.repairs)
-        return Repairs(found, explored.complete, explored.kept, certificate)
+    return tried(explored.trial, run, lambda: _repairs(explored, weight))
 
-    return tried(explored.trial, run, result)
+
+def _conflicts(explored: Exploring, texts: Mapping[str, str]) -> Conflicts:
+    """The conflicts that are known."""
+    found = []
+    for refuted in explored.conflicts:
+        found.append(Conflict(explored.names(refuted.mask)))
+        found[-1].least = refuted.least
+    certificate = _certificate(explored, [])
+    return Conflicts(found, explored.complete, texts, explored.kept, certificate)
+
+
+def _repairs(explored: Exploring, weight: Mapping[str, float]) -> Repairs:
+    """The repairs that are known, the cheapest first."""
+    found = []
+    for mask in explored.repairs:
+        found.append(Repair(explored.names(mask)))
+        found[-1].cost = sum(weight.get(premise, 1) for premise in found[-1])
+    found.sort(key=lambda repair: repair.cost)
+    certificate = _certificate(explored, explored.repairs)
+    return Repairs(found, explored.complete, explored.kept, certificate)
 
 
 # The last search of a session's network that found all conflicts and repairs, with the lines of

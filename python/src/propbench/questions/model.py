@@ -1,6 +1,7 @@
 """What the questions ask of a workbench: all that they know of one."""
 
 from collections.abc import Mapping, Sequence
+from dataclasses import dataclass
 from typing import Protocol
 
 from propbench.session import Session
@@ -9,6 +10,15 @@ from propbench.session import Session
 Point = int | str | bool
 # Points by the names of cells.
 Plan = dict[str, Point]
+
+
+@dataclass(frozen=True)
+class First:
+    """Cells of which values are tried out, that with the fewest values first; of values the smallest
+    comes first, or the greatest."""
+
+    cells: tuple[str, ...]
+    is_from_top: bool = False
 
 
 class Model(Protocol):
@@ -69,6 +79,11 @@ class Model(Protocol):
 
     def text(self, premise: str) -> str:
         """What the premise states, for people."""
+        ...
+
+    def first(self) -> Sequence[First]:
+        """The cells of which values are tried out before those of others, group by group; a cell
+        that stands twice counts where it stands first."""
         ...
 
     @property

@@ -19,7 +19,7 @@ _AT_ONCE = 16
 
 class Plans(Shown, list[Plan]):
     """Plans over the cells that are shown, each a dict by their names; all there are where it is
-    `complete`."""
+    `complete`. In `whole` the same plans have all cells."""
 
     def __init__(
         self, show: Sequence[str], found: Iterable[Plan], complete: bool, certificate: Certificate
@@ -27,6 +27,7 @@ class Plans(Shown, list[Plan]):
         super().__init__(found)
         self.show = tuple(show)
         self.complete = complete
+        self.whole: tuple[Plan, ...] = ()
         self._certificate = certificate
 
     def headline(self) -> str:
@@ -110,7 +111,9 @@ class Listing:
         """The plans that were found, in order."""
         found = sorted(self.found, key=self._place)
         shown = ({cell: fits.plan[cell] for cell in self.show} for fits in found)
-        return Plans(self.show, shown, self.complete, self._certificate())
+        plans = Plans(self.show, shown, self.complete, self._certificate())
+        plans.whole = tuple(fits.plan for fits in found)
+        return plans
 
     def _certificate(self) -> Certificate:
         """What shows that these are plans; and that there are no others, or where there may be."""

@@ -80,7 +80,7 @@ def _halved(
     """The smallest of these cells in halves, None where all are symbols."""
     known = trial.known(told)
     rooms = {cell: room_left(held[cell], known[cell]) for cell in loose if cell in known}
-    small = sorted((len(room), cell) for cell, room in rooms.items() if room)
+    small = sorted((trial.turn(cell, room), cell) for cell, room in rooms.items() if room)
     if not small:
         return None
     cell = small[0][1]

@@ -77,6 +77,13 @@ class Trial(Closing):
         # What no symbol of the user's begins with.
         self._others = mark_for(self.base, "other{}_")
         self._asks = [f"ask {line}" for line in self.cell_line.values()]
+        first = [
+            (each.is_from_top, cell, place)
+            for place, each in enumerate(model.first())
+            for cell in each.cells
+        ]
+        self._turn = {cell: place for _, cell, place in reversed(first)}
+        self._from_top = {cell for is_from_top, cell, _ in first if is_from_top}
         # Whether the last look saw values: then the next one asks for them at once.
         self._expects_values = False
         self.session = model.session.fresh()
@@ -225,11 +232,12 @@ class Trial(Closing):
         return True
 
     def cover_some(self, loose: Sequence[str]) -> bool:
-        """Makes choices that cover a few more of these cells, the smallest; whether that was done.
+        """Makes choices that cover a few more of these cells, whose turn is first and then the
+        smallest; whether that was done.
 
         (What they have, others may follow from: so not all are covered at once.)
         """
-        small = [(len(room), cell) for cell in loose if (room := self.rooms[cell])]
+        small = [(self.turn(cell, room), cell) for cell in loose if (room := self.rooms[cell])]
         most = max(1, len(loose) // _PART)
         covered = 0
         for _, cell in sorted(small, key=lambda each: each[0]):
@@ -237,6 +245,10 @@ class Trial(Closing):
             if covered == most:
                 break
         return covered > 0
+
+    def turn(self, cell: str, room: Room) -> tuple[int, int]:
+        """When the turn of a cell comes of which so much is left: the lowest comes first."""
+        return self._turn.get(cell, len(self._turn)), len(room)
 
     def _cover_one(self, cell: str) -> bool:
         """Makes choices that cover a cell, where that was not done, and there is room for them."""
@@ -249,6 +261,8 @@ class Trial(Closing):
             return False
         self._covered.add(cell)
         self._choices_left -= needed
+        if parts is not None and cell in self._from_top:
+            parts = [sides[::-1] for sides in parts]
         self._cover(self.cell_line[cell], room, parts)
         return True
 

@@ -1,0 +1,105 @@
+#!/usr/bin/python3
+"""Solves the models of python/tests/models by propbench and by Gecode, and says where they differ.
+
+usage: python/measure/minizinc.py [--harder] [--write] [--most SECONDS] [MODEL ..]
+
+For each model all solutions are counted, or the best one is found; printed are what both say, and
+how long each took from reading FlatZinc to the end of its process. With --harder it is those of
+python/measure/models. With --write the FlatZinc and what Gecode says are written beside the models,
+which the tests compare with. Needs `minizinc` and `fzn-gecode`, which Debian's minizinc brings.
+"""
+
+import argparse
+import json
+import re
+import subprocess
+import sys
+import tempfile
+import time
+from pathlib import Path
+
+PYTHON = Path(__file__).resolve().parents[1]
+sys.path += [str(PYTHON / "src"), str(PYTHON / "tests")]
+
+from propbench.flatzinc.compiling import CONFIGURATION  # noqa: E402
+from solved_models import MODELS, answer, answers, printed_in  # noqa: E402
+
+# Gecode has no powers.
+BY_HAND = {
+    "powers": "".join(f"x = {x};\ny = {y};\n----------\n" for x, y in ((2, 2), (4, 1), (3, 3)))
+}
+
+
+def flattened(model: Path, solver: list[str]) -> str:
+    """The model in FlatZinc, with the objective printed as `objective`."""
+    with tempfile.TemporaryDirectory() as folder:
+        flat = Path(folder, "model.fzn")
+        words = ["minizinc", "-c", *solver, "--fzn", str(flat), "--ozn", f"{folder}/model.ozn"]
+        subprocess.run([*words, str(model)], check=True, stderr=subprocess.DEVNULL)
+        text = flat.read_text()
+    found = re.search(r"(minimize|maximize) (\w+);", text)
+    if found:
+        text = re.sub(rf"\b{found[2]}\b", "objective", text)
+        declared = re.compile(r"^(var [^:]*: objective *)((?:::[^=;]*)?)(=|;)", re.MULTILINE)
+        text = declared.sub(r"\1:: output_var \2\3", text.replace(":: output_var", "::output_var"))
+        text = re.sub(r"(objective :: output_var *)::output_var", r"\1", text)
+    return text
+
+
+def timed(words: list[str], text: str, most: float) -> tuple[str, float]:
+    """What a solver prints of a model in FlatZinc, and the seconds that it took."""
+    with tempfile.NamedTemporaryFile("w", suffix=".fzn") as file:
+        file.write(text)
+        file.flush()
+        began = time.monotonic()
+        try:
+            ran = subprocess.run([*words, file.name], text=True, capture_output=True, timeout=most)
+        except subprocess.TimeoutExpired:
+            return "", most
+        if ran.returncode:
+            print(ran.stderr, file=sys.stderr)
+        return ran.stdout, time.monotonic() - began
+
+
+def main() -> int:
+    assert __doc__
+    read = argparse.ArgumentParser(description=__doc__.split("\n", maxsplit=1)[0])
+    read.add_argument("models", nargs="*", metavar="MODEL", help="names of models (all)")
+    read.add_argument("--harder", action="store_true", help="models that take longer")
+    read.add_argument("--write", action="store_true", help="write FlatZinc and Gecode's answers")
+    read.add_argument("--most", type=float, default=120, metavar="N", help="seconds of each (120)")
+    options = read.parse_args()
+    if options.harder and options.write:
+        read.error("what is written is of the models of the tests")
+    known = answers() if (MODELS / "answers.json").exists() else {}
+    wrong = 0
+    print(f"{'model':16} {'gecode':>8} {'propbench':>10}  answer")
+    folder = PYTHON / "measure/models" if options.harder else MODELS
+    for name in options.models or sorted(path.stem for path in folder.glob("*.mzn")):
+        model = folder / f"{name}.mzn"
+        ours, theirs = flattened(model, ["--solver", str(CONFIGURATION)]), flattened(
+            model, ["-G", "std"]
+        )
+        goal = re.findall(r"(satisfy|minimize|maximize)", theirs)[-1]
+        said, took = timed(["fzn-gecode", "-a"], theirs, options.most)
+        said = BY_HAND.get(name, said)
+        if options.write:
+            (MODELS / f"{name}.fzn").write_text(ours)
+        solver = [str(CONFIGURATION.parent / "fzn-propbench"), "-a"]
+        own_said, own_took = timed(solver, ours, options.most)
+        # (what MiniZinc works out is printed by neither, and it may be more of it for one)
+        shown = [each for each in printed_in(said) if each in printed_in(own_said)]
+        known[name] = answer(goal, said, shown)
+        found = answer(goal, own_said, shown)
+        is_same = found == known[name] and bool(own_said)
+        wrong += not is_same
+        told = known[name].get("solutions", known[name].get("best"))
+        print(f"{name:16} {took:8.2f} {own_took:10.2f}  {told}{'' if is_same else f' NOT {found}'}")
+    if options.write:
+        text = json.dumps(dict(sorted(known.items())), indent=1)
+        (MODELS / "answers.json").write_text(text + "\n")
+    return 1 if wrong else 0
+
+
+if __name__ == "__main__":
+    sys.exit(main())

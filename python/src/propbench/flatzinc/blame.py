@@ -1,0 +1,89 @@
+"""`propdesk blame`: which constraints of a model can't all hold, and which to give up.
+
+Each constraint of the model is a premise of its own, named by its line. Conflicts and repairs are
+those of the workbench, with their certificate; the model is then solved without the constraints
+that the cheapest repair gives up.
+"""
+
+from collections.abc import Iterable, Iterator, Sequence
+from dataclasses import dataclass
+from pathlib import Path
+
+from propbench.flatzinc.building import Built
+from propbench.flatzinc.compiling import Compiled, compiled
+from propbench.flatzinc.picture import dot_of, draw
+from propbench.flatzinc.solving import solve
+from propbench.flatzinc.writing import solution
+from propbench.questions.conflicts import Conflicts, Repair, Repairs, find_both
+from propbench.showing import printable
+from propbench.workbench import Workbench
+
+
+@dataclass(frozen=True)
+class Asked:
+    """What is asked of a model: which constraints to keep, and how much of all that there is."""
+
+    keep: Sequence[str] = ()
+    most: int = 100
+    seconds: float | None = None
+    picture: Path | None = None
+    certificate: Path | None = None
+
+
+def blame_file(model: Path, data: Sequence[Path], asked: Asked, program: str | None) -> int:
+    """Prints the conflicts and repairs of a model, and a solution without what the cheapest gives
+    up. Gives the exit status: 0, and 1 where it wasn't found out in time. Raises ValueError,
+    OSError, and as `Session` does."""
+    made = compiled(model, data)
+    with Workbench(program) as workbench:
+        built = Built(made.flat, workbench)
+        conflicts, repairs = blamed(built, made, asked)
+        for line in report(built, conflicts, repairs, asked.seconds):
+            print(line)
+    if asked.picture is not None:
+        draw(asked.picture, dot_of(conflicts, repairs, made.texts))
+    if asked.certificate is not None:
+        repairs.certificate.save(asked.certificate)
+    return 0 if repairs.complete else 1
+
+
+def blamed(built: Built, made: Compiled, asked: Asked) -> tuple[Conflicts, Repairs]:
+    """The conflicts and repairs among the constraints of a model."""
+    keep = [name for name in built.workbench.premises if _is_kept(name, asked.keep)]
+    model = built.workbench.model
+    return find_both(model, made.texts, keep, asked.most, asked.seconds)
+
+
+def _is_kept(name: str, keep: Iterable[str]) -> bool:
+    """Whether a constraint is to be kept: by its whole name, or by what that begins with."""
+    return any(name == each or name.startswith((f"{each},", f"{each} (")) for each in keep)
+
+
+def report(
+    built: Built, conflicts: Conflicts, repairs: Repairs, seconds: float | None
+) -> Iterator[str]:
+    """What is to blame, and a solution without it."""
+    yield str(conflicts)
+    if not conflicts:
+        return
+    yield str(repairs)
+    if repairs:
+        yield from _repaired(built, repairs[0], seconds)
+
+
+def _repaired(built: Built, repair: Repair, seconds: float | None) -> Iterator[str]:
+    workbench = built.workbench
+    for name in repair:
+        workbench.kick(name)
+    found = solve(built, 1, seconds)
+    for name in repair:
+        workbench.bring(name)
+    without = printable(f"Without {repair}")
+    if not found.plans:
+        yield f"{without} no solution was found in time."
+        return
+    sort = built.flat.goal.sort
+    is_best = sort != "satisfy" and found.is_complete
+    yield f"{without}, {'the best' if is_best else 'a'} solution:"
+    for line in solution(built, found.plans[0]):
+        yield f"  {line}"

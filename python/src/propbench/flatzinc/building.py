@@ -1,0 +1,294 @@
+"""A model in FlatZinc stated in a workbench: a cell for each variable, a constraint for each.
+
+A variable that MiniZinc brought in and that a constraint defines is no cell: what it is defined as
+stands in its place, and the other conditions of its definition hold always.
+"""
+
+from collections.abc import Iterable
+
+from propbench.flatzinc import meaning, symbolic
+from propbench.flatzinc.arithmetic import NO, YES, constant, every, same_truth, within
+from propbench.flatzinc.meaning import differing
+from propbench.flatzinc.terms import (
+    Call,
+    Constraint,
+    Flat,
+    Name,
+    NotSupported,
+    Numbers,
+    Term,
+    Text,
+    Variable,
+)
+from propbench.model.cells import Cell, ElementCell, NumberCell, TruthCell
+from propbench.model.expressions import (
+    Element,
+    Number,
+    Truth,
+    count,
+    domain_of_element,
+    element,
+)
+from propbench.model.kinds import Domain
+from propbench.workbench import Workbench
+
+# The constraint by which a model's own constraint has a name: it holds where that is believed.
+BLAMED = "propbench_blame"
+# Definitions lie so deep within one another at the most; then a cell has the value.
+_DEEPEST = 30
+
+
+class Built:
+    """A model in a workbench."""
+
+    def __init__(self, flat: Flat, workbench: Workbench) -> None:
+        """States all of the model. Raises NotSupported, and ValueError where there is no room."""
+        self.flat, self.workbench = flat, workbench
+        self.cells: dict[str, Cell] = {}
+        self._expressions: dict[str, Number | Truth | Element] = {}
+        self._deep: dict[str, int] = {}
+        self._titles = _titles(flat)
+        self._values = symbolic.domains(flat)
+        self._domains: dict[tuple[int, ...], Domain] = {}
+        kept = {each.text for each in _kept(flat)}
+        self._definitions = {
+            each.defined: each
+            for each in flat.constraints
+            if each.defined is not None
+            and each.defined in flat.variables
+            and flat.variables[each.defined].has("var_is_introduced")
+            and each.defined not in kept
+        }
+        self._done: set[int] = set()
+        for variable in flat.variables.values():
+            if variable.name not in self._definitions:
+                self._expression(variable.name)
+        for each in flat.constraints:
+            if each.defined in self._definitions:
+                self._expression(str(each.defined))
+            if id(each) not in self._done:
+                self._state(each)
+
+    @property
+    def own(self) -> list[Cell]:
+        """The cells of the variables that MiniZinc didn't bring in."""
+        variables = self.flat.variables
+        return [
+            cell
+            for name, cell in self.cells.items()
+            if not variables[name].has("var_is_introduced")
+        ]
+
+    # --- what terms stand for ---
+
+    def number(self, term: Term) -> Number:
+        """A number: a truth counts as 0 or 1, and an element is looked up."""
+        found = self._value(term)
+        if isinstance(found, Element):
+            names = domain_of_element(found).elements
+            return element(found, {name: int(name) for name in names})
+        if isinstance(found, Truth):
+            return constant(int(found.node is YES.node)) if _is_plain(found) else count([found])
+        return found
+
+    def truth(self, term: Term) -> Truth:
+        """A truth: a number of 0 or 1 counts as one."""
+        found = self._value(term)
+        return found if isinstance(found, Truth) else self.number(term) >= 1
+
+    def elements(self, term: Term) -> list[Term]:
+        """The elements of an array, as they stand."""
+        array = self.flat.resolved(term)
+        assert isinstance(array, tuple), f"no array: {term!r}"
+        return list(array)
+
+    def numbers(self, term: Term) -> list[Number]:
+        """An array of numbers."""
+        return [self.number(each) for each in self.elements(term)]
+
+    def truths(self, term: Term) -> list[Truth]:
+        """An array of truths."""
+        return [self.truth(each) for each in self.elements(term)]
+
+    def constants(self, term: Term) -> list[int]:
+        """An array of constants."""
+        found = [self.flat.resolved(each) for each in self.elements(term)]
+        return [int(each) for each in found if isinstance(each, int)]
+
+    def told_apart(self, constraint: Constraint) -> Truth | None:
+        """What a constraint says of variables that are elements; None where they are none."""
+        compared = symbolic.compared(self.flat, constraint)
+        if compared is None:
+            return None
+        elements = [each for term in compared for each in self._elements(term)]
+        if len(elements) < len(compared) or not any(isinstance(each, Element) for each in elements):
+            return None
+        name = constraint.name.removesuffix("_reif")
+        if name == "set_in":
+            return self._one_of(elements[0], self.values(constraint.args[1]))
+        if name == "fzn_all_different_int":
+            return differing(elements)
+        first, second = sorted(elements, key=lambda each: isinstance(each, str))
+        assert isinstance(first, Element)
+        return first == second if name.endswith("eq") else first != second
+
+    def _elements(self, term: Term) -> list[Element | str]:
+        """The element that a term stands for, as a list; an empty one where it is none."""
+        found = self.flat.resolved(term)
+        if isinstance(found, int):
+            return [str(found)]
+        value = self._value(found)
+        return [value] if isinstance(value, Element) else []
+
+    def _one_of(self, made: object, values: Numbers) -> Truth:
+        assert isinstance(made, Element)
+        names = domain_of_element(made).elements
+        kept = [each for each in names if values.has(int(each))]
+        return made.among(*kept) if kept else NO
+
+    def values(self, term: Term) -> Numbers:
+        """A constant set."""
+        found = self.flat.resolved(term)
+        assert isinstance(found, Numbers), f"no set: {term!r}"
+        return found
+
+    def _value(self, term: Term) -> Number | Truth | Element:
+        found = self.flat.resolved(term)
+        if isinstance(found, bool):
+            return YES if found else NO
+        if isinstance(found, int):
+            return constant(found)
+        if isinstance(found, Name) and found.text in self.flat.variables:
+            return self._expression(found.text)
+        raise NotSupported(0, f"nothing is called {found!r}")
+
+    # --- variables ---
+
+    def _expression(self, name: str) -> Number | Truth | Element:
+        """What a variable is: its cell, or what it is defined as."""
+        if name not in self._expressions:
+            made = self._defined(name) if name in self._definitions else None
+            if name not in self._expressions:
+                self._expressions[name] = self._cell(name) if made is None else made
+        return self._expressions[name]
+
+    def _defined(self, name: str) -> Number | Truth | None:
+        """What a variable is defined as, None where it is to be a cell."""
+        definition = self._definitions.pop(name)
+        found = meaning.defined(self, definition)
+        names = {each.text for each in _names_in(definition.args, self.flat)}
+        deep = 1 + max(self._deep.get(each, 0) for each in names)
+        if found is None or deep > _DEEPEST or name in self._expressions:
+            return None
+        value, beside = found
+        self._deep[name] = deep
+        self._done.add(id(definition))
+        self._require(every([beside, self._is_possible(self.flat.variables[name], value)]))
+        return value
+
+    def _cell(self, name: str) -> Number | Truth | Element:
+        """A cell for a variable, with what its declaration says of it."""
+        variable = self.flat.variables[name]
+        title = self._titles.get(name, name)
+        made: NumberCell | TruthCell | ElementCell
+        if variable.is_truth:
+            made = self.workbench.truth(title)
+        elif name in self._values:
+            made = self.workbench.element(title, self._domain(self._values[name]))
+        elif variable.values is not None and not variable.values.ranges:
+            # (no number is possible)
+            made = self.workbench.number(title, 0, 0)
+            self._require(NO)
+        else:
+            ranges = variable.values.ranges if variable.values else ((None, None),)
+            made = self.workbench.number(title, ranges[0][0], ranges[-1][1])
+        self.cells[name] = made
+        self._expressions[name] = made
+        self._require(self._is_possible(variable, made))
+        return made
+
+    def _domain(self, values: tuple[int, ...]) -> Domain:
+        """The domain of these numbers, the same each time."""
+        if values not in self._domains:
+            title = f"numbers {len(self._domains) + 1}"
+            self._domains[values] = self.workbench.domain(title, map(str, values))
+        return self._domains[values]
+
+    def _is_possible(self, variable: Variable, made: Number | Truth | Element) -> Truth:
+        """What a variable's declaration says of its value."""
+        if isinstance(made, Element):
+            assert variable.values is not None
+            return self._one_of(made, variable.values)
+        said = []
+        if isinstance(made, Number) and variable.values is not None and variable.values.ranges:
+            said.append(within(made, variable.values))
+        if variable.value is not None and isinstance(made, Number):
+            said.append(made == self.number(variable.value))
+        elif variable.value is not None and isinstance(made, Truth):
+            said.append(same_truth(made, self.truth(variable.value)))
+        return every(said)
+
+    # --- constraints ---
+
+    def _state(self, constraint: Constraint) -> None:
+        if constraint.name == BLAMED:
+            holds, label = constraint.args
+            assert isinstance(label, Text)
+            self._require(self.truth(holds), label.text)
+        else:
+            self._require(meaning.stated(self, constraint))
+
+    def _require(self, truth: Truth, under: str | None = None) -> None:
+        if truth.node is not YES.node or under is not None:
+            self.workbench.require(truth, under=under)
+
+
+def _is_plain(truth: Truth) -> bool:
+    return truth.node in (YES.node, NO.node)
+
+
+def _kept(flat: Flat) -> Iterable[Name]:
+    """The variables that have to be cells: those that are printed, sought, or tried out first."""
+    for variable in flat.variables.values():
+        if variable.has("output_var"):
+            yield Name(variable.name)
+    for array in flat.arrays.values():
+        if array.printed is not None:
+            yield from _names_in(array.elements)
+    if flat.goal.objective is not None:
+        yield from _names_in((flat.goal.objective,))
+    for each in flat.goal.annotations:
+        yield from _names_in((each,), flat)
+
+
+def _names_in(terms: Iterable[Term], flat: Flat | None = None) -> Iterable[Name]:
+    for term in terms:
+        found = flat.resolved(term) if flat else term
+        if isinstance(found, Name):
+            yield found
+        elif isinstance(found, tuple):
+            yield from _names_in(found, flat)
+        elif isinstance(found, Call):
+            yield from _names_in(found.args, flat)
+
+
+def _titles(flat: Flat) -> dict[str, str]:
+    """What variables are called in the model: elements of a printed array by their places."""
+    found: dict[str, str] = {}
+    for array in flat.arrays.values():
+        if array.printed is not None:
+            for place, element in zip(_places(array.printed), array.elements):
+                if isinstance(element, Name) and flat.variables[element.text].name.startswith("X_"):
+                    found.setdefault(element.text, f"{array.name}[{place}]")
+    return found
+
+
+def _places(sets: tuple[Numbers, ...]) -> list[str]:
+    """The indices of an array over these sets, in order."""
+    found = [""]
+    for each in sets:
+        values = [value for low, high in each.ranges for value in range(low, high + 1)]
+        found = [
+            f"{before},{value}" if before else str(value) for before in found for value in values
+        ]
+    return found

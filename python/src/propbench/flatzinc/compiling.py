@@ -1,0 +1,61 @@
+"""MiniZinc run: a model with marks at its constraints, and data, made into FlatZinc."""
+
+import shutil
+import subprocess
+import tempfile
+from collections.abc import Sequence
+from dataclasses import dataclass, replace
+from pathlib import Path
+
+from propbench.flatzinc.building import BLAMED
+from propbench.flatzinc.grammar import read
+from propbench.flatzinc.marking import label_of, marked
+from propbench.flatzinc.terms import Flat, Text
+
+CONFIGURATION = Path(__file__).parent / "propbench.msc"
+
+
+class NoMiniZinc(ValueError):
+    """MiniZinc isn't there, or refuses the model."""
+
+
+@dataclass(frozen=True)
+class Compiled:
+    """A model in FlatZinc whose constraints have labels, and how each of these is written."""
+
+    flat: Flat
+    texts: dict[str, str]
+
+
+def compiled(model: Path, data: Sequence[Path]) -> Compiled:
+    """The model made into FlatZinc; a file `.fzn` is taken as it is. Raises NoMiniZinc,
+    NotSupported and OSError."""
+    text = model.read_text(encoding="utf-8")
+    if model.suffix == ".fzn":
+        return Compiled(read(text), {})
+    with_marks = marked(text)
+    flat = read(_flattened(model, with_marks.text, data))
+    texts: dict[str, str] = {}
+    for place, each in enumerate(flat.constraints):
+        if each.name == BLAMED and isinstance(each.args[1], Text):
+            label, written = label_of(with_marks, each.args[1].text)
+            texts[label] = written
+            flat.constraints[place] = replace(each, args=(each.args[0], Text(label)))
+    return Compiled(flat, texts)
+
+
+def _flattened(model: Path, text: str, data: Sequence[Path]) -> str:
+    """What MiniZinc makes of a model of this text, which lies where the model does."""
+    program = shutil.which("minizinc")
+    if program is None:
+        raise NoMiniZinc("MiniZinc is needed for models, and `minizinc` is not on the path")
+    with tempfile.TemporaryDirectory() as folder:
+        made, flat = Path(folder, model.name), Path(folder, "model.fzn")
+        made.write_text(text, encoding="utf-8")
+        words = [program, "-c", "--solver", str(CONFIGURATION), "-I", str(model.parent.resolve())]
+        words += ["--fzn", str(flat), "--ozn", str(Path(folder, "model.ozn")), str(made)]
+        ran = subprocess.run([*words, *map(str, data)], text=True, capture_output=True)
+        if ran.returncode or not flat.exists():
+            said = (ran.stderr or ran.stdout).replace(str(made), str(model)).strip()
+            raise NoMiniZinc(f"MiniZinc says of {model}:\n{said}")
+        return flat.read_text(encoding="utf-8")

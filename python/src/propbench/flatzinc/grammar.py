@@ -1,0 +1,246 @@
+"""FlatZinc read: words, and the items that they make.
+
+What is no FlatZinc, and floats and variables for sets, are refused by NotSupported, with the line.
+"""
+
+import re
+from collections.abc import Callable
+from dataclasses import dataclass
+from typing import TypeVar
+
+from propbench.flatzinc.terms import (
+    Array,
+    Call,
+    Constraint,
+    Flat,
+    Goal,
+    Name,
+    NotSupported,
+    Numbers,
+    Term,
+    Text,
+    Variable,
+)
+
+_WORD = re.compile(
+    r"(?P<silent>[ \t\r]+|%[^\n]*)|(?P<line>\n)|(?P<float>-?[0-9]+(\.[0-9]+([eE][-+]?[0-9]+)?"
+    r"|[eE][-+]?[0-9]+))|(?P<number>-?(0x[0-9A-Fa-f]+|0o[0-7]+|[0-9]+))|(?P<name>[A-Za-z_]\w*)"
+    r'|(?P<text>"([^"\\\n]|\\.)*")|(?P<mark>::|\.\.|[:;,=()\[\]{}])'
+)
+Some = TypeVar("Some")
+
+
+@dataclass(frozen=True)
+class _Word:
+    sort: str
+    text: str
+    line: int
+
+
+def read(text: str) -> Flat:
+    """The model that a file of FlatZinc holds. Raises NotSupported."""
+    return _Reader(_words(text)).model()
+
+
+def _words(text: str) -> list[_Word]:
+    words: list[_Word] = []
+    line, place = 1, 0
+    while place < len(text):
+        found = _WORD.match(text, place)
+        if found is None:
+            raise NotSupported(line, f"no word of FlatZinc begins with {text[place]!r}")
+        sort = str(found.lastgroup)
+        if sort == "line":
+            line += 1
+        elif sort != "silent":
+            words.append(_Word(sort, found[0], line))
+        place = found.end()
+    words.append(_Word("end", "the end of the file", line))
+    return words
+
+
+class _Reader:
+    """Reads items, one word after another."""
+
+    def __init__(self, words: list[_Word]) -> None:
+        self._words, self._place = words, 0
+        self._flat = Flat()
+
+    def model(self) -> Flat:
+        """All items."""
+        while self._next.sort != "end":
+            self._item()
+        return self._flat
+
+    # --- words ---
+
+    @property
+    def _next(self) -> _Word:
+        return self._words[self._place]
+
+    def _take(self) -> _Word:
+        word = self._next
+        self._place += 1
+        return word
+
+    def _is(self, text: str) -> bool:
+        """Takes this word, where it is the next."""
+        is_next = self._next.text == text and self._next.sort in ("name", "mark")
+        self._place += is_next
+        return is_next
+
+    def _want(self, text: str) -> None:
+        if not self._is(text):
+            raise self._error(f"{text!r} is wanted, and not {self._next.text!r}")
+
+    def _error(self, text: str) -> NotSupported:
+        return NotSupported(self._next.line, text)
+
+    def _name(self) -> str:
+        word = self._take()
+        if word.sort != "name":
+            raise NotSupported(word.line, f"a name is wanted, and not {word.text!r}")
+        return word.text
+
+    def _list(self, one: Callable[[], Some], end: str) -> list[Some]:
+        """What stands between commas, up to an end."""
+        found: list[Some] = []
+        while not self._is(end):
+            found.append(one())
+            if not self._is(","):
+                self._want(end)
+                break
+        return found
+
+    # --- items ---
+
+    def _item(self) -> None:
+        if self._is("predicate"):
+            while not self._is(";"):
+                if self._take().sort == "end":
+                    raise self._error("';' is wanted")
+            return
+        if self._is("constraint"):
+            self._constraint()
+        elif self._is("solve"):
+            self._goal()
+        elif self._is("array"):
+            self._array()
+        elif self._is("var"):
+            self._variable()
+        else:
+            self._parameter()
+        self._want(";")
+
+    def _constraint(self) -> None:
+        line = self._next.line
+        name = self._name()
+        self._want("(")
+        args = tuple(self._list(self._term, ")"))
+        defined = None
+        for each in self._annotations():
+            if isinstance(each, Call) and each.name == "defines_var":
+                [variable] = each.args
+                defined = variable.text if isinstance(variable, Name) else None
+        self._flat.constraints.append(Constraint(name, args, defined, line))
+
+    def _goal(self) -> None:
+        line = self._next.line
+        annotations = self._annotations()
+        sort = self._name()
+        if sort not in ("satisfy", "minimize", "maximize"):
+            raise self._error(f"a goal is satisfy, minimize or maximize, and not {sort!r}")
+        objective = None if sort == "satisfy" else self._term()
+        self._flat.goal = Goal(sort, objective, annotations, line)
+
+    def _array(self) -> None:
+        self._want("[")
+        self._term()
+        self._want("]")
+        self._want("of")
+        self._kind(may_be_set=not self._is("var"))
+        self._want(":")
+        name = self._name()
+        printed: tuple[Numbers, ...] | None = None
+        for each in self._annotations():
+            if isinstance(each, Call) and each.name == "output_array":
+                [sets] = each.args
+                assert isinstance(sets, tuple)
+                printed = tuple(each for each in sets if isinstance(each, Numbers))
+        self._want("=")
+        elements = self._term()
+        if not isinstance(elements, tuple):
+            raise self._error(f"the array {name} has to be told by its elements")
+        self._flat.arrays[name] = Array(name, elements, printed)
+
+    def _variable(self) -> None:
+        line = self._next.line
+        is_truth, values = self._kind()
+        self._want(":")
+        name = self._name()
+        annotations = self._annotations()
+        value = self._term() if self._is("=") else None
+        made = Variable(name, is_truth, values, annotations, value, line)
+        self._flat.variables[name] = made
+
+    def _parameter(self) -> None:
+        self._kind(may_be_set=True)
+        self._want(":")
+        name = self._name()
+        self._annotations()
+        self._want("=")
+        self._flat.parameters[name] = self._term()
+
+    def _kind(self, may_be_set: bool = False) -> tuple[bool, Numbers | None]:
+        """Whether a kind is that of truths, and what numbers it has, None for all."""
+        if self._is("bool"):
+            return True, None
+        if self._is("int"):
+            return False, None
+        if self._is("float") or self._next.sort == "float":
+            raise self._error("floats are not supported: the workbench has whole numbers")
+        if self._is("set"):
+            if not may_be_set:
+                raise self._error("variables for sets are not supported")
+            self._want("of")
+            return self._kind()
+        values = self._term()
+        if not isinstance(values, Numbers):
+            raise self._error(f"no kind of a variable: {values!r}")
+        return False, values
+
+    def _annotations(self) -> tuple[Term, ...]:
+        found = []
+        while self._is("::"):
+            found.append(self._term())
+        return tuple(found)
+
+    # --- terms ---
+
+    def _term(self) -> Term:
+        word = self._take()
+        if word.sort == "number":
+            low = int(word.text, 0) if word.text.lstrip("-")[:2] in ("0x", "0o") else int(word.text)
+            return Numbers.span(low, self._number()) if self._is("..") else low
+        if word.sort == "text":
+            return Text(word.text[1:-1].replace('\\"', '"').replace("\\\\", "\\"))
+        if word.text in ("true", "false"):
+            return word.text == "true"
+        if word.sort == "name":
+            return Call(word.text, self._args()) if self._is("(") else Name(word.text)
+        if word.text == "[":
+            return tuple(self._list(self._term, "]"))
+        if word.text == "{":
+            return Numbers.of(self._list(self._number, "}"))
+        if word.sort == "float":
+            raise NotSupported(word.line, f"floats are not supported, as {word.text} is")
+        raise NotSupported(word.line, f"a value is wanted, and not {word.text!r}")
+
+    def _args(self) -> tuple[Term, ...]:
+        return tuple(self._list(self._term, ")"))
+
+    def _number(self) -> int:
+        value = self._term()
+        if isinstance(value, bool) or not isinstance(value, int):
+            raise self._error("a whole number is wanted")
+        return value

@@ -1,0 +1,191 @@
+"""A model in MiniZinc with a mark at each of its constraints: what is believed is told by name.
+
+MiniZinc works out what it can of a constraint while it makes FlatZinc, and then forgets which it
+was. So each constraint of the model's file is put into a call, `propbench_blame(CONSTRAINT, MARK)`:
+MiniZinc keeps whether it holds apart from all others. What `/\\` joins is marked one by one, and
+what stands in a `forall` once for each of its values. Lines stay as they are.
+"""
+
+import re
+from collections.abc import Sequence
+from dataclasses import dataclass
+
+from propbench.flatzinc.building import BLAMED
+
+_TOKEN = re.compile(
+    r"(?P<silent>\s+|%[^\n]*|/\*.*?\*/)|(?P<text>\"(?:[^\"\\]|\\.)*\")|(?P<name>[A-Za-z_]\w*|'[^'\n]*')"
+    r"|(?P<number>[0-9]+(?:\.[0-9]+)?)|(?P<mark><->|->|<-|/\\|\\/|::|\.\.|[<>=!]=|.)",
+    re.DOTALL,
+)
+_OPENING, _CLOSING = {"(", "[", "{", "if"}, {")", "]", "}", "endif"}
+# What binds less tightly than `/\`.
+_LOOSE = {"<->", "->", "<-", "\\/", "xor", "let"}
+_LONGEST = 200
+
+
+@dataclass(frozen=True)
+class _Token:
+    sort: str
+    text: str
+    start: int
+
+    @property
+    def end(self) -> int:
+        return self.start + len(self.text)
+
+
+@dataclass(frozen=True)
+class Marked:
+    """A constraint of the model: its line, its name where it has one, which part of the line's it
+    is where there are several, and how it is written."""
+
+    line: int
+    name: str
+    part: int
+    text: str
+
+    def label(self, within: str) -> str:
+        """What it is called, for these values of what it is told for."""
+        part = f"part {self.part}" if self.part else ""
+        place = ", ".join(each for each in (f"line {self.line}", part, within) if each)
+        return f"{self.name} ({place})" if self.name else place
+
+
+@dataclass(frozen=True)
+class Model:
+    """A model with marks, and its constraints by the numbers of these."""
+
+    text: str
+    constraints: tuple[Marked, ...]
+
+
+def marked(text: str) -> Model:
+    """The model with a mark at each constraint."""
+    marking = _Marking(text)
+    for item in _items(text):
+        if item and item[0].text == "constraint":
+            marking.mark_item(item[1:])
+    return marking.model()
+
+
+def label_of(model: Model, mark: str) -> tuple[str, str]:
+    """What the constraint of a mark is called, and how it is written."""
+    number, _, within = mark.partition("|")
+    found = model.constraints[int(number)]
+    return found.label(within), found.text
+
+
+def _items(text: str) -> list[list[_Token]]:
+    items: list[list[_Token]] = [[]]
+    deep = 0
+    for token in _tokens(text):
+        deep += (token.text in _OPENING) - (token.text in _CLOSING)
+        if token.text == ";" and deep == 0:
+            items.append([])
+        else:
+            items[-1].append(token)
+    return items
+
+
+def _tokens(text: str) -> list[_Token]:
+    found = (_Token(str(each.lastgroup), each[0], each.start()) for each in _TOKEN.finditer(text))
+    return [token for token in found if token.sort != "silent"]
+
+
+class _Marking:
+    """What is put into a model, and where."""
+
+    def __init__(self, text: str) -> None:
+        self._text = text
+        self._put: list[tuple[int, str]] = []
+        self._pieces: list[tuple[list[_Token], str]] = []
+
+    def mark_item(self, tokens: Sequence[_Token]) -> None:
+        """Marks a constraint."""
+        name = ""
+        if [each.text for each in tokens[:1]] == ["::"] and tokens[1].sort == "text":
+            name, tokens = tokens[1].text[1:-1], tokens[2:]
+        if tokens:
+            self._mark(list(tokens), name, [])
+
+    def _mark(self, tokens: list[_Token], name: str, loops: list[str]) -> None:
+        """Marks an expression that has to hold, or the parts that all have to."""
+        outer = _depths(tokens)
+        plain = {token.text for token, deep in zip(tokens, outer) if deep == 0}
+        if not plain & _LOOSE:
+            if "/\\" in plain:
+                for part in _split(tokens, outer, "/\\"):
+                    self._mark(part, name, loops)
+                return
+            if tokens[0].text == "(" and outer.index(0, 1) == len(tokens) - 1:
+                self._mark(tokens[1:-1], name, loops)
+                return
+            forall = _forall(tokens, outer)
+            if forall is not None:
+                names, body = forall
+                self._mark(body, name, [*loops, *names])
+                return
+        self._put_call(tokens, name, loops)
+
+    def _put_call(self, tokens: list[_Token], name: str, loops: list[str]) -> None:
+        within = ", ".join(f"{each}=\\({each})" for each in loops)
+        mark = f'"{len(self._pieces)}|{within}"'
+        self._pieces.append((tokens, name))
+        self._put.append((tokens[0].start, f"{BLAMED}("))
+        self._put.append((tokens[-1].end, f", {mark})"))
+
+    def model(self) -> Model:
+        """The model with all marks."""
+        parts, since = [], 0
+        for place, text in self._put:
+            parts += [self._text[since:place], text]
+            since = place
+        lines = [self._text.count("\n", 0, tokens[0].start) + 1 for tokens, _ in self._pieces]
+        constraints = [
+            Marked(
+                line,
+                name,
+                lines[:number].count(line) + 1 if lines.count(line) > 1 else 0,
+                " ".join(self._text[tokens[0].start : tokens[-1].end].split())[:_LONGEST],
+            )
+            for number, ((tokens, name), line) in enumerate(zip(self._pieces, lines))
+        ]
+        return Model("".join([*parts, self._text[since:]]), tuple(constraints))
+
+
+def _depths(tokens: Sequence[_Token]) -> list[int]:
+    """How deep within brackets each token is; a bracket is as deep as what it stands in."""
+    depths, deep = [], 0
+    for token in tokens:
+        deep -= token.text in _CLOSING
+        depths.append(deep)
+        deep += token.text in _OPENING
+    return depths
+
+
+def _split(tokens: list[_Token], depths: list[int], mark: str) -> list[list[_Token]]:
+    parts: list[list[_Token]] = [[]]
+    for token, deep in zip(tokens, depths):
+        if deep == 0 and token.text == mark:
+            parts.append([])
+        else:
+            parts[-1].append(token)
+    return [part for part in parts if part]
+
+
+def _forall(tokens: list[_Token], depths: list[int]) -> tuple[list[str], list[_Token]] | None:
+    """The names for which a `forall` tells its body, and that; None for what is none."""
+    if [each.text for each in tokens[:2]] != ["forall", "("] or tokens[-1].text != ")":
+        return None
+    end = depths.index(0, 2)
+    if tokens[end + 1 : end + 2] == [] or tokens[end + 1].text != "(":
+        return None
+    if depths.index(0, end + 2) != len(tokens) - 1 or end + 3 > len(tokens) - 1:
+        return None
+    inner = tokens[2:end]
+    names = []
+    for segment in _split(inner, _depths(inner), ","):
+        if segment[0].sort != "name" or segment[1:2] and segment[1].text not in ("in", "="):
+            return None
+        names += [segment[0].text] if segment[0].text != "_" else []
+    return names, tokens[end + 2 : -1]

@@ -1,0 +1,286 @@
+"""What each constraint of FlatZinc says, as a constraint of the workbench.
+
+`NAME_reif` says that its last argument tells whether NAME holds, `NAME_imp` that NAME holds if it
+does. A function says that its last argument is its value (`array_int_maximum` its first).
+"""
+
+from collections.abc import Callable, Sequence
+from functools import reduce
+from typing import Protocol
+
+from propbench.flatzinc import arithmetic
+from propbench.flatzinc.arithmetic import every, picked, same_truth, sides_of, some, sum_of
+from propbench.flatzinc.terms import Constraint, Name, NotSupported, Numbers, Term
+from propbench.model.expressions import (
+    Expression,
+    Number,
+    Truth,
+    all_different,
+    count,
+    implies,
+    maximum,
+    minimum,
+)
+
+# What all differ are looked at so many at a time, beside any two of them.
+_AT_ONCE = 8
+
+
+class Terms(Protocol):
+    """What terms stand for in a workbench."""
+
+    def number(self, term: Term) -> Number:
+        """A number."""
+
+    def truth(self, term: Term) -> Truth:
+        """A truth."""
+
+    def elements(self, term: Term) -> list[Term]:
+        """The elements of an array, as they stand."""
+
+    def numbers(self, term: Term) -> list[Number]:
+        """An array of numbers."""
+
+    def truths(self, term: Term) -> list[Truth]:
+        """An array of truths."""
+
+    def constants(self, term: Term) -> list[int]:
+        """An array of constants."""
+
+    def told_apart(self, constraint: Constraint) -> Truth | None:
+        """What a constraint says of variables that are elements; None where they are none."""
+
+    def values(self, term: Term) -> Numbers:
+        """A constant set."""
+
+
+Args = tuple[Term, ...]
+# What a constraint says of its arguments; what a function gives for all but the one it defines.
+Says = Callable[[Terms, Args], Truth]
+Gives = Callable[[Terms, Args], "tuple[Number | Truth, Truth] | None"]
+
+
+def stated(terms: Terms, constraint: Constraint) -> Truth:
+    """What the constraint says. Raises NotSupported."""
+    name, args = constraint.name, constraint.args
+    told_apart = terms.told_apart(constraint)
+    if told_apart is not None:
+        return (
+            same_truth(told_apart, terms.truth(args[-1])) if name.endswith("_reif") else told_apart
+        )
+    if name == "bool_xor" and len(args) == 2:
+        return _either(*(terms.truth(each) for each in args))
+    for ending in ("_reif", "_imp"):
+        says = _SAYS.get(name.removesuffix(ending)) if name.endswith(ending) else None
+        if says is not None:
+            held, told = says(terms, args[:-1]), terms.truth(args[-1])
+            return same_truth(held, told) if ending == "_reif" else implies(told, held)
+    if name in _SAYS:
+        return _SAYS[name](terms, args)
+    if name in _GIVES:
+        return _is_value(terms, constraint)
+    raise NotSupported(constraint.line, f"the constraint {name} is not supported")
+
+
+def defined(terms: Terms, constraint: Constraint) -> tuple[Number | Truth, Truth] | None:
+    """What the variable is that the constraint defines, and what has to hold beside; None where
+    that can't be said."""
+    name, args = constraint.name, _with_value_last(constraint)
+    if name == "int_lin_eq" and terms.told_apart(constraint) is None:
+        return _solved(terms, args, constraint.defined)
+    if args[-1] != Name(constraint.defined or ""):
+        return None
+    told_apart = terms.told_apart(constraint)
+    if told_apart is not None:
+        return told_apart, arithmetic.YES
+    if name.endswith("_reif") and name.removesuffix("_reif") in _SAYS:
+        return _SAYS[name.removesuffix("_reif")](terms, args[:-1]), arithmetic.YES
+    if name in _GIVES and (name, len(args)) != ("bool_xor", 2):
+        return _GIVES[name](terms, args[:-1])
+    return None
+
+
+def _solved(terms: Terms, args: Args, variable: str | None) -> tuple[Number, Truth] | None:
+    """What a variable is by a sum in which it stands once, as it is or taken away."""
+    factors, summed = terms.constants(args[0]), terms.elements(args[1])
+    places = [place for place, each in enumerate(summed) if each == Name(variable or "")]
+    if len(places) != 1 or abs(factors[places[0]]) != 1:
+        return None
+    sign = -factors.pop(places[0])
+    numbers = [terms.number(each) for each in summed if each != Name(variable or "")]
+    [bound] = terms.constants((args[2],))
+    return sum_of([sign * each for each in factors], numbers, -sign * bound), arithmetic.YES
+
+
+def _with_value_last(constraint: Constraint) -> Args:
+    """The arguments, where the value of a function stands behind all others."""
+    if constraint.name not in _FIRST:
+        return constraint.args
+    value, *others = constraint.args
+    return (*others, value)
+
+
+def _is_value(terms: Terms, constraint: Constraint) -> Truth:
+    args = _with_value_last(constraint)
+    given = _GIVES[constraint.name](terms, args[:-1])
+    if given is None:
+        raise NotSupported(
+            constraint.line, f"{constraint.name} is supported for exponents from 0 to 63 alone"
+        )
+    value, beside = given
+    if isinstance(value, Truth):
+        return every([same_truth(value, terms.truth(args[-1])), beside])
+    return every([value == terms.number(args[-1]), beside])
+
+
+# --- comparisons and logic ---
+
+
+def _compares(compare: Callable[[Number, Number], Truth]) -> Says:
+    return lambda terms, args: compare(terms.number(args[0]), terms.number(args[1]))
+
+
+def _compares_sum(compare: Callable[[Number, Number], Truth]) -> Says:
+    def says(terms: Terms, args: Args) -> Truth:
+        factors, bound = terms.constants(args[0]), args[2]
+        numbers = terms.numbers(args[1])
+        # (`bool_lin_eq` compares with a variable)
+        return compare(*sides_of([*factors, -1], [*numbers, terms.number(bound)], 0))
+
+    return says
+
+
+def _logic(says: Callable[..., Truth]) -> Says:
+    return lambda terms, args: says(*(terms.truth(each) for each in args))
+
+
+def _clause(terms: Terms, args: Args) -> Truth:
+    negative = [~each for each in terms.truths(args[1])]
+    return some([*terms.truths(args[0]), *negative])
+
+
+def _different(terms: Terms, args: Args) -> Truth:
+    return differing(terms.numbers(args[0]))
+
+
+def differing(values: Sequence[Expression | str]) -> Truth:
+    """That all of these differ: any two, and more at once where more is to be learned so."""
+    if len(values) <= _AT_ONCE:
+        return all_different(values)
+    step = _AT_ONCE // 2
+    groups = [values[place : place + _AT_ONCE] for place in range(0, len(values) - step, step)]
+    return every([all_different(values), *map(all_different, groups)])
+
+
+def _either(first: Truth, second: Truth) -> Truth:
+    return same_truth(first, ~second)
+
+
+def _is_less(first: Truth, second: Truth) -> Truth:
+    return ~first & second
+
+
+_SAYS: dict[str, Says] = {
+    "int_eq": _compares(lambda x, y: x == y),
+    "int_ne": _compares(lambda x, y: x != y),
+    "int_le": _compares(lambda x, y: x <= y),
+    "int_lt": _compares(lambda x, y: x < y),
+    "int_ge": _compares(lambda x, y: x >= y),
+    "int_gt": _compares(lambda x, y: x > y),
+    "int_lin_eq": _compares_sum(lambda x, y: x == y),
+    "int_lin_ne": _compares_sum(lambda x, y: x != y),
+    "int_lin_le": _compares_sum(lambda x, y: x <= y),
+    "bool_lin_eq": _compares_sum(lambda x, y: x == y),
+    "bool_lin_ne": _compares_sum(lambda x, y: x != y),
+    "bool_lin_le": _compares_sum(lambda x, y: x <= y),
+    "set_in": lambda terms, args: arithmetic.within(terms.number(args[0]), terms.values(args[1])),
+    "bool_eq": _logic(same_truth),
+    "bool_ne": _logic(_either),
+    "bool_le": _logic(implies),
+    "bool_lt": _logic(_is_less),
+    "bool_clause": _clause,
+    "fzn_all_different_int": _different,
+    "propbench_count": lambda terms, args: count(terms.truths(args[0])) == terms.number(args[1]),
+}
+
+
+# --- functions ---
+
+
+def _total(give: Callable[..., Number]) -> Gives:
+    """A function of numbers that has a value everywhere."""
+    return lambda terms, args: (give(*(terms.number(each) for each in args)), arithmetic.YES)
+
+
+def _divides(give: Callable[[Number, Number], Number]) -> Gives:
+    def gives(terms: Terms, args: Args) -> tuple[Number, Truth]:
+        left, right = (terms.number(each) for each in args)
+        return give(left, right), right != 0
+
+    return gives
+
+
+def _power(terms: Terms, args: Args) -> tuple[Number, Truth] | None:
+    found = arithmetic.power(terms.number(args[0]), terms.number(args[1]))
+    return None if found is None else (found, arithmetic.YES)
+
+
+def _extreme(give: Callable[[list[Number]], Number]) -> Gives:
+    return lambda terms, args: (give(terms.numbers(args[0])), arithmetic.YES)
+
+
+def _number_at(terms: Terms, args: Args) -> tuple[Number, Truth]:
+    index, values = terms.number(args[0]), terms.numbers(args[1])
+    return picked(index, 1, values), _is_index(index, len(values))
+
+
+def _truth_at(terms: Terms, args: Args) -> tuple[Truth, Truth]:
+    index, values = terms.number(args[0]), terms.truths(args[1])
+    return picked(index, 1, values), _is_index(index, len(values))
+
+
+def _is_index(index: Number, count: int) -> Truth:
+    return arithmetic.within(index, Numbers.span(1, count))
+
+
+def _joins(give: Callable[[list[Truth]], Truth]) -> Gives:
+    return lambda terms, args: (give(terms.truths(args[0])), arithmetic.YES)
+
+
+def _joins_two(give: Callable[[Truth, Truth], Truth]) -> Gives:
+    return lambda terms, args: (give(*(terms.truth(each) for each in args)), arithmetic.YES)
+
+
+def _odd(terms: Terms, args: Args) -> Truth:
+    return reduce(_either, terms.truths(args[0]), arithmetic.NO)
+
+
+_SAYS["array_bool_xor"] = _odd
+
+_FIRST = frozenset(("array_int_maximum", "array_int_minimum"))
+_GIVES: dict[str, Gives] = {
+    "int_plus": _total(Number.__add__),
+    "int_minus": _total(Number.__sub__),
+    "int_times": _total(Number.__mul__),
+    "int_negate": _total(Number.__neg__),
+    "int_abs": _total(Number.__abs__),
+    "int_max": _total(maximum),
+    "int_min": _total(minimum),
+    "int_div": _divides(arithmetic.quotient),
+    "int_mod": _divides(arithmetic.remainder),
+    "int_pow": _power,
+    "int_pow_fixed": _power,
+    "array_int_maximum": _extreme(maximum),
+    "array_int_minimum": _extreme(minimum),
+    "array_int_element": _number_at,
+    "array_var_int_element": _number_at,
+    "array_bool_element": _truth_at,
+    "array_var_bool_element": _truth_at,
+    "array_bool_and": _joins(every),
+    "array_bool_or": _joins(some),
+    "bool_and": _joins_two(lambda x, y: x & y),
+    "bool_or": _joins_two(lambda x, y: x | y),
+    "bool_xor": _joins_two(_either),
+    "bool_not": lambda terms, args: (~terms.truth(args[0]), arithmetic.YES),
+    "bool2int": lambda terms, args: (count([terms.truth(args[0])]), arithmetic.YES),
+}

@@ -1,0 +1,13 @@
+% As fzn_cumulative, where a truth tells whether it holds.
+predicate fzn_cumulative_reif(array[int] of var int: s, array[int] of var int: d,
+                              array[int] of var int: r, var int: b, var bool: holds) =
+    let { set of int: tasks = {i | i in index_set(s) where ub(r[i]) > 0 /\ ub(d[i]) > 0} } in
+    holds <-> (
+        (if card(tasks) = 0 then card(index_set(s)) = 0 \/ b >= 0 else true endif) /\
+        forall(i, j in tasks where i < j /\ lb(r[i]) + lb(r[j]) > ub(b)) (
+            d[i] <= 0 \/ d[j] <= 0 \/ s[i] + d[i] <= s[j] \/ s[j] + d[j] <= s[i]
+        ) /\
+        forall(j in tasks) (
+            b >= sum(i in tasks) (bool2int(s[i] <= s[j] /\ s[j] < s[i] + d[i]) * r[i])
+        )
+    );

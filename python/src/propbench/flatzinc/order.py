@@ -1,0 +1,54 @@
+"""The order in which the values of a model's variables are tried out, by its search annotations.
+
+`input_order` is as the variables stand; any other order of variables is the fewest values first. Of
+values the smallest is tried first, or the greatest by `indomain_max` and the like.
+"""
+
+from collections.abc import Iterator
+from dataclasses import dataclass
+
+from propbench.flatzinc.building import Built
+from propbench.flatzinc.terms import Call, Name, Term
+from propbench.model.cells import Cell
+
+_SEARCHES = ("int_search", "bool_search")
+_FROM_TOP = ("indomain_max", "indomain_reverse_split", "outdomain_min")
+
+
+@dataclass(frozen=True)
+class Group:
+    """Cells of which the one with the fewest values comes first."""
+
+    cells: tuple[Cell, ...]
+    is_from_top: bool
+
+
+def order_of(built: Built) -> list[Group]:
+    """The cells that come first by the annotations of the goal, and behind them those that the
+    model itself has."""
+    groups = [group for each in built.flat.goal.annotations for group in _groups(built, each)]
+    named = {cell.name for group in groups for cell in group.cells}
+    others = tuple(cell for cell in built.own if cell.name not in named)
+    return [*groups, Group(others, False)]
+
+
+def _groups(built: Built, annotation: Term) -> Iterator[Group]:
+    if not isinstance(annotation, Call):
+        return
+    if annotation.name == "seq_search":
+        for each in built.elements(annotation.args[0]):
+            yield from _groups(built, each)
+    elif annotation.name in _SEARCHES:
+        variables, by, value = annotation.args[:3]
+        cells = tuple(_cells(built, variables))
+        is_from_top = isinstance(value, Name) and value.text in _FROM_TOP
+        if by == Name("input_order"):
+            yield from (Group((cell,), is_from_top) for cell in cells)
+        else:
+            yield Group(cells, is_from_top)
+
+
+def _cells(built: Built, variables: Term) -> Iterator[Cell]:
+    for each in built.elements(variables):
+        if isinstance(each, Name) and each.text in built.cells:
+            yield built.cells[each.text]

@@ -1,0 +1,142 @@
+"""What a file of FlatZinc holds, as data: terms, variables, constraints and the goal."""
+
+from collections.abc import Iterable, Iterator
+from dataclasses import dataclass, field
+from typing import Union
+
+
+class NotSupported(ValueError):
+    """A file that is no FlatZinc, or has what the workbench doesn't know; it names the line."""
+
+    def __init__(self, line: int, text: str) -> None:
+        super().__init__(f"line {line}: {text}")
+        self.line = line
+
+
+@dataclass(frozen=True)
+class Name:
+    """A variable or parameter, or an annotation without arguments."""
+
+    text: str
+
+
+@dataclass(frozen=True)
+class Text:
+    """A text in quotation marks."""
+
+    text: str
+
+
+@dataclass(frozen=True)
+class Call:
+    """A constraint or annotation with arguments."""
+
+    name: str
+    args: tuple["Term", ...]
+
+
+@dataclass(frozen=True)
+class Numbers:
+    """A set of whole numbers, as ranges in order between which others lie; it may be empty."""
+
+    ranges: tuple[tuple[int, int], ...]
+
+    @staticmethod
+    def of(values: Iterable[int]) -> "Numbers":
+        """The set of these numbers."""
+        ranges: list[tuple[int, int]] = []
+        for value in sorted(set(values)):
+            if ranges and ranges[-1][1] == value - 1:
+                ranges[-1] = (ranges[-1][0], value)
+            else:
+                ranges.append((value, value))
+        return Numbers(tuple(ranges))
+
+    @staticmethod
+    def span(low: int, high: int) -> "Numbers":
+        """The numbers from one to another."""
+        return Numbers(((low, high),) if low <= high else ())
+
+    def has(self, value: int) -> bool:
+        """Whether a number is one of these."""
+        return any(low <= value <= high for low, high in self.ranges)
+
+    @property
+    def gaps(self) -> Iterator[tuple[int, int]]:
+        """The last number before each gap, and the first behind it."""
+        for (_, before), (behind, _) in zip(self.ranges, self.ranges[1:]):
+            yield before, behind
+
+
+Term = Union[bool, int, Name, Text, Call, Numbers, tuple["Term", ...]]
+
+
+@dataclass(frozen=True)
+class Variable:
+    """A variable: for truths, or for whole numbers, of which `values` are the possible ones."""
+
+    name: str
+    is_truth: bool
+    values: Numbers | None
+    annotations: tuple[Term, ...]
+    value: Term | None
+    line: int
+
+    def has(self, annotation: str) -> bool:
+        """Whether it is annotated by this name."""
+        return any(_name(each) == annotation for each in self.annotations)
+
+
+@dataclass(frozen=True)
+class Constraint:
+    """A constraint: its name, on what, and the variable that it defines, where it says so."""
+
+    name: str
+    args: tuple[Term, ...]
+    defined: str | None
+    line: int
+
+
+@dataclass(frozen=True)
+class Array:
+    """An array, and the index sets by which it is printed, where that is wanted."""
+
+    name: str
+    elements: tuple[Term, ...]
+    printed: tuple[Numbers, ...] | None
+
+
+@dataclass(frozen=True)
+class Goal:
+    """What is asked for: `satisfy`, `minimize` or `maximize`, of which variable, and how."""
+
+    sort: str
+    objective: Term | None
+    annotations: tuple[Term, ...]
+    line: int
+
+
+@dataclass
+class Flat:
+    """A model in FlatZinc, all in the order of the file."""
+
+    parameters: dict[str, Term] = field(default_factory=dict)
+    variables: dict[str, Variable] = field(default_factory=dict)
+    arrays: dict[str, Array] = field(default_factory=dict)
+    constraints: list[Constraint] = field(default_factory=list)
+    goal: Goal = Goal("satisfy", None, (), 0)
+
+    def resolved(self, term: Term) -> Term:
+        """A parameter's value, an array's elements; else the term itself."""
+        if isinstance(term, Name):
+            if term.text in self.parameters:
+                return self.parameters[term.text]
+            if term.text in self.arrays:
+                return self.arrays[term.text].elements
+        return term
+
+
+def _name(term: Term) -> str | None:
+    if isinstance(term, Call):
+        return term.name
+    return term.text if isinstance(term, Name) else None

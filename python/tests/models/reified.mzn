@@ -1,0 +1,10 @@
+var 0..5: x;
+var 0..5: y;
+array[1..5] of var bool: b;
+constraint b[1] <-> x < y;
+constraint b[2] <-> x = y + 1;
+constraint b[3] <-> 2 * x - y != 3;
+constraint b[4] <-> x in {1, 4};
+constraint b[5] <-> (b[1] /\ b[3]);
+constraint sum(b) = 2;
+solve satisfy;

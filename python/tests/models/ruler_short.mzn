@@ -1,0 +1,7 @@
+include "all_different.mzn";
+array[1..4] of var 0..9: mark;
+constraint mark[1] = 0;
+constraint forall(i in 1..3)(mark[i] < mark[i + 1]);
+constraint :: "distances" all_different([mark[j] - mark[i] | i, j in 1..4 where i < j]);
+constraint :: "short" mark[4] <= 5;
+solve satisfy;

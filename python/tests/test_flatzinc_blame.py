@@ -1,0 +1,191 @@
+"""Which constraints of a model are to blame: against brute force, and as `propdesk blame` tells."""
+
+import shutil
+from itertools import chain, combinations
+from pathlib import Path
+
+import pytest
+from drawn_flatzinc import ALL, COMPARISONS, Drawn, models
+from hypothesis import given
+
+from propbench import Workbench
+from propbench.desk import main
+from propbench.flatzinc.building import Built
+from propbench.flatzinc.compiling import compiled
+from propbench.flatzinc.grammar import read
+from propbench.flatzinc.marking import label_of, marked
+from propbench.questions.conflicts import find_both
+
+Sets = set[frozenset[str]]
+
+
+def with_marks(drawn: Drawn) -> str:
+    """The model with each constraint under a mark, its number."""
+    lines = drawn.text.split("\n")
+    kept = [line for line in lines if line.startswith("var")]
+    for number, line in enumerate(line for line in lines if line.startswith("constraint")):
+        name, args = line.removeprefix("constraint ").removesuffix(");").split("(", 1)
+        kept.append(f"var bool: h{number} :: var_is_introduced :: is_defined_var;")
+        kept.append(f"constraint {name}_reif({args},h{number}) :: defines_var(h{number});")
+        kept.append(f'constraint propbench_blame(h{number},"{number}");')
+    variables = sorted(kept, key=lambda line: not line.startswith("var"))
+    return "\n".join([*variables, "solve satisfy;", ""])
+
+
+def least(sets: Sets) -> Sets:
+    return {each for each in sets if not any(other < each for other in sets)}
+
+
+def conflicts_and_repairs(drawn: Drawn) -> tuple[Sets, Sets]:
+    """The least sets that can't all hold, and those without which the others can."""
+    names = [str(number) for number in range(len(drawn.constraints))]
+    every = chain.from_iterable(combinations(names, count) for count in range(len(names) + 1))
+    fits: Sets = set()
+    fails: Sets = set()
+    for some in every:
+        part = Drawn(drawn.values, [drawn.constraints[int(name)] for name in some])
+        (fits if any(True for _ in part.solutions()) else fails).add(frozenset(some))
+    return least(fails), least({frozenset(names) - each for each in fits})
+
+
+@given(models(tuple(COMPARISONS)))
+def test_conflicts_and_repairs_are_those_of_brute_force(program: str, drawn: Drawn) -> None:
+    right = conflicts_and_repairs(drawn)
+    with Workbench(program) as workbench:
+        Built(read(with_marks(drawn)), workbench)
+        conflicts, repairs = find_both(workbench.model, {}, [], 1000, None)
+    assert conflicts.complete and repairs.complete
+    assert {frozenset(each) for each in conflicts} == right[0]
+    assert {frozenset(each) for each in repairs} == right[1]
+    assert len(ALL) > len(COMPARISONS)
+
+
+MARKED = """\
+var 1..9: x :: output_var;
+var 1..9: y :: output_var;
+var bool: a :: var_is_introduced :: is_defined_var;
+var bool: b :: var_is_introduced :: is_defined_var;
+var bool: c :: var_is_introduced :: is_defined_var;
+constraint int_le_reif(7,x,a) :: defines_var(a);
+constraint int_lin_le_reif([1,1],[x,y],9,b) :: defines_var(b);
+constraint int_le_reif(4,y,c) :: defines_var(c);
+constraint propbench_blame(a,"many (line 3)");
+constraint propbench_blame(b,"line 4");
+constraint propbench_blame(c,"line 5, i=2");
+solve maximize x;
+"""
+SAID = """\
+1 conflict, no others:
+  conflict  premise        says
+  1         many (line 3)  x >= 7
+            line 4         x + y <= 9
+            line 5, i=2    y >= 4
+3 repairs, no others:
+  cost  give up
+  1     many (line 3)
+  1     line 4
+  1     line 5, i=2
+Without many (line 3), the best solution:
+  x = 5;
+  y = 4;
+"""
+
+
+def test_the_desk_tells_what_is_to_blame(
+    program: str, tmp_path: Path, capsys: pytest.CaptureFixture[str]
+) -> None:
+    model, claim, picture = (tmp_path / name for name in ("m.fzn", "m.claim", "m.dot"))
+    model.write_text(MARKED)
+    words = ["--program", program, "--certificate", str(claim), "--picture", str(picture)]
+    assert main(["blame", str(model), *words]) == 0
+    assert capsys.readouterr().out == SAID
+    dot = picture.read_text()
+    assert dot.count("shape=box") == 3 and dot.count(" -- c1") == 3 and dot.count("#f4c7a1") == 1
+    assert main(["check", str(claim), "--program", program]) == 0
+    lines = claim.read_text().split("\n")
+    place = next(place for place, line in enumerate(lines) if line.startswith("fix "))
+    claim.write_text("\n".join([*lines[:place], *lines[place + 1 :]]))
+    assert main(["check", str(claim), "--program", program]) == 1
+    capsys.readouterr()
+
+
+def test_what_is_kept_is_not_given_up(
+    program: str, tmp_path: Path, capsys: pytest.CaptureFixture[str]
+) -> None:
+    model = tmp_path / "m.fzn"
+    model.write_text(MARKED)
+    words = ["--keep", "many", "--keep", "line 5", "--program", program]
+    assert main(["blame", str(model), *words]) == 0
+    said = capsys.readouterr().out
+    assert "1 repair, no others" in said and "Without line 4, the best" in said
+    assert "x = 9;\n" in said
+
+
+def test_a_model_that_can_be_solved_has_no_blame(
+    program: str, tmp_path: Path, capsys: pytest.CaptureFixture[str]
+) -> None:
+    model = tmp_path / "m.fzn"
+    model.write_text(MARKED.replace("],9,b)", "],18,b)"))
+    assert main(["blame", str(model), "--program", program]) == 0
+    assert capsys.readouterr().out == "No conflict: all that is believed fits together.\n"
+
+
+@pytest.mark.skipif(shutil.which("dot") is None, reason="Graphviz isn't there")
+def test_a_picture_is_drawn(
+    program: str, tmp_path: Path, capsys: pytest.CaptureFixture[str]
+) -> None:
+    model, picture = tmp_path / "m.fzn", tmp_path / "m.svg"
+    model.write_text(MARKED)
+    assert main(["blame", str(model), "--program", program, "--picture", str(picture)]) == 0
+    assert "line 5, i=2" in picture.read_text()
+    capsys.readouterr()
+
+
+SOURCE = """\
+% constraint this = comment;
+int: n = 3; /* constraint
+too */ array[1..n] of var 1..n: q;
+constraint :: "big" q[1] > 2;
+constraint forall(i, j in 1..n where i < j)(q[i] != q[j] /\\ q[i] >= 1);
+constraint (q[1] = 1 /\\ q[2] = 2) \\/ let { var 1..2: k; constraint k > 1 } in q[k] = 1;
+constraint forall([q[i] > 0 | i in 1..n]);
+output ["constraint \\(q[1]) ; "];
+constraint if q[1] = 1 then true else q[2] = 2 /\\ q[3] = 1 endif; solve satisfy;
+"""
+
+
+def test_marks_stand_around_each_constraint() -> None:
+    made = marked(SOURCE)
+    before, after = SOURCE.split("\n"), made.text.split("\n")
+    assert len(before) == len(after)
+    assert after[3] == 'constraint :: "big" propbench_blame(q[1] > 2, "0|");'
+    assert after[4] == (
+        "constraint forall(i, j in 1..n where i < j)("
+        'propbench_blame(q[i] != q[j], "1|i=\\(i), j=\\(j)") /\\ '
+        'propbench_blame(q[i] >= 1, "2|i=\\(i), j=\\(j)"));'
+    )
+    assert after[5].startswith("constraint propbench_blame((q[1] = 1 /\\ q[2] = 2) \\/ let {")
+    assert after[5].endswith('in q[k] = 1, "3|");')
+    assert after[6] == 'constraint propbench_blame(forall([q[i] > 0 | i in 1..n]), "4|");'
+    assert after[7] == before[7]
+    assert after[8].startswith("constraint propbench_blame(if ")
+    assert label_of(made, "0|") == ("big (line 4)", "q[1] > 2")
+    assert label_of(made, "2|i=1, j=2") == ("line 5, part 2, i=1, j=2", "q[i] >= 1")
+
+
+@pytest.mark.skipif(shutil.which("minizinc") is None, reason="MiniZinc isn't there")
+def test_labels_come_from_the_model(tmp_path: Path) -> None:
+    model, data = tmp_path / "m.mzn", tmp_path / "m.dzn"
+    model.write_text(
+        "int: n;\narray[1..n] of var 1..n: q;\n"
+        'constraint :: "small" forall(i in 1..n)(q[i] <= i);\nconstraint sum(q) > 9;\n'
+        "solve satisfy;\n"
+    )
+    data.write_text("n = 3;\n")
+    made = compiled(model, [data])
+    assert made.texts == {
+        "small (line 3, i=1)": "q[i] <= i",
+        "small (line 3, i=2)": "q[i] <= i",
+        "small (line 3, i=3)": "q[i] <= i",
+        "line 4": "sum(q) > 9",
+    }
