@@ -16,6 +16,10 @@ from datetime import date
 from types import TracebackType
 from typing import TypeVar, overload
 
+from propbench.measuring.bench import Measuring
+from propbench.measuring.quantities import Quantity
+from propbench.measuring.stating import Stated as StatedLaw
+from propbench.measuring.terms import Law
 from propbench.model.answers import Answer, Conflict, NotSettled, ends_of
 from propbench.model.blaming import always, beyond
 from propbench.model.cells import Cell, ElementCell, NumberCell, SymbolCell, TruthCell, words_of
@@ -52,7 +56,7 @@ Stated = Truth | bool | Sequence[Truth | bool]
 SomeCell = TypeVar("SomeCell", bound=Cell)
 
 
-class Workbench(Questions):
+class Workbench(Measuring, Questions):
     """A network of cells with constraints, some of them under premises, and what follows.
 
     Cells come from `number`, `truth`, `element` (of a `domain`) and `symbol`. What holds between
@@ -83,6 +87,7 @@ class Workbench(Questions):
         self._owner = object()
         self._network = Network(open_session)
         self._cells: dict[str, Cell] = {}
+        self._laws: dict[Law, StatedLaw] = {}
 
     def __enter__(self) -> "Workbench":
         return self
@@ -442,11 +447,17 @@ class Workbench(Questions):
     def _declared(
         self, name: str, kind: Kind, low: int | None = None, high: int | None = None
     ) -> Declared:
+        self._check_name(name)
+        return Declared(name, kind, low, high, self._owner)
+
+    def _check_name(self, name: str) -> None:
         if not isinstance(name, str) or not name:
             raise TypeError(f"a cell is named by a text: {name!r}")
         if name in self._network.cells:
             raise ValueError(f"there is a cell of this name: {name!r}")
-        return Declared(name, kind, low, high, self._owner)
+
+    def _quantity(self, made: Declared) -> Quantity:
+        return self._added(Quantity(made, self))
 
     def _added(self, cell: SomeCell) -> SomeCell:
         self._network.do(CellMade(cell.declared))
@@ -479,5 +490,7 @@ def _cell_of(declared: Declared, workbench: Workbench) -> Cell:
     """The cell that was declared so, by its kind."""
     if isinstance(declared.kind, Domain):
         return ElementCell(declared, workbench)
+    if declared.measure is not None:
+        return Quantity(declared, workbench)
     classes = {Plain.NUMBER: NumberCell, Plain.TRUTH: TruthCell, Plain.SYMBOL: SymbolCell}
     return classes[declared.kind](declared, workbench)
