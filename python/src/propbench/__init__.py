@@ -7,6 +7,9 @@ description, and nothing is concluded from it.
 """
 
 from propbench.finding import NoProgram, find_program
+from propbench.measuring.functions import maximum, mean, minimum, total
+from propbench.measuring.readings import NoReading
+from propbench.measuring.units import MixedUnits, UnknownUnit
 from propbench.model.answers import Answer, Conflict, NotSettled
 from propbench.model.expressions import (
     all_different,
@@ -14,10 +17,7 @@ from propbench.model.expressions import (
     element,
     if_else,
     implies,
-    maximum,
-    minimum,
     pairs,
-    total,
 )
 from propbench.model.saving import NotAWorkbench
 from propbench.program import ProgramEnded
@@ -74,8 +74,10 @@ __all__ = [
     "IsAChoice",
     "LimitReached",
     "LineTooLong",
+    "MixedUnits",
     "NameTaken",
     "NoProgram",
+    "NoReading",
     "NoSuchCell",
     "NoSuchDomain",
     "NoSuchPremise",
@@ -99,6 +101,7 @@ __all__ = [
     "Span",
     "Symbol",
     "UnknownCommand",
+    "UnknownUnit",
     "Unsettled",
     "Value",
     "Workbench",
@@ -114,6 +117,7 @@ __all__ = [
     "if_else",
     "implies",
     "maximum",
+    "mean",
     "minimum",
     "pairs",
     "total",

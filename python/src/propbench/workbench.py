@@ -18,6 +18,7 @@ from typing import TypeVar, overload
 
 from propbench.measuring.bench import Measuring
 from propbench.measuring.quantities import Quantity
+from propbench.measuring.sensitivity import Improvements
 from propbench.measuring.stating import Stated as StatedLaw
 from propbench.measuring.terms import Law
 from propbench.model.answers import Answer, Conflict, NotSettled, ends_of
@@ -47,7 +48,9 @@ from propbench.model.tabling import Table
 from propbench.nearby import near_names
 from propbench.overview import UNPROVED
 from propbench.planning import Calendar, Project
-from propbench.questions import Questions
+from propbench.questions import Sensitivity
+from propbench.questions.asking import CellLike
+from propbench.questions.clock import Progress
 from propbench.replies import Contradiction, Settled, Value, Worldview
 from propbench.session import Session
 
@@ -56,7 +59,7 @@ Stated = Truth | bool | Sequence[Truth | bool]
 SomeCell = TypeVar("SomeCell", bound=Cell)
 
 
-class Workbench(Measuring, Questions):
+class Workbench(Measuring):
     """A network of cells with constraints, some of them under premises, and what follows.
 
     Cells come from `number`, `truth`, `element` (of a `domain`) and `symbol`. What holds between
@@ -326,6 +329,23 @@ class Workbench(Measuring, Questions):
             return self.table(*cells)
         except Conflict as conflict:
             return f"CONFLICT: {conflict}"
+
+    # (of a quantity there is another table)
+    def sensitivity(  # type: ignore[override]
+        self,
+        cell: CellLike,
+        of: str | None = None,
+        *,
+        seconds: float | None = None,
+        progress: Progress | None = None,
+    ) -> Sensitivity | Improvements:
+        """What each believed premise is worth: the answer for a cell where that is left out, and
+        where each range that it tells is half as wide. By `of="least"` or `of="greatest"` it is
+        the least or greatest value in any plan that is asked for. Of a quantity it is told which
+        reading to improve."""
+        if isinstance(cell, Quantity):
+            return self.improvements(cell, seconds=seconds, progress=progress)
+        return super().sensitivity(cell, of, seconds=seconds, progress=progress)
 
     def lines(self, constraint: Truth) -> list[str]:
         """The lines of the language that state a constraint, where it was required.

@@ -1,18 +1,31 @@
 """What a workbench does with measured quantities: it has these methods."""
 
-from propbench.measuring.quantities import Quantity, measure_of
+from collections.abc import Sequence
+
+from propbench.measuring.outliers import Outliers, find_outliers
+from propbench.measuring.predict import Prediction, predicted
+from propbench.measuring.quantities import MeasuredAnswer, Quantity, measure_of, measured
 from propbench.measuring.readings import COVERAGE, Exact, Given, reading_of
-from propbench.measuring.stating import Stated, declared, read, stated
-from propbench.measuring.terms import Law, Real, Sort
+from propbench.measuring.rooms import Room, find_room
+from propbench.measuring.sensitivity import Improvements, find_improvements
+from propbench.measuring.shaving import Shaved, find_shaved
+from propbench.measuring.stating import Stated, declared, quantities_in, read, stated
+from propbench.measuring.terms import Law
 from propbench.measuring.units import unit_of
-from propbench.model.cells import Cell
-from propbench.model.events import CellMade, LawStated
+from propbench.model.answers import Conflict
+from propbench.model.events import LawStated, Read
 from propbench.model.measures import Measure
 from propbench.model.network import Network
-from propbench.model.nodes import Declared
+from propbench.model.nodes import Declared, cells_in
+from propbench.model.reading import Reader
+from propbench.questions import Questions
+from propbench.questions.clock import Progress
+from propbench.questions.rooms import Numbers
+from propbench.replies import Contradiction, Value
+from propbench.values import Span
 
 
-class Measuring:
+class Measuring(Questions):
     """The quantities of a workbench, laws between them, readings of them, and what follows."""
 
     _network: Network
@@ -74,7 +87,121 @@ class Measuring:
         found = reading_of(reading, quantity.unit, coverage)
         self._network.do(read(cell, found, premise))
 
+    # --- questions ---
+
+    def shave(
+        self,
+        quantity: Quantity,
+        *,
+        seconds: float | None = None,
+        progress: Progress | None = None,
+    ) -> Shaved:
+        """What follows for a quantity, as narrow as is found by telling its ends, in cases of other
+        quantities too: what the program contradicts is taken off, until nothing more can be, or
+        `seconds` are over.
+
+        Raises Conflict where what is believed can't all hold.
+        """
+        self._own(quantity)
+        return find_shaved(self, quantity, seconds, progress)
+
+    def outliers(
+        self,
+        *,
+        most: int = 20,
+        seconds: float | None = None,
+        progress: Progress | None = None,
+    ) -> Outliers:
+        """The least sets of readings to give up so that nothing speaks against the others, `most` of
+        them at the most: the fewest first, and of as many those that are off by more."""
+        measured_cells = [name for name, it in self._network.cells.items() if it.measure]
+        return find_outliers(
+            self.model, self._readings(), self._unread_first(measured_cells), most, seconds, progress
+        )
+
+    def improvements(
+        self,
+        quantity: Quantity,
+        *,
+        seconds: float | None = None,
+        progress: Progress | None = None,
+    ) -> Improvements:
+        """Which reading to improve: how wide a quantity's answer is where a reading's tolerance is
+        halved, and without the reading. `w.sensitivity(quantity)` is the same."""
+        self._own(quantity)
+        return find_improvements(self.model, quantity, self._readings(), seconds, progress)
+
+    def predict(
+        self,
+        quantity: Quantity,
+        tolerance: Given | None = None,
+        *,
+        seconds: float | None = None,
+        progress: Progress | None = None,
+    ) -> Prediction:
+        """What a further reading of a quantity would have to show, by a tolerance as `+- 0.5 ohm`,
+        so that it doesn't speak against what is believed."""
+        left = self.shave(quantity, seconds=seconds, progress=progress)
+        return predicted(quantity, left, tolerance)
+
+    def room(self, law: Law) -> Room:
+        """What a law that was stated costs in width, since whole numbers stand for the reals.
+
+        Raises ValueError for a law that was not stated.
+        """
+        if law not in self._laws:
+            raise ValueError(f"`{law!r}` was not stated")
+        return find_room(self.model, self._laws[law])
+
     # --- within ---
+
+    def related(self, quantity: Quantity) -> list[str]:
+        """The quantities that laws tie to this one, by name, those without readings in front."""
+        found = {quantity.declared}
+        groups = [
+            cells_in(each.constraint)
+            for each in self._network.events
+            if isinstance(each, LawStated)
+        ]
+        count = 0
+        while count < len(found):
+            count = len(found)
+            for group in groups:
+                if not found.isdisjoint(group):
+                    found.update(group)
+        return self._unread_first([cell.name for cell in self._network.cells.values() if cell in found])
+
+    def _unread_first(self, names: Sequence[str]) -> list[str]:
+        """Quantities by name, those without readings in front."""
+        were_read = {each.cell.name for each in self._network.events if isinstance(each, Read)}
+        return sorted(names, key=lambda name: name in were_read)
+
+    def _readings(self) -> dict[str, list[Read]]:
+        """The premises that are believed and state nothing but readings."""
+        premises = self._network.premises
+        found = {name: premises.readings(name) for name in premises.in_force}
+        return {
+            name: readings
+            for name, readings in found.items()
+            if len(readings) == len(premises.statements.get(name, ()))
+        }
+
+    def told(self, quantity: Quantity, room: Numbers, names: Sequence[str]) -> MeasuredAnswer:
+        """What a cell that holds one of these numbers says, because of these premises."""
+        lines = self._network.vocabulary.premises
+        because = tuple(lines.line(name) for name in names)
+        cell = self._network.vocabulary.cells.line(quantity.name)
+        reply = Value(cell, Span(room.low, room.high), True, because, None)
+        reader = Reader(self._network.vocabulary, self._network.premises)
+        return measured(reader.answer(quantity.declared, reply, {}))
+
+    def conflict_of(self, names: Sequence[str]) -> Conflict:
+        """That these premises can't all hold, made few."""
+        lines = self._network.vocabulary.premises
+        return self._conflict(Contradiction(tuple(map(lines.line, names))))
+
+    def _conflict(self, found: Contradiction) -> Conflict:
+        raise NotImplementedError
 
     def _own(self, cell: object) -> Declared:
         raise NotImplementedError
@@ -100,15 +227,3 @@ class Measuring:
         if under is not None:
             return []
         return [law for law, it in self._laws.items() if it.under is None and law.is_equation]
-
-
-def quantities_in(law: Law) -> list[Declared]:
-    """The quantities in a law, each once."""
-    found: dict[Declared, None] = {}
-    waiting: list[Real] = [law.right, law.left]
-    while waiting:
-        each = waiting.pop()
-        if each.sort is Sort.QUANTITY:
-            found[each.quantity] = None
-        waiting += reversed(each.args)
-    return list(found)

@@ -95,7 +95,7 @@ def measure_of(
     ends = sorted(_number(end) * unit.factor + unit.offset for end in (low, high))
     if _number(low) > _number(high):
         raise ValueError(f"from {low} to {high} there is no number, for {name!r}")
-    most = max(map(abs, ends)) or unit.factor
+    most = max(abs(end) for end in ends) or unit.factor
     digits = _usual_step(most / unit.factor) if step is None else _number(step)
     if digits <= 0:
         raise ValueError(f"a step is more than 0, and that of {name!r} is {step}")

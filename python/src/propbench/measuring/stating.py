@@ -85,6 +85,18 @@ def declared(name: str, measure: Measure, owner: object) -> Declared:
     return Declared(name, Plain.NUMBER, low, high, owner, measure)
 
 
+def quantities_in(law: Law) -> list[Declared]:
+    """The quantities in a law, each once."""
+    found: dict[Declared, None] = {}
+    waiting: list[Real] = [law.right, law.left]
+    while waiting:
+        each = waiting.pop()
+        if each.sort is Sort.QUANTITY:
+            found[each.quantity] = None
+        waiting += reversed(each.args)
+    return list(found)
+
+
 def read(cell: Declared, reading: Reading, premise: str | None) -> Read:
     """A reading of a quantity, as what its cell may be."""
     assert cell.measure is not None

@@ -125,7 +125,7 @@ class Term:
     def __eq__(self, other: "Term | Exact | str") -> "Law":  # type: ignore[override]
         return _compared("==", self, other)
 
-    def __ne__(self, other: object) -> NoReturn:  # type: ignore[override]
+    def __ne__(self, other: object) -> NoReturn:
         raise TypeError(f"`{self!r} != ..` is no law: of what is measured nothing is told by it")
 
     def __le__(self, other: "Term | Exact | str") -> "Law":
@@ -206,6 +206,14 @@ def extreme(sort: Sort, terms: "Iterable[object]") -> Term:
     """The greatest or the least of these terms, given one by one or as one list."""
     reals = reals_of(terms)
     return Made(Real(sort, tuple(dict.fromkeys(reals)), _common(reals)))
+
+
+def sum_of(terms: "Iterable[object]") -> Term:
+    """The sum of these terms."""
+    first, *others = reals_of(terms)
+    for other in others:
+        first = Real(Sort.SUM, (first, other), _common([first, other]))
+    return Made(first)
 
 
 def reals_of(terms: Iterable[object]) -> list[Real]:

@@ -90,8 +90,8 @@ def _product(written: str) -> tuple[Dimension, Fraction]:
             power = Fraction(sign * int(matched[2] or 1))
             of_word, factor_of_word = _named(matched[1], written)
             dimension = times(dimension, of_word, power)
-            factor *= factor_of_word**power
-    return dimension, Fraction(factor)
+            factor *= Fraction(factor_of_word ** int(power))
+    return dimension, factor
 
 
 def _named(word: str, written: str) -> tuple[Dimension, Fraction]:

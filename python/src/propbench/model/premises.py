@@ -47,7 +47,7 @@ class Premises:
 
     def state(self, statement: Statement) -> None:
         """Takes in a statement under its premise."""
-        if statement.premise is None and isinstance(statement, Read):
+        if isinstance(statement, Read) and statement.premise is None:
             ends = statement.reading.low, statement.reading.high
             self.always.setdefault(statement.cell, []).append(ends)
         if statement.premise is not None:
