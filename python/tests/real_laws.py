@@ -1,14 +1,17 @@
 """Random laws over random reals that fit them: exact fractions, worked out beside the terms."""
 
 import random
-from collections.abc import Callable
+from collections.abc import Callable, Iterator
 from dataclasses import dataclass, field
 from fractions import Fraction
 from math import isqrt
 
 from propbench import Workbench, maximum, mean, minimum
 from propbench.measuring.quantities import Quantity
-from propbench.measuring.terms import Law, Made, Real, Sort, Term, real_of
+from propbench.measuring.terms import Law, Made, Real, Sort, Term, real_of, text_of
+from propbench.model.events import Required, Told
+from propbench.model.kinds import Point
+from propbench.model.nodes import Declared
 
 # Of these sorts a quantity is: units in base units, so that sums fit, and a bare number.
 UNITS = [("mm", Fraction(1, 1000)), ("m", Fraction(1)), ("inch", Fraction(254, 10_000))]
@@ -36,6 +39,9 @@ class Case:
     reals: dict[str, Fraction] = field(default_factory=dict)
     units: dict[str, Fraction] = field(default_factory=dict)
     quantities: dict[str, Quantity] = field(default_factory=dict)
+    law: Law | None = None
+    # The quantity that the law gives, and what it gives for it.
+    given: tuple[str, Real] | None = None
 
     def quantity(self, value: Fraction, *, is_positive: bool = False) -> Drawn:
         """A quantity that has this value, in base units, between ends around it."""
@@ -164,14 +170,95 @@ def law_of(case: Case, depth: int) -> Law:
     made = case.term(depth)
     shape = case.draw.random()
     if shape < 0.6:
+        case.given = f"q{len(case.reals)}", made.term.real
         return case.quantity(made.value).term == made.term
-    if shape < 0.8:
-        other = case.term(max(0, depth - 1))
-        return other.term + case.quantity(made.value - other.value).term == made.term
     other = case.term(max(0, depth - 1))
+    if shape < 0.8:
+        case.given = f"q{len(case.reals)}", (made.term - other.term).real
+        return other.term + case.quantity(made.value - other.value).term == made.term
     if made.value <= other.value:
         return made.term <= other.term
     return made.term >= other.term
+
+
+def stated_case(w: Workbench, draw: random.Random) -> Case:
+    """A case whose law is stated. Raises Unfit, and ValueError where a term has no bound."""
+    case = Case(w, draw)
+    case.law = law_of(case, draw.randint(1, 4))
+    w.law(case.law, under=draw.choice([None, None, "law"]))
+    return case
+
+
+def redraw(case: Case) -> None:
+    """Other reals that fit the law. Raises Unfit where what was drawn doesn't."""
+    assert case.law is not None
+    reals = {name: _within(case, name) for name in case.reals}
+    if case.given:
+        name, real = case.given
+        reals[name] = value_of(real, reals)
+        measure = case.quantities[name].measure
+        if not measure.low <= reals[name] <= measure.high:
+            raise Unfit
+    elif value_of(case.law.left, reals) > value_of(case.law.right, reals):
+        raise Unfit
+    case.reals = reals
+
+
+def _within(case: Case, name: str) -> Fraction:
+    """A real between a quantity's ends: at one, near the one that it has, or any."""
+    measure, draw = case.quantities[name].measure, case.draw
+    shape = draw.random()
+    if shape < 0.1:
+        return draw.choice([measure.low, measure.high])
+    share = Fraction(draw.randint(0, 997), 997) / (1 if shape < 0.3 else draw.choice([10, 1000]))
+    end = draw.choice([measure.low, measure.high])
+    begun = draw.choice([measure.low, measure.high]) if shape < 0.3 else case.reals[name]
+    return begun + (end - begun) * share
+
+
+def read_some(case: Case) -> None:
+    """Reads some quantities: what is read holds."""
+    draw = case.draw
+    for name, quantity in case.quantities.items():
+        if draw.random() < 0.6:
+            number = case.reals[name] / case.units[name]
+            width = abs(number) * Fraction(draw.choice([0, 1, 5, 100]), 1000)
+            below, above = (Fraction(draw.randint(0, 10), 10) for _ in range(2))
+            case.w.read(f"read {name}", quantity, (number - width * below, number + width * above))
+
+
+def lost(case: Case) -> list[str]:
+    """The quantities whose real does not lie in their answer."""
+    found = []
+    for name, quantity in case.quantities.items():
+        answer = quantity.ask(seconds=2)
+        number = case.reals[name] / case.units[name]
+        if answer.low is not None and answer.high is not None:
+            if not Fraction(answer.low) <= number <= Fraction(answer.high):
+                found.append(f"{name} = {number} is not in {answer.low}..{answer.high}")
+    return found
+
+
+def unmet(case: Case) -> list[str]:
+    """What is stated that does not hold where each cell holds what it does for its real: worked out
+    in whole numbers, without the program. Raises Unfit for a root that is no fraction."""
+    assert case.law is not None
+    roots = {text_of(it): it for it in (*_parts(case.law.left), *_parts(case.law.right))}
+    points: dict[Declared, Point] = {}
+    for cell in case.w._network.cells.values():
+        real = case.reals.get(cell.name)
+        assert cell.measure is not None
+        found = value_of(roots[cell.name], case.reals) if real is None else real
+        points[cell] = cell.measure.count(found)
+    events = [it for it in case.w._network.events if isinstance(it, Required | Told)]
+    return [it.text for it in events if not it.is_met(points)]
+
+
+def _parts(real: Real) -> Iterator[Real]:
+    """A term and all that it is made of."""
+    yield real
+    for arg in real.args:
+        yield from _parts(arg)
 
 
 def value_of(real: Real, reals: dict[str, Fraction]) -> Fraction:
@@ -190,10 +277,18 @@ def value_of(real: Real, reals: dict[str, Fraction]) -> Fraction:
 
 def root_of(number: Fraction) -> Fraction:
     """The root, where it is a fraction."""
+    if number < 0:
+        raise Unfit
     found = Fraction(isqrt(number.numerator), isqrt(number.denominator))
     if found * found != number:
         raise Unfit
     return found
+
+
+def _quotient_of(values: list[Fraction]) -> Fraction:
+    if not values[1]:
+        raise Unfit
+    return values[0] / values[1]
 
 
 _VALUES: dict[Sort, Callable[[list[Fraction]], Fraction]] = {
@@ -201,7 +296,7 @@ _VALUES: dict[Sort, Callable[[list[Fraction]], Fraction]] = {
     Sort.DIFFERENCE: lambda values: values[0] - values[1],
     Sort.NEGATIVE: lambda values: -values[0],
     Sort.PRODUCT: lambda values: values[0] * values[1],
-    Sort.QUOTIENT: lambda values: values[0] / values[1],
+    Sort.QUOTIENT: _quotient_of,
     Sort.ABSOLUTE: lambda values: abs(values[0]),
     Sort.GREATEST: max,
     Sort.LEAST: min,
