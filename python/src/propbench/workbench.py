@@ -19,7 +19,8 @@ from typing import TypeVar, overload
 from propbench.measuring.bench import Measuring
 from propbench.measuring.quantities import Quantity
 from propbench.measuring.sensitivity import Improvements
-from propbench.measuring.stating import Stated as StatedLaw
+from propbench.measuring.readings import reading_of
+from propbench.measuring import stating
 from propbench.measuring.terms import Law
 from propbench.model.answers import Answer, Conflict, NotSettled, ends_of
 from propbench.model.blaming import always, beyond
@@ -35,7 +36,7 @@ from propbench.model.events import (
     ValueChoice,
 )
 from propbench.model.expressions import Expression, Truth, node_of, point_of
-from propbench.model.given import Given, alternative_of, values_of
+from propbench.model.given import Given, alternative_of, given_of, values_of
 from propbench.model.kinds import Domain, Kind, Plain, kind_text
 from propbench.model.network import Network
 from propbench.model.nodes import Declared, Node, cells_in
@@ -90,7 +91,7 @@ class Workbench(Measuring):
         self._owner = object()
         self._network = Network(open_session)
         self._cells: dict[str, Cell] = {}
-        self._laws: dict[Law, StatedLaw] = {}
+        self._laws: dict[Law, stating.Stated] = {}
 
     def __enter__(self) -> "Workbench":
         return self
@@ -180,6 +181,8 @@ class Workbench(Measuring):
         While the premise is kicked out the constraint has no effect at all, also where it is false
         or can't be worked out; while it is believed it tells as much as one that holds always.
         """
+        if isinstance(constraint, Law):
+            raise TypeError(f"`{constraint!r}` is a law of quantities: state it by `w.law(..)`")
         if isinstance(constraint, Expression) and not isinstance(constraint, Truth):
             raise TypeError(f"`{constraint!r}` is {kind_text(constraint.node.kind)}, no constraint")
         node = node_of(constraint, Plain.TRUTH)
@@ -190,13 +193,22 @@ class Workbench(Measuring):
 
     def fix(self, cell: Cell, value: Given, high: int | None = None) -> None:
         """States that a cell has a value, always: a number, or the numbers up to `high`; a truth,
-        a name, or a list of elements of which it is one."""
-        self._network.do(Told(self._own(cell), values_of(self._own(cell), value, high), None))
+        a name, or a list of elements of which it is one; of a quantity a reading."""
+        self._tell(None, cell, value, high)
 
     def tell(self, premise: str, cell: Cell, value: Given, high: int | None = None) -> None:
         """States the same under a premise."""
         self._network.premises.check(premise)
-        self._network.do(Told(self._own(cell), values_of(self._own(cell), value, high), premise))
+        self._tell(premise, cell, value, high)
+
+    def _tell(self, premise: str | None, cell: Cell, value: Given, high: object) -> None:
+        own = self._own(cell)
+        if isinstance(cell, Quantity):
+            self._network.do(
+                stating.read(own, reading_of(given_of(value, high), cell.unit), premise)
+            )
+        else:
+            self._network.do(Told(own, values_of(own, value, high), premise))
 
     # --- premises ---
 

@@ -116,7 +116,12 @@ class Measuring(Questions):
         them at the most: the fewest first, and of as many those that are off by more."""
         measured_cells = [name for name, it in self._network.cells.items() if it.measure]
         return find_outliers(
-            self.model, self._readings(), self._unread_first(measured_cells), most, seconds, progress
+            self.model,
+            self._readings(),
+            self._unread_first(measured_cells),
+            most,
+            seconds,
+            progress,
         )
 
     def improvements(
@@ -169,7 +174,9 @@ class Measuring(Questions):
             for group in groups:
                 if not found.isdisjoint(group):
                     found.update(group)
-        return self._unread_first([cell.name for cell in self._network.cells.values() if cell in found])
+        return self._unread_first(
+            [cell.name for cell in self._network.cells.values() if cell in found]
+        )
 
     def _unread_first(self, names: Sequence[str]) -> list[str]:
         """Quantities by name, those without readings in front."""

@@ -120,8 +120,10 @@ def _product(left: Linear, right: Linear) -> Linear:
 
 def _joined(left: Real, right: Real) -> Real:
     """The product of two atoms: a power, where they have the same base."""
-    bases = [(each.args[0], each.number) if each.sort is Sort.POWER else (each, Fraction(1))
-             for each in (left, right)]
+    bases = [
+        (each.args[0], each.number) if each.sort is Sort.POWER else (each, Fraction(1))
+        for each in (left, right)
+    ]
     if bases[0][0] == bases[1][0]:
         return _powered(bases[0][0], int(bases[0][1] + bases[1][1]))
     return Real(Sort.PRODUCT, (left, right), times(left.dimension, right.dimension))
@@ -145,7 +147,9 @@ def _quotient(above: Linear, below: Linear) -> Linear:
         )
         return _alone(made, above.constant / factor)
     atom, coefficient = above.single or (real_of_linear(above), Fraction(1))
-    made = Real(Sort.QUOTIENT, (atom, divisor), times(atom.dimension, divisor.dimension, -ONE.number))
+    made = Real(
+        Sort.QUOTIENT, (atom, divisor), times(atom.dimension, divisor.dimension, -ONE.number)
+    )
     return _alone(made, coefficient / factor)
 
 
@@ -166,5 +170,3 @@ def _powered(base: Real, exponent: int) -> Real:
         return base
     dimension = to_power(base.dimension, Fraction(exponent))
     return Real(Sort.POWER, (base,), dimension, Fraction(exponent))
-
-

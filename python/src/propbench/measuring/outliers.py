@@ -171,9 +171,7 @@ class Weeding:
 _DEPTH = 3
 
 
-def _off(
-    read: Read, measure: Measure, ends: tuple[Fraction, Fraction]
-) -> tuple[Off, Fraction]:
+def _off(read: Read, measure: Measure, ends: tuple[Fraction, Fraction]) -> tuple[Off, Fraction]:
     """How far a reading is from what is left, in the unit, and as a part of its tolerance."""
     reading = read.reading
     low, high = max(ends[0], measure.low), min(ends[1], measure.high)

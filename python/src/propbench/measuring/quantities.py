@@ -124,7 +124,9 @@ def _usual_step(most: Fraction) -> Fraction:
     return step
 
 
-def interval_of(measure: Measure, low: int, high: int, known: Iterable[tuple[Fraction, Fraction]]) -> Interval:
+def interval_of(
+    measure: Measure, low: int, high: int, known: Iterable[tuple[Fraction, Fraction]]
+) -> Interval:
     """The reals for which the cell holds `low` to `high`, among those that are known anyway: each
     of `known` is a reading that counts, or the quantity's own bounds."""
     ends = measure.reals(low, high)

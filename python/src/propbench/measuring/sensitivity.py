@@ -67,7 +67,9 @@ def find_improvements(
 ) -> Improvements:
     """What each reading that is believed is worth to a quantity."""
     believed = list(model.believed())
-    trial = Trial(model, [name for name in believed if name not in readings], Clock(seconds, progress))
+    trial = Trial(
+        model, [name for name in believed if name not in readings], Clock(seconds, progress)
+    )
     found: dict[tuple[str, bool], Interval | None] = {}
 
     def left(premises: Sequence[str], told: Sequence[Case] = ()) -> Interval | None:

@@ -13,7 +13,8 @@ from propbench.measuring.terms import Law, Real, Sort, text_of
 from propbench.measuring.translation import Told, TooCoarse, Translator
 from propbench.measuring.units import Unit, dimension_text
 from propbench.model.events import Read
-from propbench.model.kinds import MOST, Plain
+from propbench.model.given import cells_of
+from propbench.model.kinds import Plain
 from propbench.model.measures import Measure
 from propbench.model.nodes import Declared, Node, all_of
 
@@ -100,6 +101,4 @@ def quantities_in(law: Law) -> list[Declared]:
 def read(cell: Declared, reading: Reading, premise: str | None) -> Read:
     """A reading of a quantity, as what its cell may be."""
     assert cell.measure is not None
-    ends = (cell.measure.count(end) for end in (reading.low, reading.high))
-    low, high = (min(max(end, -MOST), MOST) for end in ends)
-    return Read(cell, (low, high), premise, reading)
+    return Read(cell, cells_of(cell.measure, reading), premise, reading)

@@ -234,7 +234,9 @@ def power_of(base: Real, power: Fraction) -> Real:
     if power == Fraction(1, 2):
         return Real(Sort.ROOT, (base,), to_power(base.dimension, power))
     if power.denominator != 1:
-        raise ValueError(f"a power is by a whole number, or by 0.5 for the root, and not by {power}")
+        raise ValueError(
+            f"a power is by a whole number, or by 0.5 for the root, and not by {power}"
+        )
     if power == 0:
         return ONE
     if power < 0:
@@ -277,10 +279,16 @@ def _common(reals: list[Real]) -> Dimension:
     for other in others:
         if other.dimension != first.dimension:
             raise MixedUnits(
-                f"`{text_of(first)}` is in {dimension_text(first.dimension)}, and "
-                f"`{text_of(other)}` in {dimension_text(other.dimension)}"
+                f"`{text_of(first)}` is {_unit(first)}, and `{text_of(other)}` {_unit(other)}"
             )
     return first.dimension
+
+
+def _unit(real: Real) -> str:
+    """In what a term is told: a quantity in its own unit, others in base units."""
+    if real.sort is Sort.QUANTITY and real.quantity.measure is not None:
+        return f"in {real.quantity.measure.unit}"
+    return f"in {dimension_text(real.dimension)}" if real.dimension else "a bare number"
 
 
 # How tightly a text holds together: from `mean(..)`, which always does, down to `+`.

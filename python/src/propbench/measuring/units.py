@@ -170,9 +170,7 @@ _PREFIXES = {
     "G": Fraction(10**9),
     "T": Fraction(10**12),
 }
-_PREFIXED = frozenset(
-    "m s g A K mol L l V ohm Ohm Ω W J N Hz F H C S T Wb Pa bar eV".split()
-)
+_PREFIXED = frozenset("m s g A K mol L l V ohm Ohm Ω W J N Hz F H C S T Wb Pa bar eV".split())
 _UNITS: dict[str, tuple[Dimension, Fraction]] = {
     **_units({"1": "1", "%": "1/100", "ppm": "1/1000000"}, ""),
     # lengths, areas by powers of these, and volumes

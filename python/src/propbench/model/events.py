@@ -161,6 +161,8 @@ Statement = Required | Told | ValueChoice | ConstraintChoice
 
 def values_text(cell: Declared, values: Values) -> str:
     """What is stated of a cell, for people."""
+    if cell.measure is not None:
+        return str(cell.measure.interval(*cell.measure.reals(int(values[0]), int(values[1]))))
     if cell.kind is Plain.NUMBER:
         low, high = values
         return str(low) if low == high else f"{_end(low)}..{_end(high)}"
@@ -173,7 +175,9 @@ def _end(number: Point) -> str:
 
 
 def plain_values(cell: Declared, values: Values) -> object:
-    """What is stated of a cell, as a user gives it to `choose`."""
+    """What is stated of a cell, as a user gives it to `choose`; of a quantity as text."""
+    if cell.measure is not None:
+        return values_text(cell, values)
     if cell.kind is Plain.NUMBER:
         low, high = values
         return low if low == high else values

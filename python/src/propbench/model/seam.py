@@ -6,10 +6,12 @@ This is all that `propbench.questions` uses of a workbench beside what a user do
 from collections.abc import Mapping, Sequence
 
 from propbench.model.events import CellMade, DomainMade, Event
+from propbench.model.given import values_of
 from propbench.model.kinds import Domain, Plain, Point
 from propbench.model.meaning import Beyond
 from propbench.model.nodes import Declared
 from propbench.model.network import Network, premise_of
+from propbench.model.writer import span_text
 from propbench.model.writing import text_of
 from propbench.session import Session
 
@@ -101,6 +103,16 @@ class BenchModel:
             for premise, stated in self._network.premises.statements.items()
             if all(_against(each, points) is None for each in stated)
         ]
+
+    def is_measured(self, cell: str) -> bool:
+        """Whether the cell counts steps of a measured quantity."""
+        return self._network.cells[cell].measure is not None
+
+    def read(self, cell: str, value: object, high: object = None) -> str:
+        """What a reading of a measured quantity, or the two ends of one, says of its cell, as it is
+        written on a line."""
+        low, most = values_of(self._network.cells[cell], value, high)
+        return span_text(int(low), int(most))
 
     def text(self, premise: str) -> str:
         """What the premise states, for people."""
