@@ -13,9 +13,9 @@ from propbench.model.cells import Asked, Cell
 from propbench.model.measures import Interval, Measure, rounded, text_of_number
 from propbench.model.nodes import Declared
 
-# A cell counts so many steps at the most, where the user's step leaves that open: the user's step
-# is divided by a power of ten. It never counts more than the second.
-_FINE, _MOST = 10**8, 8 * 10**17
+# A cell counts so many steps at the most, where the user's step is divided by a power of ten for
+# that; so many where the user gave none; and never more than the last.
+_FINE, _FINEST, _MOST = 10**8, 10**15, 8 * 10**17
 
 
 class Quantity(Cell, Term):
@@ -105,7 +105,7 @@ def measure_of(
         raise ValueError(
             f"{name!r} has more steps than a cell can count: step={rounded(wanted, True):f} would do"
         )
-    while most * 10 <= _FINE * counted:
+    while most * 10 <= (_FINEST if step is None else _FINE) * counted:
         counted /= 10
     return Measure(unit.text, unit.factor, unit.offset, counted, digits, ends[0], ends[1])
 

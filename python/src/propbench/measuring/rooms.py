@@ -4,11 +4,11 @@ from collections.abc import Mapping
 from dataclasses import dataclass
 from fractions import Fraction
 
+from propbench.measuring.parts import size_of
 from propbench.measuring.stating import Stated, quantities_in
 from propbench.measuring.translation import Told
 from propbench.model.measures import Interval
 from propbench.model.nodes import Declared
-from propbench.model.ranges import uncut_range_of
 from propbench.questions.clock import Clock
 from propbench.questions.model import Model
 from propbench.questions.rooms import Numbers, room_left
@@ -62,5 +62,4 @@ def _middle(seen: Seen, cell: Declared) -> Numbers | None:
 
 def share_of(told: Told) -> Fraction:
     """The room of a law as a part of what its terms may be."""
-    low, high = uncut_range_of(told.node)
-    return Fraction(told.room, max(abs(low), abs(high), 1))
+    return told.radius.most / max(size_of(told.node), 1)

@@ -1,28 +1,37 @@
 """Laws over real numbers as constraints over whole ones, so that no real solution is lost.
 
-A part is a whole number that stands for a real: their distance, in steps, is at most its radius.
-Each operation makes parts of parts, and a law asks that the sum of its parts is no farther from
-zero than all radii together. docs/MEASURING.md has the proof of each rule.
+Each operation makes parts of parts (`parts`), and a law asks that the sum of its parts is no farther
+from zero than all radii together. docs/MEASURING.md has the proof of each rule.
 """
 
 from collections.abc import Callable
 from dataclasses import dataclass
 from fractions import Fraction
-from math import floor, gcd
+from math import ceil, gcd
 
 from propbench.measuring.bounds import Bounds, BoundsOf, power, product
 from propbench.measuring.linear import Linear, linear_of
+from propbench.measuring.parts import (
+    MOST_FACTOR,
+    MOST_WHOLE,
+    Part,
+    Radius,
+    absolute,
+    coarser,
+    smaller,
+    summed,
+    within,
+)
 from propbench.measuring.terms import Real, Sort, text_of
-from propbench.model.expressions import Number, maximum, minimum, total
+from propbench.model.expressions import Number, maximum, minimum
 from propbench.model.measures import HALF
 from propbench.model.nodes import Node, cell, number
 from propbench.model.ranges import uncut_range_of
 
-# The largest whole number within a law, and the largest that is multiplied with another.
-MOST_WHOLE, MOST_FACTOR = 8 * 10**17, 8 * 10**8
 # A part is made coarser where its radius is larger than the first, and down to the second.
 _LARGE, _SMALL = 300, 30
-_TEN = Fraction(10)
+# A radius grows with a number that may be so many times as large as it is at least.
+_WIDE = 16
 
 
 class TooCoarse(ValueError):
@@ -30,42 +39,19 @@ class TooCoarse(ValueError):
 
 
 @dataclass(frozen=True)
-class Part:
-    """A whole number `node` with |node - real / step| <= radius, and the bounds of the real."""
-
-    node: Node
-    step: Fraction
-    radius: Fraction
-    bounds: Bounds
-
-    @property
-    def most(self) -> Fraction:
-        """How far the real may be from zero, in steps."""
-        return max(abs(self.bounds[0]), abs(self.bounds[1])) / self.step
-
-    @property
-    def size(self) -> int:
-        """How far the whole number may be from zero."""
-        low, high = uncut_range_of(self.node)
-        return max(abs(low), abs(high))
-
-
-@dataclass(frozen=True)
 class Told:
-    """A law, or a form of it, as whole numbers: `node` lies within `room` of zero, or not above
+    """A law, or a form of it, as whole numbers: `node` lies within `radius` of zero, or not above
     it, where it is a bound. `step` is what they count."""
 
     node: Node
-    room: int
+    radius: Radius
     step: Fraction
     is_equation: bool
 
     @property
     def constraint(self) -> Node:
         """The constraint that says so."""
-        whole = Number(self.node)
-        above = whole <= self.room
-        return ((whole >= -self.room) & above if self.is_equation else above).node
+        return within(self.node, self.radius, self.is_equation)
 
 
 class Translator:
@@ -79,7 +65,7 @@ class Translator:
     def told(self, form: Linear, is_equation: bool) -> Told:
         """The law that a sum is zero, or at most zero. Raises NoBound and TooCoarse."""
         whole = self._sum(form, MOST_WHOLE)
-        return Told(whole.node, floor(whole.radius), whole.step, is_equation)
+        return Told(whole.node, whole.radius, whole.step, is_equation)
 
     def part(self, real: Real) -> Part:
         """The part of a term, small enough to be multiplied."""
@@ -94,7 +80,8 @@ class Translator:
         if atom.sort is Sort.QUANTITY:
             measure = atom.quantity.measure
             assert measure is not None
-            return Part(cell(atom.quantity), measure.step, HALF, (measure.low, measure.high))
+            bounds = measure.low, measure.high
+            return Part(cell(atom.quantity), measure.step, Radius(HALF), bounds)
         if atom.sort is Sort.ROOT:
             return self._atom(self._hidden(atom, self.bounds(atom)))
         parts = [self.part(arg) for arg in atom.args]
@@ -107,7 +94,7 @@ class Translator:
             return divided(parts[0], parts[1], bounds, text_of(atom))
         if atom.sort is Sort.ABSOLUTE:
             [inner] = parts
-            return Part(abs(Number(inner.node)).node, inner.step, inner.radius, bounds)
+            return Part(absolute(inner.node), inner.step, inner.radius, bounds)
         return extreme(atom.sort, parts, bounds)
 
     def _powered(self, atom: Real, base: Part) -> Part:
@@ -131,98 +118,95 @@ class Translator:
         step, parts = _common_step(parts, form.constant)
         low = high = form.constant
         rest = round(form.constant / step)
-        radius = abs(form.constant / step - rest)
-        summands = [(Number(number(1)), rest)]
+        radius = Radius(abs(form.constant / step - rest))
+        summands: list[tuple[Number, int]] = []
         for part, coefficient in parts:
             exact = coefficient * part.step / step
             factor = round(exact)
-            summands.insert(-1, (Number(part.node), factor))
-            radius += abs(factor) * part.radius + abs(exact - factor) * part.most
+            summands.append((Number(part.node), factor))
+            off = Radius(abs(exact - factor) * part.most)
+            radius = radius.plus(part.radius.times(Fraction(abs(factor))), off)
             ends = product(part.bounds, (coefficient, coefficient))
             low, high = low + ends[0], high + ends[1]
-        return smaller(Part(_summed(summands), step, radius, (low, high)), most)
+        node = summed([*summands, (Number(number(1)), rest)])
+        return smaller(Part(node, step, radius, (low, high)), most)
 
 
 def multiplied(one: Part, other: Part, bounds: Bounds) -> Part:
     """The product: with x and y rounded by at most r and s, xy is off by |x|s + |y|r + rs."""
-    radius = one.most * other.radius + other.most * one.radius + one.radius * other.radius
+    radius = _times_size(other.radius, one).plus(_times_size(one.radius, other))
+    radius = radius.plus(Radius(one.radius.most * other.radius.most))
     node = (Number(one.node) * Number(other.node)).node
     return Part(node, one.step * other.step, radius, bounds)
+
+
+def _times_size(radius: Radius, part: Part) -> Radius:
+    """A radius times how far a part is from zero, which it grows with where that may be much more
+    than it is at least."""
+    if part.most <= _WIDE * part.least:
+        return radius.times(part.most)
+    return radius.times_node(absolute(part.node))
 
 
 def divided(above: Part, below: Part, bounds: Bounds, text: str) -> Part:
     """The quotient, of as many digits as it has: ten to some power times the one, divided by the
     other and rounded down."""
-    least = min(abs(end) for end in below.bounds) / below.step - below.radius
-    if least <= 0:
-        wanted = below.step * least_step_for(below)
-        raise TooCoarse(
-            f"`{text}` can't be told in steps of {float(below.step):.3g} of its divisor: "
-            f"{float(wanted):.3g} would do, or ends farther from 0"
-        )
+    off = below.radius.most
+    least = below.least - off
+    if least < 4 * off or least < 1:
+        raise TooCoarse(f"`{text}` can't be told: its divisor has too few steps where it is least")
     ratio = max(abs(end) for end in bounds) * below.step / above.step
-    off = (above.radius + ratio * below.radius) / least
-    factor = Fraction(1)
+    is_wide = below.most > _WIDE * below.least
+    # (Where the divisor is wide, there are as many digits as there is room for.)
+    spread = Fraction(0) if is_wide else (above.radius.most + ratio * off) / least
+    factor = 1
     while (
-        factor * _TEN * max(above.size, 1) <= MOST_WHOLE
-        and factor * _TEN * ratio <= MOST_FACTOR
-        and factor * off <= _SMALL
+        factor * 10 * max(Fraction(above.size), 2 * above.radius.most) <= MOST_WHOLE
+        and factor * 10 * ratio <= MOST_FACTOR
+        and factor * spread <= _SMALL
     ):
-        factor *= _TEN
-    node = (Number(above.node) * int(factor) // Number(below.node)).node
-    return Part(node, above.step / below.step / factor, 1 + factor * off, bounds)
+        factor *= 10
+    node = (Number(above.node) * factor // Number(below.node)).node
+    radius = Radius(1 + factor * spread)
+    if is_wide:
+        radius = Radius(Fraction(1)).plus(_spread(above, below, node, factor, least))
+    return Part(node, above.step / below.step / factor, radius, bounds)
 
 
-def least_step_for(below: Part) -> Fraction:
-    """By what the steps of a divisor have to be multiplied so that it is told apart from zero."""
-    return min(abs(end) for end in below.bounds) / below.step / (4 * below.radius)
+def _spread(above: Part, below: Part, quotient: Node, factor: int, least: Fraction) -> Radius:
+    """How far a quotient is off by a divisor that may be small or large: it grows with the quotient
+    divided by the divisor again."""
+    most = ceil(2 * factor * above.radius.most)
+    times = ceil(2 * below.radius.most)
+    spread = (Number(absolute(quotient)) + 1) * times + most
+    found = (spread // Number(absolute(below.node)) + 1).node
+    share = least / (least + below.radius.most)
+    return Radius(Fraction(0), ((found, 1 / (2 * share)),))
 
 
 def extreme(sort: Sort, parts: list[Part], bounds: Bounds) -> Part:
     """The greatest or the least, in steps that all have in common."""
     step, same = _common_step([(part, Fraction(1)) for part in parts], Fraction(0))
-    numbers, radius = [], Fraction(0)
+    numbers, radii = [], []
     for part, _ in same:
         exact = part.step / step
         factor = round(exact)
         numbers.append(Number(part.node) * factor)
-        radius = max(radius, factor * part.radius + abs(exact - factor) * part.most)
+        off = Radius(abs(exact - factor) * part.most)
+        radii.append(part.radius.times(Fraction(factor)).plus(off))
     found = maximum(numbers) if sort is Sort.GREATEST else minimum(numbers)
+    # (No farther than the farthest of them; where that can't be told, than all together.)
+    if any(radius.terms for radius in radii):
+        radius = radii[0].plus(*radii[1:])
+    else:
+        radius = max(radii, key=lambda each: each.constant)
     return smaller(Part(found.node, step, radius, bounds), MOST_FACTOR)
-
-
-def smaller(part: Part, most: int) -> Part:
-    """The same in steps of a power of ten of its own, where it is larger than this otherwise."""
-    divisor = 1
-    while part.size > most * divisor:
-        divisor *= 10
-    return _coarser(part, divisor)
-
-
-def _coarser(part: Part, divisor: int) -> Part:
-    """The same in steps of so many of its own, rounded to the nearest."""
-    if divisor == 1:
-        return part
-    node = ((Number(part.node) + divisor // 2) // divisor).node
-    return Part(node, part.step * divisor, part.radius / divisor + HALF, part.bounds)
-
-
-def _summed(summands: list[tuple[Number, int]]) -> Node:
-    """The sum of numbers times factors: what is added less what is taken away."""
-    added, taken = (
-        total([each if abs(factor) == 1 else each * abs(factor) for each, factor in kept])
-        for kept in (
-            [each for each in summands if each[1] > 0],
-            [each for each in summands if each[1] < 0],
-        )
-    )
-    return (added - taken if taken.node is not number(0) else added).node
 
 
 def _constant(value: Fraction) -> Part:
     """A constant: so many steps of its own size."""
     sign = (value > 0) - (value < 0)
-    return Part(number(sign), abs(value) or Fraction(1), Fraction(0), (value, value))
+    return Part(number(sign), abs(value) or Fraction(1), Radius(Fraction(0)), (value, value))
 
 
 def _common_step(
@@ -238,15 +222,29 @@ def _common_step(
         for each in (exact, step):
             if size <= MOST_WHOLE * each:
                 return each, parts
-        place = max(range(len(parts)), key=lambda at: parts[at][0].radius)
+        place = max(range(len(parts)), key=lambda at: _roughness(parts[at][0]))
         part, coefficient = parts[place]
-        if part.radius < _LARGE:
+        least = _roughness(part)
+        if least < _LARGE:
             return size / MOST_WHOLE, parts
         divisor = 10
-        while part.radius / (divisor * 10) >= _SMALL:
+        while least / (divisor * 10) >= _SMALL:
             divisor *= 10
         parts = [*parts]
-        parts[place] = (_coarser(part, divisor), coefficient)
+        parts[place] = (coarser(part, divisor), coefficient)
+
+
+def _least_of(node: Node) -> int:
+    """How far a whole number is from zero at least."""
+    low, high = uncut_range_of(node)
+    return max(low, -high, 0)
+
+
+def _roughness(part: Part) -> Fraction:
+    """The radius where it is least."""
+    return part.radius.constant + sum(
+        factor * _least_of(node) for node, factor in part.radius.terms
+    )
 
 
 def _divisor_of(numbers: list[Fraction]) -> Fraction:
