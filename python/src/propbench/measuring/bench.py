@@ -65,9 +65,13 @@ class Measuring(Questions):
         for quantity in quantities_in(law):
             if quantity.owner is not self._owner:
                 raise ValueError(f"{quantity.name!r} is a quantity of another workbench")
-        found, roots = stated(law, self._laws_always(under), under, self._hidden)
-        for each in (found, *roots):
-            self._network.do(LawStated(each.constraint, under, each.law.text))
+        try:
+            found, roots = stated(law, self._laws_always(under), under, self._hidden)
+            events = [LawStated(it.constraint, under, it.law.text) for it in (found, *roots)]
+        except RecursionError:
+            raise ValueError("a law is nested too deeply: name parts of it by quantities") from None
+        for event in events:
+            self._network.do(event)
         self._laws[law] = found
 
     def read(

@@ -59,9 +59,12 @@ def linear_of(real: Real) -> Linear:
     if real.sort is Sort.CONSTANT:
         return Linear((), real.number, real.dimension)
     if real.sort in (Sort.SUM, Sort.DIFFERENCE):
-        left, right = (linear_of(arg) for arg in real.args)
+        first, *others = (linear_of(arg) for arg in real.args)
         sign = Fraction(1 if real.sort is Sort.SUM else -1)
-        return Linear(left.terms, left.constant, real.dimension).plus(right, sign)
+        made = Linear(first.terms, first.constant, real.dimension)
+        for other in others:
+            made = made.plus(other, sign)
+        return made
     if real.sort is Sort.NEGATIVE:
         return linear_of(real.args[0]).times(Fraction(-1))
     if real.sort is Sort.MEAN:
@@ -88,10 +91,8 @@ def real_of_linear(form: Linear) -> Real:
 
 def summed(parts: Iterable[Real]) -> Real:
     """The sum of one or more terms."""
-    first, *others = parts
-    for other in others:
-        first = Real(Sort.SUM, (first, other), first.dimension)
-    return first
+    given = tuple(parts)
+    return given[0] if len(given) == 1 else Real(Sort.SUM, given, given[0].dimension)
 
 
 def _scaled(atom: Real, coefficient: Fraction) -> Real:

@@ -16,8 +16,9 @@ from propbench.model.measures import HALF
 from propbench.model.nodes import Node
 from propbench.model.ranges import uncut_range_of
 
-# The largest whole number that a law is told by, and the largest that is multiplied with another.
-MOST_WHOLE, MOST_FACTOR = 8 * 10**17, 6 * 10**8
+# The largest whole number that a law is told by, the largest that is divided or a divisor, and the
+# largest that is multiplied with another.
+MOST_WHOLE, MOST_DIVIDED, MOST_FACTOR = 8 * 10**17, 10**17, 6 * 10**8
 # What stands beside a radius in a constraint may be so large together with it.
 MOST_BESIDE = 99 * 10**16
 # A factor is rounded up that is less than this, and where it is told exactly, at most by the second.

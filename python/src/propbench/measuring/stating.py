@@ -1,7 +1,7 @@
 """What a user states of quantities, as events: cells, laws in whole numbers, and readings."""
 
 from collections.abc import Callable, Sequence
-from dataclasses import dataclass
+from dataclasses import dataclass, replace
 from fractions import Fraction
 
 from propbench.measuring.bounds import Bounds, NoBound
@@ -15,8 +15,11 @@ from propbench.measuring.units import Unit, dimension_text
 from propbench.model.events import Read
 from propbench.model.given import cells_of
 from propbench.model.kinds import Plain
-from propbench.model.measures import Measure
+from propbench.model.measures import Measure, rounded
 from propbench.model.nodes import Declared, Node, all_of
+
+# What is too coarse is tried with steps that are finer by up to so many powers of ten.
+_FINER = 10
 
 # Makes a quantity that the user didn't name: the root within a term.
 MakeHidden = Callable[[str, Measure], Declared]
@@ -43,8 +46,17 @@ def stated(
     """A law as it is told, and those that say what the roots in it are. `before` are the laws that
     hold always as this one, with which it may be combined.
 
-    Raises NoBound and TooCoarse where the law can't be told.
+    Raises NoBound, and TooCoarse, which says what would do, where the law can't be told.
     """
+    try:
+        return _stated(law, before, under, make_hidden)
+    except TooCoarse as coarse:
+        raise TooCoarse(f"{coarse}; {_what_would_do(law)}") from None
+
+
+def _stated(
+    law: Law, before: Sequence[Law], under: str | None, make_hidden: MakeHidden
+) -> tuple[Stated, list[Stated]]:
     roots: dict[Real, Real] = {}
     definitions: list[Law] = []
 
@@ -63,7 +75,40 @@ def stated(
         forms += combined([*before, law], translator.bounds)
     others = [told for form in forms if (told := _told(translator, form))]
     found = Stated(law, written, tuple(others), under)
-    return found, [stated(each, (), under, make_hidden)[0] for each in definitions]
+    return found, [_stated(each, (), under, make_hidden)[0] for each in definitions]
+
+
+def _what_would_do(law: Law) -> str:
+    """Which step of one of its quantities would do for a law."""
+    for power in range(1, _FINER):
+        for quantity in quantities_in(law):
+            assert quantity.measure is not None
+            finer = replace(quantity.measure, step=quantity.measure.step / 10**power)
+            tried = declared(quantity.name, finer, None)
+            try:
+                _stated(_with(law, quantity, tried), (), None, _unowned)
+            except (NoBound, TooCoarse, ValueError):
+                continue
+            step = rounded(finer.step / finer.factor, False)
+            return f"step={step:f} would do for {quantity.name!r}"
+    return "ends that are farther from 0 would do"
+
+
+def _unowned(name: str, measure: Measure) -> Declared:
+    """A quantity of no workbench."""
+    return declared(name, measure, None)
+
+
+def _with(law: Law, quantity: Declared, other: Declared) -> Law:
+    """A law with another quantity in the place of one."""
+
+    def put(real: Real) -> Real:
+        is_it = real.declared is quantity
+        return replace(
+            real, args=tuple(map(put, real.args)), declared=other if is_it else real.declared
+        )
+
+    return replace(law, left=put(law.left), right=put(law.right))
 
 
 def _told(translator: Translator, form: Form) -> Told | None:

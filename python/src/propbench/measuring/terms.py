@@ -210,10 +210,8 @@ def extreme(sort: Sort, terms: "Iterable[object]") -> Term:
 
 def sum_of(terms: "Iterable[object]") -> Term:
     """The sum of these terms."""
-    first, *others = reals_of(terms)
-    for other in others:
-        first = Real(Sort.SUM, (first, other), _common([first, other]))
-    return Made(first)
+    reals = reals_of(terms)
+    return Made(reals[0] if len(reals) == 1 else Real(Sort.SUM, tuple(reals), _common(reals)))
 
 
 def reals_of(terms: Iterable[object]) -> list[Real]:
@@ -259,7 +257,10 @@ def _divided(left: Real, right: Real) -> Real:
 
 def _added(sort: Sort, left: object, right: object) -> Real:
     reals = [real_of(left), real_of(right)]
-    return Real(sort, tuple(reals), _common(reals))
+    dimension = _common(reals)
+    if sort is Sort.SUM and reals[0].sort is Sort.SUM:
+        reals = [*reals[0].args, reals[1]]
+    return Real(sort, tuple(reals), dimension)
 
 
 def _compared(relation: str, left: Term, right: object) -> Law:
@@ -308,8 +309,8 @@ def _text(real: Real) -> tuple[str, int]:
         return real.text or text_of_number(real.number), _WHOLE if real.number >= 0 else _UNARY
     if real.sort in _BETWEEN:
         tight = _BETWEEN[real.sort]
-        left, right = _held(real.args[0], tight), _held(real.args[1], tight + 1)
-        return f"{left} {real.sort.value} {right}", tight
+        parts = [_held(real.args[0], tight), *(_held(arg, tight + 1) for arg in real.args[1:])]
+        return f" {real.sort.value} ".join(parts), tight
     if real.sort is Sort.NEGATIVE:
         return f"-{_held(real.args[0], _UNARY)}", _UNARY
     if real.sort is Sort.POWER:

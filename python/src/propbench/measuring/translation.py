@@ -12,6 +12,7 @@ from math import ceil, gcd
 from propbench.measuring.bounds import Bounds, BoundsOf, power, product
 from propbench.measuring.linear import Linear, linear_of
 from propbench.measuring.parts import (
+    MOST_DIVIDED,
     MOST_FACTOR,
     MOST_WHOLE,
     Part,
@@ -84,14 +85,15 @@ class Translator:
             return Part(cell(atom.quantity), measure.step, Radius(HALF), bounds)
         if atom.sort is Sort.ROOT:
             return self._atom(self._hidden(atom, self.bounds(atom)))
-        parts = [self.part(arg) for arg in atom.args]
         bounds = self.bounds(atom)
+        if atom.sort is Sort.QUOTIENT:
+            above, below = (self._sum(linear_of(arg), MOST_DIVIDED) for arg in atom.args)
+            return divided(above, below, bounds, text_of(atom))
+        parts = [self.part(arg) for arg in atom.args]
         if atom.sort is Sort.PRODUCT:
             return multiplied(parts[0], parts[1], bounds)
         if atom.sort is Sort.POWER:
             return self._powered(atom, parts[0])
-        if atom.sort is Sort.QUOTIENT:
-            return divided(parts[0], parts[1], bounds, text_of(atom))
         if atom.sort is Sort.ABSOLUTE:
             [inner] = parts
             return Part(absolute(inner.node), inner.step, inner.radius, bounds)
