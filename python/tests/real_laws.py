@@ -292,7 +292,7 @@ def _quotient_of(values: list[Fraction]) -> Fraction:
 
 
 _VALUES: dict[Sort, Callable[[list[Fraction]], Fraction]] = {
-    Sort.SUM: lambda values: values[0] + values[1],
+    Sort.SUM: lambda values: sum(values, Fraction(0)),
     Sort.DIFFERENCE: lambda values: values[0] - values[1],
     Sort.NEGATIVE: lambda values: -values[0],
     Sort.PRODUCT: lambda values: values[0] * values[1],

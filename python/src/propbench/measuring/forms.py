@@ -2,7 +2,7 @@
 with each quantity once, which tells more where the user's form has one of them several times.
 """
 
-from collections.abc import Iterator
+from collections.abc import Collection, Iterable, Iterator
 from dataclasses import dataclass
 from fractions import Fraction
 
@@ -154,9 +154,10 @@ def each_once(form: Linear, bounds: BoundsOf) -> Linear | None:
     if made is None or len(made) < 2:
         return None
     atoms = list(dict.fromkeys(atom for monomial in made for atom, _ in monomial))
+    terms = [atom for atom, _ in form.terms]
     if all(len(list(_with(made, atom))) == 1 for atom in atoms):
         # (as written a quantity may stand twice where it does not when multiplied out)
-        return linear_of_polynomial(made) if _is_repeated(form, len(atoms)) else None
+        return linear_of_polynomial(made) if _is_repeated(terms, atoms) else None
     shift: dict[Real, int] = {}
     for atom in atoms:
         exponents = [dict(monomial).get(atom, 0) for monomial in made]
@@ -179,14 +180,16 @@ def _with(made: Polynomial, atom: Real) -> Iterator[Monomial]:
     return (monomial for monomial in made if atom in dict(monomial))
 
 
-def _is_repeated(form: Linear, count: int) -> bool:
-    """Whether more quantities stand in a sum than there are."""
-    waiting, found = [atom for atom, _ in form.terms], 0
+def _is_repeated(terms: Iterable[Real], atoms: Collection[Real]) -> bool:
+    """Whether one of these atoms stands in terms more than once."""
+    waiting, found = list(terms), 0
     while waiting:
         each = waiting.pop()
-        found += each.sort is Sort.QUANTITY
-        waiting += each.args
-    return found > count
+        if each in atoms:
+            found += 1
+        else:
+            waiting += each.args
+    return found > len(atoms)
 
 
 def linear_of_polynomial(made: Polynomial) -> Linear:
