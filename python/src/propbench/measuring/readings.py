@@ -19,7 +19,8 @@ Given = str | Exact | tuple["Exact | str", "Exact | str"]
 COVERAGE = 3
 
 _NUMBER = r"[-+]?(?:\d+\.?\d*|\.\d+)(?:[eE][-+]?\d+)?"
-_AMOUNT = re.compile(rf"({_NUMBER})\s*(.*)")
+_UNIT = r"(?:[^\W\d]|[%°Ω]|1/).*|"
+_AMOUNT = re.compile(rf"({_NUMBER})\s*({_UNIT})")
 # A number whose uncertainty stands in brackets, in units of its last digit.
 _BRACKETS = re.compile(r"([-+]?(?:\d+\.?\d*|\.\d+))\((\d+)\)((?:[eE][-+]?\d+)?)\s*(.*)")
 

@@ -27,10 +27,10 @@ from propbench.measuring.terms import Real, Sort, text_of
 from propbench.model.expressions import Number, maximum, minimum
 from propbench.model.measures import HALF
 from propbench.model.nodes import Node, cell, number
-from propbench.model.ranges import uncut_range_of
 
-# A part is made coarser where its radius is larger than the first, and down to the second.
-_LARGE, _SMALL = 300, 30
+# A part that has more steps than this may be made coarser in a sum; a quotient has as many as make
+# its radius this.
+_FINE, _SMALL = 10**9, 30
 # A radius grows with a number that may be so many times as large as it is at least.
 _WIDE = 16
 
@@ -126,8 +126,9 @@ class Translator:
             exact = coefficient * part.step / step
             factor = round(exact)
             summands.append((Number(part.node), factor))
-            off = Radius(abs(exact - factor) * part.most)
-            radius = radius.plus(part.radius.times(Fraction(abs(factor))), off)
+            off = _times_size(Radius(abs(exact - factor)), part)
+            times = max(abs(exact), Fraction(abs(factor)))
+            radius = radius.plus(part.radius.times(times), off)
             ends = product(part.bounds, (coefficient, coefficient))
             low, high = low + ends[0], high + ends[1]
         node = summed([*summands, (Number(number(1)), rest)])
@@ -194,8 +195,8 @@ def extreme(sort: Sort, parts: list[Part], bounds: Bounds) -> Part:
         exact = part.step / step
         factor = round(exact)
         numbers.append(Number(part.node) * factor)
-        off = Radius(abs(exact - factor) * part.most)
-        radii.append(part.radius.times(Fraction(factor)).plus(off))
+        off = _times_size(Radius(abs(exact - factor)), part)
+        radii.append(part.radius.times(max(exact, Fraction(factor))).plus(off))
     found = maximum(numbers) if sort is Sort.GREATEST else minimum(numbers)
     # (No farther than the farthest of them; where that can't be told, than all together.)
     if any(radius.terms for radius in radii):
@@ -214,39 +215,24 @@ def _constant(value: Fraction) -> Part:
 def _common_step(
     parts: list[tuple[Part, Fraction]], more: Fraction
 ) -> tuple[Fraction, list[tuple[Part, Fraction]]]:
-    """A step for a sum of parts with coefficients and of a constant, and the parts, made coarser
-    where their radius allows it: exact where the whole numbers stay small enough for that."""
+    """A step for a sum of parts with coefficients and of a constant, and the parts, the finest made
+    coarser until the whole numbers are small enough to be exact, as long as they have enough steps
+    for that; else a step of which they are no multiples."""
+    divisors, made = [1 for _ in parts], list(parts)
     while True:
-        step = _divisor_of([coefficient * part.step for part, coefficient in parts])
+        step = _divisor_of([coefficient * part.step for part, coefficient in made])
         exact = _divisor_of([step, more]) if more else step
-        size = sum(abs(coefficient) * part.step * part.size for part, coefficient in parts)
+        size = sum(abs(coefficient) * part.step * part.size for part, coefficient in made)
         size += abs(more)
         for each in (exact, step):
             if size <= MOST_WHOLE * each:
-                return each, parts
-        place = max(range(len(parts)), key=lambda at: _roughness(parts[at][0]))
-        part, coefficient = parts[place]
-        least = _roughness(part)
-        if least < _LARGE:
-            return size / MOST_WHOLE, parts
-        divisor = 10
-        while least / (divisor * 10) >= _SMALL:
-            divisor *= 10
-        parts = [*parts]
-        parts[place] = (coarser(part, divisor), coefficient)
-
-
-def _least_of(node: Node) -> int:
-    """How far a whole number is from zero at least."""
-    low, high = uncut_range_of(node)
-    return max(low, -high, 0)
-
-
-def _roughness(part: Part) -> Fraction:
-    """The radius where it is least."""
-    return part.radius.constant + sum(
-        factor * _least_of(node) for node, factor in part.radius.terms
-    )
+                return each, made
+        fine = [place for place, (part, _) in enumerate(made) if part.size > _FINE]
+        if not fine:
+            return size / MOST_WHOLE, made
+        place = min(fine, key=lambda at: abs(made[at][1]) * made[at][0].step)
+        divisors[place] *= 10
+        made[place] = (coarser(parts[place][0], divisors[place]), parts[place][1])
 
 
 def _divisor_of(numbers: list[Fraction]) -> Fraction:

@@ -8,6 +8,7 @@ import re
 from collections.abc import Mapping
 from dataclasses import dataclass
 from fractions import Fraction
+from functools import cache
 from importlib import import_module
 from typing import Any
 
@@ -68,14 +69,7 @@ def unit_of(text: str) -> Unit:
     if written in _OFFSETS:
         factor, offset = _OFFSETS[written]
         return Unit(written, _base("K"), factor, offset)
-    try:
-        dimension, factor = _product(written)
-    except UnknownUnit as unknown:
-        found = _of_pint(written)
-        if found is None:
-            raise unknown from None
-        dimension, factor = found
-    return Unit(written, dimension, factor)
+    return Unit(written, *_product(written))
 
 
 def _product(written: str) -> tuple[Dimension, Fraction]:
@@ -103,6 +97,9 @@ def _named(word: str, written: str) -> tuple[Dimension, Fraction]:
         if name != word and name in _PREFIXED:
             dimension, factor = _UNITS[name]
             return dimension, factor * size
+    found = _of_pint(word)
+    if found is not None:
+        return found
     raise UnknownUnit(_unknown(written, word))
 
 
@@ -111,15 +108,16 @@ def _unknown(written: str, word: str) -> str:
     return f"{word!r}{part} is no unit that is known; more are where Python's pint is installed"
 
 
-def _of_pint(written: str) -> tuple[Dimension, Fraction] | None:
-    """The same by pint; None where it isn't there, or knows none."""
+@cache
+def _of_pint(word: str) -> tuple[Dimension, Fraction] | None:
+    """The same by pint; None where it isn't there, or knows none that is exact."""
     try:
         pint: Any = import_module("pint")
     except ImportError:
         return None
     try:
         registry = pint.UnitRegistry(non_int_type=Fraction)
-        found = registry.Quantity(Fraction(1), written).to_base_units()
+        found = registry.Quantity(Fraction(1), word).to_base_units()
         powers = {_OF_PINT.get(name, name): power for name, power in found.dimensionality.items()}
         is_exact = isinstance(found.magnitude, int | Fraction)
     except Exception:  # (what pint raises for a text has no class in common)
