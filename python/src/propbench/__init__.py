@@ -7,8 +7,10 @@ description, and nothing is concluded from it.
 """
 
 from propbench.finding import NoProgram, find_program
+from propbench.measuring.bounds import NoBound
 from propbench.measuring.functions import maximum, mean, minimum, total
 from propbench.measuring.readings import NoReading
+from propbench.measuring.translation import TooCoarse
 from propbench.measuring.units import MixedUnits, UnknownUnit
 from propbench.model.answers import Answer, Conflict, NotSettled
 from propbench.model.expressions import (
@@ -76,6 +78,7 @@ __all__ = [
     "LineTooLong",
     "MixedUnits",
     "NameTaken",
+    "NoBound",
     "NoProgram",
     "NoReading",
     "NoSuchCell",
@@ -100,6 +103,7 @@ __all__ = [
     "Silent",
     "Span",
     "Symbol",
+    "TooCoarse",
     "UnknownCommand",
     "UnknownUnit",
     "Unsettled",

@@ -17,11 +17,11 @@ from types import TracebackType
 from typing import TypeVar, overload
 
 from propbench.measuring.bench import Measuring
-from propbench.measuring.quantities import Quantity
+from propbench.measuring.quantities import Quantity, coverage_of
 from propbench.measuring.sensitivity import Improvements
 from propbench.measuring.readings import reading_of
 from propbench.measuring import stating
-from propbench.measuring.terms import Law
+from propbench.measuring.terms import Law, Real
 from propbench.model.answers import Answer, Conflict, NotSettled, ends_of
 from propbench.model.blaming import always, beyond
 from propbench.model.cells import Cell, ElementCell, NumberCell, SymbolCell, TruthCell, words_of
@@ -92,6 +92,7 @@ class Workbench(Measuring):
         self._network = Network(open_session)
         self._cells: dict[str, Cell] = {}
         self._laws: dict[Law, stating.Stated] = {}
+        self._roots: dict[Real, Declared] = {}
 
     def __enter__(self) -> "Workbench":
         return self
@@ -326,7 +327,8 @@ class Workbench(Measuring):
             for cell, reply in zip(declared, replies)
             if isinstance(reply, Value)
         )
-        return Table(answers, read.choices(plan), () if self.proved else (UNPROVED,))
+        notes = [note for note in (coverage_of(answers), "" if self.proved else UNPROVED) if note]
+        return Table(answers, read.choices(plan), tuple(notes))
 
     def show(self, *cells: Cell) -> None:
         """Prints what follows for these cells, or for all; at a conflict, what can't all hold."""

@@ -10,7 +10,7 @@ from propbench.measuring.rooms import Room, find_room
 from propbench.measuring.sensitivity import Improvements, find_improvements
 from propbench.measuring.shaving import Shaved, find_shaved
 from propbench.measuring.stating import Stated, declared, quantities_in, read, stated
-from propbench.measuring.terms import Law
+from propbench.measuring.terms import Law, Real, text_of
 from propbench.measuring.units import unit_of
 from propbench.model.answers import Conflict
 from propbench.model.events import LawStated, Read
@@ -31,6 +31,8 @@ class Measuring(Questions):
     _network: Network
     _owner: object
     _laws: dict[Law, Stated]
+    # The roots within laws, which are quantities too.
+    _roots: dict[Real, Declared]
 
     # --- what is stated ---
 
@@ -65,11 +67,20 @@ class Measuring(Questions):
         for quantity in quantities_in(law):
             if quantity.owner is not self._owner:
                 raise ValueError(f"{quantity.name!r} is a quantity of another workbench")
+        made: dict[Real, Declared] = {}
+
+        def root_of(root: Real, measure: Measure) -> Declared:
+            if root not in self._roots and root not in made:
+                made[root] = declared(self._free_name(text_of(root)), measure, self._owner)
+            return self._roots.get(root) or made[root]
+
         try:
-            found, roots = stated(law, self._laws_always(under), under, self._hidden)
+            found, roots = stated(law, self._laws_always(under), under, root_of)
             events = [LawStated(it.constraint, under, it.law.text) for it in (found, *roots)]
         except RecursionError:
             raise ValueError("a law is nested too deeply: name parts of it by quantities") from None
+        for root, cell in made.items():
+            self._roots[root] = self._quantity(cell).declared
         for event in events:
             self._network.do(event)
         self._laws[law] = found
@@ -225,13 +236,11 @@ class Measuring(Questions):
         """Raises TypeError and ValueError where no cell can be called so."""
         raise NotImplementedError
 
-    def _hidden(self, name: str, measure: Measure) -> Declared:
-        """The cell of a root within a law, made once."""
-        known = self._network.cells.get(name)
-        if known is None:
-            known = declared(name, measure, self._owner)
-            self._quantity(known)
-        return known
+    def _free_name(self, name: str) -> str:
+        """The name, with marks behind it where a cell is called so already."""
+        while name in self._network.cells:
+            name += "'"
+        return name
 
     def _laws_always(self, under: str | None) -> list[Law]:
         """The equations that hold always, with which one that does may be combined."""

@@ -54,7 +54,7 @@ def combined(laws: Sequence[Law], bounds: BoundsOf) -> list[Form]:
     found = _without_products(known)
     found += list(_without_quantities([*known, *found]))
     last = len(laws) - 1
-    kept = [each for each in found if last in each.laws and len(each.made) > 1]
+    kept = [each for each in found if last in each.laws and each.made]
     return [Form(linear_of(factored(each.made)), True) for each in kept[:_MOST]]
 
 

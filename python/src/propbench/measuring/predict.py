@@ -1,9 +1,10 @@
 """What a further reading would have to show, so that it doesn't speak against the others."""
 
+from collections.abc import Mapping
 from dataclasses import dataclass
 from fractions import Fraction
 
-from propbench.measuring.quantities import Quantity
+from propbench.measuring.quantities import Quantity, coverage_text
 from propbench.measuring.readings import Given, reading_of
 from propbench.measuring.shaving import Shaved
 from propbench.measuring.units import Unit
@@ -21,13 +22,15 @@ class Prediction:
     shows: Interval
     because: tuple[str, ...]
     complete: bool
+    coverage: Mapping[str, Fraction]
 
     def __str__(self) -> str:
         by = f" by {self.tolerance}" if self.tolerance else ""
         against = ", ".join(map(printable, self.because)) or "what holds always"
+        notes = coverage_text(self.coverage)
         return (
             f"a further reading of {printable(self.name)}{by} has to show {self.shows}: "
-            f"any other is in conflict with {against}"
+            f"any other is in conflict with {against}{notes and f' ({notes})'}"
         )
 
 
@@ -40,7 +43,7 @@ def predicted(quantity: Quantity, left: Shaved, tolerance: Given | None) -> Pred
         Fraction(end) * measure.factor + measure.offset for end in (left.value.low, left.value.high)
     )
     shows = measure.interval(low - size, high + size)
-    return Prediction(quantity.name, text, shows, left.because, left.complete)
+    return Prediction(quantity.name, text, shows, left.because, left.complete, left.coverage)
 
 
 def _tolerance(quantity: Quantity, given: Given | None) -> tuple[Fraction, str]:

@@ -88,6 +88,15 @@ def coverage_text(coverage: Mapping[str, Fraction]) -> str:
     return ", ".join(f"{name}: u taken {text_of_number(k)} times" for name, k in coverage.items())
 
 
+def coverage_of(answers: Iterable[Answer]) -> str:
+    """How many times the standard uncertainties were taken that answers rest on."""
+    found: dict[str, Fraction] = {}
+    for answer in answers:
+        if isinstance(answer, MeasuredAnswer):
+            found.update(answer.coverage)
+    return coverage_text(found)
+
+
 def measure_of(
     name: str, unit: Unit, low: Exact | str, high: Exact | str, step: Exact | str | None
 ) -> Measure:

@@ -21,8 +21,8 @@ from propbench.model.nodes import Declared, Node, all_of
 # What is too coarse is tried with steps that are finer by up to so many powers of ten.
 _FINER = 10
 
-# Makes a quantity that the user didn't name: the root within a term.
-MakeHidden = Callable[[str, Measure], Declared]
+# Gives a quantity that the user didn't name: a root within a term, by what its cell counts.
+RootOf = Callable[[Real, Measure], Declared]
 
 
 @dataclass(frozen=True)
@@ -41,7 +41,7 @@ class Stated:
 
 
 def stated(
-    law: Law, before: Sequence[Law], under: str | None, make_hidden: MakeHidden
+    law: Law, before: Sequence[Law], under: str | None, root_of: RootOf
 ) -> tuple[Stated, list[Stated]]:
     """A law as it is told, and those that say what the roots in it are. `before` are the laws that
     hold always as this one, with which it may be combined.
@@ -49,20 +49,20 @@ def stated(
     Raises NoBound, and TooCoarse, which says what would do, where the law can't be told.
     """
     try:
-        return _stated(law, before, under, make_hidden)
+        return _stated(law, before, under, root_of)
     except TooCoarse as coarse:
         raise TooCoarse(f"{coarse}; {_what_would_do(law)}") from None
 
 
 def _stated(
-    law: Law, before: Sequence[Law], under: str | None, make_hidden: MakeHidden
+    law: Law, before: Sequence[Law], under: str | None, root_of: RootOf
 ) -> tuple[Stated, list[Stated]]:
     roots: dict[Real, Real] = {}
     definitions: list[Law] = []
 
     def hidden(root: Real, bounds: Bounds) -> Real:
         if root not in roots:
-            made = make_hidden(text_of(root), _measure_of_root(root, bounds))
+            made = root_of(root, _measure_of_root(root, bounds))
             roots[root] = Real(Sort.QUANTITY, (), root.dimension, declared=made)
             square = Real(Sort.POWER, (roots[root],), root.args[0].dimension, Fraction(2))
             definitions.append(Law(square, root.args[0], True, f"{text_of(root)} is a root"))
@@ -75,7 +75,7 @@ def _stated(
         forms += combined([*before, law], translator.bounds)
     others = [told for form in forms if (told := _told(translator, form))]
     found = Stated(law, written, tuple(others), under)
-    return found, [_stated(each, (), under, make_hidden)[0] for each in definitions]
+    return found, [_stated(each, (), under, root_of)[0] for each in definitions]
 
 
 def _what_would_do(law: Law) -> str:
@@ -94,9 +94,9 @@ def _what_would_do(law: Law) -> str:
     return "ends that are farther from 0 would do"
 
 
-def _unowned(name: str, measure: Measure) -> Declared:
-    """A quantity of no workbench."""
-    return declared(name, measure, None)
+def _unowned(root: Real, measure: Measure) -> Declared:
+    """A root of no workbench."""
+    return declared(text_of(root), measure, None)
 
 
 def _with(law: Law, quantity: Declared, other: Declared) -> Law:
