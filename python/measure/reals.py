@@ -31,7 +31,7 @@ def points(case: Case, each: int) -> int:
             continue
         looked += 1
         if found:
-            sys.exit(f"LOST: {case.law} at {case.reals}: {found}")
+            sys.exit(f"LOST: {case.laws} at {case.reals}: {found}")
         if looked == each:
             break
     return looked
@@ -43,25 +43,26 @@ def main() -> None:
     read.add_argument("--each", type=int, default=50)
     read.add_argument("--seed", type=int, default=0)
     given = read.parse_args()
-    began, looked, laws, asked, refused = time.monotonic(), 0, 0, 0, 0
+    began, looked, laws, asked, cases, refused = time.monotonic(), 0, 0, 0, 0, 0
     while looked < given.cases:
-        draw = random.Random(given.seed * 10**9 + laws + refused)
+        draw = random.Random(given.seed * 10**9 + cases + refused)
         with Workbench() as w:
             try:
                 case = stated_case(w, draw)
             except (Unfit, ValueError):
                 refused += 1
                 continue
-            laws += 1
+            laws += len(case.laws)
+            cases += 1
             first = dict(case.reals)
             looked += points(case, given.each)
             case.reals = first
             read_some(case)
             out = lost(case)
             if out:
-                sys.exit(f"LOST: {case.law} at {case.reals}: {out}")
+                sys.exit(f"LOST: {case.laws} at {case.reals}: {out}")
             asked += len(case.quantities)
-        if laws % 1000 == 0:
+        if cases % 1000 == 0:
             print(f"{looked} points, {laws} laws, {asked} answers", flush=True)
     took = time.monotonic() - began
     print(

@@ -6,7 +6,7 @@ from dataclasses import dataclass, field
 from fractions import Fraction
 from math import isqrt
 
-from propbench import Workbench, maximum, mean, minimum
+from propbench import Workbench, maximum, mean, minimum, total
 from propbench.measuring.quantities import Quantity
 from propbench.measuring.terms import Law, Made, Real, Sort, Term, real_of, text_of
 from propbench.model.events import Required, Told
@@ -39,9 +39,11 @@ class Case:
     reals: dict[str, Fraction] = field(default_factory=dict)
     units: dict[str, Fraction] = field(default_factory=dict)
     quantities: dict[str, Quantity] = field(default_factory=dict)
-    law: Law | None = None
-    # The quantity that the law gives, and what it gives for it.
-    given: tuple[str, Real] | None = None
+    laws: list[Law] = field(default_factory=list)
+    # The quantities that laws give, in order, and what they give for each.
+    given: list[tuple[str, Real]] = field(default_factory=list)
+    # The roots in laws by their texts, once they are needed.
+    roots: dict[str, Real] = field(default_factory=dict)
 
     def quantity(self, value: Fraction, *, is_positive: bool = False) -> Drawn:
         """A quantity that has this value, in base units, between ends around it."""
@@ -170,11 +172,11 @@ def law_of(case: Case, depth: int) -> Law:
     made = case.term(depth)
     shape = case.draw.random()
     if shape < 0.6:
-        case.given = f"q{len(case.reals)}", made.term.real
+        case.given.append((f"q{len(case.reals)}", made.term.real))
         return case.quantity(made.value).term == made.term
     other = case.term(max(0, depth - 1))
     if shape < 0.8:
-        case.given = f"q{len(case.reals)}", (made.term - other.term).real
+        case.given.append((f"q{len(case.reals)}", (made.term - other.term).real))
         return other.term + case.quantity(made.value - other.value).term == made.term
     if made.value <= other.value:
         return made.term <= other.term
@@ -184,36 +186,68 @@ def law_of(case: Case, depth: int) -> Law:
 def stated_case(w: Workbench, draw: random.Random) -> Case:
     """A case whose law is stated. Raises Unfit, and ValueError where a term has no bound."""
     case = Case(w, draw)
-    case.law = law_of(case, draw.randint(1, 4))
-    w.law(case.law, under=draw.choice([None, None, "law"]))
+    _state(case, law_of(case, draw.randint(1, 4)), draw.choice([None, None, "law"]))
+    if draw.random() < 0.3:
+        case.leaf()
+        for _ in range(draw.randint(2, 4)):
+            _state(case, shared_law(case), None)
     return case
+
+
+def _state(case: Case, law: Law, under: str | None) -> None:
+    case.w.law(law, under)
+    case.laws.append(law)
+
+
+def shared_law(case: Case) -> Law:
+    """A law of two quantities that are there: a sum of products up to squares, as several laws may
+    have of them in common."""
+    draw, names = case.draw, list(case.quantities)
+    free = [name for name in names if name not in dict(case.given)][:2]
+    one, other = (Drawn(case.quantities[name], case.reals[name]) for name in (free * 2)[:2])
+    parts = [
+        (one.term**2 / "1 m", one.value**2, draw.choice([0, 1, 1, 2])),
+        (other.term**2 / "1 m", other.value**2, draw.choice([0, 1, 1, 3])),
+        (one.term * other.term / "1 m", one.value * other.value, draw.choice([0, 0, 1])),
+        (one.term, one.value, draw.randint(-20, 20)),
+        (other.term, other.value, draw.randint(-20, 20) or 1),
+    ]
+    kept = [each for each in parts if each[2]]
+    term = total([each * factor for each, _, factor in kept])
+    value = sum((it * factor for _, it, factor in kept), Fraction(0))
+    case.given.append((f"q{len(case.reals)}", term.real))
+    return case.quantity(value).term == term
 
 
 def redraw(case: Case) -> None:
     """Other reals that fit the law. Raises Unfit where what was drawn doesn't."""
-    assert case.law is not None
     reals = {name: _within(case, name) for name in case.reals}
-    if case.given:
-        name, real = case.given
+    for name, real in case.given:
         reals[name] = value_of(real, reals)
         measure = case.quantities[name].measure
         if not measure.low <= reals[name] <= measure.high:
             raise Unfit
-    elif value_of(case.law.left, reals) > value_of(case.law.right, reals):
-        raise Unfit
+    for law in case.laws:
+        if not law.is_equation and value_of(law.left, reals) > value_of(law.right, reals):
+            raise Unfit
     case.reals = reals
 
 
 def _within(case: Case, name: str) -> Fraction:
-    """A real between a quantity's ends: at one, near the one that it has, or any."""
+    """A real between a quantity's ends: at one, near the one that it has, or any; mostly one that
+    few binary digits tell, which is worked with fast."""
     measure, draw = case.quantities[name].measure, case.draw
     shape = draw.random()
     if shape < 0.1:
         return draw.choice([measure.low, measure.high])
-    share = Fraction(draw.randint(0, 997), 997) / (1 if shape < 0.3 else draw.choice([10, 1000]))
     end = draw.choice([measure.low, measure.high])
-    begun = draw.choice([measure.low, measure.high]) if shape < 0.3 else case.reals[name]
-    return begun + (end - begun) * share
+    begun = measure.low + measure.high - end if shape < 0.3 else case.reals[name]
+    share = Fraction(
+        draw.randint(0, 1024), 1024 if shape < 0.3 else draw.choice([2**14, 2**20])
+    )
+    real = begun + (end - begun) * share
+    plain = Fraction(round(real * 2**40), 2**40)
+    return plain if measure.low <= plain <= measure.high else real
 
 
 def read_some(case: Case) -> None:
@@ -242,13 +276,14 @@ def lost(case: Case) -> list[str]:
 def unmet(case: Case) -> list[str]:
     """What is stated that does not hold where each cell holds what it does for its real: worked out
     in whole numbers, without the program. Raises Unfit for a root that is no fraction."""
-    assert case.law is not None
-    roots = {text_of(it): it for it in (*_parts(case.law.left), *_parts(case.law.right))}
     points: dict[Declared, Point] = {}
     for cell in case.w._network.cells.values():
+        if cell.name not in case.reals and not case.roots:
+            sides = [side for law in case.laws for side in (law.left, law.right)]
+            case.roots = {text_of(it): it for side in sides for it in _parts(side)}
         real = case.reals.get(cell.name)
         assert cell.measure is not None
-        found = value_of(roots[cell.name], case.reals) if real is None else real
+        found = value_of(case.roots[cell.name], case.reals) if real is None else real
         points[cell] = cell.measure.count(found)
     events = [it for it in case.w._network.events if isinstance(it, Required | Told)]
     return [it.text for it in events if not it.is_met(points)]

@@ -2,6 +2,7 @@
 
 from collections.abc import Sequence
 
+from propbench.measuring.forms import Polynomial
 from propbench.measuring.outliers import Outliers, find_outliers
 from propbench.measuring.predict import Prediction, predicted
 from propbench.measuring.quantities import MeasuredAnswer, Quantity, measure_of, measured
@@ -70,12 +71,15 @@ class Measuring(Questions):
         made: dict[Real, Declared] = {}
 
         def root_of(root: Real, measure: Measure) -> Declared:
-            if root not in self._roots and root not in made:
+            known = self._roots.get(root)
+            if known is not None and self._network.cells.get(known.name) is known:
+                return known
+            if root not in made:
                 made[root] = declared(self._free_name(text_of(root)), measure, self._owner)
-            return self._roots.get(root) or made[root]
+            return made[root]
 
         try:
-            found, roots = stated(law, self._laws_always(under), under, root_of)
+            found, roots = stated(law, self._equations(under), under, root_of)
             events = [LawStated(it.constraint, under, it.law.text) for it in (found, *roots)]
         except RecursionError:
             raise ValueError("a law is nested too deeply: name parts of it by quantities") from None
@@ -175,7 +179,7 @@ class Measuring(Questions):
 
     # --- within ---
 
-    def related(self, quantity: Quantity) -> list[str]:
+    def _related(self, quantity: Quantity) -> list[str]:
         """The quantities that laws tie to this one, by name, those without readings in front."""
         found = {quantity.declared}
         groups = [
@@ -208,7 +212,7 @@ class Measuring(Questions):
             if len(readings) == len(premises.statements.get(name, ()))
         }
 
-    def told(self, quantity: Quantity, room: Numbers, names: Sequence[str]) -> MeasuredAnswer:
+    def _told(self, quantity: Quantity, room: Numbers, names: Sequence[str]) -> MeasuredAnswer:
         """What a cell that holds one of these numbers says, because of these premises."""
         lines = self._network.vocabulary.premises
         because = tuple(lines.line(name) for name in names)
@@ -217,7 +221,7 @@ class Measuring(Questions):
         reader = Reader(self._network.vocabulary, self._network.premises)
         return measured(reader.answer(quantity.declared, reply, {}))
 
-    def conflict_of(self, names: Sequence[str]) -> Conflict:
+    def _conflict_of(self, names: Sequence[str]) -> Conflict:
         """That these premises can't all hold, made few."""
         lines = self._network.vocabulary.premises
         return self._conflict(Contradiction(tuple(map(lines.line, names))))
@@ -242,8 +246,12 @@ class Measuring(Questions):
             name += "'"
         return name
 
-    def _laws_always(self, under: str | None) -> list[Law]:
+    def _equations(self, under: str | None) -> list[Polynomial]:
         """The equations that hold always, with which one that does may be combined."""
-        if under is not None:
-            return []
-        return [law for law, it in self._laws.items() if it.under is None and law.is_equation]
+        always = {
+            each.constraint
+            for each in self._network.events
+            if isinstance(each, LawStated) and each.premise is None and under is None
+        }
+        stated_always = [it for it in self._laws.values() if it.under is None]
+        return [it.equation for it in stated_always if it.equation and it.constraint in always]

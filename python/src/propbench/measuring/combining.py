@@ -6,17 +6,9 @@ from collections.abc import Iterator, Sequence
 from dataclasses import dataclass
 from itertools import combinations
 
-from propbench.measuring.bounds import BoundsOf
-from propbench.measuring.forms import (
-    Form,
-    Monomial,
-    Polynomial,
-    factored,
-    forms_of,
-    polynomial_of,
-)
+from propbench.measuring.forms import Form, Monomial, Polynomial, factored
 from propbench.measuring.linear import linear_of
-from propbench.measuring.terms import Law, Real
+from propbench.measuring.terms import Real
 
 # So many laws that follow are told with one law at the most.
 _MOST = 24
@@ -44,17 +36,14 @@ class Equation:
         return Equation(kept, self.laws | other.laws)
 
 
-def combined(laws: Sequence[Law], bounds: BoundsOf) -> list[Form]:
-    """What follows from equations of which the last is new, with others of them."""
-    known = [
-        Equation(made, frozenset([place]))
-        for place, law in enumerate(laws)
-        if (made := polynomial_of(forms_of(law, bounds)[0].sum)) is not None
-    ]
+def combined(before: Sequence[Polynomial], new: Polynomial) -> list[Form]:
+    """What follows from an equation with others: each is a sum of products that is zero."""
+    last = Equation(new, frozenset([len(before)]))
+    others = [Equation(made, frozenset([place])) for place, made in enumerate(before)]
+    known = [*(each for each in others if each.atoms & last.atoms), last]
     found = _without_products(known)
-    found += list(_without_quantities([*known, *found]))
-    last = len(laws) - 1
-    kept = [each for each in found if last in each.laws and each.made]
+    found += _without_quantities([*known, *found], last.laws)
+    kept = [each for each in found if last.laws <= each.laws and each.made]
     return [Form(linear_of(factored(each.made)), True) for each in kept[:_MOST]]
 
 
@@ -72,10 +61,11 @@ def _without_products(known: list[Equation]) -> list[Equation]:
     return found
 
 
-def _without_quantities(equations: Sequence[Equation]) -> Iterator[Equation]:
-    """Equations without a quantity, each from two that have more in common."""
+def _without_quantities(equations: Sequence[Equation], laws: frozenset[int]) -> Iterator[Equation]:
+    """Equations without a quantity, each from two that have more in common, and from these laws
+    with others."""
     for one, other in combinations(equations, 2):
-        if len(one.atoms & other.atoms) < 2:
+        if not laws <= one.laws | other.laws or len(one.atoms & other.atoms) < 2:
             continue
         for product in one.made:
             if product in other.made and [exponent for _, exponent in product] == [1]:

@@ -125,7 +125,7 @@ def within(node: Node, radius: Radius, is_equation: bool) -> Node:
     above it, where it is no equation."""
     counts, terms = _whole(radius, size_of(node))
     if not terms:
-        whole, most = Number(node), floor(radius.most)
+        whole, most = Number(node), min(floor(radius.most), MOST_BESIDE)
         above = whole <= most
         return ((whole >= -most) & above if is_equation else above).node
     whole, most = Number(node) * counts, floor(radius.constant * counts)

@@ -1,7 +1,7 @@
 """What follows for a quantity, as narrow as telling and forgetting makes it."""
 
 from collections.abc import Sequence
-from dataclasses import dataclass, replace
+from dataclasses import dataclass
 from typing import Protocol
 
 from propbench.measuring.narrowing import Impossible, Narrowing
@@ -41,15 +41,15 @@ class Bench(Protocol):
         """The workbench as questions see it."""
         ...
 
-    def related(self, quantity: Quantity) -> list[str]:
+    def _related(self, quantity: Quantity) -> list[str]:
         """The quantities that laws tie to this one, by name, those without readings in front."""
         ...
 
-    def told(self, quantity: Quantity, room: Numbers, names: Sequence[str]) -> MeasuredAnswer:
+    def _told(self, quantity: Quantity, room: Numbers, names: Sequence[str]) -> MeasuredAnswer:
         """What a cell that holds one of these numbers says, because of these premises."""
         ...
 
-    def conflict_of(self, names: Sequence[str]) -> Exception:
+    def _conflict_of(self, names: Sequence[str]) -> Exception:
         """That these premises can't all hold, made few."""
         ...
 
@@ -62,7 +62,7 @@ def find_shaved(
     believed = list(model.believed())
     clock = Clock(seconds, progress)
     trial = Trial(model, believed, clock)
-    narrowing = Narrowing(trial, believed, bench.related(quantity))
+    narrowing = Narrowing(trial, believed, bench._related(quantity))
     state: dict[str, Numbers] = {}
     slices: list[tuple[str, Fork | None]] = []
 
@@ -78,10 +78,10 @@ def find_shaved(
 
     def result() -> Shaved:
         if "room" not in state:
-            return Shaved(**vars(replace(quantity.ask())), complete=False)
+            return Shaved(**vars(quantity.ask(seconds=seconds)), complete=False)
         room, begun = state["room"], state["begun"]
         because = [each for each in believed if trial.line[each] in narrowing.names]
-        told = bench.told(quantity, room, because)
+        told = bench._told(quantity, room, because)
         claims, evidence = [], Evidence.of(trial)
         line = trial.cell_line[name]
         for outside in (Numbers(-MOST, room.low - 1), Numbers(room.high + 1, MOST)):
@@ -96,7 +96,7 @@ def find_shaved(
         return tried(trial, run, result)
     except Impossible as impossible:
         names = [each for each in believed if trial.line[each] in impossible.names]
-        raise bench.conflict_of(names) from None
+        raise bench._conflict_of(names) from None
 
 
 def _cases(

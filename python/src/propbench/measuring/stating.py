@@ -4,9 +4,9 @@ from collections.abc import Callable, Sequence
 from dataclasses import dataclass, replace
 from fractions import Fraction
 
-from propbench.measuring.bounds import Bounds, NoBound
+from propbench.measuring.bounds import Bounds
 from propbench.measuring.combining import combined
-from propbench.measuring.forms import Form, forms_of
+from propbench.measuring.forms import Form, Polynomial, forms_of, polynomial_of
 from propbench.measuring.quantities import measure_of
 from propbench.measuring.readings import Reading
 from propbench.measuring.terms import Law, Real, Sort, text_of
@@ -16,7 +16,7 @@ from propbench.model.events import Read
 from propbench.model.given import cells_of
 from propbench.model.kinds import Plain
 from propbench.model.measures import Measure, rounded
-from propbench.model.nodes import Declared, Node, all_of
+from propbench.model.nodes import TRUE, Declared, Node, all_of
 
 # What is too coarse is tried with steps that are finer by up to so many powers of ten.
 _FINER = 10
@@ -27,24 +27,22 @@ RootOf = Callable[[Real, Measure], Declared]
 
 @dataclass(frozen=True)
 class Stated:
-    """A law in whole numbers: the form as it was written, and others that follow from laws."""
+    """A law in whole numbers: the form as it was written, and a constraint that says this and what
+    else follows from it and from other laws."""
 
     law: Law
     written: Told
-    others: tuple[Told, ...]
     under: str | None
-
-    @property
-    def constraint(self) -> Node:
-        """All of it as one constraint."""
-        return all_of(each.constraint for each in (self.written, *self.others))
+    constraint: Node
+    # The law as a sum of products that is zero, where it is one.
+    equation: Polynomial | None
 
 
 def stated(
-    law: Law, before: Sequence[Law], under: str | None, root_of: RootOf
+    law: Law, before: Sequence[Polynomial], under: str | None, root_of: RootOf
 ) -> tuple[Stated, list[Stated]]:
-    """A law as it is told, and those that say what the roots in it are. `before` are the laws that
-    hold always as this one, with which it may be combined.
+    """A law as it is told, and those that say what the roots in it are. `before` are equations
+    that hold always as this one, with which it may be combined.
 
     Raises NoBound, and TooCoarse, which says what would do, where the law can't be told.
     """
@@ -55,7 +53,7 @@ def stated(
 
 
 def _stated(
-    law: Law, before: Sequence[Law], under: str | None, root_of: RootOf
+    law: Law, before: Sequence[Polynomial], under: str | None, root_of: RootOf
 ) -> tuple[Stated, list[Stated]]:
     roots: dict[Real, Real] = {}
     definitions: list[Law] = []
@@ -71,10 +69,11 @@ def _stated(
     translator = Translator(hidden)
     first, *forms = forms_of(law, translator.bounds)
     written = translator.told(first.sum, first.is_equation)
-    if before and law.is_equation:
-        forms += combined([*before, law], translator.bounds)
-    others = [told for form in forms if (told := _told(translator, form))]
-    found = Stated(law, written, tuple(others), under)
+    equation = polynomial_of(first.sum) if law.is_equation else None
+    if before and equation:
+        forms += combined(before, equation)
+    constraints = [written.constraint, *(_constraint(translator, form) for form in forms)]
+    found = Stated(law, written, under, all_of(constraints), equation)
     return found, [_stated(each, (), under, root_of)[0] for each in definitions]
 
 
@@ -87,7 +86,7 @@ def _what_would_do(law: Law) -> str:
             tried = declared(quantity.name, finer, None)
             try:
                 _stated(_with(law, quantity, tried), (), None, _unowned)
-            except (NoBound, TooCoarse, ValueError):
+            except ValueError:
                 continue
             step = rounded(finer.step / finer.factor, False)
             return f"step={step:f} would do for {quantity.name!r}"
@@ -111,12 +110,12 @@ def _with(law: Law, quantity: Declared, other: Declared) -> Law:
     return replace(law, left=put(law.left), right=put(law.right))
 
 
-def _told(translator: Translator, form: Form) -> Told | None:
-    """A form that is told where that can be: it says nothing that the law doesn't."""
+def _constraint(translator: Translator, form: Form) -> Node:
+    """The constraint of a form that follows anyway: none where it can't be told."""
     try:
-        return translator.told(form.sum, form.is_equation)
-    except (NoBound, TooCoarse):
-        return None
+        return translator.told(form.sum, form.is_equation).constraint
+    except ValueError:
+        return TRUE
 
 
 def _measure_of_root(root: Real, bounds: Bounds) -> Measure:

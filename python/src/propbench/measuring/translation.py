@@ -66,6 +66,10 @@ class Translator:
     def told(self, form: Linear, is_equation: bool) -> Told:
         """The law that a sum is zero, or at most zero. Raises NoBound and TooCoarse."""
         whole = self._sum(form, MOST_WHOLE)
+        ends = [product(self.bounds(atom), (each, each)) for atom, each in form.terms]
+        largest = max((abs(end) for pair in ends for end in pair), default=Fraction(0))
+        if form.terms and whole.radius.constant * whole.step >= largest + abs(form.constant):
+            raise TooCoarse("the steps are too coarse for the law to tell anything")
         return Told(whole.node, whole.radius, whole.step, is_equation)
 
     def part(self, real: Real) -> Part:
