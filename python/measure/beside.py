@@ -35,6 +35,18 @@ class Case:
     exact: float
 
 
+SAID = [
+    ("a result of what was read", "yes", "yes"),
+    ("all that bounds allow, also where a square is near 0", "yes", "no: to first order"),
+    ("x - x, and other correlations of one reading", "yes, by shaving", "yes, to first order"),
+    ("correlations that are known as numbers", "no", "yes"),
+    ("deviations that grow less likely farther out", "no: bounds", "yes"),
+    ("a law run backwards, to any of its quantities", "yes", "no: solve it first"),
+    ("more readings than unknowns, joined", "yes", "no"),
+    ("which readings contradict each other", "yes, proved", "no"),
+    ("which reading to improve", "yes", "yes, by derivatives"),
+    ("because of which readings", "yes", "yes, by error_components"),
+]
 CASES = [
     Case("mass / volume", [(100, 0.2), (7, 0.1)], lambda m, v: m / v, 100.2 / 6.9 - 99.8 / 7.1),
     Case(
@@ -113,8 +125,8 @@ def main() -> None:
     rows = [(case.name, f"{case.exact:.4f}", here(case), *beside(case, library)) for case in CASES]
     print("Widths, of tolerances as bounds:\n")
     print(table(HEADS, rows))
-    print(f"\nBackwards, and with more readings than unknowns, only here:\n{two_ways()}")
-    print("\nCorrelations, and distributions in place of bounds, only `uncertainties`.")
+    print(f"\nTwo resistors, of which each and the series are read:\n{two_ways()}\n")
+    print(table(("what can be said", "here", "uncertainties"), SAID))
 
 
 if __name__ == "__main__":

@@ -187,7 +187,7 @@ def stated_case(w: Workbench, draw: random.Random) -> Case:
     """A case whose law is stated. Raises Unfit, and ValueError where a term has no bound."""
     case = Case(w, draw)
     _state(case, law_of(case, draw.randint(1, 4)), draw.choice([None, None, "law"]))
-    if draw.random() < 0.3:
+    if draw.random() < 0.15:
         case.leaf()
         for _ in range(draw.randint(2, 4)):
             _state(case, shared_law(case), None)

@@ -469,8 +469,9 @@ def test_a_law_tells_its_room(w: Workbench) -> None:
     # (half a step of each factor, times the other, on both sides, and the steps of z)
     assert room.widths["z"].width < Decimal("0.005")
     assert str(room).startswith("z == x * y is told to ")
+    assert any(line.startswith("attach product x y ") for line in w.lines(law))
     with pytest.raises(ValueError, match="was not stated"):
-        w.room(z == x + "1 m" * y / "1 m" if False else x == y)
+        w.room(x == y)
 
 
 def test_a_step_that_is_too_coarse_says_which_would_do(w: Workbench) -> None:
@@ -507,6 +508,7 @@ def test_what_is_refused(w: Workbench) -> None:
         (lambda: x ** Fraction(1, 3), ValueError, "power is by a whole number"),
         (lambda: x / 0, ValueError, "has no value"),
         (lambda: w.law(1 / (x - y) + 1 / x == "3 1/m"), ValueError, "x - y may be 0|x may be 0"),
+        (lambda: w.measured("z", "m", 0), ValueError, "needs low= and high="),
         (lambda: w.measured("z", low=3, high=2), ValueError, "there is no number"),
         (lambda: w.measured("z", low=0, high=1, step=0), ValueError, "more than 0"),
         (lambda: w.measured("z", low=0, high=10**9, step="1e-12"), ValueError, "would do"),

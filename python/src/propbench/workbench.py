@@ -361,7 +361,7 @@ class Workbench(Measuring):
             return self.improvements(cell, seconds=seconds, progress=progress)
         return super().sensitivity(cell, of, seconds=seconds, progress=progress)
 
-    def lines(self, constraint: Truth) -> list[str]:
+    def lines(self, constraint: Truth | Law) -> list[str]:
         """The lines of the language that state a constraint, where it was required.
 
         With them stand those that make the cells in them which have no name of yours. Raises
@@ -369,7 +369,11 @@ class Workbench(Measuring):
 
         Lines may rest on other constraints: where `z == x + y` holds, `z` stands for that sum.
         """
-        found = self._network.lines_of(node_of(constraint, Plain.TRUTH))
+        if isinstance(constraint, Law):
+            known = self._laws.get(constraint)
+            found = [] if known is None else self._network.lines_of(known.constraint)
+        else:
+            found = self._network.lines_of(node_of(constraint, Plain.TRUTH))
         if not found:
             raise ValueError(f"`{constraint!r}` was not required")
         return found

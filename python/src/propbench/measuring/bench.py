@@ -40,17 +40,20 @@ class Measuring(Questions):
     def measured(
         self,
         name: str,
-        *,
         unit: str = "1",
-        low: Exact | str,
-        high: Exact | str,
+        low: Exact | str | None = None,
+        high: Exact | str | None = None,
         step: Exact | str | None = None,
     ) -> Quantity:
         """A quantity: a real number from `low` to `high` in a unit. It is told to its `step`, in
         the unit; where that leaves room for it the cell counts finer steps.
 
-        Raises UnknownUnit, and ValueError where a cell can't count that.
+        Raises UnknownUnit, and ValueError where an end is missing, or a cell can't count that.
         """
+        if low is None or high is None:
+            raise ValueError(
+                f"{name!r} needs low= and high=: between these it lies for sure, however wide they are"
+            )
         measure = measure_of(name, unit_of(unit), low, high, step)
         self._check_name(name)
         return self._quantity(declared(name, measure, self._owner))

@@ -17,7 +17,7 @@ from propbench.model.nodes import Node
 from propbench.model.ranges import uncut_range_of
 
 # The largest whole number that a law is told by, the largest that is divided or a divisor, and the
-# largest that is multiplied with another.
+# largest that is squared.
 MOST_WHOLE, MOST_DIVIDED, MOST_FACTOR = 8 * 10**17, 10**17, 6 * 10**8
 # What stands beside a radius in a constraint may be so large together with it.
 MOST_BESIDE = 99 * 10**16
@@ -118,6 +118,16 @@ def coarser(part: Part, divisor: int) -> Part:
     node = ((Number(part.node) + divisor // 2) // divisor).node
     radius = part.radius.times(Fraction(1, divisor)).plus(Radius(HALF))
     return Part(node, part.step * divisor, radius, part.bounds)
+
+
+def fitted(one: Part, other: Part) -> tuple[Part, Part]:
+    """Two parts, the larger made coarser until their product is small enough."""
+    parts, divisors = [one, other], [1, 1]
+    while parts[0].size * parts[1].size > MOST_FACTOR**2:
+        place = 0 if parts[0].size >= parts[1].size else 1
+        divisors[place] *= 10
+        parts[place] = coarser((one, other)[place], divisors[place])
+    return parts[0], parts[1]
 
 
 def within(node: Node, radius: Radius, is_equation: bool) -> Node:

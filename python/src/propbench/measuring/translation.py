@@ -19,6 +19,7 @@ from propbench.measuring.parts import (
     Radius,
     absolute,
     coarser,
+    fitted,
     smaller,
     summed,
     within,
@@ -93,9 +94,10 @@ class Translator:
         if atom.sort is Sort.QUOTIENT:
             above, below = (self._sum(linear_of(arg), MOST_DIVIDED) for arg in atom.args)
             return divided(above, below, bounds, text_of(atom))
-        parts = [self.part(arg) for arg in atom.args]
         if atom.sort is Sort.PRODUCT:
-            return multiplied(parts[0], parts[1], bounds)
+            one, other = (self._sum(linear_of(arg), MOST_DIVIDED) for arg in atom.args)
+            return multiplied(*fitted(one, other), bounds)
+        parts = [self.part(arg) for arg in atom.args]
         if atom.sort is Sort.POWER:
             return self._powered(atom, parts[0])
         if atom.sort is Sort.ABSOLUTE:
@@ -113,7 +115,7 @@ class Translator:
             reached *= 2
             if digit == "1":
                 reached += 1
-                made = multiplied(smaller(made, MOST_FACTOR), base, power(base.bounds, reached))
+                made = multiplied(*fitted(made, base), power(base.bounds, reached))
         return made
 
     def _sum(self, form: Linear, most: int) -> Part:
@@ -169,7 +171,7 @@ def divided(above: Part, below: Part, bounds: Bounds, text: str) -> Part:
     factor = 1
     while (
         factor * 10 * max(Fraction(above.size), 2 * above.radius.most) <= MOST_WHOLE
-        and factor * 10 * ratio <= MOST_FACTOR
+        and factor * 10 * ratio <= MOST_DIVIDED
         and factor * spread <= _SMALL
     ):
         factor *= 10
