@@ -99,6 +99,12 @@ class LineModel(Questions):
         kind = self.kinds[cell]
         return int(text) if kind == "span" else text == "yes" if kind == "truth" else text
 
+    def is_measured(self, cell: str) -> bool:
+        return False
+
+    def read(self, cell: str, value: object, high: object = None) -> str:
+        raise NotImplementedError
+
     def held(self, plan: Mapping[str, Point]) -> Sequence[str]:
         return [
             premise

@@ -7,6 +7,11 @@ description, and nothing is concluded from it.
 """
 
 from propbench.finding import NoProgram, find_program, find_wide
+from propbench.measuring.bounds import NoBound
+from propbench.measuring.functions import maximum, mean, minimum, total
+from propbench.measuring.readings import NoReading
+from propbench.measuring.translation import TooCoarse
+from propbench.measuring.units import MixedUnits, UnknownUnit
 from propbench.model.answers import Answer, Conflict, NotSettled
 from propbench.model.expressions import (
     all_different,
@@ -14,10 +19,7 @@ from propbench.model.expressions import (
     element,
     if_else,
     implies,
-    maximum,
-    minimum,
     pairs,
-    total,
 )
 from propbench.model.saving import NotAWorkbench
 from propbench.program import ProgramEnded
@@ -74,8 +76,11 @@ __all__ = [
     "IsAChoice",
     "LimitReached",
     "LineTooLong",
+    "MixedUnits",
     "NameTaken",
+    "NoBound",
     "NoProgram",
+    "NoReading",
     "NoSuchCell",
     "NoSuchDomain",
     "NoSuchPremise",
@@ -98,7 +103,9 @@ __all__ = [
     "Silent",
     "Span",
     "Symbol",
+    "TooCoarse",
     "UnknownCommand",
+    "UnknownUnit",
     "Unsettled",
     "Value",
     "Workbench",
@@ -115,6 +122,7 @@ __all__ = [
     "if_else",
     "implies",
     "maximum",
+    "mean",
     "minimum",
     "pairs",
     "total",

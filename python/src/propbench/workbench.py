@@ -17,6 +17,12 @@ from typing import TypeVar, overload
 
 from propbench.closing import Closing
 from propbench.finding import find_wide
+from propbench.measuring.bench import Measuring
+from propbench.measuring.quantities import Quantity, coverage_of
+from propbench.measuring.sensitivity import Improvements
+from propbench.measuring.readings import reading_of
+from propbench.measuring import stating
+from propbench.measuring.terms import Law, Real
 from propbench.model.answers import Answer, Conflict, NotSettled, ends_of
 from propbench.model.blaming import always, beyond
 from propbench.model.cells import Cell, ElementCell, NumberCell, SymbolCell, TruthCell, words_of
@@ -31,7 +37,7 @@ from propbench.model.events import (
     ValueChoice,
 )
 from propbench.model.expressions import Expression, Truth, node_of, point_of
-from propbench.model.given import Given, alternative_of, values_of
+from propbench.model.given import Given, alternative_of, given_of, values_of
 from propbench.model.kinds import Domain, Kind, Plain, kind_text
 from propbench.model.network import Network
 from propbench.model.nodes import Declared, Node, cells_in
@@ -44,7 +50,9 @@ from propbench.model.tabling import Table
 from propbench.nearby import near_names
 from propbench.overview import UNPROVED
 from propbench.planning import Calendar, Project
-from propbench.questions import Questions
+from propbench.questions import Sensitivity
+from propbench.questions.asking import CellLike
+from propbench.questions.clock import Progress
 from propbench.questions.model import First
 from propbench.replies import Contradiction, Settled, Value, Worldview
 from propbench.session import Session
@@ -55,7 +63,7 @@ SomeCell = TypeVar("SomeCell", bound=Cell)
 _LACKS = "The program has no rule of its own for {}: answers may be wider than those of propwide."
 
 
-class Workbench(Questions, Closing):
+class Workbench(Measuring, Closing):
     """A network of cells with constraints, some of them under premises, and what follows.
 
     Cells come from `number`, `truth`, `element` (of a `domain`) and `symbol`. What holds between
@@ -85,6 +93,8 @@ class Workbench(Questions, Closing):
         self._owner = object()
         self._network = Network(Session(found, order=order, seed=seed, limit=limit))
         self._cells: dict[str, Cell] = {}
+        self._laws: dict[Law, stating.Stated] = {}
+        self._roots: dict[Real, Declared] = {}
 
     def close(self) -> None:
         """Ends the program. Nothing can be stated or asked after that."""
@@ -169,6 +179,8 @@ class Workbench(Questions, Closing):
         While the premise is kicked out the constraint has no effect at all, also where it is false
         or can't be worked out; while it is believed it tells as much as one that holds always.
         """
+        if isinstance(constraint, Law):
+            raise TypeError(f"`{constraint!r}` is a law of quantities: state it by `w.law(..)`")
         if isinstance(constraint, Expression) and not isinstance(constraint, Truth):
             raise TypeError(f"`{constraint!r}` is {kind_text(constraint.node.kind)}, no constraint")
         node = node_of(constraint, Plain.TRUTH)
@@ -179,13 +191,22 @@ class Workbench(Questions, Closing):
 
     def fix(self, cell: Cell, value: Given, high: int | None = None) -> None:
         """States that a cell has a value, always: a number, or the numbers up to `high`; a truth,
-        a name, or a list of elements of which it is one."""
-        self._network.do(Told(self._own(cell), values_of(self._own(cell), value, high), None))
+        a name, or a list of elements of which it is one; of a quantity a reading."""
+        self._tell(None, cell, value, high)
 
     def tell(self, premise: str, cell: Cell, value: Given, high: int | None = None) -> None:
         """States the same under a premise."""
         self._network.premises.check(premise)
-        self._network.do(Told(self._own(cell), values_of(self._own(cell), value, high), premise))
+        self._tell(premise, cell, value, high)
+
+    def _tell(self, premise: str | None, cell: Cell, value: Given, high: object) -> None:
+        own = self._own(cell)
+        if isinstance(cell, Quantity):
+            self._network.do(
+                stating.read(own, reading_of(given_of(value, high), cell.unit), premise)
+            )
+        else:
+            self._network.do(Told(own, values_of(own, value, high), premise))
 
     # --- premises ---
 
@@ -317,7 +338,7 @@ class Workbench(Questions, Closing):
             for cell, reply in zip(declared, replies)
             if isinstance(reply, Value)
         )
-        return Table(answers, read.choices(plan), tuple(self._notes()))
+        return Table(answers, read.choices(plan), tuple(self._notes(answers)))
 
     def show(self, *cells: Cell) -> None:
         """Prints what follows for these cells, or for all; at a conflict, what can't all hold."""
@@ -333,7 +354,24 @@ class Workbench(Questions, Closing):
         except Conflict as conflict:
             return f"CONFLICT: {conflict}"
 
-    def lines(self, constraint: Truth) -> list[str]:
+    # (of a quantity there is another table)
+    def sensitivity(  # type: ignore[override]
+        self,
+        cell: CellLike,
+        of: str | None = None,
+        *,
+        seconds: float | None = None,
+        progress: Progress | None = None,
+    ) -> Sensitivity | Improvements:
+        """What each believed premise is worth: the answer for a cell where that is left out, and
+        where each range that it tells is half as wide. By `of="least"` or `of="greatest"` it is
+        the least or greatest value in any plan that is asked for. Of a quantity it is told which
+        reading to improve."""
+        if isinstance(cell, Quantity):
+            return self.improvements(cell, seconds=seconds, progress=progress)
+        return super().sensitivity(cell, of, seconds=seconds, progress=progress)
+
+    def lines(self, constraint: Truth | Law) -> list[str]:
         """The lines of the language that state a constraint, where it was required.
 
         With them stand those that make the cells in them which have no name of yours. Raises
@@ -341,7 +379,11 @@ class Workbench(Questions, Closing):
 
         Lines may rest on other constraints: where `z == x + y` holds, `z` stands for that sum.
         """
-        found = self._network.lines_of(node_of(constraint, Plain.TRUTH))
+        if isinstance(constraint, Law):
+            known = self._laws.get(constraint)
+            found = [] if known is None else self._network.lines_of(known.constraint)
+        else:
+            found = self._network.lines_of(node_of(constraint, Plain.TRUTH))
         if not found:
             raise ValueError(f"`{constraint!r}` was not required")
         return found
@@ -411,8 +453,10 @@ class Workbench(Questions, Closing):
         self._network.session.close()
         self._network = kept
 
-    def _notes(self) -> Iterator[str]:
-        """What is to be known of the program."""
+    def _notes(self, answers: Sequence[Answer]) -> Iterator[str]:
+        """What is to be known of the answers, and of the program."""
+        if coverage := coverage_of(answers):
+            yield coverage
         if self.lacks:
             yield _LACKS.format(", ".join(self.lacks))
         if not self.proved:
@@ -460,11 +504,17 @@ class Workbench(Questions, Closing):
     def _declared(
         self, name: str, kind: Kind, low: int | None = None, high: int | None = None
     ) -> Declared:
+        self._check_name(name)
+        return Declared(name, kind, low, high, self._owner)
+
+    def _check_name(self, name: str) -> None:
         if not isinstance(name, str) or not name:
             raise TypeError(f"a cell is named by a text: {name!r}")
         if name in self._network.cells:
             raise ValueError(f"there is a cell of this name: {name!r}")
-        return Declared(name, kind, low, high, self._owner)
+
+    def _quantity(self, made: Declared) -> Quantity:
+        return self._added(Quantity(made, self))
 
     def _added(self, cell: SomeCell) -> SomeCell:
         self._network.do(CellMade(cell.declared))
@@ -497,5 +547,7 @@ def _cell_of(declared: Declared, workbench: Workbench) -> Cell:
     """The cell that was declared so, by its kind."""
     if isinstance(declared.kind, Domain):
         return ElementCell(declared, workbench)
+    if declared.measure is not None:
+        return Quantity(declared, workbench)
     classes = {Plain.NUMBER: NumberCell, Plain.TRUTH: TruthCell, Plain.SYMBOL: SymbolCell}
     return classes[declared.kind](declared, workbench)

@@ -4,11 +4,12 @@ from collections.abc import Mapping
 from dataclasses import dataclass, field
 
 from propbench.model.kinds import MOST, point_text
+from propbench.model.measures import Interval
 from propbench.showing import printable
 from propbench.values import Elements, Impossible, Nothing, Span
 
 # What is left for a cell: one value where one is left, else all that are.
-Left = int | str | bool | Span | Elements | Nothing | Impossible
+Left = int | str | bool | Span | Elements | Nothing | Impossible | Interval
 
 
 @dataclass(frozen=True)

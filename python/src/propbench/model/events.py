@@ -2,8 +2,10 @@
 
 from dataclasses import dataclass
 
+from propbench.measuring.readings import Reading
 from propbench.model.kinds import MOST, Domain, Plain, Point, point_text
 from propbench.model.meaning import Points, holds
+from propbench.model.measures import text_of_number
 from propbench.model.nodes import Declared, Node
 from propbench.model.writing import text_of
 from propbench.showing import printable
@@ -60,6 +62,32 @@ class Told:
     def is_met(self, points: Points) -> bool:
         """Whether the point of the cell is one of the values."""
         return is_among(points[self.cell], self.cell, self.values)
+
+
+@dataclass(frozen=True)
+class Read(Told):
+    """A reading of a quantity: its cell lies between what it holds for the ends."""
+
+    reading: Reading
+
+    @property
+    def text(self) -> str:
+        """What was read, as it was written."""
+        times = self.reading.coverage
+        note = "" if times is None else f" (u taken {text_of_number(times)} times)"
+        return f"{printable(self.cell.name)} = {printable(self.reading.written)}{note}"
+
+
+@dataclass(frozen=True)
+class LawStated(Required):
+    """A law of quantities holds, in whole numbers."""
+
+    written: str
+
+    @property
+    def text(self) -> str:
+        """The law, as it was written."""
+        return self.written
 
 
 @dataclass(frozen=True)
@@ -133,6 +161,8 @@ Statement = Required | Told | ValueChoice | ConstraintChoice
 
 def values_text(cell: Declared, values: Values) -> str:
     """What is stated of a cell, for people."""
+    if cell.measure is not None:
+        return str(cell.measure.interval(*cell.measure.reals(int(values[0]), int(values[1]))))
     if cell.kind is Plain.NUMBER:
         low, high = values
         return str(low) if low == high else f"{_end(low)}..{_end(high)}"
@@ -145,7 +175,9 @@ def _end(number: Point) -> str:
 
 
 def plain_values(cell: Declared, values: Values) -> object:
-    """What is stated of a cell, as a user gives it to `choose`."""
+    """What is stated of a cell, as a user gives it to `choose`; of a quantity as text."""
+    if cell.measure is not None:
+        return values_text(cell, values)
     if cell.kind is Plain.NUMBER:
         low, high = values
         return low if low == high else values

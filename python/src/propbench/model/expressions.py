@@ -223,6 +223,11 @@ def node_of(value: object, kind: Kind) -> Node:
     """The node of an expression of this kind, or of a constant of it. Raises TypeError for what is
     neither, and ValueError for a constant that no cell can hold."""
     if isinstance(value, Expression):
+        if value.node.kind is Plain.NUMBER and not isinstance(value, Number):
+            raise TypeError(
+                f"`{value!r}` is measured, and no whole number: of quantities `w.law` states what "
+                "holds"
+            )
         if value.node.kind is not kind:
             raise TypeError(
                 f"`{value!r}` is {kind_text(value.node.kind)}, where {kind_text(kind)} is wanted"

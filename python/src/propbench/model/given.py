@@ -2,10 +2,15 @@
 
 from collections.abc import Iterable, Sequence
 
+from typing import Any
+
+from propbench.measuring.readings import Reading, reading_of
+from propbench.measuring.units import unit_of
 from propbench.model.cells import words_of
 from propbench.model.events import Values
 from propbench.model.expressions import point_of
-from propbench.model.kinds import Domain, Plain
+from propbench.model.kinds import MOST, Domain, Plain
+from propbench.model.measures import Measure
 from propbench.model.nodes import Declared
 
 # A number, a truth, a name, or several names of which one is it.
@@ -18,6 +23,9 @@ def values_of(cell: Declared, value: object, high: object = None) -> Values:
     Raises TypeError where a value is of another kind than the cell, and ValueError for an empty one
     and one that the cell can't hold.
     """
+    if cell.measure is not None:
+        found = reading_of(given_of(value, high), unit_of(cell.measure.unit))
+        return cells_of(cell.measure, found)
     if high is not None and cell.kind is not Plain.NUMBER:
         raise TypeError(f"{cell.name!r} holds no numbers, so there is no {high!r} to go up to")
     if cell.kind is Plain.NUMBER:
@@ -34,8 +42,21 @@ def values_of(cell: Declared, value: object, high: object = None) -> Values:
     return (point_of(value, cell.kind),)
 
 
+def cells_of(measure: Measure, reading: Reading) -> tuple[int, int]:
+    """What the cell of a quantity may hold by a reading."""
+    low, high = (measure.count(end) for end in (reading.low, reading.high))
+    return min(max(low, -MOST), MOST), min(max(high, -MOST), MOST)
+
+
+def given_of(value: object, high: object = None) -> Any:
+    """A reading that is given as such, or by two ends. (`reading_of` looks at what it is.)"""
+    return value if high is None else (value, high)
+
+
 def alternative_of(cell: Declared, value: object) -> Values:
     """What an alternative of a choice states of a cell: a pair of numbers is from one to other."""
+    if cell.measure is not None:
+        return values_of(cell, tuple(value) if isinstance(value, list) else value)
     if cell.kind is Plain.NUMBER and isinstance(value, Sequence) and len(value) == 2:
         return values_of(cell, *value)
     return values_of(cell, value)

@@ -9,6 +9,7 @@ from enum import Enum, auto
 from weakref import WeakValueDictionary
 
 from propbench.model.kinds import Kind, Plain, Point
+from propbench.model.measures import Measure
 
 
 class Op(Enum):
@@ -65,13 +66,14 @@ COMPARISONS = frozenset(
 @dataclass(frozen=True, eq=False)
 class Declared:
     """A cell that a user declared: its name and kind, the numbers that it may have (None where no
-    end was given), and whose it is."""
+    end was given), whose it is, and what it counts, where it is a measured quantity."""
 
     name: str
     kind: Kind
     low: int | None
     high: int | None
     owner: object
+    measure: Measure | None = None
 
 
 # What a node holds beside its arguments: a cell, a constant, a table's or a set's entries.

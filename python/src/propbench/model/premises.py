@@ -1,6 +1,9 @@
 """The premises of a workbench, as its user calls them, and whether each is believed."""
 
-from propbench.model.events import Choice, Statement
+from fractions import Fraction
+
+from propbench.model.events import Choice, Read, Statement
+from propbench.model.nodes import Declared
 from propbench.nearby import near_names
 
 
@@ -11,12 +14,14 @@ class Premises:
         self.believed: dict[str, bool] = {}
         self.choices: dict[str, Choice] = {}
         self.statements: dict[str, list[Statement]] = {}
+        self.always: dict[Declared, list[tuple[Fraction, Fraction]]] = {}
 
     def copy(self) -> "Premises":
         """The same, which changes by itself."""
         made = Premises()
         made.believed, made.choices = dict(self.believed), dict(self.choices)
         made.statements = {name: list(stated) for name, stated in self.statements.items()}
+        made.always = {cell: list(ends) for cell, ends in self.always.items()}
         return made
 
     def check(self, name: str) -> None:
@@ -42,9 +47,20 @@ class Premises:
 
     def state(self, statement: Statement) -> None:
         """Takes in a statement under its premise."""
+        if isinstance(statement, Read) and statement.premise is None:
+            ends = statement.reading.low, statement.reading.high
+            self.always.setdefault(statement.cell, []).append(ends)
         if statement.premise is not None:
             self.believed.setdefault(statement.premise, True)
             self.statements.setdefault(statement.premise, []).append(statement)
+
+    def readings(self, name: str) -> list[Read]:
+        """The readings that a premise states."""
+        return [each for each in self.statements.get(name, ()) if isinstance(each, Read)]
+
+    def readings_of(self, cell: Declared) -> list[tuple[Fraction, Fraction]]:
+        """Between which reals a quantity lies by readings that hold always."""
+        return self.always.get(cell, [])
 
     def forget(self, name: str) -> None:
         """Takes in that nothing is stated under a premise any more."""

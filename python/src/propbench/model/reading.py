@@ -2,15 +2,17 @@
 
 from collections.abc import Iterable, Mapping
 
+from propbench.measuring.quantities import MeasuredAnswer, interval_of
 from propbench.model.answers import Answer, Left, ends_of
 from propbench.model.choosing import alternative_of, alternatives_at, first_name
 from propbench.model.kinds import Domain
+from propbench.model.measures import Interval, Measure
 from propbench.model.nodes import Declared
 from propbench.model.premises import Premises
 from propbench.model.vocabulary import Vocabulary
 from propbench.replies import Value
 from propbench.showing import printable
-from propbench.values import Elements, Held, Span, Symbol
+from propbench.values import Elements, Held, Impossible, Nothing, Span, Symbol
 
 
 class Reader:
@@ -22,11 +24,14 @@ class Reader:
 
     def answer(self, cell: Declared, reply: Value, plan: Mapping[str, int]) -> Answer:
         """A reply about a cell, under the plan on which the choices stand."""
-        value = self._value(cell, reply.read().value)
-        low, high = ends_of(value)
         because = self._because(reply.because or (), plan)
         choices = self.choices(plan) if plan else {}
-        return Answer(cell.name, value, low, high, reply.settled, because, choices, reply.reduced)
+        read = reply.read()
+        if cell.measure is not None:
+            return self._measured(cell, cell.measure, read, because, choices)
+        value = self._value(cell, read.value)
+        low, high = ends_of(value)
+        return Answer(cell.name, value, low, high, read.settled, because, choices, read.reduced)
 
     def _because(self, names: tuple[str, ...], plan: Mapping[str, int]) -> tuple[str, ...]:
         """What the user calls premises and sides."""
@@ -34,6 +39,32 @@ class Reader:
             return self._vocabulary.premises.texts(names)
         # (two sides may stand for one alternative)
         return tuple(dict.fromkeys(self.premise(each, plan) for each in names))
+
+    def _measured(
+        self,
+        cell: Declared,
+        measure: Measure,
+        reply: Value,
+        because: tuple[str, ...],
+        choices: Mapping[str, object],
+    ) -> Answer:
+        """A reply about a quantity, in its unit. What its own readings say that count, it says."""
+        readings = [read for name in because for read in self._premises.readings(name)]
+        coverage = {
+            str(read.premise): read.reading.coverage
+            for read in readings
+            if read.reading.coverage is not None
+        }
+        left: Left = Nothing()
+        if isinstance(reply.value, Span):
+            known = [(it.reading.low, it.reading.high) for it in readings if it.cell is cell]
+            ends = [(measure.low, measure.high), *known, *self._premises.readings_of(cell)]
+            left = interval_of(measure, reply.value.low, reply.value.high, ends)
+        elif isinstance(reply.value, Impossible):
+            left = reply.value
+        low, high = (left.low, left.high) if isinstance(left, Interval) else (None, None)
+        told = (cell.name, left, low, high, reply.settled, because, choices, reply.reduced)
+        return MeasuredAnswer(*told, coverage)
 
     def premise(self, line_name: str, plan: Mapping[str, int]) -> str:
         """What the user calls a premise, or the alternative of a choice (`venue: uni`) on which a

@@ -6,10 +6,12 @@ This is all that `propbench.questions` uses of a workbench beside what a user do
 from collections.abc import Mapping, Sequence
 
 from propbench.model.events import CellMade, DomainMade, Event
+from propbench.model.given import values_of
 from propbench.model.kinds import Domain, Plain, Point
 from propbench.model.meaning import Beyond
 from propbench.model.nodes import Declared
 from propbench.model.network import Network, premise_of
+from propbench.model.writer import span_text
 from propbench.model.writing import text_of
 from propbench.questions.model import First
 from propbench.session import Session
@@ -111,6 +113,16 @@ class BenchModel:
     def first(self) -> Sequence[First]:
         """The cells of which values are tried out before those of others."""
         return self._network.first
+
+    def is_measured(self, cell: str) -> bool:
+        """Whether the cell counts steps of a measured quantity."""
+        return self._network.cells[cell].measure is not None
+
+    def read(self, cell: str, value: object, high: object = None) -> str:
+        """What a reading of a measured quantity, or the two ends of one, says of its cell, as it is
+        written on a line."""
+        low, most = values_of(self._network.cells[cell], value, high)
+        return span_text(int(low), int(most))
 
     def text(self, premise: str) -> str:
         """What the premise states, for people."""

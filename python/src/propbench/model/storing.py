@@ -5,20 +5,25 @@ begins with `#:` tells in the user's words what the lines below it are for.
 """
 
 import json
-from collections.abc import Iterable, Iterator, Mapping
-from dataclasses import dataclass, field
+from collections.abc import Iterable, Iterator, Mapping, Sequence
+from dataclasses import dataclass, field, fields
+from fractions import Fraction
 from typing import Any
 
+from propbench.measuring.readings import Reading
 from propbench.model.events import (
     CellMade,
     ConstraintChoice,
     DomainMade,
     Event,
+    LawStated,
+    Read,
     Required,
     Told,
     ValueChoice,
 )
 from propbench.model.kinds import Domain, Kind, Plain
+from propbench.model.measures import Measure
 from propbench.model.nodes import Declared, Node, Op, cell, constant, node
 
 # A comment begins so, and goes on so where a line is too short for it.
@@ -53,9 +58,11 @@ def record_of(event: Event) -> dict[str, object]:
     if isinstance(event, CellMade):
         return _cell_record(event.cell)
     if isinstance(event, Required):
-        return {"require": _parts(event.constraint), "under": event.premise}
+        law = {"law": event.written} if isinstance(event, LawStated) else {}
+        return {"require": _parts(event.constraint), "under": event.premise, **law}
     if isinstance(event, Told):
-        return {"state": event.cell.name, "values": event.values, "under": event.premise}
+        read = {"reading": _reading_record(event.reading)} if isinstance(event, Read) else {}
+        return {"state": event.cell.name, "values": event.values, "under": event.premise, **read}
     if isinstance(event, ValueChoice):
         return {"choose": event.name, "of": event.cell.name, "values": event.alternatives}
     sides = [[side, [_parts(each) for each in nodes]] for side, nodes in event.alternatives]
@@ -66,8 +73,29 @@ def _cell_record(declared: Declared) -> dict[str, object]:
     if isinstance(declared.kind, Domain):
         return {"element": declared.name, "domain_of": declared.kind.name}
     if declared.kind is Plain.NUMBER:
-        return {"number": declared.name, "low": declared.low, "high": declared.high}
+        measure = declared.measure
+        counts = (
+            {} if measure is None else {"measure": {k: str(v) for k, v in vars(measure).items()}}
+        )
+        return {"number": declared.name, "low": declared.low, "high": declared.high, **counts}
     return {declared.kind.value: declared.name}
+
+
+def _reading_record(reading: Reading) -> list[str | None]:
+    times = reading.coverage
+    ends = str(reading.low), str(reading.high)
+    return [*ends, reading.written, None if times is None else str(times)]
+
+
+def _reading(parts: Sequence[str | None]) -> Reading:
+    low, high, written, times = parts
+    exact = Fraction(str(low)), Fraction(str(high))
+    return Reading(*exact, str(written), None if times is None else Fraction(times))
+
+
+def _measure(parts: Mapping[str, str]) -> Measure:
+    unit, *numbers = (parts[name.name] for name in fields(Measure))
+    return Measure(unit, *map(Fraction, numbers))
 
 
 def _parts(each: Node) -> list[object]:
@@ -96,10 +124,12 @@ class Records:
             self.domains[made.name] = made
             return DomainMade(made)
         if "require" in record:
-            return Required(self._node(record["require"]), record["under"])
+            stated = self._node(record["require"]), record["under"]
+            return LawStated(*stated, record["law"]) if "law" in record else Required(*stated)
         if "state" in record:
             values = tuple(record["values"])
-            return Told(self.cells[record["state"]], values, record["under"])
+            told = self.cells[record["state"]], values, record["under"]
+            return Read(*told, _reading(record["reading"])) if "reading" in record else Told(*told)
         if "choose" in record:
             return self._choice(record)
         declared = self._declared(record)
@@ -112,7 +142,8 @@ class Records:
             return Declared(record["element"], kind, None, None, self.owner)
         if "number" in record:
             name, low, high = record["number"], record["low"], record["high"]
-            return Declared(name, Plain.NUMBER, low, high, self.owner)
+            measure = _measure(record["measure"]) if "measure" in record else None
+            return Declared(name, Plain.NUMBER, low, high, self.owner, measure)
         [(plain, name)] = record.items()
         return Declared(name, Plain(plain), None, None, self.owner)
 

@@ -60,6 +60,18 @@ def cell_named(model: Model, cell: CellLike) -> str:
     return name
 
 
+def whole_named(model: Model, cell: CellLike) -> str:
+    """The name of a cell of the model that is no measured quantity. Raises as `cell_named`, and
+    TypeError for a quantity."""
+    name = cell_named(model, cell)
+    if model.is_measured(name):
+        raise TypeError(
+            f"{quoted(name)} is measured, and no plan has a real number: `w.shave({name})` tells "
+            "between which it lies"
+        )
+    return name
+
+
 def premises_named(model: Model, names: Iterable[str]) -> list[str]:
     """The names of premises of the model. Raises NoSuchName for another."""
     found, known = list(names), model.premises()

@@ -3,7 +3,7 @@
 from collections.abc import Sequence
 from dataclasses import dataclass
 
-from propbench.questions.asking import CellLike, cell_named, tried
+from propbench.questions.asking import CellLike, whole_named, tried
 from propbench.questions.certificate import Certificate, Evidence
 from propbench.questions.checker import MOST
 from propbench.questions.clock import Clock, Progress
@@ -157,7 +157,7 @@ def find_optimum(
     model: Model, cell: CellLike, sort: str, seconds: float | None, progress: Progress | None
 ) -> Optimum:
     """The least or greatest value of a cell in any plan with what is believed."""
-    name, clock = cell_named(model, cell), Clock(seconds, progress)
+    name, clock = whole_named(model, cell), Clock(seconds, progress)
     trial = Trial(model, model.believed(), clock)
     bounding = bounding_in(trial, model.believed(), name, sort)
     return tried(trial, bounding.run, bounding.result)

@@ -96,6 +96,8 @@ def resolved(model: Model, change: Change) -> Resolved:
 
 def value_text(model: Model, cell: str, value: object, high: object = None) -> str:
     """A value, or the numbers up to another, as a line says it."""
+    if model.is_measured(cell):
+        return model.read(cell, value, high)
     candidates = model.candidates(cell)
     is_number = candidates is None or isinstance(candidates, range)
     if high is not None:

@@ -3,7 +3,7 @@
 from collections.abc import Sequence
 from dataclasses import dataclass
 
-from propbench.questions.asking import CellLike, cell_named, tried
+from propbench.questions.asking import CellLike, whole_named, tried
 from propbench.questions.bounding import GREATEST, LEAST, Bounding, bounding_in
 from propbench.questions.certificate import Certificate, Evidence
 from propbench.questions.clock import Clock, Progress
@@ -90,7 +90,7 @@ def find_slack(
     model: Model, cell: CellLike, seconds: float | None, progress: Progress | None
 ) -> Slack:
     """The room of a cell over all plans with what is believed."""
-    name = cell_named(model, cell)
+    name = whole_named(model, cell)
     trial = Trial(model, model.believed(), Clock(seconds, progress))
     if not isinstance(trial.rooms[name], Numbers):
         return _slack_of_names(trial, name)
@@ -128,7 +128,7 @@ def find_critical(
     greatest. Raises NothingFits where there is no plan."""
     if sort not in (LEAST, GREATEST):
         raise ValueError(f"the end is {LEAST!r} or {GREATEST!r}, and not {sort!r}")
-    name = cell_named(model, cell)
+    name = whole_named(model, cell)
     trial = Trial(model, (), Clock(seconds, progress))
     bounding = bounding_in(trial, model.believed(), name, sort)
     found: list[tuple[Exploring, Refuted]] = []

@@ -77,6 +77,15 @@ class Model(Protocol):
         """The premises of which all that is stated holds at these points."""
         ...
 
+    def is_measured(self, cell: str) -> bool:
+        """Whether the cell counts steps of a measured quantity."""
+        ...
+
+    def read(self, cell: str, value: object, high: object = None) -> str:
+        """What a reading of a measured quantity, or the two ends of one, says of its cell, as it is
+        written on a line."""
+        ...
+
     def text(self, premise: str) -> str:
         """What the premise states, for people."""
         ...

@@ -5,7 +5,7 @@ from dataclasses import dataclass
 from typing import Any
 
 from propbench.listing import told_by
-from propbench.questions.asking import CellLike, answered, cell_named, tried
+from propbench.questions.asking import CellLike, answered, cell_named, tried, whole_named
 from propbench.questions.bench import Bench
 from propbench.questions.bounding import Bounding, Optimum, bounding_in
 from propbench.questions.certificate import Certificate, Evidence
@@ -111,7 +111,7 @@ def of_optimum(
     model: Model, cell: CellLike, sort: str, seconds: float | None, progress: Progress | None
 ) -> Sensitivity:
     """What becomes of the least or greatest value of a cell in any plan."""
-    name, believed = cell_named(model, cell), list(model.believed())
+    name, believed = whole_named(model, cell), list(model.believed())
     trial = Trial(model, (), Clock(seconds, progress))
     found: dict[str, Bounding] = {}
 

@@ -1,0 +1,1 @@
+"""Measured quantities: real numbers in units, laws between them, and readings of them."""

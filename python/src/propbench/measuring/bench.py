@@ -1,0 +1,260 @@
+"""What a workbench does with measured quantities: it has these methods."""
+
+from collections.abc import Sequence
+
+from propbench.measuring.forms import Polynomial
+from propbench.measuring.outliers import Outliers, find_outliers
+from propbench.measuring.predict import Prediction, predicted
+from propbench.measuring.quantities import MeasuredAnswer, Quantity, measure_of, measured
+from propbench.measuring.readings import COVERAGE, Exact, Given, reading_of
+from propbench.measuring.rooms import Room, find_room
+from propbench.measuring.sensitivity import Improvements, find_improvements
+from propbench.measuring.shaving import Shaved, find_shaved
+from propbench.measuring.stating import Stated, declared, quantities_in, read, stated
+from propbench.measuring.terms import Law, Real, text_of
+from propbench.measuring.units import unit_of
+from propbench.model.answers import Conflict
+from propbench.model.events import LawStated, Read
+from propbench.model.measures import Measure
+from propbench.model.network import Network
+from propbench.model.nodes import Declared, cells_in
+from propbench.model.reading import Reader
+from propbench.questions import Questions
+from propbench.questions.clock import Progress
+from propbench.questions.rooms import Numbers
+from propbench.replies import Contradiction, Value
+from propbench.values import Span
+
+
+class Measuring(Questions):
+    """The quantities of a workbench, laws between them, readings of them, and what follows."""
+
+    _network: Network
+    _owner: object
+    _laws: dict[Law, Stated]
+    # The roots within laws, which are quantities too.
+    _roots: dict[Real, Declared]
+
+    # --- what is stated ---
+
+    def measured(
+        self,
+        name: str,
+        unit: str = "1",
+        low: Exact | str | None = None,
+        high: Exact | str | None = None,
+        step: Exact | str | None = None,
+    ) -> Quantity:
+        """A quantity: a real number from `low` to `high` in a unit. It is told to its `step`, in
+        the unit; where that leaves room for it the cell counts finer steps.
+
+        Raises UnknownUnit, and ValueError where an end is missing, or a cell can't count that.
+        """
+        if low is None or high is None:
+            raise ValueError(
+                f"{name!r} needs low= and high=: between these it lies for sure, however wide they are"
+            )
+        measure = measure_of(name, unit_of(unit), low, high, step)
+        self._check_name(name)
+        return self._quantity(declared(name, measure, self._owner))
+
+    def law(self, law: Law, under: str | None = None) -> None:
+        """States that a law holds, always or under a premise.
+
+        No real solution is lost: whichever real numbers fit the law and the readings lie in the
+        answers. Raises ValueError where a term has no bound, or a step is too coarse for the law.
+        """
+        if not isinstance(law, Law):
+            raise TypeError(f"{law!r} is no law of measured quantities: `w.require` states others")
+        if under is not None:
+            self._network.premises.check(under)
+        for quantity in quantities_in(law):
+            if quantity.owner is not self._owner:
+                raise ValueError(f"{quantity.name!r} is a quantity of another workbench")
+        made: dict[Real, Declared] = {}
+
+        def root_of(root: Real, measure: Measure) -> Declared:
+            known = self._roots.get(root)
+            if known is not None and self._network.cells.get(known.name) is known:
+                return known
+            if root not in made:
+                made[root] = declared(self._free_name(text_of(root)), measure, self._owner)
+            return made[root]
+
+        try:
+            found, roots = stated(law, self._equations(under), under, root_of)
+            events = [LawStated(it.constraint, under, it.law.text) for it in (found, *roots)]
+        except RecursionError:
+            raise ValueError("a law is nested too deeply: name parts of it by quantities") from None
+        for root, cell in made.items():
+            self._roots[root] = self._quantity(cell).declared
+        for event in events:
+            self._network.do(event)
+        self._laws[law] = found
+
+    def read(
+        self, premise: str, quantity: Quantity, reading: Given, *, coverage: Exact = COVERAGE
+    ) -> None:
+        """States under a premise what was read of a quantity: a text as `468.0 +- 1.2 ohm`,
+        `470 ohm +- 5%`, `330..345`, `468.0(47) ohm` or `468.0 ohm u=4.7`; an exact number, or the
+        two ends of an interval.
+
+        A standard uncertainty (in brackets, or behind `u=`) counts `coverage` times as a bound.
+        Raises NoReading, UnknownUnit and MixedUnits, which are ValueErrors.
+        """
+        if not isinstance(quantity, Quantity):
+            raise TypeError(f"`{quantity!r}` is no measured quantity")
+        self._network.premises.check(premise)
+        cell = self._own(quantity)
+        found = reading_of(reading, quantity.unit, coverage)
+        self._network.do(read(cell, found, premise))
+
+    # --- questions ---
+
+    def shave(
+        self,
+        quantity: Quantity,
+        *,
+        seconds: float | None = None,
+        progress: Progress | None = None,
+    ) -> Shaved:
+        """What follows for a quantity, as narrow as is found by telling its ends, in cases of other
+        quantities too: what the program contradicts is taken off, until nothing more can be, or
+        `seconds` are over.
+
+        Raises Conflict where what is believed can't all hold.
+        """
+        self._own(quantity)
+        return find_shaved(self, quantity, seconds, progress)
+
+    def outliers(
+        self,
+        *,
+        most: int = 20,
+        seconds: float | None = None,
+        progress: Progress | None = None,
+    ) -> Outliers:
+        """The least sets of readings to give up so that nothing speaks against the others, `most` of
+        them at the most: the fewest first, and of as many those that are off by more."""
+        measured_cells = [name for name, it in self._network.cells.items() if it.measure]
+        return find_outliers(
+            self.model,
+            self._readings(),
+            self._unread_first(measured_cells),
+            most,
+            seconds,
+            progress,
+        )
+
+    def improvements(
+        self,
+        quantity: Quantity,
+        *,
+        seconds: float | None = None,
+        progress: Progress | None = None,
+    ) -> Improvements:
+        """Which reading to improve: how wide a quantity's answer is where a reading's tolerance is
+        halved, and without the reading. `w.sensitivity(quantity)` is the same."""
+        self._own(quantity)
+        return find_improvements(self.model, quantity, self._readings(), seconds, progress)
+
+    def predict(
+        self,
+        quantity: Quantity,
+        tolerance: Given | None = None,
+        *,
+        seconds: float | None = None,
+        progress: Progress | None = None,
+    ) -> Prediction:
+        """What a further reading of a quantity would have to show, by a tolerance as `+- 0.5 ohm`,
+        so that it doesn't speak against what is believed."""
+        left = self.shave(quantity, seconds=seconds, progress=progress)
+        return predicted(quantity, left, tolerance)
+
+    def room(self, law: Law) -> Room:
+        """What a law that was stated costs in width, since whole numbers stand for the reals.
+
+        Raises ValueError for a law that was not stated.
+        """
+        if law not in self._laws:
+            raise ValueError(f"`{law!r}` was not stated")
+        return find_room(self.model, self._laws[law])
+
+    # --- within ---
+
+    def _related(self, quantity: Quantity) -> list[str]:
+        """The quantities that laws tie to this one, by name, those without readings in front."""
+        found = {quantity.declared}
+        groups = [
+            cells_in(each.constraint)
+            for each in self._network.events
+            if isinstance(each, LawStated)
+        ]
+        count = 0
+        while count < len(found):
+            count = len(found)
+            for group in groups:
+                if not found.isdisjoint(group):
+                    found.update(group)
+        return self._unread_first(
+            [cell.name for cell in self._network.cells.values() if cell in found]
+        )
+
+    def _unread_first(self, names: Sequence[str]) -> list[str]:
+        """Quantities by name, those without readings in front."""
+        were_read = {each.cell.name for each in self._network.events if isinstance(each, Read)}
+        return sorted(names, key=lambda name: name in were_read)
+
+    def _readings(self) -> dict[str, list[Read]]:
+        """The premises that are believed and state nothing but readings."""
+        premises = self._network.premises
+        found = {name: premises.readings(name) for name in premises.in_force}
+        return {
+            name: readings
+            for name, readings in found.items()
+            if len(readings) == len(premises.statements.get(name, ()))
+        }
+
+    def _told(self, quantity: Quantity, room: Numbers, names: Sequence[str]) -> MeasuredAnswer:
+        """What a cell that holds one of these numbers says, because of these premises."""
+        lines = self._network.vocabulary.premises
+        because = tuple(lines.line(name) for name in names)
+        cell = self._network.vocabulary.cells.line(quantity.name)
+        reply = Value(cell, Span(room.low, room.high), True, because, None)
+        reader = Reader(self._network.vocabulary, self._network.premises)
+        return measured(reader.answer(quantity.declared, reply, {}))
+
+    def _conflict_of(self, names: Sequence[str]) -> Conflict:
+        """That these premises can't all hold, made few."""
+        lines = self._network.vocabulary.premises
+        return self._conflict(Contradiction(tuple(map(lines.line, names))))
+
+    def _conflict(self, found: Contradiction) -> Conflict:
+        raise NotImplementedError
+
+    def _own(self, cell: object) -> Declared:
+        raise NotImplementedError
+
+    def _quantity(self, made: Declared) -> Quantity:
+        """Makes the cell of a quantity."""
+        raise NotImplementedError
+
+    def _check_name(self, name: str) -> None:
+        """Raises TypeError and ValueError where no cell can be called so."""
+        raise NotImplementedError
+
+    def _free_name(self, name: str) -> str:
+        """The name, with marks behind it where a cell is called so already."""
+        while name in self._network.cells:
+            name += "'"
+        return name
+
+    def _equations(self, under: str | None) -> list[Polynomial]:
+        """The equations that hold always, with which one that does may be combined."""
+        always = {
+            each.constraint
+            for each in self._network.events
+            if isinstance(each, LawStated) and each.premise is None and under is None
+        }
+        stated_always = [it for it in self._laws.values() if it.under is None]
+        return [it.equation for it in stated_always if it.equation and it.constraint in always]

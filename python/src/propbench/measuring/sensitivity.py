@@ -1,0 +1,115 @@
+"""Which reading to improve: how wide a quantity's answer is where each tolerance is halved, and where
+the reading is left out.
+"""
+
+from collections.abc import Mapping, Sequence
+from dataclasses import dataclass
+
+from propbench.measuring.narrowing import Impossible, Narrowing
+from propbench.measuring.quantities import Quantity
+from propbench.model.events import Read
+from propbench.model.measures import Interval
+from propbench.questions.asking import tried
+from propbench.questions.certificate import Certificate
+from propbench.questions.clock import Clock, Progress
+from propbench.questions.model import Model
+from propbench.questions.rooms import Numbers
+from propbench.questions.shown import Shown, shortened
+from propbench.questions.trial import Case, Trial
+
+
+@dataclass(frozen=True)
+class Improvement:
+    """A reading, and what is left for the quantity with half its tolerance and without it; None
+    where nothing is known, or it can't be."""
+
+    premise: str
+    says: str
+    halved: Interval | None
+    left_out: Interval | None
+
+
+class Improvements(Shown, list[Improvement]):
+    """What each reading is worth to a quantity, whose answer now is `now`: that in front whose better
+    tolerance makes the answer narrowest."""
+
+    _certificate: Certificate | None = None
+
+    def __init__(
+        self, name: str, now: Interval | None, found: Sequence[Improvement], complete: bool
+    ) -> None:
+        super().__init__(found)
+        self.name, self.now, self.complete = name, now, complete
+
+    def headline(self) -> str:
+        until = "" if self.complete else ", as far as is known,"
+        return f"{self.name} is {self.now}, of a width of {_width(self.now)}, and{until}:"
+
+    def heads(self) -> Sequence[str]:
+        return ("reading", "says", "width where it is halved", "width without it")
+
+    def rows(self) -> Sequence[Sequence[object]]:
+        return [
+            (it.premise, shortened(it.says), _width(it.halved), _width(it.left_out)) for it in self
+        ]
+
+
+def _width(interval: Interval | None) -> str:
+    return "can't be" if interval is None else f"{float(interval.width):.3g}"
+
+
+def find_improvements(
+    model: Model,
+    quantity: Quantity,
+    readings: Mapping[str, Sequence[Read]],
+    seconds: float | None,
+    progress: Progress | None,
+) -> Improvements:
+    """What each reading that is believed is worth to a quantity."""
+    believed = list(model.believed())
+    trial = Trial(
+        model, [name for name in believed if name not in readings], Clock(seconds, progress)
+    )
+    found: dict[tuple[str, bool], Interval | None] = {}
+
+    def left(premises: Sequence[str], told: Sequence[Case] = ()) -> Interval | None:
+        narrowing = Narrowing(trial, premises, (), told, depth=0)
+        try:
+            narrowing.begin()
+            room = narrowing.left(quantity.name)
+            if room is not None:
+                room, _ = narrowing.shaved(quantity.name, room)
+        except Impossible:
+            return None
+        if room is None:
+            return None
+        ends = quantity.measure.reals(room.low, room.high)
+        low, high = max(ends[0], quantity.measure.low), min(ends[1], quantity.measure.high)
+        return quantity.measure.interval(min(low, high), max(low, high))
+
+    def run() -> None:
+        found["", False] = left(believed)
+        for name, stated in readings.items():
+            others = [each for each in believed if each != name]
+            found[name, False] = left(others)
+            found[name, True] = left(others, [_halved(read) for read in stated])
+
+    def result() -> Improvements:
+        rows = [
+            Improvement(name, model.text(name), found.get((name, True)), found.get((name, False)))
+            for name in readings
+        ]
+        rows.sort(key=lambda it: (it.halved is None, it.halved and it.halved.width))
+        is_all = len(found) == 2 * len(readings) + 1 and not trial.clock.is_over()
+        return Improvements(quantity.name, found.get(("", False)), rows, is_all)
+
+    return tried(trial, run, result)
+
+
+def _halved(read: Read) -> Case:
+    """A reading with half its tolerance, as what its cell may be."""
+    measure, reading = read.cell.measure, read.reading
+    assert measure is not None
+    middle, quarter = (reading.low + reading.high) / 2, (reading.high - reading.low) / 4
+    ends = measure.count(middle - quarter), measure.count(middle + quarter)
+    return read.cell.name, Numbers(*ends)

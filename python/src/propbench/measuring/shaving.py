@@ -1,0 +1,115 @@
+"""What follows for a quantity, as narrow as telling and forgetting makes it."""
+
+from collections.abc import Sequence
+from dataclasses import dataclass
+from typing import Protocol
+
+from propbench.measuring.narrowing import Impossible, Narrowing
+from propbench.measuring.quantities import MeasuredAnswer, Quantity
+from propbench.questions.asking import tried
+from propbench.questions.certificate import Certificate, Evidence
+from propbench.questions.checker import MOST
+from propbench.questions.clock import Clock, Progress
+from propbench.questions.model import Model
+from propbench.questions.outcomes import Fork
+from propbench.questions.rooms import Numbers
+from propbench.questions.trial import Trial
+from propbench.replies import Value
+
+
+@dataclass(frozen=True)
+class Shaved(MeasuredAnswer):
+    """What follows for a quantity. `complete` is False where the time was over before no more could
+    be taken off; `certificate` has the slices that were, and what shows each."""
+
+    complete: bool = True
+    _certificate: Certificate | None = None
+
+    @property
+    def certificate(self) -> Certificate:
+        """What anyone can ask the program again. Raises ValueError where there is nothing to show."""
+        if self._certificate is None:
+            raise ValueError("there is nothing that a certificate could show")
+        return self._certificate
+
+
+class Bench(Protocol):
+    """What is asked of a workbench."""
+
+    @property
+    def model(self) -> Model:
+        """The workbench as questions see it."""
+        ...
+
+    def _related(self, quantity: Quantity) -> list[str]:
+        """The quantities that laws tie to this one, by name, those without readings in front."""
+        ...
+
+    def _told(self, quantity: Quantity, room: Numbers, names: Sequence[str]) -> MeasuredAnswer:
+        """What a cell that holds one of these numbers says, because of these premises."""
+        ...
+
+    def _conflict_of(self, names: Sequence[str]) -> Exception:
+        """That these premises can't all hold, made few."""
+        ...
+
+
+def find_shaved(
+    bench: Bench, quantity: Quantity, seconds: float | None, progress: Progress | None
+) -> Shaved:
+    """The narrowest that is found for a quantity."""
+    model, name = bench.model, quantity.name
+    believed = list(model.believed())
+    clock = Clock(seconds, progress)
+    trial = Trial(model, believed, clock)
+    narrowing = Narrowing(trial, believed, bench._related(quantity))
+    state: dict[str, Numbers] = {}
+    slices: list[tuple[str, Fork | None]] = []
+
+    def run() -> None:
+        narrowing.begin()
+        room = narrowing.left(name)
+        if room is not None:
+            reply = trial.session.send(f"why {trial.cell_line[name]}")
+            narrowing.names.update((reply.because or ()) if isinstance(reply, Value) else ())
+            state["begun"] = state["room"] = room
+            state["room"], found = narrowing.shaved(name, room)
+            slices.extend(found)
+
+    def result() -> Shaved:
+        if "room" not in state:
+            return Shaved(**vars(quantity.ask(seconds=seconds)), complete=False)
+        room, begun = state["room"], state["begun"]
+        because = [each for each in believed if trial.line[each] in narrowing.names]
+        told = bench._told(quantity, room, because)
+        claims, evidence = [], Evidence.of(trial)
+        line = trial.cell_line[name]
+        for outside in (Numbers(-MOST, room.low - 1), Numbers(room.high + 1, MOST)):
+            cases = _cases(outside, begun, slices)
+            evidence.add_tree(believed, [[line, str(outside)]], Fork(line, tuple(cases)))
+            given = evidence.lines_of(believed)
+            claims.append(("fails", {"given": given, "told": [[line, str(outside)]]}))
+        certificate = evidence.certificate(claims)
+        return Shaved(**vars(told), complete=not clock.is_over(), _certificate=certificate)
+
+    try:
+        return tried(trial, run, result)
+    except Impossible as impossible:
+        names = [each for each in believed if trial.line[each] in impossible.names]
+        raise bench._conflict_of(names) from None
+
+
+def _cases(
+    outside: Numbers, begun: Numbers, slices: Sequence[tuple[str, Fork | None]]
+) -> list[tuple[str, Fork | None]]:
+    """What lies outside in cases: what one run leaves out, and the slices that were taken off."""
+    cases: list[tuple[str, Fork | None]] = []
+    if outside.low == -MOST:
+        cases.append((str(Numbers(-MOST, begun.low - 1)), None))
+    else:
+        cases.append((str(Numbers(begun.high + 1, MOST)), None))
+    for text, tree in slices:
+        low = int(text.split("..")[0])
+        if outside.low <= low <= outside.high:
+            cases.append((text, tree))
+    return cases

@@ -1,0 +1,148 @@
+"""What a user states of quantities, as events: cells, laws in whole numbers, and readings."""
+
+from collections.abc import Callable, Sequence
+from dataclasses import dataclass, replace
+from fractions import Fraction
+
+from propbench.measuring.bounds import Bounds
+from propbench.measuring.combining import combined
+from propbench.measuring.forms import Form, Polynomial, forms_of, polynomial_of
+from propbench.measuring.quantities import measure_of
+from propbench.measuring.readings import Reading
+from propbench.measuring.terms import Law, Real, Sort, text_of
+from propbench.measuring.translation import Told, TooCoarse, Translator
+from propbench.measuring.units import Unit, dimension_text
+from propbench.model.events import Read
+from propbench.model.given import cells_of
+from propbench.model.kinds import Plain
+from propbench.model.measures import Measure, rounded
+from propbench.model.nodes import TRUE, Declared, Node, all_of
+
+# What is too coarse is tried with steps that are finer by up to so many powers of ten.
+_FINER = 10
+
+# Gives a quantity that the user didn't name: a root within a term, by what its cell counts.
+RootOf = Callable[[Real, Measure], Declared]
+
+
+@dataclass(frozen=True)
+class Stated:
+    """A law in whole numbers: the form as it was written, and a constraint that says this and what
+    else follows from it and from other laws."""
+
+    law: Law
+    written: Told
+    under: str | None
+    constraint: Node
+    # The law as a sum of products that is zero, where it is one.
+    equation: Polynomial | None
+
+
+def stated(
+    law: Law, before: Sequence[Polynomial], under: str | None, root_of: RootOf
+) -> tuple[Stated, list[Stated]]:
+    """A law as it is told, and those that say what the roots in it are. `before` are equations
+    that hold always as this one, with which it may be combined.
+
+    Raises NoBound, and TooCoarse, which says what would do, where the law can't be told.
+    """
+    try:
+        return _stated(law, before, under, root_of)
+    except TooCoarse as coarse:
+        raise TooCoarse(f"{coarse}; {_what_would_do(law)}") from None
+
+
+def _stated(
+    law: Law, before: Sequence[Polynomial], under: str | None, root_of: RootOf
+) -> tuple[Stated, list[Stated]]:
+    roots: dict[Real, Real] = {}
+    definitions: list[Law] = []
+
+    def hidden(root: Real, bounds: Bounds) -> Real:
+        if root not in roots:
+            made = root_of(root, _measure_of_root(root, bounds))
+            roots[root] = Real(Sort.QUANTITY, (), root.dimension, declared=made)
+            square = Real(Sort.POWER, (roots[root],), root.args[0].dimension, Fraction(2))
+            definitions.append(Law(square, root.args[0], True, f"{text_of(root)} is a root"))
+        return roots[root]
+
+    translator = Translator(hidden)
+    first, *forms = forms_of(law, translator.bounds)
+    written = translator.told(first.sum, first.is_equation)
+    equation = polynomial_of(first.sum) if law.is_equation else None
+    if before and equation:
+        forms += combined(before, equation)
+    constraints = [written.constraint, *(_constraint(translator, form) for form in forms)]
+    found = Stated(law, written, under, all_of(constraints), equation)
+    return found, [_stated(each, (), under, root_of)[0] for each in definitions]
+
+
+def _what_would_do(law: Law) -> str:
+    """Which step of one of its quantities would do for a law."""
+    for power in range(1, _FINER):
+        for quantity in quantities_in(law):
+            assert quantity.measure is not None
+            finer = replace(quantity.measure, step=quantity.measure.step / 10**power)
+            tried = declared(quantity.name, finer, None)
+            try:
+                _stated(_with(law, quantity, tried), (), None, _unowned)
+            except ValueError:
+                continue
+            step = rounded(finer.step / finer.factor, False)
+            return f"step={step:f} would do for {quantity.name!r}"
+    return "ends that are farther from 0 would do"
+
+
+def _unowned(root: Real, measure: Measure) -> Declared:
+    """A root of no workbench."""
+    return declared(text_of(root), measure, None)
+
+
+def _with(law: Law, quantity: Declared, other: Declared) -> Law:
+    """A law with another quantity in the place of one."""
+
+    def put(real: Real) -> Real:
+        is_it = real.declared is quantity
+        return replace(
+            real, args=tuple(map(put, real.args)), declared=other if is_it else real.declared
+        )
+
+    return replace(law, left=put(law.left), right=put(law.right))
+
+
+def _constraint(translator: Translator, form: Form) -> Node:
+    """The constraint of a form that follows anyway: none where it can't be told."""
+    try:
+        return translator.told(form.sum, form.is_equation).constraint
+    except ValueError:
+        return TRUE
+
+
+def _measure_of_root(root: Real, bounds: Bounds) -> Measure:
+    """What the cell of a root counts, in base units."""
+    unit = Unit(dimension_text(root.dimension), root.dimension)
+    return measure_of(text_of(root), unit, bounds[0], bounds[1], None)
+
+
+def declared(name: str, measure: Measure, owner: object) -> Declared:
+    """The cell of a quantity."""
+    low, high = measure.count(measure.low), measure.count(measure.high)
+    return Declared(name, Plain.NUMBER, low, high, owner, measure)
+
+
+def quantities_in(law: Law) -> list[Declared]:
+    """The quantities in a law, each once."""
+    found: dict[Declared, None] = {}
+    waiting: list[Real] = [law.right, law.left]
+    while waiting:
+        each = waiting.pop()
+        if each.sort is Sort.QUANTITY:
+            found[each.quantity] = None
+        waiting += reversed(each.args)
+    return list(found)
+
+
+def read(cell: Declared, reading: Reading, premise: str | None) -> Read:
+    """A reading of a quantity, as what its cell may be."""
+    assert cell.measure is not None
+    return Read(cell, cells_of(cell.measure, reading), premise, reading)

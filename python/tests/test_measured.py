@@ -1,0 +1,567 @@
+"""Measured quantities: answers beside exact intervals, which are worked out by hand from formulas."""
+
+import re
+import subprocess
+import sys
+from collections.abc import Iterator
+from decimal import Decimal
+from fractions import Fraction
+from itertools import product
+from os import environ
+from pathlib import Path
+
+import pytest
+
+from propbench import CertificateError, Conflict, Workbench, maximum, mean, minimum, total
+from propbench.measuring.quantities import MeasuredAnswer, Quantity
+from propbench.measuring.translation import TooCoarse
+
+EXAMPLES = Path(__file__).parents[1] / "examples"
+MOST_LINES = 25
+Ends = tuple[Fraction, Fraction]
+
+
+@pytest.fixture
+def w() -> Iterator[Workbench]:
+    with Workbench() as made:
+        yield made
+
+
+def ends(*texts: str | int) -> Ends:
+    low, high = (Fraction(text) for text in texts)
+    return low, high
+
+
+def around(middle: str, off: str) -> Ends:
+    return Fraction(middle) - Fraction(off), Fraction(middle) + Fraction(off)
+
+
+def is_tight(answer: MeasuredAnswer, wanted: Ends, more: str = "0.001") -> bool:
+    """Whether an answer holds an interval, and is wider by a small part of it at the most."""
+    assert answer.low is not None and answer.high is not None and answer.settled
+    low, high = Fraction(answer.low), Fraction(answer.high)
+    assert low <= wanted[0] and wanted[1] <= high, (answer, wanted)
+    room = Fraction(more) * (wanted[1] - wanted[0] or abs(wanted[0]))
+    return high - low <= wanted[1] - wanted[0] + room
+
+
+# --- innocent readings ---
+
+
+@pytest.mark.parametrize("step", [1, "0.1", "0.001"])
+@pytest.mark.parametrize("high", [1000, 10**6])
+def test_a_mass_and_a_volume(w: Workbench, step: str | int, high: int) -> None:
+    """Whole-number equations find mass 100 and volume 7 in conflict."""
+    density = w.measured("density", unit="g/cm3", low=0, high=1000, step=step)
+    volume = w.measured("volume", unit="cm3", low=0, high=high, step=step)
+    mass = w.measured("mass", unit="g", low=0, high=high, step=step)
+    w.law(density * volume == mass)
+    w.read("balance", mass, 100)
+    w.read("cylinder", volume, 7)
+    assert is_tight(density.ask(), ends("100/7", "100/7"), "0.01")
+    assert density.ask().because == ("balance", "cylinder")
+    assert w.settle() and w.outliers() == [frozenset()]
+
+
+@pytest.mark.parametrize("step", [1, "0.001"])
+def test_the_tutorial_s_equation(w: Workbench, step: str | int) -> None:
+    names = ("barometer", "barometer shadow", "shadow", "height")
+    made = [w.measured(name, unit="mm", low=1, high=100_000, step=step) for name in names]
+    barometer, barometer_shadow, shadow, height = made
+    w.law(barometer * shadow == barometer_shadow * height)
+    w.read("ruler", barometer, 300)
+    w.read("sun", barometer_shadow, 370)
+    w.read("tape", shadow, 54_900)
+    assert is_tight(height.ask(), ends("1647000/37", "1647000/37"), "0.0001")
+
+
+def test_the_mean_of_1010_1010_and_1011(w: Workbench) -> None:
+    masses = [w.measured(name, unit="g", low=0, high=2000, step=1) for name in "abc"]
+    middle = w.measured("mean", unit="g", low=0, high=2000, step=1)
+    w.law(middle == mean(masses))
+    for each, shown in zip(masses, (1010, 1010, 1011)):
+        w.read(f"balance {each.name}", each, shown)
+    assert is_tight(middle.ask(), ends("3031/3", "3031/3"), "0.000001")
+    assert middle.ask().low is not None and isinstance(middle.ask().low, Decimal)
+
+
+# --- the examples ---
+
+SHOWN = re.compile(r"^(.+?)(?: = |  ) *(-?[\d.]+)\.\.(-?[\d.]+) (\S+)", re.M)
+
+
+def said(name: str, program: str) -> tuple[str, dict[str, list[Ends]]]:
+    """What an example prints, and the intervals in it by what they are of."""
+    path = EXAMPLES / f"{name}.py"
+    assert path.read_text().count("\n") < MOST_LINES
+    source = str(EXAMPLES.parent / "src")
+    ran = subprocess.run(
+        [sys.executable, str(path)],
+        env={**environ, "PROPBENCH": program, "PYTHONPATH": source},
+        capture_output=True,
+        text=True,
+        check=True,
+    )
+    found: dict[str, list[Ends]] = {}
+    for of, low, high, _ in SHOWN.findall(ran.stdout):
+        found.setdefault(of.strip(), []).append(ends(low, high))
+    return ran.stdout, found
+
+
+def is_shown(found: Ends, wanted: Ends, digit: str) -> bool:
+    """Whether an interval is shown that holds one, and is wider by a digit at each end at most."""
+    below, above = wanted[0] - found[0], found[1] - wanted[1]
+    return 0 <= below <= Fraction(digit) and 0 <= above <= Fraction(digit)
+
+
+def parallel(one: Fraction, other: Fraction) -> Fraction:
+    return one * other / (one + other)
+
+
+def test_two_resistors(program: str) -> None:
+    text, found = said("resistors", program)
+    ways = [line.split("  ")[1:3] for line in text.split("\n") if re.match(r" +\d ", line)]
+    assert ways[0][0] == "1" and text.count("  meter on R2  ") == 1
+    singles = [line for line in text.split("\n") if line.startswith("  1 ")]
+    assert len(singles) == 1 and "meter on R2" in singles[0] and "17.7 ohm" in singles[0]
+    assert re.search(r"\n  2 .*\n   +\S", text), "other ways give up more than one"
+    # (each is read by itself most narrowly; no sum and no parallel tells more of the two)
+    one, other = ends("465.6", "470.4"), (Fraction("331.2") - Fraction("1.2"), Fraction("332.4"))
+    series = ends("797.5", "800.5")
+    assert one[0] + other[0] < series[0] and series[1] < one[1] + other[1]
+    assert is_shown(found["R1"][0], one, "0") and is_shown(found["R2"][0], other, "0")
+    assert is_shown(found["series"][0], series, "0")
+    both = parallel(one[0], other[0]), parallel(one[1], other[1])
+    assert is_shown(found["parallel"][0], both, "0.1")
+
+
+def test_a_point(program: str) -> None:
+    """Each two distances along an edge tell a coordinate: (a^2 - b^2) / 2e + e / 2."""
+    text, found = said("point", program)
+    tapes = {"A": "29.284", "B": "40.167", "C": "40.483", "D": "48.899"}
+    far = {post: around(tape, "0.05") for post, tape in tapes.items()}
+
+    def along(near: str, other: str, edge: int) -> Ends:
+        low = (far[near][0] ** 2 - far[other][1] ** 2) / (2 * edge) + Fraction(edge, 2)
+        high = (far[near][1] ** 2 - far[other][0] ** 2) / (2 * edge) + Fraction(edge, 2)
+        return low, high
+
+    for name, pairs, edge in (("x", ("AB", "CD"), 60), ("y", ("AC", "BD"), 50)):
+        each = [along(pair[0], pair[1], edge) for pair in pairs]
+        wanted = max(low for low, _ in each), min(high for _, high in each)
+        shown = found[name][0]
+        assert shown[0] >= wanted[0] - Fraction("0.001")
+        assert shown[1] <= wanted[1] + Fraction("0.001")
+    assert text.count("because of tape A, tape B, tape C, tape D") == 2
+
+
+def test_a_density(program: str) -> None:
+    text, found = said("density", program)
+    mass, volume = around("100", "0.005"), around("7", "0.1")
+    water, hung = ends("0.9982", "0.9984"), around("93", "0.1")
+    by_volume = mass[0] / volume[1], mass[1] / volume[0]
+    # (water times 1 / (1 - hung / mass), which has each once)
+    lost = [1 - hung[1] / mass[0], 1 - hung[0] / mass[1]]
+    by_water = water[0] / lost[1], water[1] / lost[0]
+    wanted = max(by_volume[0], by_water[0]), min(by_volume[1], by_water[1])
+    assert all(is_shown(each, wanted, "0.001") for each in found["density"])
+    assert "has to show 6.8..7.2 cm3" in text
+
+
+def test_a_barometer(program: str) -> None:
+    _, found = said("barometer", program)
+    long, its, shadow = ends("0.300", "0.320"), ends("0.360", "0.370"), around("55", "0.1")
+    by_shadow = long[0] * shadow[0] / its[1], long[1] * shadow[1] / its[0]
+    gravity, time = ends("9.789", "9.832"), around("3", "0.1")
+    by_fall = gravity[1] * time[1] ** 2 / 2
+    assert is_shown(found["height"][0], by_shadow, "0.01")
+    assert is_shown(found["height"][1], (by_shadow[0], by_fall), "0.01")
+    assert is_shown(found["barometer"][0], (long[0], by_fall * its[1] / shadow[0]), "0.001")
+    least = found["time"][0][0]
+    assert gravity[1] * (least + Fraction("0.001")) ** 2 / 2 > by_shadow[0]
+    assert gravity[1] * least**2 / 2 <= by_shadow[0]
+
+
+def test_a_calibration_line(program: str) -> None:
+    """Slope, offset and a reading on the line by two variables: at the corners of what fits."""
+    _, found = said("calibration", program)
+    shown = dict(zip(range(0, 101, 20), ("0.012", "0.803", "1.611", "2.409", "3.222", "4.014")))
+    bands = [(x, *around(volts, "0.01")) for x, volts in shown.items()]
+    lines = [(low, x) for x, low, _ in bands] + [(high, x) for x, _, high in bands]
+    corners = []
+    for (one, left), (other, right) in product(lines, lines):
+        if left < right:
+            slope = (other - one) / (right - left)
+            offset = one - slope * left
+            if all(low <= offset + slope * x <= high for x, low, high in bands):
+                corners.append((slope, offset))
+    slopes, offsets = [slope for slope, _ in corners], [offset for _, offset in corners]
+    assert is_shown(found["slope"][0], (min(slopes), max(slopes)), "0.00001")
+    assert is_shown(found["offset"][0], (min(offsets), max(offsets)), "0.0001")
+    signal = around("2", "0.01")
+    unknowns = [(end - offset) / slope for slope, offset in corners for end in signal]
+    wanted = min(unknowns), max(unknowns)
+    table, shaved = found["unknown"]
+    assert table[0] <= shaved[0] <= wanted[0] and wanted[1] <= shaved[1] <= table[1]
+    assert shaved[1] - shaved[0] <= Fraction("1.15") * (wanted[1] - wanted[0])
+
+
+def test_a_mean(program: str) -> None:
+    _, found = said("mean", program)
+    assert is_shown(found["mean"][0], ends("3031/3", "3031/3"), "0.0002")
+
+
+def test_all_examples_are_compared() -> None:
+    names = {path.stem for path in EXAMPLES.glob("*.py")}
+    assert names == {"resistors", "point", "density", "barometer", "calibration", "mean"}
+
+
+# --- what each operation tells ---
+
+
+def test_operations_beside_exact_intervals(w: Workbench) -> None:
+    """Of quantities that stand once, an answer is what interval arithmetic gives."""
+    x = w.measured("x", unit="m", low=-100, high=100, step="0.001")
+    y = w.measured("y", unit="m", low=1, high=100, step="0.001")
+    w.read("x", x, "-2..3")
+    w.read("y", y, "4..5")
+    cases = [
+        (x + y, "m", (2, 8)),
+        (x - 2 * y, "m", (-12, -5)),
+        (x * y, "m2", (-10, 15)),
+        (x / y, "1", ("-1/2", "3/4")),
+        (1 / y, "1/m", ("1/5", "1/4")),
+        (x**2, "m2", (0, 9)),
+        (y**3, "m3", (64, 125)),
+        (y**-1, "1/m", ("1/5", "1/4")),
+        ((y * "1 m").sqrt() ** 2, "m2", (4, 5)),
+        (y**2, "m2", (16, 25)),
+        ((4 * y**2).sqrt(), "m", (8, 10)),
+        (abs(x), "m", (0, 3)),
+        (mean(x, y), "m", (1, 4)),
+        (total(x, y, y), "m", (6, 13)),
+        (3 * y - x + "7 m", "m", (16, 24)),
+        (-x, "m", (-3, 2)),
+    ]
+    for place, (term, unit, (low, high)) in enumerate(cases):
+        z = w.measured(f"z{place}", unit=unit, low=-1000, high=1000, step="0.001")
+        w.law(z == term)
+        assert is_tight(z.ask(), ends(low, high), "0.001"), (term, z.ask())
+
+
+def test_the_greatest_and_the_least(w: Workbench) -> None:
+    """By the rules of the wider kit, where the program has them; else they may tell less."""
+    x = w.measured("x", unit="m", low=-100, high=100, step="0.001")
+    y = w.measured("y", unit="m", low=1, high=100, step="0.001")
+    greatest = w.measured("greatest", unit="m", low=-200, high=200, step="0.001")
+    least = w.measured("least", unit="m", low=-200, high=200, step="0.001")
+    w.law(greatest == maximum(x, y))
+    w.law(least == minimum(x, y, "1 m"))
+    w.read("x", x, "-2..3")
+    w.read("y", y, "4..5")
+    for quantity, wanted in ((greatest, ends(4, 5)), (least, ends(-2, 1))):
+        answer = quantity.ask()
+        assert is_tight(answer, wanted) or "max" not in w._network.offered
+    w.tell("x to half a digit", x, "0.5")
+    assert is_tight(least.ask(), ends("0.45", "0.55"), "0.01")
+
+
+def test_laws_run_backwards(w: Workbench) -> None:
+    height = w.measured("height", unit="m", low=0, high=1000)
+    time = w.measured("time", unit="s", low=0, high=100)
+    w.law(height == "9.81 m/s2" * time**2 / 2)
+    w.read("tape", height, "44.145 +- 0.05 m")
+    low, high = time.ask().low, time.ask().high
+    assert low is not None and high is not None
+    for end, sign in ((low, 1), (high, -1)):
+        fall = Fraction("4.905") * Fraction(end) ** 2
+        wanted = Fraction("44.145") - sign * Fraction("0.05")
+        assert 0 <= sign * (wanted - fall) < Fraction("0.0001")
+
+
+def test_a_law_may_be_a_bound(w: Workbench) -> None:
+    x = w.measured("x", unit="m", low=0, high=100)
+    y = w.measured("y", unit="m", low=0, high=100)
+    w.law(x + y <= "10 m")
+    w.law(x >= 2 * y, under="wide")
+    w.read("y", y, "2..3")
+    assert is_tight(x.ask(), ends(4, 8))
+    assert set(x.ask().because) == {"y", "wide"}
+    w.kick("wide")
+    assert is_tight(x.ask(), ends(0, 8))
+
+
+def test_laws_under_a_premise_say_nothing_without(w: Workbench) -> None:
+    x = w.measured("x", unit="m", low=1, high=100)
+    y = w.measured("y", unit="m", low=1, high=100)
+    w.law(y == 2 * x, under="double")
+    w.law(y == x, under="same")
+    w.read("x", x, 3)
+    with pytest.raises(Conflict) as caught:
+        y.ask()
+    assert set(caught.value.premises) == {"double", "same", "x"} or set(caught.value.premises) == {
+        "double",
+        "same",
+    }
+    assert "  double: y == 2 * x" in str(caught.value)
+    w.kick("same")
+    assert is_tight(y.ask(), ends(6, 6), "0.00001")
+    assert w.repairs(keep=["x", "double"], seconds=5) == [frozenset()]
+
+
+# --- narrow answers ---
+
+
+def three_distances(w: Workbench) -> tuple[Quantity, Quantity]:
+    """A point by its distances from three posts at the corners of a field of 60 m by 50 m."""
+    x = w.measured("x", unit="m", low=-100, high=100, step="0.001")
+    y = w.measured("y", unit="m", low=-100, high=100, step="0.001")
+    for name, (east, north, tape) in POSTS.items():
+        far = w.measured(name, unit="m", low=0, high=200, step="0.001")
+        w.law(far**2 == (x - f"{east} m") ** 2 + (y - f"{north} m") ** 2)
+        w.read(f"tape {name}", far, f"{tape} +- 0.05 m")
+    return x, y
+
+
+POSTS = {"A": (0, 0, "29.284"), "B": (60, 0, "40.167"), "C": (0, 50, "40.403")}
+
+
+def fits(x: Fraction, y: Fraction) -> bool:
+    """Whether a point has the distances that were read, exactly."""
+    return all(
+        (Fraction(tape) - Fraction("0.05")) ** 2
+        <= (x - east) ** 2 + (y - north) ** 2
+        <= (Fraction(tape) + Fraction("0.05")) ** 2
+        for east, north, tape in POSTS.values()
+    )
+
+
+def test_a_coordinate_by_three_distances(w: Workbench) -> None:
+    """At most 1.3 times as wide as the points are of a fine grid that have these distances, and
+    nearly that without shaving."""
+    x, y = three_distances(w)
+    steps = [Fraction(step, 1000) for step in range(-100, 101, 2)]
+    found = [
+        (Fraction("23.7") + east, Fraction("17.2") + north)
+        for east, north in product(steps, steps)
+        if fits(Fraction("23.7") + east, Fraction("17.2") + north)
+    ]
+    assert len(found) > 400
+    for place, quantity in enumerate((x, y)):
+        truth = [point[place] for point in found]
+        for answer, more in ((quantity.ask(), "0.4"), (w.shave(quantity), "0.1")):
+            assert is_tight(answer, (min(truth), max(truth)), more)
+
+
+def test_shaving_takes_off_what_one_run_leaves(w: Workbench) -> None:
+    """(a + b) * a by whole numbers' ends is wider than it is: 2..4 times 1..2, and a stands twice."""
+    a = w.measured("a", unit="m", low=-10, high=10, step="0.001")
+    b = w.measured("b", unit="m", low=-10, high=10, step="0.001")
+    area = w.measured("area", unit="m2", low=-100, high=100, step="0.001")
+    w.law(area == (a - b) * (a + b) - a**2)
+    w.read("a", a, "1..2")
+    w.read("b", b, "1..2")
+    shaved = w.shave(area)
+    assert is_tight(shaved, ends(-4, -1), "0.1")
+    assert shaved.complete and shaved.because and set(shaved.because) <= {"a", "b"}
+    assert shaved.certificate.check()
+    broken = type(shaved.certificate)(
+        tuple(line.replace("tell a a 1", "tell a a 3") for line in shaved.certificate.lines)
+    )
+    with pytest.raises(CertificateError):
+        broken.check()
+
+
+def test_each_quantity_once(w: Workbench) -> None:
+    """Two in parallel, however that is written: exact ends without shaving."""
+    one = w.measured("one", unit="ohm", low=1, high=10_000, step="0.001")
+    other = w.measured("other", unit="ohm", low=1, high=10_000, step="0.001")
+    w.read("one", one, "468 +- 1 ohm")
+    w.read("other", other, "330 +- 1 ohm")
+    wanted = parallel(Fraction(467), Fraction(329)), parallel(Fraction(469), Fraction(331))
+    forms = [one * other / (one + other), 1 / (1 / one + 1 / other)]
+    for place, term in enumerate(forms):
+        both = w.measured(f"p{place}", unit="ohm", low=1, high=10_000, step="0.001")
+        w.law(both == term)
+        assert is_tight(both.ask(), wanted, "0.01")
+
+
+def test_a_conflict_that_one_run_does_not_see(w: Workbench) -> None:
+    x = w.measured("x", unit="m", low=0, high=10, step="0.001")
+    y = w.measured("y", unit="m", low=0, high=10, step="0.001")
+    w.law(x * (x - y) == "1 m2")
+    w.law(y * (y - x) == "1 m2")
+    w.read("sum", x, "0.5..9")
+    with pytest.raises(Conflict):
+        w.shave(y, seconds=20)
+        x.ask()
+
+
+# --- outliers, sensitivity, prediction, room ---
+
+
+def test_outliers_are_as_repairs(w: Workbench) -> None:
+    x = w.measured("x", unit="m", low=0, high=100, step="0.01")
+    w.require(w.truth("fine"), under="a wish")
+    for name, text in {"a": "10 +- 1", "b": "11 +- 1", "c": "15 +- 1", "d": "10.5 +- 1"}.items():
+        w.read(name, x, text)
+    found = w.outliers()
+    assert [set(each) for each in found] == [{"c"}, {"a", "b", "d"}]
+    assert found[0] == frozenset({"c"}) and found.complete
+    # (the others leave 10..11, and c shows 14 at least)
+    assert found[0].off["c"].by == Decimal("2.99")
+    assert found.certificate.check()
+    assert "1    c        x = 15 +- 1" in str(found)
+    w.kick("c")
+    assert w.outliers() == [frozenset()]
+
+
+def test_what_can_t_hold_without_any_reading(w: Workbench) -> None:
+    x = w.measured("x", unit="m", low=0, high=100, step="0.01")
+    w.law(x >= "60 m")
+    w.law(x <= "50 m")
+    w.read("a", x, "55 +- 10")
+    found = w.outliers()
+    assert found == [] and found.complete and "What is no reading can't hold" in str(found)
+
+
+def test_which_reading_to_improve(w: Workbench) -> None:
+    """The width of a sum is the sum of widths: 2, 4 and 0.2."""
+    parts = [w.measured(name, unit="m", low=0, high=100, step="0.001") for name in "abc"]
+    whole = w.measured("whole", unit="m", low=0, high=300, step="0.001")
+    w.law(whole == total(parts))
+    for part, off in zip(parts, ("1", "2", "0.1")):
+        w.read(f"tape {part.name}", part, f"10 +- {off} m")
+    found = w.sensitivity(whole)
+    assert [each.premise for each in found] == ["tape b", "tape a", "tape c"]
+    widths = {each.premise: each.halved.width for each in found if each.halved}
+    for name, width in {"tape a": "5.2", "tape b": "4.2", "tape c": "6.1"}.items():
+        assert 0 <= widths[name] - Decimal(width) < Decimal("0.001")
+    left_out = {each.premise: each.left_out for each in found}["tape b"]
+    assert left_out and abs(left_out.width - Decimal("102.2")) < Decimal("0.001")
+    assert "tape b" in str(found).split("\n")[2]
+
+
+def test_what_a_further_reading_has_to_show(w: Workbench) -> None:
+    x = w.measured("x", unit="mm", low=0, high=100, step="0.01")
+    w.read("a", x, "10 +- 1")
+    w.read("b", x, "10.5 +- 1")
+    found = w.predict(x, "+- 0.25 mm")
+    shows = Fraction(found.shows.low), Fraction(found.shows.high)
+    assert shows[0] <= Fraction("9.25") and Fraction("11.25") <= shows[1]
+    assert shows[1] - shows[0] < Fraction("2.001") and found.because == ("a", "b")
+    assert "has to show 9.25..11.25 mm: any other is in conflict with a, b" in str(found)
+    w.read("c", x, "11.26 +- 0.25 mm")
+    with pytest.raises(Conflict):
+        x.ask()
+
+
+def test_a_law_tells_its_room(w: Workbench) -> None:
+    x = w.measured("x", unit="m", low=0, high=1000, step="0.001")
+    y = w.measured("y", unit="m", low=0, high=1000, step="0.001")
+    z = w.measured("z", unit="m2", low=0, high=10**6, step="0.001")
+    law = z == x * y
+    w.law(law)
+    w.read("x", x, "3 +- 0.1")
+    w.read("y", y, "4 +- 0.1")
+    room = w.room(law)
+    assert set(room.widths) == {"x", "y", "z"} and 0 < room.share < Fraction(1, 10**6)
+    # (half a step of each factor, times the other, on both sides, and the steps of z)
+    assert room.widths["z"].width < Decimal("0.005")
+    assert str(room).startswith("z == x * y is told to ")
+    assert any(line.startswith("attach product x y ") for line in w.lines(law))
+    with pytest.raises(ValueError, match="was not stated"):
+        w.room(x == y)
+
+
+def test_a_step_that_is_too_coarse_says_which_would_do(w: Workbench) -> None:
+    x = w.measured("x", unit="m", low="0.01", high=10**6, step="0.1")
+    z = w.measured("z", unit="1/m", low=0, high=10**6)
+    with pytest.raises(TooCoarse, match="`1 / x` can't be told.*; step=0.001 would do for 'x'"):
+        w.law(z == 1 / x + 1 / (x + "1 m"))
+    assert w.settle() and w.premises == ()
+    finer = w.measured("finer", unit="m", low="0.01", high=10**6, step="0.001")
+    w.law(z == 1 / finer + 1 / (finer + "1 m"))
+    w.read("tape", finer, "2 m +- 0.1 m")
+    wanted = 1 / Fraction("2.1") + 1 / Fraction("3.1"), 1 / Fraction("1.9") + 1 / Fraction("2.9")
+    assert is_tight(z.ask(), wanted, "0.05")
+
+
+# --- errors, and the workbench around ---
+
+
+def test_what_is_refused(w: Workbench) -> None:
+    x = w.measured("x", unit="m", low=0, high=10)
+    y = w.measured("y", unit="m", low=0, high=10)
+    days = w.number("days", 0, 9)
+    refused = [
+        (lambda: w.require(x == y), TypeError, "state it by `w.law"),
+        (lambda: days == x, TypeError, "is measured, and no whole number"),
+        (lambda: x == days, TypeError, "no measured quantity"),
+        (lambda: w.law(days == 3), TypeError, "is no law"),
+        (lambda: w.law(x != y), TypeError, "is no law"),
+        (lambda: bool(x == y), TypeError, "state it by `w.law"),
+        (lambda: bool(x + y), TypeError, "has no value yet"),
+        (lambda: w.least(x), TypeError, "w.shave"),
+        (lambda: w.slack(x), TypeError, "w.shave"),
+        (lambda: w.read("a", days, 3), TypeError, "no measured quantity"),
+        (lambda: x ** Fraction(1, 3), ValueError, "power is by a whole number"),
+        (lambda: x / 0, ValueError, "has no value"),
+        (lambda: w.law(1 / (x - y) + 1 / x == "3 1/m"), ValueError, "x - y may be 0|x may be 0"),
+        (lambda: w.measured("z", "m", 0), ValueError, "needs low= and high="),
+        (lambda: w.measured("z", low=3, high=2), ValueError, "there is no number"),
+        (lambda: w.measured("z", low=0, high=1, step=0), ValueError, "more than 0"),
+        (lambda: w.measured("z", low=0, high=10**9, step="1e-12"), ValueError, "would do"),
+        (lambda: w.measured("x", low=0, high=1), ValueError, "there is a cell of this name"),
+    ]
+    for call, error, says in refused:
+        with pytest.raises(error, match=says):
+            call()  # type: ignore[no-untyped-call]
+    with Workbench() as other:
+        with pytest.raises(ValueError, match="another workbench"):
+            other.law(x == y)
+
+
+def test_a_quantity_in_a_workbench(w: Workbench, tmp_path: Path) -> None:
+    x = w.measured("length of it", unit="mm", low=0, high=100, step="0.1")
+    y = w.measured("y", unit="cm", low=0, high=10, step="0.01")
+    w.law(x == 2 * y)
+    w.read("calliper", x, "20.0(1)")
+    w.fix(y, "0..10")
+    assert str(x.ask()) == (
+        "length of it = 19.7..20.3 mm because of calliper (calliper: u taken 3 times)"
+    )
+    with w.what_if(kick=["calliper"], tell=[("other", y, "1.5 +- 0.1 cm")]):
+        assert is_tight(x.ask(), ends(28, 32))
+    rows = {"now": {}, "other": dict(kick=["calliper"], tell=[("other", y, "1.5 +- 0.1 cm")])}
+    table = w.scenarios(rows, [x])
+    assert is_tight(table["other"]["length of it"], ends(28, 32))
+    assert "length of it  19.7..20.3 mm" in str(w.table(x))
+    w.choose("which", y, ["0.98..1.00 cm", "1.1..1.2"])
+    assert is_tight(x.ask(), ends("19.7", "20"), "0.01")
+    path = tmp_path / "it.prop"
+    w.save(path)
+    again = Workbench.load(path)
+    assert str(again.cell("length of it").ask()) == str(x.ask())
+    assert again.model.text("calliper") == "length of it = 20.0(1) (u taken 3 times)"
+    again.close()
+
+
+def test_temperatures(w: Workbench) -> None:
+    inside = w.measured("inside", unit="degC", low=-50, high=100, step="0.1")
+    outside = w.measured("outside", unit="degF", low=-50, high=200, step="0.1")
+    drop = w.measured("drop", unit="K", low=-100, high=100, step="0.1")
+    w.law(drop == inside - outside)
+    w.read("in", inside, "20.0 +- 0.1")
+    w.read("out", outside, "50 degF")
+    # (50 degF, half a degree either way, is 10 degC and five eighteenths)
+    low, high = Fraction("9.9") - Fraction(5, 18), Fraction("10.1") + Fraction(5, 18)
+    assert is_tight(drop.ask(), (low, high))
+    assert str(inside.ask()).startswith("inside = 19.9..20.1 degC")
+
+
+def test_a_run_may_be_cut(w: Workbench) -> None:
+    x, y = three_distances(w)
+    shaved = w.shave(x, seconds=0)
+    assert not shaved.complete and is_tight(x.ask(), ends("23.65", "23.75"), "0.3")
+    assert not w.outliers(seconds=0).complete
