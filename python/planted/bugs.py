@@ -246,7 +246,7 @@ BUGS = [
         "model/shrinking.py",
         "        while tried:\n",
         "        while tried[1:]:\n",
-        "workbench_random::conflicts_are_minimal",
+        "cases::what_is_needless_is_left_out",
     ),
     Bug(
         "model/answers.py",
@@ -277,19 +277,19 @@ BUGS = [
         "questions/searching.py",
         "    for part in parts:\n",
         "    for part in parts[:-1]:\n",
-        f"{_BOUNDS} {_CONFLICTS} {_PLANS}",
+        "cases::large_numbers_are_tried_in_halves",
     ),
     Bug(
         "questions/rooms.py",
         "Numbers(point + 1, room.high)]",
         "Numbers(point + 2, room.high)]",
-        f"{_PLANS} {_BOUNDS} {_CONFLICTS}",
+        "cases::cases_have_each_number_once",
     ),
     Bug(
         "questions/rooms.py",
         "Numbers(middle + 1, room.high)]",
         "Numbers(middle + 2, room.high)]",
-        f"{_PLANS} {_BOUNDS} {_CONFLICTS}",
+        "cases::cases_have_each_number_once",
     ),
     Bug(
         "questions/plans.py",
@@ -299,9 +299,9 @@ BUGS = [
     ),
     Bug(
         "questions/hitting.py",
-        "            out |= bit\n",
-        "",
-        "hitting::each_least_set_comes_once_cheapest_first",
+        "            if not conflict & seen:\n",
+        "            if conflict:\n",
+        "hitting::sets_that_overlap_are_hit_at_once",
     ),
     Bug(
         "questions/trial.py",
@@ -313,7 +313,7 @@ BUGS = [
         "questions/changes.py",
         "    out = set(kicked) - set(brought)\n",
         "    out = set(kicked)\n",
-        "what_ifs::what_if_leaves_no_trace what_ifs::scenarios_are_what_ifs",
+        "what_ifs::scenarios_are_what_ifs",
     ),
     Bug(
         "questions/sensitivity.py",
@@ -326,7 +326,7 @@ BUGS = [
         "questions/checker.py",
         "if first <= low else low",
         "if first <= low + 1 else low",
-        "certificates::plans_spoilt certificates::random_values_spoilt",
+        "cases::what_covers_a_room",
     ),
     Bug(
         "questions/checker.py",
@@ -338,7 +338,7 @@ BUGS = [
         "questions/checker.py",
         "        self.believe(given)\n        tree = self.trees",
         "        tree = self.trees",
-        "certificates::conflicts_with_a_premise_more_or_less",
+        "certificates::each_checks",
     ),
     Bug(
         "questions/checker.py",

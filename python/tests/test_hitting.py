@@ -43,3 +43,16 @@ def test_each_least_set_comes_once_cheapest_first(drawn: tuple[list[float], list
     mine = {frozenset(each) for each in hitting(named)}
     assert {frozenset(str(bit) for bit in bits_of(hit)) for hit in wanted} <= mine
     assert all(each & conflict for each in mine for conflict in named)
+
+
+def test_sets_that_overlap_are_hit_at_once() -> None:
+    """One bit may hit several: so what is left of them costs no more than the cheapest of these."""
+    p, q, a, b, c, d = (1 << place for place in range(6))
+    hits = Hitting([1, 3, 1, 1, 1, 1])
+    for conflict in (p | q, a | b | q, a | c | q, a | d | q):
+        hits.learn(conflict)
+    found = []
+    while (hit := hits.next()) is not None:
+        found.append(hit)
+        hits.finish(hit)
+    assert found[:2] == [p | a, q]

@@ -72,6 +72,7 @@ def test_what_if_is_over_after_an_error(w: Workbench) -> None:
 
 
 ROWS: dict[str, dict[str, object]] = {
+    "out and in": {"kick": ["steep"], "bring": ["steep"]},
     "now": {},
     "no ana": {"kick": ["ana"]},
     "late": {"bring": ["late"]},
@@ -183,6 +184,9 @@ def test_what_premises_are_worth(w: Workbench) -> None:
         "not monday": 8,
     }
     assert least.certificate.check() and w.sensitivity("the end").certificate.check()
+    w.tell("range", w.number("n", 0, 40), 3, 9)
+    [worth] = [each for each in w.sensitivity("n") if each.premise == "range"]
+    assert (str(worth.left_out), str(worth.halved)) == ("0..40", "4..8")
 
 
 def test_ctrl_c_leaves_all_as_it_was() -> None:

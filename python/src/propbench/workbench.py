@@ -293,7 +293,6 @@ class Workbench(Questions, Closing):
         if isinstance(reply, Contradiction):
             raise self._conflict(reply)
         assert isinstance(reply, Value)
-        reply.read()
         if not network.premises.choices:
             return self._reader().answer(cell, reply, {})
         if command == "core" and reply.settled:

@@ -46,9 +46,17 @@ class Answer:
         reduced: bool | None = None,
     ) -> None:
         # (past the freeze, all at once: one by one it would take three times as long)
-        held: dict[str, object] = {"name": name, "value": value, "low": low, "high": high}
-        held |= {"settled": settled, "because": because, "choices": choices or {}}
-        object.__setattr__(self, "__dict__", {**held, "reduced": reduced})
+        held = {
+            "name": name,
+            "value": value,
+            "low": low,
+            "high": high,
+            "settled": settled,
+            "because": because,
+            "choices": choices or {},
+            "reduced": reduced,
+        }
+        object.__setattr__(self, "__dict__", held)
 
     def __str__(self) -> str:
         text = f"{printable(self.name)} = {self.value_text}"

@@ -29,10 +29,13 @@ class Hitting:
         """Sets of the bits with these weights, which are not negative."""
         self._weight = {1 << place: weight for place, weight in enumerate(weights)}
         self._conflicts: list[int] = []
+        # The sets that are finished, all and by a bit that they have.
         self._done: list[int] = []
+        self._done_with: dict[int, list[int]] = {bit: [] for bit in self._weight}
         self._order = count()
-        # What is to be looked at: the least cost, the set so far, and what it does not take.
-        self._open: list[tuple[Cost, int, int, int]] = [((0, 0), next(self._order), 0, 0)]
+        # What is to be looked at: the least cost, the set so far, what it does not take, and how
+        # many of the finished sets it is known to have none of.
+        self._open: list[tuple[Cost, int, int, int, int]] = [((0, 0), next(self._order), 0, 0, 0)]
 
     def learn(self, conflict: int) -> None:
         """Takes in a set that has to be hit."""
@@ -41,32 +44,39 @@ class Hitting:
     def finish(self, hit: int) -> None:
         """Takes in that nothing has to be looked at that has all of this set."""
         self._done.append(hit)
+        for bit in bits_of(hit):
+            self._done_with[bit].append(hit)
 
     def next(self) -> int | None:
         """The cheapest set that hits all, and has none of those that are finished; None where there
         is no more. It comes again until it is finished or another conflict is learned."""
         while self._open:
-            cost, _, hit, out = entry = heapq.heappop(self._open)
-            if any(done & hit == done for done in self._done):
+            cost, order, hit, out, known = heapq.heappop(self._open)
+            if any(done & hit == done for done in self._done[known:]):
                 continue
+            known = len(self._done)
             missed = [conflict & ~out for conflict in self._conflicts if not conflict & hit]
             if not missed:
-                heapq.heappush(self._open, entry)
+                heapq.heappush(self._open, (cost, order, hit, out, known))
                 return hit
             least = self._least(hit, missed)
             if least is None:
                 continue
             if least > cost:
-                heapq.heappush(self._open, (least, next(self._order), hit, out))
+                heapq.heappush(self._open, (least, next(self._order), hit, out, known))
                 continue
             self._fork(hit, out, min(missed, key=int.bit_count))
         return None
 
     def _fork(self, hit: int, out: int, conflict: int) -> None:
         """The ways to hit one more conflict: by its first bit, by the next and not the first, .."""
+        known, (weight, number) = len(self._done), self.cost(hit)
         for bit in bits_of(conflict):
-            cost = self.cost(hit | bit)
-            heapq.heappush(self._open, (cost, next(self._order), hit | bit, out))
+            more = hit | bit
+            # (what is finished and not within the set has the bit, where it is within both)
+            if not any(done & more == done for done in self._done_with[bit]):
+                cost = weight + self._weight[bit], number + 1
+                heapq.heappush(self._open, (cost, next(self._order), more, out, known))
             out |= bit
 
     def cost(self, hit: int) -> Cost:
