@@ -8,13 +8,14 @@ from propbench.model.script import Script
 from propbench.model.storing import Records, comments, record_of, records
 from propbench.model.vocabulary import Vocabulary
 
-_HEAD = "# A workbench: the lines beginning with #: tell what the others are for."
+# The first line of such a file.
+HEAD = "# A workbench: the lines beginning with #: tell what the others are for."
 _FORM = 1
 
 
 def saved(network: Network) -> Iterator[str]:
     """The lines of a file, each event with those that say it."""
-    yield _HEAD
+    yield HEAD
     yield from comments({"workbench": _FORM, "kit": sorted(network.offered)})
     script = network.new_script()
     yield from script.writer.taken()

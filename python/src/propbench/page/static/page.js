@@ -1,0 +1,448 @@
+// The page: asks the server, and shows what it answers. What a session says is always set as text.
+
+import { Drawing } from "./drawing.js";
+
+const at = (id) => document.getElementById(id);
+// So often, in milliseconds, it is looked whether something changed elsewhere.
+const EVERY = 1500;
+
+// A node with texts and nodes in it.
+function made(tag, attributes, ...inner) {
+  const node = document.createElement(tag);
+  for (const [name, value] of Object.entries(attributes)) {
+    if (name === "class") node.className = value;
+    else if (typeof value === "boolean") node.toggleAttribute(name, value);
+    else node.setAttribute(name, value);
+  }
+  node.append(...inner);
+  return node;
+}
+
+let state = null;
+let picked = null;
+let bears = null;
+// What is seen in steps: the frames so far, and the one that is shown, -1 where it is what follows.
+let frames = [];
+let frame = -1;
+let rows = new Map();
+// The cells and uses that are drawn.
+let drawn = "";
+
+const drawing = new Drawing(at("drawing"), pick);
+at("drawing").addEventListener("here", (event) => {
+  const shown = values().get(event.detail);
+  say(`${textOf(event.detail)}${shown ? ` = ${shown.text}` : ""}`);
+});
+
+// --- asking ---
+
+async function ask(path, body) {
+  const answer = await fetch(path, {
+    method: "POST",
+    headers: { "Content-Type": "application/json" },
+    body: JSON.stringify(body),
+  });
+  const told = await answer.json();
+  if (told.error) throw new Error(told.error);
+  if (!answer.ok) throw new Error(`the server refused this (${answer.status})`);
+  return told;
+}
+
+// Asks, with what is wrong told on the page; undefined then.
+async function asked(body) {
+  const since = setTimeout(() => { at("stop").hidden = false; }, 300);
+  try {
+    return await ask("do", body);
+  } catch (error) {
+    say(error.message, true);
+    return undefined;
+  } finally {
+    clearTimeout(since);
+    at("stop").hidden = true;
+    at("busy").textContent = "";
+  }
+}
+
+function say(text, wrong = false) {
+  at("status").textContent = text;
+  at("status").classList.toggle("wrong", wrong);
+}
+
+async function load() {
+  const answer = await fetch("state");
+  const told = await answer.json();
+  if (told.error) return say(told.error, true);
+  take(told);
+}
+
+// Takes in what was answered: all of it, or what changed.
+function take(told) {
+  const before = state ? values() : null;
+  const plan = state?.seen.plan;
+  if (state && !told.network && told.shape !== state.shape) return load();
+  const isNew = !state || told.shape !== state.shape;
+  state = { ...(state ?? {}), ...told };
+  state.byCell = new Map(state.seen.values.map((each) => [each.cell, each]));
+  if (isNew) build();
+  frame = -1;
+  frames = [];
+  const changed = new Set();
+  if (before && !isNew) {
+    for (const [name, shown] of values()) if (before.get(name)?.text !== shown.text) changed.add(name);
+  }
+  show(changed);
+  if (picked) look(picked);
+  if (before && !isNew) tell(changed, plan);
+}
+
+function tell(changed, plan) {
+  if (state.seen.clash) return say("Conflict: what is believed can't all hold.", true);
+  const moved = state.network.choices.filter((each) => plan?.[each.name] !== undefined && plan[each.name] !== state.seen.plan[each.name]);
+  const parts = moved.map((each) => `${each.text}: ${each.sides[state.seen.plan[each.name]] ?? "?"}`);
+  const names = [...changed].slice(0, 3).map((name) => `${textOf(name)} = ${values().get(name).text}`);
+  if (changed.size > 3) names.push(`and ${changed.size - 3} more`);
+  say([...parts, ...names].join(", ") || "No value changed.");
+}
+
+const textOf = (name) => state.texts.get(name) ?? name;
+
+// What is shown of each cell: what follows, or what is known after a step.
+function values() {
+  if (frame < 0) return state.byCell;
+  const known = new Map();
+  for (const each of frames.slice(0, frame + 1)) {
+    for (const change of each.changes) known.set(change.cell, { text: change.after, because: change.because, settled: true, known: true });
+  }
+  return known;
+}
+
+// --- building what stays ---
+
+function build() {
+  const { network } = state;
+  state.texts = new Map(network.cells.map((each) => [each.name, each.text]));
+  at("title").textContent = state.title;
+  document.title = `${state.title} - propbench`;
+  at("proved").textContent = state.proved ? "proved" : "not known to be proved";
+  at("proved").classList.toggle("unproved", !state.proved);
+  at("save").hidden = state.file === null;
+  at("line-form").hidden = state.workbench;
+  at("least").hidden = at("greatest").hidden = !state.workbench;
+  at("premises").replaceChildren(...network.premises.map(premise));
+  at("choices").replaceChildren(...network.choices.map(choice));
+  at("choices-head").hidden = !network.choices.length;
+  rows = new Map(network.cells.map((each) => [each.name, row(each)]));
+  at("cells").replaceChildren(...[...rows.values()].map((each) => each.row));
+  const now = JSON.stringify([network.cells, network.uses]);
+  if (drawn !== now) drawing.draw(network);
+  drawn = now;
+  if (!rows.has(picked)) unpick();
+}
+
+function premise(each) {
+  const box = made("input", { type: "checkbox", id: `premise ${each.name}` });
+  box.addEventListener("change", async () => {
+    const told = await asked({ what: "believe", premise: each.name, believed: box.checked });
+    if (told) take(told);
+    else await load();
+  });
+  const says = each.says.map((said) => said.text).join("; ") || "(nothing)";
+  const label = made("label", { for: box.id }, each.text);
+  const item = made("li", { class: "premise" }, box, label, made("small", {}, says));
+  item.dataset.premise = each.name;
+  return item;
+}
+
+function choice(each) {
+  const sides = ["as it comes", ...each.sides].map((text, place) => {
+    const button = made("input", { type: "radio", name: `choice ${each.name}`, id: `choice ${place} ${each.name}` });
+    button.addEventListener("change", async () => {
+      const told = await asked({ what: "wish", choice: each.name, side: place ? place - 1 : null });
+      if (told) take(told);
+      else await load();
+    });
+    return made("div", { class: "side" }, button, made("label", { for: button.id }, text));
+  });
+  const set = made("fieldset", { class: "choice" }, made("legend", {}, each.text), ...sides);
+  set.dataset.choice = each.name;
+  return set;
+}
+
+function row(each) {
+  const button = made("button", { type: "button" }, each.text);
+  button.addEventListener("click", () => pick(each.name));
+  const value = made("td", {});
+  const because = made("td", {});
+  const line = made("tr", {}, made("th", { scope: "row" }, button), value, because);
+  line.dataset.cell = each.name;
+  return { row: line, button, value, because, text: each.text.toLowerCase(), said: "", reasons: "" };
+}
+
+// --- showing what changes ---
+
+function show(changed) {
+  const known = values();
+  const texts = new Map();
+  for (const [name, shown] of known) texts.set(name, shown.known ? shown.text : "");
+  drawing.show(texts, changed);
+  drawing.believe(new Set(state.believed));
+  for (const [name, each] of rows) {
+    const shown = known.get(name);
+    const said = shown ? `${shown.text}${shown.settled ? "" : " (not settled)"}` : "";
+    const reasons = shown ? reasonsOf(shown) : "";
+    if (each.said !== said) each.value.textContent = each.said = said;
+    if (each.reasons !== reasons) each.because.textContent = each.reasons = reasons;
+    each.row.classList.toggle("changed", changed.has(name));
+  }
+  showSwitches();
+  showClash();
+  showLines();
+  showStep();
+}
+
+const reasonsOf = (shown) => shown.because.map((each) => each.text).join(", ") || "what always holds";
+
+function showSwitches() {
+  const believed = new Set(state.believed);
+  const clash = new Set(state.seen.clash?.premises);
+  const lit = new Set(bears?.premises);
+  const litChoices = new Set(bears?.choices);
+  for (const item of at("premises").children) {
+    const name = item.dataset.premise;
+    item.querySelector("input").checked = believed.has(name);
+    item.classList.toggle("out", !believed.has(name));
+    item.classList.toggle("clashes", clash.has(name));
+    item.classList.toggle("lit", lit.has(name));
+  }
+  for (const set of at("choices").children) {
+    const name = set.dataset.choice;
+    const stands = state.seen.plan[name];
+    const wished = state.wished[name];
+    set.classList.toggle("lit", litChoices.has(name));
+    set.querySelectorAll(".side").forEach((side, place) => {
+      side.querySelector("input").checked = place === (wished === undefined ? 0 : wished + 1);
+      side.querySelector("label").classList.toggle("stands", stands !== undefined && place === stands + 1);
+    });
+  }
+}
+
+function showLines() {
+  if (!at("plain").open) return;
+  at("lines").textContent = (state.lines ?? []).join("\n");
+}
+
+// --- a cell ---
+
+async function pick(name) {
+  picked = name;
+  await look(name);
+}
+
+async function look(name) {
+  drawing.picked(name);
+  for (const [other, each] of rows) each.row.classList.toggle("picked", other === name);
+  at("cell").hidden = false;
+  at("cell-name").textContent = textOf(name);
+  at("cell-core").textContent = "";
+  at("best").replaceChildren();
+  const known = values().get(name);
+  at("cell-value").textContent = known ? known.text : "nothing is known";
+  at("cell-because").textContent = known ? `because of ${reasonsOf(known)}` : "";
+  bears = null;
+  if (frame < 0 && !state.seen.clash) {
+    const told = await asked({ what: "cell", cell: name });
+    if (told === undefined || picked !== name) return;
+    bears = told.bears;
+  }
+  drawing.light(bears);
+  const lit = new Set(bears?.cells);
+  for (const [other, each] of rows) each.row.classList.toggle("lit", lit.has(other));
+  at("unlit").hidden = false;
+  showSwitches();
+}
+
+function unpick() {
+  picked = bears = null;
+  at("cell").hidden = true;
+  at("unlit").hidden = true;
+  drawing.picked("");
+  drawing.light(null);
+  for (const each of rows.values()) each.row.classList.remove("picked", "lit");
+  if (state) showSwitches();
+}
+
+async function core() {
+  const name = picked;
+  const told = await asked({ what: "core", cell: name });
+  if (!told || picked !== name) return;
+  const shown = told.shown;
+  if (!shown) at("cell-core").textContent = "What is believed can't all hold.";
+  else if (shown.reduced) at("cell-core").textContent = `None can be left out of: ${reasonsOf(shown)}`;
+  else at("cell-core").textContent = `So far: ${reasonsOf(shown)} (maybe too many)`;
+}
+
+async function best(sort) {
+  const name = picked;
+  const told = await asked({ what: "best", cell: name, sort });
+  if (!told || picked !== name) return;
+  const lines = told.plan.map(([cell, value]) => made("tr", {}, made("th", { scope: "row" }, cell), made("td", {}, value)));
+  at("best").replaceChildren(made("p", {}, told.text), made("table", {}, made("tbody", {}, ...lines)));
+}
+
+// --- a conflict ---
+
+let mendedAt = 0;
+
+async function showClash() {
+  const clash = state.seen.clash;
+  at("clash").hidden = !clash || frame >= 0;
+  if (!clash) return;
+  const says = clash.premises.map((name) => made("li", {}, `${name}: ${clash.says[name] ?? ""}`));
+  at("clash-says").replaceChildren(...(clash.text ? [made("p", {}, clash.text)] : []), made("ul", {}, ...says));
+  if (mendedAt === state.version) return;
+  mendedAt = state.version;
+  at("mending").replaceChildren(made("p", {}, "Looking for what to give up."));
+  const told = await asked({ what: "mend" });
+  if (told && mendedAt === state.version) showMending(told);
+}
+
+function showMending(told) {
+  const conflicts = told.conflicts.map((each) => made("li", {}, each.join(", ") || "what always holds"));
+  const repairs = told.repairs.map((premises) => {
+    const tried = made("p", { class: "tried" });
+    const attempt = made("button", { type: "button" }, "Try");
+    attempt.addEventListener("click", async () => {
+      const seen = (await asked({ what: "try", premises }))?.seen;
+      if (seen) tried.textContent = seen.clash ? "Still a conflict." : seen.values.slice(0, 40).map((each) => `${textOf(each.cell)} = ${each.text}`).join(", ");
+    });
+    const apply = made("button", { type: "button" }, "Apply");
+    apply.addEventListener("click", async () => {
+      const found = await asked({ what: "apply", premises });
+      if (found) take(found);
+    });
+    const name = made("span", {}, `give up ${premises.join(" and ")}`);
+    return made("div", {}, made("div", { class: "repair" }, name, attempt, apply), tried);
+  });
+  at("mending").replaceChildren(
+    made("h3", {}, told.conflicts.length === 1 ? "The conflict, made least" : "The least conflicts"), made("ul", {}, ...conflicts),
+    made("h3", {}, "Repairs"), ...repairs,
+    made("p", {}, told.repairs.length ? told.says : "Nothing that is believed can be given up to mend this."),
+    ...(told.complete ? [] : [made("p", {}, "There may be others.")]));
+}
+
+// --- steps ---
+
+async function goTo(number) {
+  if (number >= frames.length && !(frames.length && frames[frames.length - 1].end)) {
+    const told = await asked({ what: "steps", from: frames.length, to: number });
+    if (!told) return;
+    frames.push(...told.frames);
+  }
+  if (!frames.length) return;
+  frame = Math.max(0, Math.min(number, frames.length - 1));
+  show(new Set(frames[frame].changes.map((each) => each.cell)));
+  if (picked) look(picked);
+}
+
+async function toEnd() {
+  let before = -1;
+  while (before < frames.length && !(frames.length && frames[frames.length - 1].end)) {
+    before = frames.length;
+    await goTo(frames.length + 199);
+  }
+  await goTo(frames.length - 1);
+}
+
+function now() {
+  frame = -1;
+  show(new Set());
+  say("What follows now.");
+  if (picked) look(picked);
+}
+
+function showStep() {
+  const on = frame >= 0;
+  const shown = on ? frames[frame] : null;
+  at("now").hidden = !on;
+  at("first").disabled = at("back").disabled = !on || frame === 0;
+  at("forward").disabled = at("last").disabled = Boolean(shown?.end);
+  at("step").textContent = on ? `step ${frame}${shown.end ? `, the end: ${shown.end}` : ""}` : "steps";
+  at("changes").hidden = !on;
+  if (!on) return;
+  const changes = shown.changes.map((each) => {
+    const before = frame && each.before ? `${each.before} \u2192 ` : "";
+    const reasons = each.because.map((reason) => reason.text).join(", ");
+    return made("li", {}, `${textOf(each.cell)}: ${before}${each.after}${reasons ? ` because of ${reasons}` : ""}`);
+  });
+  const nogoods = shown.nogoods.map((each) => made("li", { class: "wrong" }, `impossible together: ${each.join(", ")}`));
+  const head = frame === 0 ? "Before the first step" : changes.length || nogoods.length ? `Step ${frame} changed` : `Step ${frame} changed nothing`;
+  at("changes").replaceChildren(made("strong", {}, head), made("ul", {}, ...changes, ...nogoods));
+}
+
+// --- what is pressed ---
+
+const press = (id, act) => at(id).addEventListener("click", act);
+press("fit", () => drawing.fit());
+press("nearer", () => drawing.zoom(1.25));
+press("farther", () => drawing.zoom(0.8));
+press("unlit", unpick);
+press("first", () => goTo(0));
+press("back", () => goTo(frame - 1));
+press("forward", () => goTo(frame + 1));
+press("last", toEnd);
+press("now", now);
+press("core", core);
+press("least", () => best("least"));
+press("greatest", () => best("greatest"));
+press("stop", () => ask("stop", {}));
+press("save", async () => {
+  const told = await asked({ what: "save" });
+  if (told) say(`Saved to ${told.saved}.`);
+});
+press("replay", async () => {
+  const told = await asked({ what: "replay" });
+  if (!told) return;
+  take(told);
+  say(told.same ? "Replayed: the same follows." : "Replayed: something else follows now.", !told.same);
+});
+at("plain").addEventListener("toggle", async () => {
+  if (at("plain").open) await freshLines();
+});
+at("filter").addEventListener("input", () => {
+  const wanted = at("filter").value.toLowerCase();
+  for (const each of rows.values()) each.row.hidden = !each.text.includes(wanted);
+});
+at("line-form").addEventListener("submit", async (event) => {
+  event.preventDefault();
+  const told = await asked({ what: "line", line: at("line").value });
+  if (!told) return;
+  at("reply").hidden = false;
+  at("reply").textContent = told.reply;
+  at("reply").classList.toggle("wrong", told.refused);
+  if (!told.refused) at("line").value = "";
+  take(told);
+});
+
+async function freshLines() {
+  const answer = await fetch("state");
+  const told = await answer.json();
+  if (told.lines) state.lines = told.lines;
+  showLines();
+}
+
+// Looks now and then whether something changed elsewhere, and how far a run is.
+async function watch() {
+  if (!document.hidden && state) {
+    try {
+      const told = await (await fetch("version")).json();
+      at("busy").textContent = at("stop").hidden ? "" : told.busy;
+      if (!told.busy && told.version > state.version) await load();
+    } catch {
+      say("The page's server has ended.", true);
+    }
+  }
+  setTimeout(watch, EVERY);
+}
+
+await load();
+watch();
