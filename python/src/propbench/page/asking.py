@@ -14,8 +14,8 @@ from propbench.refusals import Refused
 from propbench.replies import Reply
 from propbench.showing import printable, said_of
 from propbench.watching import (
+    Frame,
     Network,
-    Reason,
     Seen,
     Shown,
     Steps,
@@ -26,6 +26,8 @@ from propbench.watching import (
 
 # A page is told of so many steps at once at the most.
 _MOST_STEPS = 200
+# So many reasons are told of a cell that nobody looks at.
+_MOST_REASONS = 6
 
 
 class Stopped(KeyboardInterrupt):
@@ -160,7 +162,7 @@ class Asking:
             taken = self._steps.take(number)
             if len(taken) <= number:
                 break
-            frames.append(asdict(taken[number]))
+            frames.append(_frame(taken[number]))
             self._telling(f"step {number}")
         return {"frames": frames}
 
@@ -307,9 +309,21 @@ def _same(before: Seen, after: Seen) -> bool:
 
 
 def _network(network: Network) -> dict[str, object]:
-    told = asdict(replace(network, uses=()))
-    told["uses"] = [_use(use) for use in network.uses]
-    return told
+    return {
+        "cells": [vars(cell) for cell in network.cells],
+        "uses": [_use(use) for use in network.uses],
+        "premises": [asdict(premise) for premise in network.premises],
+        "choices": [asdict(choice) for choice in network.choices],
+    }
+
+
+def _frame(frame: Frame) -> dict[str, object]:
+    """A step, with the reasons as texts."""
+    changes = [
+        {**vars(each), "because": [reason.text for reason in each.because]}
+        for each in frame.changes
+    ]
+    return {**vars(frame), "changes": changes}
 
 
 def _use(use: Use) -> dict[str, object]:
@@ -325,10 +339,22 @@ def _use(use: Use) -> dict[str, object]:
 
 def _seen(seen: Seen) -> dict[str, object]:
     return {
-        "values": [_shown(each) for each in seen.values.values()],
+        "values": [_briefly(each) for each in seen.values.values()],
         "settled": seen.settled,
         "clash": None if seen.clash is None else asdict(seen.clash),
         "plan": dict(seen.plan),
+    }
+
+
+def _briefly(shown: Shown) -> dict[str, object]:
+    """What is shown of each cell at once: of many reasons the first, and how many more there are."""
+    return {
+        "cell": shown.cell,
+        "text": shown.text,
+        "because": [each.text for each in shown.because[:_MOST_REASONS]],
+        "more": max(0, len(shown.because) - _MOST_REASONS),
+        "settled": shown.settled,
+        "known": shown.is_known,
     }
 
 
@@ -336,12 +362,8 @@ def _shown(shown: Shown) -> dict[str, object]:
     return {
         "cell": shown.cell,
         "text": shown.text,
-        "because": [_reason(each) for each in shown.because],
+        "because": [each.text for each in shown.because],
         "settled": shown.settled,
         "reduced": shown.reduced,
         "known": shown.is_known,
     }
-
-
-def _reason(reason: Reason) -> dict[str, str]:
-    return {"text": reason.text, "premise": reason.premise, "choice": reason.choice}

@@ -18,7 +18,7 @@ LOCAL = "127.0.0.1"
 # A question has so many bytes at the most.
 _MOST_BYTES = 65_536
 _POLICY = (
-    "default-src 'none'; script-src 'self'; style-src 'self'; connect-src 'self'; img-src 'self';"
+    "default-src 'none'; script-src 'self'; style-src 'self'; connect-src 'self'; img-src data:;"
     " base-uri 'none'; form-action 'none'; frame-ancestors 'none'"
 )
 _HEADERS = {

@@ -5,7 +5,7 @@ names for each value; nothing is concluded from it. A value can rest on another 
 reasons have all reasons of the other.
 """
 
-from collections.abc import Iterator, Sequence
+from collections.abc import Iterable, Iterator, Sequence
 from dataclasses import dataclass
 
 from propbench.watching.network import Network, Said, Seen, Shown, Use
@@ -22,7 +22,7 @@ class Bearing:
     choices: frozenset[str]
 
 
-@dataclass(frozen=True)
+@dataclass(frozen=True, eq=False)
 class _Arrow:
     """A way from some cells to one, by a use."""
 
@@ -38,7 +38,7 @@ def bearing(network: Network, seen: Seen, shown: Shown) -> Bearing:
     barred = _barred(seen, shown)
     sources = set(_stated(network, premises, choices))
     arrows = [each for use in network.uses if _counts(use, premises) for each in _arrows(use)]
-    reached = _reached(arrows, sources - {shown.cell}, barred, shown.cell)
+    reached = _Reach(arrows, barred, shown.cell).run(sources)
     behind = _behind(arrows, reached, shown.cell)
     near = (cell for arrow in behind for cell in arrow.inputs if cell in reached)
     uses = frozenset(arrow.use for arrow in behind)
@@ -81,34 +81,44 @@ def _arrows(use: Use) -> Iterator[_Arrow]:
             yield _Arrow(inputs, output, use.name)
 
 
-def _reached(
-    arrows: Sequence[_Arrow], sources: set[str], barred: set[str], target: str
-) -> dict[str, int]:
-    """How far each cell is from what is stated, over cells that aren't barred, and not over the
-    target."""
-    readers: dict[str, list[_Arrow]] = {}
-    for arrow in arrows:
-        for cell in arrow.inputs:
-            readers.setdefault(cell, []).append(arrow)
-    away = dict.fromkeys(sources, 0)
-    edge = list(sources)
-    # (what reads nothing, as a constraint on one cell, is its own source)
-    for arrow in arrows:
-        if not arrow.inputs and arrow.output not in away and arrow.output != target:
-            away[arrow.output] = 0
-            edge.append(arrow.output)
-    distance = 0
-    while edge:
-        distance += 1
-        found: list[str] = []
-        for cell in edge:
-            for arrow in readers.get(cell, ()):
-                is_open = arrow.output not in away and arrow.output not in barred
-                if is_open and arrow.output != target:
-                    away[arrow.output] = distance
-                    found.append(arrow.output)
-        edge = found
-    return away
+class _Reach:
+    """How far each cell is from what is stated: one more than the farthest of the inputs of an
+    arrow. Only where nothing else goes on, one input of an arrow is enough."""
+
+    def __init__(self, arrows: Sequence[_Arrow], barred: set[str], target: str) -> None:
+        """Over cells that aren't barred, and not over the target."""
+        self.away: dict[str, int] = {}
+        self._barred, self._target = barred, target
+        self._waits = {arrow: len(arrow.inputs) for arrow in arrows}
+        self._readers: dict[str, list[_Arrow]] = {}
+        for arrow in arrows:
+            for cell in arrow.inputs:
+                self._readers.setdefault(cell, []).append(arrow)
+
+    def run(self, sources: set[str]) -> dict[str, int]:
+        """The distances, from these cells on."""
+        alone = {arrow.output for arrow, count in self._waits.items() if not count}
+        edge = [cell for cell in sources | alone if self._takes(cell)]
+        distance = 0
+        while edge:
+            self.away.update(dict.fromkeys(edge, distance))
+            ready = [arrow for cell in edge for arrow in self._readers.get(cell, ())]
+            for arrow in ready:
+                self._waits[arrow] -= 1
+            distance += 1
+            edge = self._outputs(arrow for arrow in ready if not self._waits[arrow])
+            edge = edge or self._outputs(
+                arrow for arrow, left in self._waits.items() if left < len(arrow.inputs)
+            )
+        return self.away
+
+    def _takes(self, cell: str) -> bool:
+        return cell != self._target and cell not in self.away
+
+    def _outputs(self, arrows: Iterable[_Arrow]) -> list[str]:
+        """What these arrows lead to that is not reached yet."""
+        found = dict.fromkeys(arrow.output for arrow in arrows)
+        return [cell for cell in found if self._takes(cell) and cell not in self._barred]
 
 
 def _behind(arrows: Sequence[_Arrow], away: dict[str, int], target: str) -> list[_Arrow]:

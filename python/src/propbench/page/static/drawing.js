@@ -1,159 +1,235 @@
-// The drawing: an SVG of cells and uses, which can be moved, zoomed, lit and walked through by keys.
-// All that a session says is set as text, never as markup.
+// The drawing: cells and uses, which can be moved, zoomed, lit and walked through by keys.
+//
+// All boxes of a sort are one path of the SVG, and texts are made for those in sight alone, so that a
+// thousand cells stay fluent. All that a session says is set as text, never as markup.
 
 import { CELL, USE, layout } from "./layout.js";
 
 const SVG = "http://www.w3.org/2000/svg";
-const LETTERS = { cell: 16, use: 14 };
+// So many letters a box has room for; of a value some more, in small ones.
+const LETTERS = { cell: 17, value: 15, small: 20, use: 14 };
 // Nearer than this texts are shown.
 const READABLE = 0.42;
+// The paths, from the lowest to the highest.
+const PATHS = ["wires", "wires lit", "uses", "out", "cells", "changed", "bears", "picked", "here"];
 
-function made(tag, attributes, ...inner) {
+function made(tag, attributes, text = "") {
   const node = document.createElementNS(SVG, tag);
   for (const [name, value] of Object.entries(attributes)) node.setAttribute(name, value);
-  node.append(...inner);
+  node.textContent = text;
   return node;
 }
 
 const short = (text, most) => (text.length <= most ? text : `${text.slice(0, most - 1)}\u2026`);
 
 export class Drawing {
-  constructor(svg, pick) {
+  constructor(svg, sheet, under, pick) {
     this.svg = svg;
+    this.sheet = sheet;
+    this.under = under;
     this.pick = pick;
-    this.nodes = new Map();
+    this.paths = new Map(PATHS.map((name) => [name, made("path", { class: name })]));
+    this.texts = made("g", {});
+    this.sheet.append(...this.paths.values(), this.texts);
+    this.network = { cells: [], uses: [] };
+    this.places = { x: [], y: [], width: 1, height: 1 };
     this.values = new Map();
-    this.here = null;
+    this.shown = new Map();
+    this.marks = { changed: new Set(), cells: new Set(), uses: new Set(), believed: new Set() };
+    this.here = this.last = null;
     this.view = { x: 0, y: 0, scale: 1 };
     this._listen();
+    new ResizeObserver(() => this._sized()).observe(svg);
   }
 
   // Draws a network anew.
   draw(network) {
     this.network = network;
     this.places = layout(network);
-    this.nodes.clear();
-    this.values.clear();
-    const cells = network.cells.length;
-    const place = new Map(network.cells.map((cell, at) => [cell.name, at]));
+    this.at = new Map(network.cells.map((cell, at) => [cell.name, at]));
     this.wires = network.uses.map((use, at) => {
-      const own = cells + at;
-      return [...new Set(use.cells)].filter((cell) => place.has(cell)).map((cell) => this._wire(own, place.get(cell)));
+      const cells = [...new Set(use.cells)].filter((cell) => this.at.has(cell));
+      return cells.map((cell) => [cell, this._wire(network.cells.length + at, this.at.get(cell))]);
     });
-    this.plainWires = made("path", { class: "wires" });
-    this.litWires = made("path", { class: "wires lit" });
-    this.plainWires.setAttribute("d", this.wires.flat().join(""));
-    this.top = made("g", {}, this.plainWires, this.litWires);
-    network.uses.forEach((use, at) => this.top.append(this._use(use, cells + at)));
-    network.cells.forEach((cell, at) => this.top.append(this._cell(cell, at)));
-    this.svg.replaceChildren(this.top);
+    this._set("wires", this.wires.flatMap((wires) => wires.map(([, path]) => path)));
+    this.here = null;
     this.fit();
+    this._paint();
+  }
+
+  // Shows what is known of each cell, marks those that changed, and what doesn't count.
+  show(values, changed, believed) {
+    this.values = values;
+    Object.assign(this.marks, { changed, believed });
+    this._paint();
+    this._write();
+  }
+
+  // Lights what bears on a cell; nothing where that is null.
+  light(bears) {
+    Object.assign(this.marks, { cells: new Set(bears?.cells), uses: new Set(bears?.uses) });
+    this._paint();
+  }
+
+  picked(name) {
+    this.last = name;
+    this._paint();
+  }
+
+  // Where a cell is in the window, as x and y.
+  where(name) {
+    const box = this.svg.getBoundingClientRect();
+    const at = this.at.get(name);
+    const { x, y, scale } = this.view;
+    return [box.left + this.places.x[at] * scale + x, box.top + this.places.y[at] * scale + y];
+  }
+
+  // The whole drawing, or as near as it is still a drawing.
+  fit() {
+    const { width, height } = this._size();
+    const scale = Math.min(1.3, width / (this.places.width + 30), height / (this.places.height + 30));
+    this.view = {
+      scale,
+      x: (width - this.places.width * scale) / 2,
+      y: (height - this.places.height * scale) / 2,
+    };
+    this.fitted = true;
+    this._look();
+  }
+
+  zoom(factor, x, y) {
+    const size = this._size();
+    const [atX, atY] = [x ?? size.width / 2, y ?? size.height / 2];
+    const scale = Math.min(4, Math.max(0.02, this.view.scale * factor));
+    const real = scale / this.view.scale;
+    this.view = { scale, x: atX - (atX - this.view.x) * real, y: atY - (atY - this.view.y) * real };
+    this.fitted = false;
+    this._look();
+  }
+
+  // --- painting ---
+
+  _set(name, parts) {
+    this.paths.get(name).setAttribute("d", parts.join(""));
   }
 
   _wire(use, cell) {
     const { x, y } = this.places;
     const side = x[cell] < x[use] ? 1 : -1;
     const from = x[cell] + (side * CELL.width) / 2;
-    const to = x[use] - (side * USE.width) / 2;
-    const bend = (to - from) / 2;
-    return `M${from.toFixed(1)} ${y[cell].toFixed(1)}c${bend.toFixed(1)} 0 ${bend.toFixed(1)} ${(y[use] - y[cell]).toFixed(1)} ${(to - from).toFixed(1)} ${(y[use] - y[cell]).toFixed(1)}`;
+    const dx = (x[use] - (side * USE.width) / 2 - from).toFixed(1);
+    const dy = (y[use] - y[cell]).toFixed(1);
+    return `M${from.toFixed(1)} ${y[cell].toFixed(1)}c${dx / 2} 0 ${dx / 2} ${dy} ${dx} ${dy}`;
   }
 
-  _box(kind, name, size, at) {
-    const { x, y } = this.places;
-    const box = made("g", { class: kind, transform: `translate(${x[at].toFixed(1)} ${y[at].toFixed(1)})` },
-      made("rect", { x: -size.width / 2, y: -size.height / 2, width: size.width, height: size.height, rx: kind === "cell" ? 7 : 2 }));
-    this.nodes.set(`${kind} ${name}`, box);
-    return box;
+  _box(at, size) {
+    const { width, height } = size;
+    const [x, y] = [this.places.x[at] - width / 2, this.places.y[at] - height / 2];
+    return `M${x.toFixed(1)} ${y.toFixed(1)}h${width}v${height}h${-width}z`;
   }
 
-  _cell(cell, at) {
-    const box = this._box("cell", cell.name, CELL, at);
-    const name = made("text", { "text-anchor": "middle", y: -4 }, short(cell.text, LETTERS.cell));
-    const value = made("text", { "text-anchor": "middle", y: 12, class: "value" });
-    const title = made("title", {}, cell.text);
-    box.append(title, name, value);
-    box.dataset.cell = cell.name;
-    this.values.set(cell.name, { value, title, text: cell.text, said: "" });
-    return box;
-  }
-
-  _use(use, at) {
-    const box = this._box("use", use.name, USE, at);
-    const inner = use.parts.length ? `: ${use.parts.join(", ")}` : "";
-    box.append(made("title", {}, `${use.text}${inner}`),
-      made("text", { "text-anchor": "middle", y: 4 }, short(use.text, LETTERS.use)));
-    return box;
-  }
-
-  // Shows what is known of each cell, and marks those that changed.
-  show(texts, changed) {
-    for (const [name, node] of this.values) {
-      const text = texts.get(name) ?? "";
-      if (node.said !== text) {
-        node.said = text;
-        node.value.textContent = short(text, LETTERS.cell);
-        node.title.textContent = text ? `${node.text} = ${text}` : node.text;
-      }
-      this.nodes.get(`cell ${name}`).classList.toggle("changed", changed.has(name));
-    }
-  }
-
-  // Lights what bears on a cell; nothing where that is null.
-  light(bears) {
-    const cells = new Set(bears?.cells);
-    const uses = new Set(bears?.uses);
-    for (const [key, box] of this.nodes) {
-      const [kind, name] = [key.slice(0, key.indexOf(" ")), key.slice(key.indexOf(" ") + 1)];
-      box.classList.toggle("lit", (kind === "cell" ? cells : uses).has(name));
-    }
-    const lit = [];
-    this.network.uses.forEach((use, at) => {
-      if (!uses.has(use.name)) return;
-      [...new Set(use.cells)].forEach((cell, wire) => { if (cells.has(cell)) lit.push(this.wires[at][wire]); });
+  // Has each box in the path of what it is.
+  _paint() {
+    const { changed, cells, uses, believed } = this.marks;
+    const parts = Object.fromEntries(PATHS.map((name) => [name, []]));
+    this.network.cells.forEach((cell, at) => {
+      const sort = cells.has(cell.name) ? "bears" : changed.has(cell.name) ? "changed" : "cells";
+      const box = this._box(at, CELL);
+      parts[sort].push(box);
+      if (cell.name === this.last) parts.picked.push(box);
+      if (cell.name === this.here) parts.here.push(box);
     });
-    this.litWires.setAttribute("d", lit.join(""));
-  }
-
-  // Shows which uses count: those under premises that are out don't.
-  believe(believed) {
-    for (const use of this.network.uses) {
-      if (use.premise) this.nodes.get(`use ${use.name}`).classList.toggle("out", !believed.has(use.premise));
-    }
-  }
-
-  picked(name) {
-    this.nodes.get(`cell ${this.last}`)?.classList.remove("picked");
-    this.last = name;
-    this.nodes.get(`cell ${name}`)?.classList.add("picked");
-  }
-
-  // The whole drawing, or as near as it is still a drawing.
-  fit() {
-    const box = this.svg.getBoundingClientRect();
-    const { width, height } = this.places;
-    const scale = Math.min(1.3, (box.width || 600) / (width + 30), (box.height || 400) / (height + 30));
-    this.view = {
-      scale,
-      x: ((box.width || 600) - width * scale) / 2,
-      y: ((box.height || 400) - height * scale) / 2,
-    };
-    this._look();
-  }
-
-  zoom(factor, x, y) {
-    const box = this.svg.getBoundingClientRect();
-    const [atX, atY] = [x ?? box.width / 2, y ?? box.height / 2];
-    const scale = Math.min(4, Math.max(0.02, this.view.scale * factor));
-    const real = scale / this.view.scale;
-    this.view = { scale, x: atX - (atX - this.view.x) * real, y: atY - (atY - this.view.y) * real };
-    this._look();
+    this.network.uses.forEach((use, at) => {
+      const isOut = use.premise && !believed.has(use.premise);
+      const sort = isOut ? "out" : uses.has(use.name) ? "bears" : "uses";
+      parts[sort].push(this._box(this.network.cells.length + at, USE));
+      if (uses.has(use.name)) {
+        for (const [cell, path] of this.wires[at]) if (cells.has(cell)) parts["wires lit"].push(path);
+      }
+    });
+    for (const name of PATHS) if (name !== "wires") this._set(name, parts[name]);
   }
 
   _look() {
     const { x, y, scale } = this.view;
-    this.top.setAttribute("transform", `translate(${x} ${y}) scale(${scale})`);
-    this.svg.classList.toggle("far", scale < READABLE);
+    this.sheet.setAttribute("transform", `translate(${x} ${y}) scale(${scale})`);
+    this._write();
+  }
+
+  // The nodes that are in sight.
+  *_inSight() {
+    const { x, y, scale } = this.view;
+    const size = this._size();
+    const [left, top] = [-x / scale - CELL.width / 2, -y / scale - CELL.height / 2];
+    const [right, bottom] = [(size.width - x) / scale + CELL.width / 2, (size.height - y) / scale + CELL.height / 2];
+    const { places } = this;
+    for (let at = 0; at < places.x.length; at++) {
+      if (places.x[at] >= left && places.x[at] <= right && places.y[at] >= top && places.y[at] <= bottom) yield at;
+    }
+  }
+
+  // Has the texts of what is in sight, where they can be read.
+  _write() {
+    const seen = new Set(this.view.scale < READABLE ? [] : this._inSight());
+    for (const [at, texts] of this.shown) {
+      if (!seen.has(at)) {
+        texts.forEach((text) => text.remove());
+        this.shown.delete(at);
+      }
+    }
+    for (const at of seen) {
+      if (!this.shown.has(at)) this.shown.set(at, this._texts(at));
+      this._fill(at, this.shown.get(at));
+    }
+  }
+
+  _texts(at) {
+    const [x, y] = [this.places.x[at], this.places.y[at]];
+    const cell = this.network.cells[at];
+    const use = this.network.uses[at - this.network.cells.length];
+    const texts = cell
+      ? [made("text", { x, y: y - 4 }, short(cell.text, LETTERS.cell)), made("text", { x, y: y + 12, class: "value" })]
+      : [made("text", { x, y: y + 4, class: "used" }, short(use.text, LETTERS.use))];
+    this.texts.append(...texts);
+    return texts;
+  }
+
+  _fill(at, texts) {
+    const cell = this.network.cells[at];
+    if (!cell) return;
+    const said = this.values.get(cell.name) ?? "";
+    const text = short(said, LETTERS.small);
+    if (texts[0].textContent !== short(cell.text, LETTERS.cell)) texts[0].textContent = short(cell.text, LETTERS.cell);
+    if (texts[1].textContent === text) return;
+    texts[1].textContent = text;
+    texts[1].classList.toggle("small", said.length > LETTERS.value);
+  }
+
+  // --- moving ---
+
+  _size() {
+    const box = this.size ?? this.svg.getBoundingClientRect();
+    return { width: box.width || 600, height: box.height || 400 };
+  }
+
+  _sized() {
+    const { width, height } = this.svg.getBoundingClientRect();
+    this.size = { width, height };
+    if (this.fitted !== false) this.fit();
+    else this._look();
+  }
+
+  // The node at a place of the window, as its number; -1 where none is.
+  _under(event) {
+    const box = this.svg.getBoundingClientRect();
+    const { x, y, scale } = this.view;
+    const [atX, atY] = [(event.clientX - box.left - x) / scale, (event.clientY - box.top - y) / scale];
+    const { places } = this;
+    for (let at = 0; at < places.x.length; at++) {
+      const size = at < this.network.cells.length ? CELL : USE;
+      if (Math.abs(places.x[at] - atX) <= size.width / 2 && Math.abs(places.y[at] - atY) <= size.height / 2) return at;
+    }
+    return -1;
   }
 
   _listen() {
@@ -165,23 +241,36 @@ export class Drawing {
     }, { passive: false });
     let held = null;
     svg.addEventListener("pointerdown", (event) => {
-      held = { x: event.clientX, y: event.clientY, moved: false, id: event.pointerId };
+      held = { x: event.clientX, y: event.clientY, moved: false };
     });
     svg.addEventListener("pointermove", (event) => {
-      if (!held) return;
+      if (!held) return this._tell(this._under(event));
       const [dx, dy] = [event.clientX - held.x, event.clientY - held.y];
       if (!held.moved && Math.hypot(dx, dy) < 4) return;
-      if (!held.moved) svg.setPointerCapture(held.id);
-      held = { ...held, x: event.clientX, y: event.clientY, moved: true };
+      if (!held.moved) svg.setPointerCapture(event.pointerId);
+      held = { x: event.clientX, y: event.clientY, moved: true };
       this.view = { ...this.view, x: this.view.x + dx, y: this.view.y + dy };
+      this.fitted = false;
       this._look();
     });
     svg.addEventListener("pointerup", (event) => {
-      const cell = held && !held.moved && event.target.closest?.(".cell");
+      const cell = held && !held.moved ? this.network.cells[this._under(event)] : undefined;
       held = null;
-      if (cell) this.pick(cell.dataset.cell);
+      if (cell) this.pick(cell.name);
     });
+    svg.addEventListener("pointercancel", () => { held = null; });
     svg.addEventListener("keydown", (event) => this._key(event));
+  }
+
+  // Tells in full what is under the pointer.
+  _tell(at) {
+    const cell = this.network.cells[at];
+    const use = this.network.uses[at - this.network.cells.length];
+    const value = cell && this.values.get(cell.name);
+    const parts = use?.parts.length ? `: ${use.parts.join(", ")}` : "";
+    const text = cell ? `${cell.text}${value ? ` = ${value}` : ""}` : use ? `${use.text}${parts}` : "";
+    if (this.under.textContent !== text) this.under.textContent = text;
+    this.svg.classList.toggle("over", Boolean(cell));
   }
 
   _key(event) {
@@ -199,7 +288,7 @@ export class Drawing {
   _walk(dx, dy) {
     const { cells } = this.network;
     const { x, y } = this.places;
-    const from = cells.findIndex((cell) => cell.name === (this.here ?? this.last));
+    const from = this.at.get(this.here ?? this.last) ?? -1;
     let best = from < 0 && cells.length ? 0 : -1;
     let least = Infinity;
     if (from >= 0) {
@@ -210,19 +299,19 @@ export class Drawing {
       });
     }
     if (best < 0) return;
-    this.nodes.get(`cell ${this.here}`)?.classList.remove("here");
     this.here = cells[best].name;
-    this.nodes.get(`cell ${this.here}`).classList.add("here");
+    this._paint();
     this._reveal(best);
     this.svg.dispatchEvent(new CustomEvent("here", { detail: this.here }));
   }
 
   _reveal(at) {
-    const box = this.svg.getBoundingClientRect();
+    const size = this._size();
     const { scale } = this.view;
     const [x, y] = [this.places.x[at] * scale + this.view.x, this.places.y[at] * scale + this.view.y];
     const inside = (value, most) => Math.min(most - 70, Math.max(70, value));
-    this.view = { scale, x: this.view.x + inside(x, box.width) - x, y: this.view.y + inside(y, box.height) - y };
+    this.view = { scale, x: this.view.x + inside(x, size.width) - x, y: this.view.y + inside(y, size.height) - y };
+    this.fitted = false;
     this._look();
   }
 }

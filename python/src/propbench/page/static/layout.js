@@ -1,7 +1,7 @@
 // Where cells and uses stand: in columns from what is stated to what follows, with the columns in
 // bands one below the other where there are many. Linear in the size of the network.
 
-export const CELL = { width: 118, height: 38 };
+export const CELL = { width: 132, height: 38 };
 export const USE = { width: 96, height: 22 };
 const GAP = { column: 42, row: 12, band: 48 };
 const SWEEPS = 6;

@@ -5,6 +5,8 @@ import { Drawing } from "./drawing.js";
 const at = (id) => document.getElementById(id);
 // So often, in milliseconds, it is looked whether something changed elsewhere.
 const EVERY = 1500;
+// So many rows the table of cells has at the most.
+const ROWS = 200;
 
 // A node with texts and nodes in it.
 function made(tag, attributes, ...inner) {
@@ -28,7 +30,7 @@ let rows = new Map();
 // The cells and uses that are drawn.
 let drawn = "";
 
-const drawing = new Drawing(at("drawing"), pick);
+const drawing = new Drawing(at("drawing"), at("sheet"), at("under"), pick);
 at("drawing").addEventListener("here", (event) => {
   const shown = values().get(event.detail);
   say(`${textOf(event.detail)}${shown ? ` = ${shown.text}` : ""}`);
@@ -131,12 +133,11 @@ function build() {
   at("premises").replaceChildren(...network.premises.map(premise));
   at("choices").replaceChildren(...network.choices.map(choice));
   at("choices-head").hidden = !network.choices.length;
-  rows = new Map(network.cells.map((each) => [each.name, row(each)]));
-  at("cells").replaceChildren(...[...rows.values()].map((each) => each.row));
+  showRows();
   const now = JSON.stringify([network.cells, network.uses]);
   if (drawn !== now) drawing.draw(network);
   drawn = now;
-  if (!rows.has(picked)) unpick();
+  if (!state.texts.has(picked)) unpick();
 }
 
 function premise(each) {
@@ -175,17 +176,39 @@ function row(each) {
   const because = made("td", {});
   const line = made("tr", {}, made("th", { scope: "row" }, button), value, because);
   line.dataset.cell = each.name;
-  return { row: line, button, value, because, text: each.text.toLowerCase(), said: "", reasons: "" };
+  return { row: line, button, value, because, said: "", reasons: "" };
+}
+
+// Makes the rows of the cells whose names have what is looked for: the first of them, where there
+// are very many, and that of the cell that was picked.
+function showRows() {
+  const wanted = at("filter").value.toLowerCase();
+  const found = state.network.cells.filter((each) => each.text.toLowerCase().includes(wanted));
+  const shown = found.slice(0, ROWS);
+  const own = found.slice(ROWS).find((each) => each.name === picked);
+  if (own) shown.unshift(own);
+  rows = new Map(shown.map((each) => [each.name, row(each)]));
+  at("cells").replaceChildren(...[...rows.values()].map((each) => each.row));
+  at("more").textContent = found.length > shown.length ? `and ${found.length - shown.length} more: look for a name` : "";
 }
 
 // --- showing what changes ---
 
 function show(changed) {
-  const known = values();
   const texts = new Map();
-  for (const [name, shown] of known) texts.set(name, shown.known ? shown.text : "");
-  drawing.show(texts, changed);
-  drawing.believe(new Set(state.believed));
+  for (const [name, shown] of values()) texts.set(name, shown.known ? shown.text : "");
+  drawing.show(texts, changed, new Set(state.believed));
+  showValues(changed);
+  showSwitches();
+  showClash();
+  showLines();
+  showStep();
+}
+
+// Shows the values in the table.
+function showValues(changed) {
+  const known = values();
+  const lit = new Set(bears?.cells);
   for (const [name, each] of rows) {
     const shown = known.get(name);
     const said = shown ? `${shown.text}${shown.settled ? "" : " (not settled)"}` : "";
@@ -193,14 +216,15 @@ function show(changed) {
     if (each.said !== said) each.value.textContent = each.said = said;
     if (each.reasons !== reasons) each.because.textContent = each.reasons = reasons;
     each.row.classList.toggle("changed", changed.has(name));
+    each.row.classList.toggle("lit", lit.has(name));
+    each.row.classList.toggle("picked", name === picked);
   }
-  showSwitches();
-  showClash();
-  showLines();
-  showStep();
 }
 
-const reasonsOf = (shown) => shown.because.map((each) => each.text).join(", ") || "what always holds";
+function reasonsOf(shown) {
+  const more = shown.more ? ` and ${shown.more} more` : "";
+  return `${shown.because.join(", ")}${more}` || "what always holds";
+}
 
 function showSwitches() {
   const believed = new Set(state.believed);
@@ -240,23 +264,27 @@ async function pick(name) {
 
 async function look(name) {
   drawing.picked(name);
+  if (!rows.has(name)) {
+    showRows();
+    showValues(new Set());
+  }
   for (const [other, each] of rows) each.row.classList.toggle("picked", other === name);
   at("cell").hidden = false;
   at("cell-name").textContent = textOf(name);
   at("cell-core").textContent = "";
   at("best").replaceChildren();
   const known = values().get(name);
-  at("cell-value").textContent = known ? known.text : "nothing is known";
+  at("cell-value").textContent = known ? known.text : state.seen.clash && frame < 0 ? "no value while there is a conflict" : "nothing is known";
   at("cell-because").textContent = known ? `because of ${reasonsOf(known)}` : "";
   bears = null;
   if (frame < 0 && !state.seen.clash) {
     const told = await asked({ what: "cell", cell: name });
     if (told === undefined || picked !== name) return;
     bears = told.bears;
+    if (told.shown) at("cell-because").textContent = `because of ${reasonsOf(told.shown)}`;
   }
   drawing.light(bears);
-  const lit = new Set(bears?.cells);
-  for (const [other, each] of rows) each.row.classList.toggle("lit", lit.has(other));
+  for (const [other, each] of rows) each.row.classList.toggle("lit", Boolean(bears?.cells.includes(other)));
   at("unlit").hidden = false;
   showSwitches();
 }
@@ -371,7 +399,7 @@ function showStep() {
   if (!on) return;
   const changes = shown.changes.map((each) => {
     const before = frame && each.before ? `${each.before} \u2192 ` : "";
-    const reasons = each.because.map((reason) => reason.text).join(", ");
+    const reasons = each.because.join(", ");
     return made("li", {}, `${textOf(each.cell)}: ${before}${each.after}${reasons ? ` because of ${reasons}` : ""}`);
   });
   const nogoods = shown.nogoods.map((each) => made("li", { class: "wrong" }, `impossible together: ${each.join(", ")}`));
@@ -409,8 +437,8 @@ at("plain").addEventListener("toggle", async () => {
   if (at("plain").open) await freshLines();
 });
 at("filter").addEventListener("input", () => {
-  const wanted = at("filter").value.toLowerCase();
-  for (const each of rows.values()) each.row.hidden = !each.text.includes(wanted);
+  showRows();
+  showValues(new Set());
 });
 at("line-form").addEventListener("submit", async (event) => {
   event.preventDefault();
