@@ -23,9 +23,12 @@ _INK, _CELL, _USE, _NOTE, _CLASH, _LIT = (
 )
 _GREY = "#9aa3ad"
 
+# More cells than this are laid out by springs, fewer from left to right: a long chain is too wide.
+_MOST_IN_RANKS = 24
+_RANKS = "rankdir=LR, nodesep=0.18, ranksep=0.45"
+_SPRINGS = 'layout=neato, overlap=prism, splines=true, sep="+6"'
 _HEAD = (
-    'graph [rankdir=LR, bgcolor="white", fontname="sans-serif", fontsize=11, nodesep=0.18,'
-    " ranksep=0.45]",
+    'graph [bgcolor="white", fontname="sans-serif", fontsize=11]',
     f'node [fontname="sans-serif", fontsize=11, color="{_INK}", fontcolor="{_INK}",'
     ' margin="0.08,0.04", height=0.3]',
     f'edge [color="#6b7785", arrowsize=0.6]',
@@ -53,9 +56,9 @@ def dot_of(network: Network, seen: Seen = NOTHING_SEEN, look: Look = Look()) -> 
     is_open = few if look.is_open is None else look.is_open
     if len(shown.cells) > MOST_CELLS:
         fold = folded(shown)
-        drawn = _Drawn(fold.network, seen, look, False, fold.of, fold.counts)
+        drawn = _Drawn(fold.network, seen, look, False, fold.counts)
     else:
-        drawn = _Drawn(shown, seen, look, is_open, {}, {})
+        drawn = _Drawn(shown, seen, look, is_open, {})
     return "\n".join(["digraph {", *(f"  {line}" for line in drawn.lines()), "}", ""])
 
 
@@ -79,17 +82,18 @@ class _Drawn:
         seen: Seen,
         look: Look,
         is_open: bool,
-        of: Mapping[str, str],
         counts: Mapping[str, int],
     ) -> None:
         self._network, self._seen, self._look, self._is_open = network, seen, look, is_open
-        self._of, self._counts = of, counts
+        self._counts = counts
         names = [cell.name for cell in network.cells]
         names += [cell.name for use in network.uses for cell in use.inner_cells()]
         self._ids = {name: f"c{place}" for place, name in enumerate(names)}
         self._clash = set(seen.clash.premises) if seen.clash else set()
 
     def lines(self) -> Iterator[str]:
+        is_small = self._is_open or len(self._network.cells) <= _MOST_IN_RANKS
+        yield f"graph [{_RANKS if is_small else _SPRINGS}]"
         yield from _HEAD
         for cell in self._network.cells:
             yield self._cell(cell.name, cell.text)
@@ -156,18 +160,15 @@ class _Drawn:
     def _edges(self, own: str, use: Use, is_out: bool) -> Iterator[str]:
         """Towards what it tells of an arrow; lines where it works all ways."""
         tail = f', color="{_GREY}", style=dashed' if is_out else ""
-        cells = [self._ids[self._of.get(cell, cell)] for cell in use.cells]
-        for place, cell in enumerate(dict.fromkeys(cells)):
-            is_last = cell == cells[-1] and len(cells) > 1
-            if use.one_way:
-                ends = (own, cell) if is_last else (cell, own)
-                yield f"{ends[0]} -> {ends[1]} [dir=forward{tail}]"
-            else:
-                ends = (own, cell) if is_last else (cell, own)
-                yield f"{ends[0]} -> {ends[1]} [dir=none{tail}]"
+        cells = [self._ids[cell] for cell in use.cells]
+        ways = "forward" if use.one_way else "none"
+        for cell in dict.fromkeys(cells[:-1] or cells):
+            yield f"{cell} -> {own} [dir={ways}{tail}]"
+        for cell in cells[1:][-1:]:
+            yield f"{own} -> {cell} [dir={ways}{tail}]"
 
     def _premise(self, own: str, premise: Premise) -> Iterator[str]:
-        says = [said.text for said in premise.says]
+        says = [said.text for said in premise.says if said.text]
         told = says if len(says) <= 3 else [*says[:2], f"and {len(says) - 2} more"]
         out = not premise.is_believed
         colour = _GREY if out else _CLASH if premise.name in self._clash else _INK
@@ -183,7 +184,7 @@ class _Drawn:
                 yield f"{own} -> u{use.name.replace('.', '_')} [{_dashed(out)}]"
 
     def _dashes(self, own: str, cells: Iterable[str], is_out: bool) -> Iterator[str]:
-        ids = (self._ids.get(self._of.get(cell, cell)) for cell in cells)
+        ids = (self._ids.get(cell) for cell in cells)
         for cell in dict.fromkeys(each for each in ids if each):
             yield f"{own} -> {cell} [{_dashed(is_out)}]"
 

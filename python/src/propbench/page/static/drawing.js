@@ -10,6 +10,8 @@ const SVG = "http://www.w3.org/2000/svg";
 const LETTERS = { cell: 17, value: 15, small: 20, use: 14 };
 // Nearer than this texts are shown.
 const READABLE = 0.42;
+// More nodes than this are drawn in the quickest way: with straight wires.
+const MANY = 600;
 // The paths, from the lowest to the highest.
 const PATHS = ["wires", "wires lit", "uses", "out", "cells", "changed", "bears", "picked", "here"];
 
@@ -51,6 +53,7 @@ export class Drawing {
       const cells = [...new Set(use.cells)].filter((cell) => this.at.has(cell));
       return cells.map((cell) => [cell, this._wire(network.cells.length + at, this.at.get(cell))]);
     });
+    this.svg.classList.toggle("many", this.places.x.length > MANY);
     this._set("wires", this.wires.flatMap((wires) => wires.map(([, path]) => path)));
     this.here = null;
     this.fit();
@@ -119,6 +122,7 @@ export class Drawing {
     const from = x[cell] + (side * CELL.width) / 2;
     const dx = (x[use] - (side * USE.width) / 2 - from).toFixed(1);
     const dy = (y[use] - y[cell]).toFixed(1);
+    if (x.length > MANY) return `M${from.toFixed(0)} ${y[cell].toFixed(0)}l${dx} ${dy}`;
     return `M${from.toFixed(1)} ${y[cell].toFixed(1)}c${dx / 2} 0 ${dx / 2} ${dy} ${dx} ${dy}`;
   }
 
