@@ -49,6 +49,7 @@ class Asking:
         self._shapes = 0
         self._steps: Steps | None = None
         self._does: dict[str, Callable[[Mapping[str, object]], dict[str, object]]] = {
+            "look": self._look_again,
             "believe": self._believe,
             "wish": self._wish,
             "cell": self._cell,
@@ -103,6 +104,10 @@ class Asking:
             return self._does[what](asked)
 
     # --- questions ---
+
+    def _look_again(self, asked: Mapping[str, object]) -> dict[str, object]:
+        """Goes on with a run that was stopped."""
+        return self._with_network(self._changed_told())
 
     def _believe(self, asked: Mapping[str, object]) -> dict[str, object]:
         premise = self._premise(_text(asked, "premise"))
@@ -223,7 +228,10 @@ class Asking:
 
     def _look(self) -> Seen:
         if self._seen is None:
-            self._seen = self._watched.see(self._progress)
+            try:
+                self._seen = self._watched.see(self._progress)
+            except Stopped:
+                self._seen = self._watched.known()
         return self._seen
 
     def _changed(self) -> None:

@@ -60,6 +60,10 @@ class Watched(Protocol):
         """What follows now, by a run."""
         ...
 
+    def known(self) -> Seen:
+        """What is known now, without a step."""
+        ...
+
     def core(self, cell: str, progress: Progress | None = None) -> Shown | None:
         """The value of a cell with reasons of which none can be left out, None at a conflict."""
         ...

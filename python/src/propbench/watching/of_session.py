@@ -7,9 +7,8 @@ from propbench.known import Known
 from propbench.listing import Told
 from propbench.questions.clock import Clock
 from propbench.questions.clock import Progress as Telling
-from propbench.replies import Contradiction, Reply, Value, Worldview
-from propbench.refusals import Refused
-from propbench.runs import Progress, is_settled
+from propbench.replies import Contradiction, Value, Worldview
+from propbench.runs import Progress
 from propbench.session import Session
 from propbench.values import Nothing
 from propbench.watching import Best
@@ -40,7 +39,11 @@ class SessionWatched:
         return self._read().network(self._known)
 
     def see(self, progress: Progress | None = None) -> Seen:
-        return self._seen(self.session, progress)
+        self.session.send("settle", progress=progress)
+        return self._known_in(self.session)
+
+    def known(self) -> Seen:
+        return self._known_in(self.session)
 
     def core(self, cell: str, progress: Progress | None = None) -> Shown | None:
         reply = self.session.send(f"core {cell}", progress=progress)
@@ -77,7 +80,8 @@ class SessionWatched:
     def without(self, premises: Sequence[str]) -> Seen:
         with self.session.another() as other:
             other.send_all([*self.lines(), *(f"kick {premise}" for premise in premises)])
-            return self._seen(other, None)
+            other.send("settle")
+            return self._known_in(other)
 
     def best(
         self, cell: str, sort: str, progress: Telling | None = None, seconds: float | None = None
@@ -125,18 +129,19 @@ class SessionWatched:
             name += "_"
         return name
 
-    def _seen(self, session: Session, progress: Progress | None) -> Seen:
-        end = session.send("settle", progress=progress)
-        if isinstance(end, Contradiction):
-            return Seen(clash=self._clash(end))
-        questions = [*(f"why {cell}" for cell in session.known.cells), "worldview"]
-        replies: list[Reply | Refused] = session.look(questions)
+    def _known_in(self, session: Session) -> Seen:
+        """What is known in a session that has this one's cells and choices."""
+        replies = session.look([*(f"why {cell}" for cell in session.known.cells), "worldview"])
+        found = next((each for each in replies if isinstance(each, Contradiction)), None)
+        if found:
+            return Seen(clash=self._clash(found))
         shown = [self._shown(reply) for reply in replies if isinstance(reply, Value)]
         plan: dict[str, int] = {}
         if isinstance(replies[-1], Worldview):
             sides = (each.partition("=") for each in replies[-1].inside)
             plan = {choice: int(place) - 1 for choice, mark, place in sides if mark}
-        return Seen({each.cell: each for each in shown}, is_settled(end), None, plan)
+        is_sure = isinstance(replies[-1], Worldview)
+        return Seen({each.cell: each for each in shown}, is_sure, None, plan)
 
     def _clash(self, found: Contradiction) -> Clash:
         told = self._told.premises

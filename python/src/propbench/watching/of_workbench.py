@@ -16,7 +16,7 @@ from propbench.questions.bounding import Optimum
 from propbench.questions.clock import Progress as Telling
 from propbench.questions.conflicts import Conflicts, Repairs, find_conflicts, find_repairs
 from propbench.replies import Contradiction, Value, Worldview
-from propbench.runs import Progress, is_settled
+from propbench.runs import Progress
 from propbench.session import Session
 from propbench.values import Nothing
 from propbench.watching import Best
@@ -77,17 +77,20 @@ class WorkbenchWatched:
         )
 
     def see(self, progress: Progress | None = None) -> Seen:
+        self.session.send("settle", progress=progress)
+        return self.known()
+
+    def known(self) -> Seen:
         made = self.workbench.network
-        end = made.session.send("settle", progress=progress)
-        if isinstance(end, Contradiction):
-            return Seen(clash=self._clash(end))
         names = [made.vocabulary.cells.line(cell) for cell in made.cells]
         replies = made.session.look([*(f"why {name}" for name in names), "worldview"])
-        plan: dict[str, int] = {}
-        if isinstance(replies[-1], Worldview):
-            plan = self._reader().plan(replies[-1].inside)
+        found = next((each for each in replies if isinstance(each, Contradiction)), None)
+        if found:
+            return Seen(clash=self._clash(found))
+        stands = replies[-1]
+        plan = self._reader().plan(stands.inside) if isinstance(stands, Worldview) else {}
         shown = [self._shown(reply, plan) for reply in replies if isinstance(reply, Value)]
-        return Seen({each.cell: each for each in shown}, is_settled(end), None, plan)
+        return Seen({each.cell: each for each in shown}, isinstance(stands, Worldview), None, plan)
 
     def core(self, cell: str, progress: Progress | None = None) -> Shown | None:
         made = self.workbench.network

@@ -39,7 +39,7 @@ at("drawing").addEventListener("here", (event) => {
 // --- asking ---
 
 async function ask(path, body) {
-  const answer = await fetch(path, {
+  const answer = body === null ? await fetch("state") : await fetch(path, {
     method: "POST",
     headers: { "Content-Type": "application/json" },
     body: JSON.stringify(body),
@@ -50,7 +50,8 @@ async function ask(path, body) {
   return told;
 }
 
-// Asks, with what is wrong told on the page; undefined then.
+// Asks, or looks at all where there is no question; what is wrong is told on the page, and nothing
+// is given then.
 async function asked(body) {
   const since = setTimeout(() => { at("stop").hidden = false; }, 300);
   try {
@@ -71,10 +72,8 @@ function say(text, wrong = false) {
 }
 
 async function load() {
-  const answer = await fetch("state");
-  const told = await answer.json();
-  if (told.error) return say(told.error, true);
-  take(told);
+  const told = await asked(null);
+  if (told) take(told);
 }
 
 // Takes in what was answered: all of it, or what changed.
@@ -199,6 +198,7 @@ function show(changed) {
   for (const [name, shown] of values()) texts.set(name, shown.known ? shown.text : "");
   drawing.show(texts, changed, new Set(state.believed));
   showValues(changed);
+  at("unsettled").hidden = state.seen.settled || frame >= 0;
   showSwitches();
   showClash();
   showLines();
@@ -392,7 +392,8 @@ function showStep() {
   const on = frame >= 0;
   const shown = on ? frames[frame] : null;
   at("now").hidden = !on;
-  at("first").disabled = at("back").disabled = !on || frame === 0;
+  at("first").disabled = frame === 0;
+  at("back").disabled = frame <= 0;
   at("forward").disabled = at("last").disabled = Boolean(shown?.end);
   at("step").textContent = on ? `step ${frame}${shown.end ? `, the end: ${shown.end}` : ""}` : "steps";
   at("changes").hidden = !on;
@@ -423,6 +424,10 @@ press("core", core);
 press("least", () => best("least"));
 press("greatest", () => best("greatest"));
 press("stop", () => ask("stop", {}));
+press("go-on", async () => {
+  const told = await asked({ what: "look" });
+  if (told) take(told);
+});
 press("save", async () => {
   const told = await asked({ what: "save" });
   if (told) say(`Saved to ${told.saved}.`);
@@ -460,11 +465,11 @@ async function freshLines() {
 
 // Looks now and then whether something changed elsewhere, and how far a run is.
 async function watch() {
-  if (!document.hidden && state) {
+  if (!document.hidden) {
     try {
       const told = await (await fetch("version")).json();
       at("busy").textContent = at("stop").hidden ? "" : told.busy;
-      if (!told.busy && told.version > state.version) await load();
+      if (state && !told.busy && told.version > state.version) await load();
     } catch {
       say("The page's server has ended.", true);
     }
@@ -472,5 +477,5 @@ async function watch() {
   setTimeout(watch, EVERY);
 }
 
-await load();
 watch();
+await load();
