@@ -209,11 +209,8 @@ def test_forty_steps_and_back(program: str, bare: Bare, browser: Any) -> None:
             page.until(lambda: "the end: settled" in page.text("step"))
             assert known() == settled
             [number] = re.findall(r"step (\d+)", page.text("step"))
-            before, end = (after_steps(bare, lines, int(number) - back) for back in (1, 0))
-            assert end == settled and "unsettled" in bare(
-                [*lines, f"limit {int(number) - 1}", "settle"], []
-            )
-            assert "Step" in page.text("changes") and before is not None
+            assert after_steps(bare, lines, int(number)) == settled
+            assert "unsettled" in bare([*lines, f"limit {int(number) - 1}", "settle"], [])
             page.press("now")
             assert known() == settled and page.text("step") == "steps"
 

@@ -204,5 +204,5 @@ def _label(*lines: str) -> str:
 
 def _quoted(text: str) -> str:
     short = printable(text if len(text) <= _LONGEST else f"{text[: _LONGEST - 2]}..")
-    marks = {"&": "&amp;", "<": "&lt;", ">": "&gt;", '"': "&quot;", "\\": "&#92;"}
+    marks = {"&": "&amp;", "<": "&lt;", ">": "&gt;", '"': "&quot;", "\\": r"\\"}
     return "".join(marks.get(each, each) for each in short)

@@ -10,6 +10,9 @@ from dataclasses import dataclass
 
 from propbench.watching.network import Network, Said, Seen, Shown, Use
 
+# For so many cells it is looked what is reached without them; for others that of the last serves.
+_MOST_EXACT = 150
+
 
 @dataclass(frozen=True)
 class Bearing:
@@ -38,10 +41,9 @@ def bearing(network: Network, seen: Seen, shown: Shown) -> Bearing:
     barred = _barred(seen, shown)
     sources = set(_stated(network, premises, choices))
     arrows = [each for use in network.uses if _counts(use, premises) for each in _arrows(use)]
-    reached = _Reach(arrows, barred, shown.cell).run(sources)
-    behind = _behind(arrows, reached, shown.cell)
-    near = (cell for arrow in behind for cell in arrow.inputs if cell in reached)
-    uses = frozenset(arrow.use for arrow in behind)
+    behind = list(_behind(arrows, barred, sources, shown.cell))
+    near = (cell for arrow, reached in behind for cell in arrow.inputs if cell in reached)
+    uses = frozenset(arrow.use for arrow, _ in behind)
     return Bearing(frozenset((shown.cell, *near)), uses, premises, choices)
 
 
@@ -82,69 +84,65 @@ def _arrows(use: Use) -> Iterator[_Arrow]:
 
 
 class _Reach:
-    """How far each cell is from what is stated: one more than the farthest of the inputs of an
-    arrow. Only where nothing else goes on, one input of an arrow is enough."""
+    """The cells that are reached from what is stated, without one of them: an arrow goes where all
+    its inputs are reached. Only where nothing else goes on, one of them is enough."""
 
-    def __init__(self, arrows: Sequence[_Arrow], barred: set[str], target: str) -> None:
-        """Over cells that aren't barred, and not over the target."""
-        self.away: dict[str, int] = {}
-        self._barred, self._target = barred, target
-        self._waits = {arrow: len(arrow.inputs) for arrow in arrows}
+    def __init__(self, arrows: Sequence[_Arrow], barred: set[str]) -> None:
+        """Over cells that aren't barred."""
+        self._arrows, self._barred = arrows, barred
+        self._alone = {arrow.output for arrow in arrows if not arrow.inputs}
         self._readers: dict[str, list[_Arrow]] = {}
         for arrow in arrows:
             for cell in arrow.inputs:
                 self._readers.setdefault(cell, []).append(arrow)
 
-    def run(self, sources: set[str]) -> dict[str, int]:
-        """The distances, from these cells on."""
-        alone = {arrow.output for arrow, count in self._waits.items() if not count}
-        edge = [cell for cell in sources | alone if self._takes(cell)]
-        distance = 0
+    def without(self, target: str, sources: set[str]) -> set[str]:
+        """The cells that are reached from these, and not over the target."""
+        reached: set[str] = set()
+        waits = {arrow: len(arrow.inputs) for arrow in self._arrows}
+
+        def fresh(cells: Iterable[str]) -> list[str]:
+            found = dict.fromkeys(cells)
+            return [cell for cell in found if cell != target and cell not in reached]
+
+        def outputs(arrows: Iterable[_Arrow]) -> list[str]:
+            told = (arrow.output for arrow in arrows)
+            return [cell for cell in fresh(told) if cell not in self._barred]
+
+        edge = fresh(sources | self._alone)
         while edge:
-            self.away.update(dict.fromkeys(edge, distance))
+            reached.update(edge)
             ready = [arrow for cell in edge for arrow in self._readers.get(cell, ())]
             for arrow in ready:
-                self._waits[arrow] -= 1
-            distance += 1
-            edge = self._outputs(arrow for arrow in ready if not self._waits[arrow])
-            edge = edge or self._outputs(
-                arrow for arrow, left in self._waits.items() if left < len(arrow.inputs)
+                waits[arrow] -= 1
+            edge = outputs(arrow for arrow in ready if not waits[arrow])
+            edge = edge or outputs(
+                arrow for arrow, left in waits.items() if left < len(arrow.inputs)
             )
-        return self.away
-
-    def _takes(self, cell: str) -> bool:
-        return cell != self._target and cell not in self.away
-
-    def _outputs(self, arrows: Iterable[_Arrow]) -> list[str]:
-        """What these arrows lead to that is not reached yet."""
-        found = dict.fromkeys(arrow.output for arrow in arrows)
-        return [cell for cell in found if self._takes(cell) and cell not in self._barred]
+        return reached
 
 
-def _behind(arrows: Sequence[_Arrow], away: dict[str, int], target: str) -> list[_Arrow]:
-    """The arrows that lead to the target from cells that are reached, each cell from nearer ones;
-    those of which all inputs are reached, where there are such."""
+def _behind(
+    arrows: Sequence[_Arrow], barred: set[str], sources: set[str], target: str
+) -> Iterator[tuple[_Arrow, set[str]]]:
+    """The arrows that lead to the target, each with the cells that are reached without its output:
+    those of which all inputs are reached, where there are such, and others where there are not."""
+    reach = _Reach(arrows, barred)
     writers: dict[str, list[_Arrow]] = {}
     for arrow in arrows:
         writers.setdefault(arrow.output, []).append(arrow)
-    kept: list[_Arrow] = []
     waiting, taken = [target], {target}
+    reached: set[str] = set()
     while waiting:
         cell = waiting.pop()
-        own = away.get(cell)
-        if cell != target and not own:
-            continue
-        near = [arrow for arrow in writers.get(cell, ()) if _is_nearer(arrow, away, own)]
-        whole = [arrow for arrow in near if all(each in away for each in arrow.inputs)]
+        if len(taken) <= _MOST_EXACT or not reached:
+            reached = reach.without(cell, sources)
+        near = [
+            arrow for arrow in writers.get(cell, ()) if not reached.isdisjoint(arrow.inputs)
+        ] + [arrow for arrow in writers.get(cell, ()) if not arrow.inputs]
+        whole = [arrow for arrow in near if reached.issuperset(arrow.inputs)]
         for arrow in whole or near:
-            kept.append(arrow)
-            fresh = [each for each in arrow.inputs if each in away and each not in taken]
+            yield arrow, reached
+            fresh = [each for each in arrow.inputs if each in reached and each not in taken]
             taken.update(fresh)
             waiting += fresh
-    return kept
-
-
-def _is_nearer(arrow: _Arrow, away: dict[str, int], own: int | None) -> bool:
-    """Whether some inputs are reached, and all that are lie nearer than this; None is far away."""
-    found = [away[each] for each in arrow.inputs if each in away]
-    return bool(found or not arrow.inputs) and (own is None or all(each < own for each in found))

@@ -8,9 +8,8 @@ told by the program, so no frame says so.
 from collections.abc import Callable, Sequence
 from dataclasses import dataclass
 
-from propbench.replies import Contradiction, Nogoods, Reply, Value
 from propbench.refusals import Refused
-from propbench.runs import is_settled
+from propbench.replies import Contradiction, Nogoods, Reply, Settled, Value
 from propbench.session import Session
 from propbench.watching.network import Reason, Shown
 
@@ -56,7 +55,8 @@ class Steps:
         self._nogoods: set[frozenset[str]] = set()
         session.send_all(lines)
         session.drop_lines()
-        self.frames = [Frame(0, self._changes())]
+        [end] = self._looked(["settle"])
+        self.frames = [Frame(0, self._changes(), (), self._end(end))]
 
     def close(self) -> None:
         """Ends the session."""
@@ -80,10 +80,10 @@ class Steps:
         nogoods = self._new_nogoods()
         return Frame(len(self.frames), self._changes(), nogoods, self._end(end))
 
-    def _end(self, reply: Reply) -> str:
+    def _end(self, reply: Reply | Refused) -> str:
         if isinstance(reply, Contradiction):
             return f"contradiction: {', '.join(map(self._named, reply.premises)) or 'no premise'}"
-        return "settled" if is_settled(reply) else ""
+        return "settled" if isinstance(reply, Settled) else ""
 
     def _changes(self) -> tuple[Change, ...]:
         """The cells of which something else is known than before."""
