@@ -4,12 +4,13 @@ import time
 from html import escape
 from typing import Any
 
-from IPython.display import HTML, display
+from IPython.display import HTML, DisplayHandle
 
 from propbench.replies import Reply
 
 # It is shown after so many seconds, and renewed so often.
 _FIRST, _AGAIN = 1.0, 0.3
+_GONE = "<span></span>"
 _HOW = "the stop button ends it, and the session goes on"
 
 
@@ -32,13 +33,15 @@ class Bar:
             self._next = time.monotonic() + _AGAIN
             told = HTML(f"<progress></progress> {escape(text)} ({_HOW})")
             if self._shown is None:
-                self._shown = display(told, display_id=True)
-            elif hasattr(self._shown, "update"):
+                # (kept before it is shown: a stop may come between the two)
+                self._shown = DisplayHandle()
+                self._shown.display(told)
+            else:
                 self._shown.update(told)
 
     def end(self) -> None:
         """Takes the bar away."""
-        if hasattr(self._shown, "update"):
-            self._shown.update(HTML(""))
+        if self._shown is not None:
+            self._shown.update(HTML(_GONE))
         self._shown = None
         self._next = time.monotonic() + _FIRST
