@@ -119,7 +119,7 @@ def least_conflicts(bare: Bare, lines: list[str], premises: list[str]) -> set[fr
     """All least sets of premises that contradict each other, by trying all sets."""
     found: set[frozenset[str]] = set()
     for size in range(len(premises) + 1):
-        for kept in map(frozenset, combinations(premises, size)):
+        for kept in (frozenset(each) for each in combinations(premises, size)):
             if not any(each <= kept for each in found):
                 kicks = [f"kick {each}" for each in premises if each not in kept]
                 brings = [f"bring {each}" for each in kept]
@@ -132,7 +132,7 @@ def least_hits(conflicts: set[frozenset[str]], premises: list[str]) -> set[froze
     """All least sets that have something of each conflict, by trying all sets."""
     found: set[frozenset[str]] = set()
     for size in range(len(premises) + 1):
-        for out in map(frozenset, combinations(premises, size)):
+        for out in (frozenset(each) for each in combinations(premises, size)):
             if all(out & each for each in conflicts) and not any(each <= out for each in found):
                 found.add(out)
     return found
@@ -247,7 +247,10 @@ def test_choices(program: str, bare: Bare, browser: Any) -> None:
     with Session(program) as session:
         session.send_all(lines)
         with shown(browser, Page(SessionWatched(session), "talks")) as page:
-            stands = lambda: {each.text for each in page.all(".stands")}
+
+            def stands() -> set[str]:
+                return {each.text for each in page.all(".stands")}
+
             assert stands() == {"ana = nine", "ben = eleven", "cleo = ten"}
             assert page.values == {cell: value for cell, (value, _) in answers(bare, lines).items()}
             page.keep("choices")
@@ -362,10 +365,10 @@ def test_the_keyboard(example: Shown) -> None:
     assert first != second and {first, second} <= set(example.table)
     drawing.send_keys(Keys.ENTER)
     example.until(lambda: example.text("cell-name") == second)
-    scale = lambda: example.js("return document.getElementById('sheet').getAttribute('transform')")
-    before = scale()
+    place = "return document.getElementById('sheet').getAttribute('transform')"
+    before = example.js(place)
     drawing.send_keys("+")
-    assert scale() != before
+    assert example.js(place) != before
     drawing.send_keys("0")
     unnamed = example.js(
         "return [...document.querySelectorAll('button, input, a, summary')].filter(it =>"
@@ -396,7 +399,10 @@ def test_what_takes_long_is_stopped(program: str, browser: Any) -> None:
         session.send_all(ENDLESS)
         with Page(SessionWatched(session), "endless") as page:
             browser.get(page.address)
-            at = lambda name: browser.find_element("id", name)
+
+            def at(name: str) -> Any:
+                return browser.find_element("id", name)
+
             begun = time.monotonic()
             while not at("stop").is_displayed():
                 assert time.monotonic() < begun + 60

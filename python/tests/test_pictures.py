@@ -139,11 +139,11 @@ def test_a_workbench_s_picture(program: str) -> None:
 
 def test_texts_are_texts(program: str) -> None:
     with Workbench(program) as w:
-        for at, name in enumerate(NASTY):
-            x = w.number(name, 0, 9)
+        cells = [w.number(name, 0, 9) for name in NASTY]
+        for at, (name, x) in enumerate(zip(NASTY, cells)):
             w.tell(f"p {name}", x, at)
-        w.require(x + w.cell(NASTY[0]) <= 90)
-        w.choose("<choice>", x, [8, 7])
+        w.require(cells[0] + cells[-1] <= 90)
+        w.choose("<choice>", cells[-1], [8, 7])
         svg = w.picture().svg
         texts = drawn_texts(svg)
         for at, name in enumerate(NASTY):

@@ -148,9 +148,13 @@ def test_what_does_not_bear_is_not_lit(program: str) -> None:
         watched = SessionWatched(session)
         seen, network = watched.see(), watched.network()
         lit = bearing(network, seen, seen.values["c"])
-        assert (lit.cells, lit.uses, lit.premises) == ({"a", "b", "c"}, {"1"}, {"p", "q"})
+        assert tuple(map(set, (lit.cells, lit.uses, lit.premises))) == (
+            {"a", "b", "c"},
+            {"1"},
+            {"p", "q"},
+        )
         lit = bearing(network, seen, seen.values["e"])
-        assert (lit.uses, lit.premises) == ({"1", "2", "3"}, {"p", "q", "r"})
+        assert tuple(map(set, (lit.uses, lit.premises))) == ({"1", "2", "3"}, {"p", "q", "r"})
         assert lit.cells == set("abcdef")
 
 
@@ -210,7 +214,7 @@ def test_conflicts_and_repairs_of_a_session(program: str, bare: Bare) -> None:
             lines.append(f"tell {premise} x{draw.randrange(4)} {low}..{low + draw.randint(0, 6)}")
         conflicts: set[frozenset[str]] = set()
         for size in range(6):
-            for kept in map(frozenset, combinations(premises, size)):
+            for kept in (frozenset(each) for each in combinations(premises, size)):
                 kicks = [f"kick {each}" for each in premises if each not in kept]
                 is_new = not any(each <= kept for each in conflicts)
                 if is_new and "contradiction" in bare([*lines, *kicks, "settle"], []):
@@ -223,7 +227,7 @@ def test_conflicts_and_repairs_of_a_session(program: str, bare: Bare) -> None:
         assert {frozenset(each) for each in found.conflicts} <= conflicts
         hits: set[frozenset[str]] = set()
         for size in range(6):
-            for out in map(frozenset, combinations(premises, size)):
+            for out in (frozenset(each) for each in combinations(premises, size)):
                 if all(out & each for each in conflicts) and not any(each <= out for each in hits):
                     hits.add(out)
         assert {frozenset(each) for each in found.repairs} == hits

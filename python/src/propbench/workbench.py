@@ -345,7 +345,7 @@ class Workbench(Questions):
         return picture_of(WorkbenchWatched(self), name)
 
     def film(self, steps: int = 12) -> "Film":
-        """The first steps of a run that begins from nothing, as a strip of pictures."""
+        """The first steps that change something, of a run from nothing, as a strip of pictures."""
         from propbench.pictures import film_of
         from propbench.watching.of_workbench import WorkbenchWatched
 

@@ -8,7 +8,10 @@ from propbench.pictures.dot import Look, dot_of
 from propbench.pictures.film import Film
 from propbench.pictures.graphviz import NoGraphviz, svgs_of
 from propbench.showing import quoted
-from propbench.watching import Watched, bearing
+from propbench.watching import Frame, Watched, bearing
+
+# A film looks at so many steps at the most.
+_MOST_STEPS = 5000
 
 
 class Picture:
@@ -51,10 +54,18 @@ def picture_of(watched: Watched, cell: str | None = None, parts: bool | None = N
 
 
 def film_of(watched: Watched, steps: int) -> Film:
-    """The first so many steps of a run from nothing."""
+    """The first so many steps of a run from nothing that change something, or end it."""
     taken = watched.steps()
     try:
-        return Film(watched.network(), taken.take(steps))
+        kept: list[Frame] = []
+        for number in range(_MOST_STEPS):
+            frames = taken.take(number)
+            if len(frames) <= number or len(kept) > steps:
+                break
+            frame = frames[number]
+            if not number or frame.changes or frame.nogoods or frame.end:
+                kept.append(frame)
+        return Film(watched.network(), kept)
     finally:
         taken.close()
 

@@ -14,7 +14,8 @@ _MOST_DRAWN = 16
 
 
 class Film:
-    """The first steps of a run. `frames` has what each changed; frame 0 is what is known before."""
+    """The first steps of a run that change something. `frames` has what each changed, with the
+    number of the step; frame 0 is what is known before the first."""
 
     def __init__(self, network: Network, frames: Sequence[Frame]) -> None:
         self.network, self.frames = network, list(frames)
