@@ -3,12 +3,16 @@
 import http.client
 import json
 import re
+import signal
 import socket
+import subprocess
+import sys
 from collections.abc import Iterator
 from pathlib import Path
 from typing import Any
 
 import pytest
+from conftest import REPOSITORY
 
 import propbench.page
 from propbench import Session, Workbench
@@ -196,7 +200,8 @@ def test_what_is_too_large_or_no_question(page: Page) -> None:
         {"what": "apply", "premises": ["morning", 3]},
         {"what": "steps", "from": -1, "to": 3},
         {"what": "steps", "from": 0, "to": 1e9},
-        {"what": "best", "cell": "x", "sort": "least"},
+        {"what": "best", "cell": "x", "sort": "most"},
+        {"what": "best", "cell": "nobody", "sort": "least"},
         {"what": "save"},
         {"what": "line", "line": "tell a x 3\ntell b x 4"},
     ]
@@ -252,3 +257,28 @@ def test_texts_are_never_markup() -> None:
     assert not re.search(r"<script(?! type=\"module\" src=\"page\.js\")|\son\w+=|style=|http", page)
     assert not re.search(r"@import|url\(", (STATIC / "page.css").read_text())
     assert "setAttribute" in (STATIC / "drawing.js").read_text()
+
+
+def test_the_desk_serves_a_file(program: str) -> None:
+    """`propdesk page` prints the address, serves, and ends well at Ctrl-C."""
+    path = str(REPOSITORY / "examples" / "talks.prop")
+    words = [sys.executable, "-m", "propbench", "page", path, "--program", program]
+    served = subprocess.Popen(words, stdout=subprocess.PIPE, text=True)
+    try:
+        assert served.stdout
+        found = re.match(
+            r"The page is at (http://127\.0\.0\.1:(\d+)/\S+/)$", served.stdout.readline()
+        )
+        assert found
+        link = http.client.HTTPConnection("127.0.0.1", int(found[2]), timeout=20)
+        link.request("GET", found[1].partition(found[2])[2] + "state")
+        state = json.loads(link.getresponse().read())
+        assert state["title"] == "talks.prop" and len(state["network"]["cells"]) == 3
+        served.send_signal(signal.SIGINT)
+        assert served.wait(timeout=30) == 0
+    finally:
+        served.kill()
+        served.wait()
+    for wrong, status in (("none.prop", 3), ("talks.out", 1)):
+        words[4] = str(REPOSITORY / "examples" / wrong)
+        assert subprocess.run(words, capture_output=True, timeout=60).returncode == status

@@ -148,13 +148,13 @@ def test_what_does_not_bear_is_not_lit(program: str) -> None:
         watched = SessionWatched(session)
         seen, network = watched.see(), watched.network()
         lit = bearing(network, seen, seen.values["c"])
-        assert tuple(map(set, (lit.cells, lit.uses, lit.premises))) == (
+        assert (set(lit.cells), set(lit.uses), set(lit.premises)) == (
             {"a", "b", "c"},
             {"1"},
             {"p", "q"},
         )
         lit = bearing(network, seen, seen.values["e"])
-        assert tuple(map(set, (lit.uses, lit.premises))) == ({"1", "2", "3"}, {"p", "q", "r"})
+        assert (set(lit.uses), set(lit.premises)) == ({"1", "2", "3"}, {"p", "q", "r"})
         assert lit.cells == set("abcdef")
 
 
@@ -340,3 +340,36 @@ def test_files(program: str, tmp_path: Path) -> None:
         with opened(str(tmp_path / "bad.prop"), Way(), program):
             pass
     assert refused.value.line_number == 3
+
+
+def test_least_and_greatest_of_a_session(program: str) -> None:
+    """Beside all points of small numbers, by the meaning of the compounds."""
+    for seed in range(6 * TIMES):
+        draw = random.Random(seed)
+        low, high, sum_, product = (
+            draw.randint(*ends) for ends in ((0, 3), (4, 9), (5, 14), (4, 30))
+        )
+        lines = [f"cell {name} span" for name in "xysp"]
+        lines += ["attach sum x y s", "attach product x y p"]
+        lines += [f"fix x {low}..{high}", f"tell ana y {low}..{high}", f"tell ben s 0..{sum_}"]
+        lines += [f"tell cleo p {product}..99", "tell dora x 77", "kick dora"]
+        lines += [f"choose c y {low} or {low + 1}..{high}"]
+        points = [
+            (x, y)
+            for x in range(low, high + 1)
+            for y in range(low, high + 1)
+            if x + y <= sum_ and product <= x * y <= 99
+        ]
+        with Session(program) as session:
+            session.send_all(lines)
+            watched = SessionWatched(session)
+            for sort, pick in (("least", min), ("greatest", max)):
+                found = watched.best("x", sort)
+                assert found.proved and session.lines == lines
+                if points:
+                    wanted = pick(x for x, _ in points)
+                    assert found.text == f"The {sort} x is {wanted}:"
+                    plan = dict(found.plan)
+                    assert (int(plan["x"]), int(plan["y"])) in points
+                else:
+                    assert found.text == f"The {sort} x: nothing fits."

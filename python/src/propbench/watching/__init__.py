@@ -32,11 +32,13 @@ from propbench.watching.steps import Change, Frame, Steps
 
 @dataclass(frozen=True)
 class Best:
-    """The least or greatest value of a cell in any plan, in a sentence, and that plan by cell."""
+    """The least or greatest value of a cell in any plan, in a sentence, and that plan by cell.
+    `says` is what holds of the plan."""
 
     text: str
     plan: tuple[tuple[str, str], ...]
     proved: bool
+    says: str
 
 
 class Watched(Protocol):

@@ -5,6 +5,9 @@ from collections.abc import Sequence
 from propbench.grammar import ASKING
 from propbench.known import Known
 from propbench.listing import Told
+from propbench.model.kinds import point_text
+from propbench.questions.asking import so_far
+from propbench.questions.bounding import Optimum, find_optimum
 from propbench.questions.clock import Clock
 from propbench.questions.clock import Progress as Telling
 from propbench.replies import Contradiction, Value, Worldview
@@ -15,8 +18,11 @@ from propbench.watching import Best
 from propbench.watching.lines import Lines
 from propbench.watching.mending import Mending, mended
 from propbench.watching.network import Clash, Network, Reason, Seen, Shown
+from propbench.watching.session_model import SessionModel
 from propbench.watching.steps import Steps
 
+# What is said of a plan: the program finds nothing against its values.
+SETTLES = "With one value for each cell the program settles."
 # So many conflicts and repairs are looked for at the most.
 _MOST_MENDS = 30
 
@@ -86,9 +92,13 @@ class SessionWatched:
     def best(
         self, cell: str, sort: str, progress: Telling | None = None, seconds: float | None = None
     ) -> Best:
-        raise ValueError(
-            f"the {sort} {cell} of any plan can be asked of a workbench only: a session knows no"
-            " constraints that could be evaluated"
+        model = SessionModel(self.session, self.lines(), self._told)
+        found = so_far(lambda: find_optimum(model, cell, sort, seconds, progress), Optimum)
+        return Best(
+            found.headline(),
+            tuple((name, point_text(value)) for name, value in (found.plan or {}).items()),
+            found.proved,
+            SETTLES,
         )
 
     def steps(self) -> Steps:

@@ -1,7 +1,6 @@
 """A workbench as views see it: the user's cells, and constraints in place of procedures."""
 
-from collections.abc import Callable, Sequence
-from typing import TypeVar
+from collections.abc import Sequence
 
 from propbench.model.answers import value_text
 from propbench.model.blaming import always
@@ -11,7 +10,7 @@ from propbench.model.kinds import kind_text, point_text
 from propbench.model.nodes import cells_in
 from propbench.model.reading import Reader
 from propbench.model.saving import saved
-from propbench.questions.asking import Interrupted
+from propbench.questions.asking import so_far
 from propbench.questions.bounding import Optimum
 from propbench.questions.clock import Progress as Telling
 from propbench.questions.conflicts import Conflicts, Repairs, find_conflicts, find_repairs
@@ -36,11 +35,12 @@ from propbench.watching.network import (
 from propbench.watching.steps import Steps
 from propbench.workbench import Workbench
 
+# What is said of a plan.
+PLAN = "Each constraint was evaluated on this plan."
 # So many conflicts, and so many repairs, are looked for at the most.
 _MOST_MENDS = 30
 # Constraints between cells, and what is said of one cell by premise, "" for what always holds.
 _Stated = tuple[tuple[Use, ...], dict[str, tuple[Said, ...]]]
-Result = TypeVar("Result")
 
 
 class WorkbenchWatched:
@@ -134,10 +134,10 @@ class WorkbenchWatched:
 
     def mend(self, progress: Telling | None = None, seconds: float | None = None) -> Mending:
         model = self.workbench.model
-        conflicts = _so_far(
+        conflicts = so_far(
             lambda: find_conflicts(model, (), _MOST_MENDS, seconds, progress), Conflicts
         )
-        repairs = _so_far(
+        repairs = so_far(
             lambda: find_repairs(model, {}, (), _MOST_MENDS, seconds, progress), Repairs
         )
         return Mending(
@@ -155,10 +155,10 @@ class WorkbenchWatched:
         self, cell: str, sort: str, progress: Telling | None = None, seconds: float | None = None
     ) -> Best:
         ask = self.workbench.least if sort == "least" else self.workbench.greatest
-        found = _so_far(lambda: ask(cell, seconds=seconds, progress=progress), Optimum)
+        found = so_far(lambda: ask(cell, seconds=seconds, progress=progress), Optimum)
         plan = found.plan or {}
         rows = tuple((name, point_text(value)) for name, value in plan.items())
-        return Best(found.headline(), rows, found.proved)
+        return Best(found.headline(), rows, found.proved, PLAN)
 
     def steps(self) -> Steps:
         made = self.workbench.network
@@ -231,16 +231,6 @@ def _stated(events: Sequence[Event]) -> _Stated:
         elif isinstance(event, Told):
             says.setdefault(event.premise or "", []).append(Said(event.text, event.cell.name))
     return tuple(uses), {name: tuple(said) for name, said in says.items()}
-
-
-def _so_far(ask: Callable[[], Result], kind: type[Result]) -> Result:
-    """The result of a question, or as far as it came where it was stopped."""
-    try:
-        return ask()
-    except Interrupted as stopped:
-        if isinstance(stopped.so_far, kind):
-            return stopped.so_far
-        raise
 
 
 def _choice(event: ValueChoice | ConstraintChoice) -> Choice:

@@ -128,7 +128,6 @@ function build() {
   at("proved").classList.toggle("unproved", !state.proved);
   at("save").hidden = state.file === null;
   at("line-form").hidden = state.workbench;
-  at("least").hidden = at("greatest").hidden = !state.workbench;
   at("premises").replaceChildren(...network.premises.map(premise));
   at("choices").replaceChildren(...network.choices.map(choice));
   at("choices-head").hidden = !network.choices.length;
@@ -283,6 +282,8 @@ async function look(name) {
     bears = told.bears;
     if (told.shown) at("cell-because").textContent = `because of ${reasonsOf(told.shown)}`;
   }
+  const kind = state.network.cells.find((each) => each.name === name).kind;
+  at("least").hidden = at("greatest").hidden = !["span", "a number"].includes(kind);
   drawing.light(bears);
   for (const [other, each] of rows) each.row.classList.toggle("lit", Boolean(bears?.cells.includes(other)));
   at("unlit").hidden = false;
@@ -314,7 +315,8 @@ async function best(sort) {
   const told = await asked({ what: "best", cell: name, sort });
   if (!told || picked !== name) return;
   const lines = told.plan.map(([cell, value]) => made("tr", {}, made("th", { scope: "row" }, cell), made("td", {}, value)));
-  at("best").replaceChildren(made("p", {}, told.text), made("table", {}, made("tbody", {}, ...lines)));
+  at("best").replaceChildren(made("p", {}, told.text), made("table", {}, made("tbody", {}, ...lines)),
+    ...(told.plan.length ? [made("p", {}, told.says)] : []));
 }
 
 // --- a conflict ---
