@@ -268,7 +268,9 @@ def test_a_workbench_as_views_see_it(program: str) -> None:
         }
         assert [each.is_believed for each in network.premises] == [True, False, True]
         assert [(said.text, said.cell) for said in network.fixed] == [
-            ("the price = 100..8000", "the price")
+            ("days = 0..60", "days"),
+            ("the price = 0..9000", "the price"),
+            ("the price = 100..8000", "the price"),
         ]
         assert [(each.name, each.sides, set(each.cells)) for each in network.choices] == [
             ("venue", ("hotel", "uni"), {"days", "the price"}),
@@ -281,6 +283,30 @@ def test_a_workbench_as_views_see_it(program: str) -> None:
         }
         assert seen.plan == {"venue": 0, "pay": 0} and seen.settled
         assert [reason.choice for reason in seen.values["days"].because] == ["venue"]
+
+
+def test_what_bears_in_a_workbench(program: str) -> None:
+    """Constraints go all ways, and begin at what cells were declared as."""
+    with Workbench(program) as w:
+        x, y, z = w.number("x", 0, 20), w.number("y", 0, 20), w.number("z")
+        day = w.domain("day", "mon tue wed")
+        d = w.element("d", day)
+        w.require(x + 3 * y <= 17)
+        w.require(z == y + 1, under="one more")
+        w.require((d == "mon") == (x > 30))
+        watched = WorkbenchWatched(w)
+        network = watched.network()
+
+        def lit(cell: str) -> tuple[set[str], set[str], set[str]]:
+            seen = watched.see()
+            found = bearing(network, seen, seen.values[cell])
+            return set(found.cells), {*found.uses}, {*found.premises}
+
+        assert watched.see().values["x"].text == "0..17"
+        assert lit("x") == ({"x", "y", "d"}, {"1", "3"}, set())
+        assert lit("z") == ({"x", "y", "z", "d"}, {"1", "2", "3"}, {"one more"})
+        assert watched.see().values["d"].text == "{tue wed}"
+        assert lit("d")[0] == {"d", "x", "y"}
 
 
 def test_wishes(program: str) -> None:

@@ -5,9 +5,16 @@ from collections.abc import Sequence
 from propbench.model.answers import value_text
 from propbench.model.blaming import always
 from propbench.model.choosing import first_name
-from propbench.model.events import ConstraintChoice, Event, Required, Told, ValueChoice
-from propbench.model.kinds import kind_text, point_text
-from propbench.model.nodes import cells_in
+from propbench.model.events import (
+    ConstraintChoice,
+    Event,
+    Required,
+    Told,
+    ValueChoice,
+    values_text,
+)
+from propbench.model.kinds import MOST, Plain, kind_text, point_text
+from propbench.model.nodes import Declared, cells_in
 from propbench.model.reading import Reader
 from propbench.model.saving import saved
 from propbench.questions.asking import so_far
@@ -73,7 +80,7 @@ class WorkbenchWatched:
             uses,
             tuple(premises),
             tuple(map(_choice, made.premises.choices.values())),
-            says.get("", ()),
+            (*map(_declared, made.cells.values()), *says.get("", ())),
         )
 
     def see(self, progress: Progress | None = None) -> Seen:
@@ -214,6 +221,17 @@ class WorkbenchWatched:
         return Reason(
             text, choice=self.workbench.network.vocabulary.premises.text(first_name(choice))
         )
+
+
+def _declared(cell: Declared) -> Said:
+    """What holds of a cell as it was declared; of a number without ends nothing."""
+    if cell.kind is not Plain.NUMBER:
+        return Said(f"{cell.name} is {kind_text(cell.kind)}", cell.name)
+    if (cell.low, cell.high) == (None, None):
+        return Said(f"{cell.name} is a number")
+    low = -MOST if cell.low is None else cell.low
+    high = MOST if cell.high is None else cell.high
+    return Said(f"{cell.name} = {values_text(cell, (low, high))}", cell.name)
 
 
 def _stated(events: Sequence[Event]) -> _Stated:
