@@ -4,7 +4,8 @@
 usage: measure/page.py [CELLS]   (1000; there are twice as many procedures)
 
 A browser without a window draws by the processor alone, so moving is slower than on a screen. Beside
-each time stands what the machine was busy with, since a browser needs processors of its own.
+each time by the clock stand the processor's milliseconds of the page's own thread, and with what the
+machine was busy, since a browser needs processors of its own.
 """
 
 import os
@@ -16,7 +17,7 @@ from typing import Any
 HERE = Path(__file__).resolve().parents[1]
 sys.path[:0] = [str(HERE / "src"), str(HERE / "tests")]
 
-from browsing import new_browser  # noqa: E402
+from browsing import SWITCH, new_browser  # noqa: E402
 from test_page import big  # noqa: E402
 
 from propbench import Session  # noqa: E402
@@ -24,14 +25,6 @@ from propbench.page import Page  # noqa: E402
 from propbench.watching.of_session import SessionWatched  # noqa: E402
 
 SHOWN = "return performance.timing.loadEventEnd && document.querySelector('#cells tr') ? performance.now() : 0"
-SWITCH = """
-const [place, done] = arguments;
-const status = document.getElementById('status');
-const begun = performance.now();
-new MutationObserver((_, seen) => { seen.disconnect(); done(performance.now() - begun); })
-  .observe(status, {childList: true, characterData: true, subtree: true});
-document.querySelectorAll('#premises input')[place].click();
-"""
 LOOK = """
 const [place, done] = arguments;
 const begun = performance.now();
@@ -41,7 +34,7 @@ const look = () => document.querySelector('.bears').getAttribute('d')
 look();
 """
 MOVE = """
-const [done] = arguments;
+const [, done] = arguments;
 const svg = document.getElementById('drawing');
 let frames = 0;
 const begun = performance.now();
@@ -54,8 +47,15 @@ next();
 """
 
 
-def told(what: str, milliseconds: float) -> None:
-    print(f"{what:24} {milliseconds:7.0f} ms   load {os.getloadavg()[0]:.1f}", flush=True)
+def told(what: str, milliseconds: float, spent: float = 0.0) -> None:
+    own = f"{spent:6.0f} of the page's thread" if spent else ""
+    print(f"{what:24} {milliseconds:7.0f} ms {own:31} load {os.getloadavg()[0]:.1f}", flush=True)
+
+
+def spent(browser: Any) -> float:
+    """The milliseconds of a processor that the page's thread has used."""
+    metrics = browser.execute_cdp_cmd("Performance.getMetrics", {})["metrics"]
+    return 1000 * float(next(it["value"] for it in metrics if it["name"] == "TaskDuration"))
 
 
 def shown_after(browser: Any, address: str) -> float:
@@ -72,11 +72,19 @@ def main(cells: int) -> None:
     with Session() as session:
         session.send_all(big(cells))
         with Page(SessionWatched(session), "big") as page:
-            told("first picture", median(shown_after(browser, page.address) for _ in range(5)))
+            browser.execute_cdp_cmd("Performance.enable", {"timeDomain": "threadTicks"})
+            shows = [(shown_after(browser, page.address), spent(browser)) for _ in range(5)]
+            told("first picture", median(it for it, _ in shows), median(it for _, it in shows))
             run = browser.execute_async_script
-            told("a switch", median(run(SWITCH, place) for place in range(9)))
-            told("a cell looked at", run(LOOK, 150))
-            told("a frame of moving", run(MOVE))
+            for what, script, places in (
+                ("a switch", SWITCH, range(9)),
+                ("a cell looked at", LOOK, range(150, 151)),
+                ("a frame of moving", MOVE, range(1)),
+            ):
+                before = spent(browser)
+                times = [run(script, place) for place in places]
+                frames = 30 if script == MOVE else len(times)
+                told(what, median(times), (spent(browser) - before) / frames)
             # (what of a switch is the server's)
             asking = page._asking
             times = []

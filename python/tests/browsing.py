@@ -22,6 +22,16 @@ from propbench.page import Page
 # Where the pictures of the page are kept that the tests take, for whoever changes it to look at.
 PICTURES = REPOSITORY / "out" / "page"
 SECONDS = 60.0
+# Presses the switch of a premise at a place, and gives the milliseconds until the page has told of
+# what changed.
+SWITCH = """
+const [place, done] = arguments;
+const status = document.getElementById('status');
+const begun = performance.now();
+new MutationObserver((_, seen) => { seen.disconnect(); done(performance.now() - begun); })
+  .observe(status, {childList: true, characterData: true, subtree: true});
+document.querySelectorAll('#premises input')[place].click();
+"""
 _DRIVER, _BROWSER = "chromedriver", "chromium"
 
 
@@ -48,6 +58,7 @@ class Shown:
     def __init__(self, browser: Any, page: Page) -> None:
         self.browser, self.page = browser, page
         browser.get_log("performance"), browser.get_log("browser")
+        browser.execute_cdp_cmd("Performance.enable", {"timeDomain": "threadTicks"})
         browser.get(page.address)
         self.until(lambda: self.browser.execute_script("return document.title") != "propbench")
 
@@ -145,6 +156,12 @@ class Shown:
     def _prefer(self, scheme: str) -> None:
         feature = {"name": "prefers-color-scheme", "value": scheme}
         self.browser.execute_cdp_cmd("Emulation.setEmulatedMedia", {"features": [feature]})
+
+    def spent(self) -> float:
+        """How many seconds of a processor the page's thread has used: so a busy machine doesn't
+        count."""
+        told = self.browser.execute_cdp_cmd("Performance.getMetrics", {})["metrics"]
+        return float(next(each["value"] for each in told if each["name"] == "TaskDuration"))
 
     def asked_addresses(self) -> set[str]:
         """What the page has asked for since it was opened."""

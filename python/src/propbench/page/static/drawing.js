@@ -1,7 +1,7 @@
 // The drawing: cells and uses, which can be moved, zoomed, lit and walked through by keys.
 //
-// All boxes of a sort are one path of the SVG, and texts are made for those in sight alone, so that a
-// thousand cells stay fluent. All that a session says is set as text, never as markup.
+// All boxes of a sort are one path of the SVG, and texts are made for those in sight alone, so that
+// a thousand cells stay fluent. All that a session says is set as text, never as markup.
 
 import { CELL, USE, layout } from "./layout.js";
 
@@ -90,7 +90,8 @@ export class Drawing {
   // The whole drawing, or as near as it is still a drawing.
   fit() {
     const { width, height } = this._size();
-    const scale = Math.min(1.3, width / (this.places.width + 30), height / (this.places.height + 30));
+    const fits = [width / (this.places.width + 30), height / (this.places.height + 30)];
+    const scale = Math.min(1.3, ...fits);
     this.view = {
       scale,
       x: (width - this.places.width * scale) / 2,
@@ -148,7 +149,8 @@ export class Drawing {
       const sort = isOut ? "out" : uses.has(use.name) ? "bears" : "uses";
       parts[sort].push(this._box(this.network.cells.length + at, USE));
       if (uses.has(use.name)) {
-        for (const [cell, path] of this.wires[at]) if (cells.has(cell)) parts["wires lit"].push(path);
+        const lit = this.wires[at].filter(([cell]) => cells.has(cell));
+        parts["wires lit"].push(...lit.map(([, path]) => path));
       }
     });
     for (const name of PATHS) if (name !== "wires") this._set(name, parts[name]);
@@ -164,11 +166,13 @@ export class Drawing {
   *_inSight() {
     const { x, y, scale } = this.view;
     const size = this._size();
-    const [left, top] = [-x / scale - CELL.width / 2, -y / scale - CELL.height / 2];
-    const [right, bottom] = [(size.width - x) / scale + CELL.width / 2, (size.height - y) / scale + CELL.height / 2];
+    const [midX, midY] = [(size.width / 2 - x) / scale, (size.height / 2 - y) / scale];
+    const wide = size.width / scale / 2 + CELL.width / 2;
+    const high = size.height / scale / 2 + CELL.height / 2;
     const { places } = this;
     for (let at = 0; at < places.x.length; at++) {
-      if (places.x[at] >= left && places.x[at] <= right && places.y[at] >= top && places.y[at] <= bottom) yield at;
+      const isNear = Math.abs(places.x[at] - midX) <= wide;
+      if (isNear && Math.abs(places.y[at] - midY) <= high) yield at;
     }
   }
 
@@ -191,9 +195,13 @@ export class Drawing {
     const [x, y] = [this.places.x[at], this.places.y[at]];
     const cell = this.network.cells[at];
     const use = this.network.uses[at - this.network.cells.length];
-    const texts = cell
-      ? [made("text", { x, y: y - 4 }, short(cell.text, LETTERS.cell)), made("text", { x, y: y + 12, class: "value" })]
-      : [made("text", { x, y: y + 4, class: "used" }, short(use.text, LETTERS.use))];
+    const texts = [];
+    if (cell) {
+      texts.push(made("text", { x, y: y - 4 }, short(cell.text, LETTERS.cell)));
+      texts.push(made("text", { x, y: y + 12, class: "value" }));
+    } else {
+      texts.push(made("text", { x, y: y + 4, class: "used" }, short(use.text, LETTERS.use)));
+    }
     this.texts.append(...texts);
     return texts;
   }
@@ -203,7 +211,6 @@ export class Drawing {
     if (!cell) return;
     const said = this.values.get(cell.name) ?? "";
     const text = short(said, LETTERS.small);
-    if (texts[0].textContent !== short(cell.text, LETTERS.cell)) texts[0].textContent = short(cell.text, LETTERS.cell);
     if (texts[1].textContent === text) return;
     texts[1].textContent = text;
     texts[1].classList.toggle("small", said.length > LETTERS.value);
@@ -227,11 +234,13 @@ export class Drawing {
   _under(event) {
     const box = this.svg.getBoundingClientRect();
     const { x, y, scale } = this.view;
-    const [atX, atY] = [(event.clientX - box.left - x) / scale, (event.clientY - box.top - y) / scale];
+    const atX = (event.clientX - box.left - x) / scale;
+    const atY = (event.clientY - box.top - y) / scale;
     const { places } = this;
     for (let at = 0; at < places.x.length; at++) {
       const size = at < this.network.cells.length ? CELL : USE;
-      if (Math.abs(places.x[at] - atX) <= size.width / 2 && Math.abs(places.y[at] - atY) <= size.height / 2) return at;
+      const isNear = Math.abs(places.x[at] - atX) <= size.width / 2;
+      if (isNear && Math.abs(places.y[at] - atY) <= size.height / 2) return at;
     }
     return -1;
   }
@@ -271,8 +280,9 @@ export class Drawing {
     const cell = this.network.cells[at];
     const use = this.network.uses[at - this.network.cells.length];
     const value = cell && this.values.get(cell.name);
-    const parts = use?.parts.length ? `: ${use.parts.join(", ")}` : "";
-    const text = cell ? `${cell.text}${value ? ` = ${value}` : ""}` : use ? `${use.text}${parts}` : "";
+    let text = "";
+    if (cell) text = value ? `${cell.text} = ${value}` : cell.text;
+    else if (use) text = [use.text, ...(use.parts.length ? [use.parts.join(", ")] : [])].join(": ");
     if (this.under.textContent !== text) this.under.textContent = text;
     this.svg.classList.toggle("over", Boolean(cell));
   }
@@ -299,7 +309,8 @@ export class Drawing {
       cells.forEach((_, at) => {
         const along = (x[at] - x[from]) * dx + (y[at] - y[from]) * dy;
         const across = Math.abs((x[at] - x[from]) * dy) + Math.abs((y[at] - y[from]) * dx);
-        if (at !== from && along > 1 && along + 3 * across < least) [least, best] = [along + 3 * across, at];
+        const far = along + 3 * across;
+        if (at !== from && along > 1 && far < least) [least, best] = [far, at];
       });
     }
     if (best < 0) return;
@@ -312,9 +323,11 @@ export class Drawing {
   _reveal(at) {
     const size = this._size();
     const { scale } = this.view;
-    const [x, y] = [this.places.x[at] * scale + this.view.x, this.places.y[at] * scale + this.view.y];
-    const inside = (value, most) => Math.min(most - 70, Math.max(70, value));
-    this.view = { scale, x: this.view.x + inside(x, size.width) - x, y: this.view.y + inside(y, size.height) - y };
+    const x = this.places.x[at] * scale + this.view.x;
+    const y = this.places.y[at] * scale + this.view.y;
+    const inside = (value, most) => Math.min(most - 70, Math.max(70, value)) - value;
+    const moved = { x: inside(x, size.width), y: inside(y, size.height) };
+    this.view = { scale, x: this.view.x + moved.x, y: this.view.y + moved.y };
     this.fitted = false;
     this._look();
   }

@@ -15,7 +15,8 @@ function graph(network) {
   const behind = Array.from({ length: count }, () => []);
   network.uses.forEach((use, at) => {
     const own = cells + at;
-    const all = [...new Set(use.cells)].map((name) => place.get(name)).filter((cell) => cell !== undefined);
+    const known = [...new Set(use.cells)].filter((name) => place.has(name));
+    const all = known.map((name) => place.get(name));
     const output = all.length > 1 ? place.get(use.cells[use.cells.length - 1]) : -1;
     for (const cell of all) {
       if (cell === output) {
@@ -60,7 +61,7 @@ function columns({ cells, count, before, behind }) {
   return column;
 }
 
-// The nodes of each column in an order in which few wires cross: each goes where its neighbours are.
+// The nodes of each column in an order in which few wires cross: each goes to its neighbours.
 function ordered({ count, before, behind }, column) {
   const most = count ? Math.max(...column) + 1 : 0;
   const found = Array.from({ length: most }, () => []);
@@ -103,7 +104,7 @@ export function layout(network) {
   const wide = (nodes) => (nodes[0] < cells ? CELL.width : USE.width) + GAP.column;
   const all = found.reduce((sum, nodes) => sum + wide(nodes), 0);
   const tall = Math.max(1, ...found.map((nodes) => nodes.length)) * step;
-  const bands = Math.max(1, Math.round(Math.sqrt(all / (1.7 * tall)) ));
+  const bands = Math.max(1, Math.round(Math.sqrt(all / (1.7 * tall))));
   const most = Math.max(700, all / bands + 200);
   const x = new Float64Array(count);
   const y = new Float64Array(count);
@@ -114,7 +115,8 @@ export function layout(network) {
   const end = () => {
     const high = Math.max(1, ...band.map((nodes) => nodes.length)) * step;
     for (const nodes of band) {
-      nodes.forEach((node, at) => { y[node] = top + high / 2 + (at - (nodes.length - 1) / 2) * step; });
+      const middle = (nodes.length - 1) / 2;
+      nodes.forEach((node, at) => { y[node] = top + high / 2 + (at - middle) * step; });
     }
     settle(band, before, behind, y, top, top + high, step);
     top += high + GAP.band;
@@ -138,8 +140,10 @@ function settle(band, before, behind, y, top, bottom, step) {
     for (const nodes of sweep % 2 ? [...band].reverse() : band) {
       let floor = top + step / 2;
       nodes.forEach((node, at) => {
-        const near = [...before[node], ...behind[node]].filter((each) => y[each] >= top && y[each] <= bottom);
-        const wish = near.length ? near.reduce((sum, each) => sum + y[each], 0) / near.length : y[node];
+        const inBand = (each) => y[each] >= top && y[each] <= bottom;
+        const near = [...before[node], ...behind[node]].filter(inBand);
+        const sum = near.reduce((all, each) => all + y[each], 0);
+        const wish = near.length ? sum / near.length : y[node];
         const ceiling = bottom - step / 2 - (nodes.length - 1 - at) * step;
         y[node] = Math.min(ceiling, Math.max(floor, wish));
         floor = y[node] + step;

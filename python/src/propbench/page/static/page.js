@@ -89,7 +89,9 @@ function take(told) {
   frames = [];
   const changed = new Set();
   if (before && !isNew) {
-    for (const [name, shown] of values()) if (before.get(name)?.text !== shown.text) changed.add(name);
+    for (const [name, shown] of values()) {
+      if (before.get(name)?.text !== shown.text) changed.add(name);
+    }
   }
   show(changed);
   if (picked) look(picked);
@@ -98,9 +100,12 @@ function take(told) {
 
 function tell(changed, plan) {
   if (state.seen.clash) return say("Conflict: what is believed can't all hold.", true);
-  const moved = state.network.choices.filter((each) => plan?.[each.name] !== undefined && plan[each.name] !== state.seen.plan[each.name]);
-  const parts = moved.map((each) => `${each.text}: ${each.sides[state.seen.plan[each.name]] ?? "?"}`);
-  const names = [...changed].slice(0, 3).map((name) => `${textOf(name)} = ${values().get(name).text}`);
+  const stands = state.seen.plan;
+  const moved = state.network.choices.filter(
+    ({ name }) => plan?.[name] !== undefined && plan[name] !== stands[name]);
+  const parts = moved.map((each) => `${each.text}: ${each.sides[stands[each.name]] ?? "?"}`);
+  const known = values();
+  const names = [...changed].slice(0, 3).map((name) => `${textOf(name)} = ${known.get(name).text}`);
   if (changed.size > 3) names.push(`and ${changed.size - 3} more`);
   say([...parts, ...names].join(", ") || "No value changed.");
 }
@@ -112,7 +117,9 @@ function values() {
   if (frame < 0) return state.byCell;
   const known = new Map();
   for (const each of frames.slice(0, frame + 1)) {
-    for (const change of each.changes) known.set(change.cell, { text: change.after, because: change.because, settled: true, known: true });
+    for (const { cell, after, because } of each.changes) {
+      known.set(cell, { text: after, because, settled: true, known: true });
+    }
   }
   return known;
 }
@@ -154,9 +161,11 @@ function premise(each) {
 
 function choice(each) {
   const sides = ["as it comes", ...each.sides].map((text, place) => {
-    const button = made("input", { type: "radio", name: `choice ${each.name}`, id: `choice ${place} ${each.name}` });
+    const id = `choice ${place} ${each.name}`;
+    const button = made("input", { type: "radio", name: `choice ${each.name}`, id });
     button.addEventListener("change", async () => {
-      const told = await asked({ what: "wish", choice: each.name, side: place ? place - 1 : null });
+      const side = place ? place - 1 : null;
+      const told = await asked({ what: "wish", choice: each.name, side });
       if (told) take(told);
       else await load();
     });
@@ -187,7 +196,8 @@ function showRows() {
   if (own) shown.unshift(own);
   rows = new Map(shown.map((each) => [each.name, row(each)]));
   at("cells").replaceChildren(...[...rows.values()].map((each) => each.row));
-  at("more").textContent = found.length > shown.length ? `and ${found.length - shown.length} more: look for a name` : "";
+  const left = found.length - shown.length;
+  at("more").textContent = left ? `and ${left} more: look for a name` : "";
 }
 
 // --- showing what changes ---
@@ -244,7 +254,8 @@ function showSwitches() {
     set.classList.toggle("lit", litChoices.has(name));
     set.querySelectorAll(".side").forEach((side, place) => {
       side.querySelector("input").checked = place === (wished === undefined ? 0 : wished + 1);
-      side.querySelector("label").classList.toggle("stands", stands !== undefined && place === stands + 1);
+      const isHere = stands !== undefined && place === stands + 1;
+      side.querySelector("label").classList.toggle("stands", isHere);
     });
   }
 }
@@ -273,7 +284,9 @@ async function look(name) {
   at("cell-core").textContent = "";
   at("best").replaceChildren();
   const known = values().get(name);
-  at("cell-value").textContent = known ? known.text : state.seen.clash && frame < 0 ? "no value while there is a conflict" : "nothing is known";
+  const clashes = state.seen.clash && frame < 0;
+  const nothing = clashes ? "no value while there is a conflict" : "nothing is known";
+  at("cell-value").textContent = known ? known.text : nothing;
   at("cell-because").textContent = known ? `because of ${reasonsOf(known)}` : "";
   bears = null;
   if (frame < 0 && !state.seen.clash) {
@@ -285,7 +298,8 @@ async function look(name) {
   const kind = state.network.cells.find((each) => each.name === name).kind;
   at("least").hidden = at("greatest").hidden = !["span", "a number"].includes(kind);
   drawing.light(bears);
-  for (const [other, each] of rows) each.row.classList.toggle("lit", Boolean(bears?.cells.includes(other)));
+  const lit = new Set(bears?.cells);
+  for (const [other, each] of rows) each.row.classList.toggle("lit", lit.has(other));
   at("unlit").hidden = false;
   showSwitches();
 }
@@ -304,19 +318,22 @@ async function core() {
   const name = picked;
   const told = await asked({ what: "core", cell: name });
   if (!told || picked !== name) return;
-  const shown = told.shown;
-  if (!shown) at("cell-core").textContent = "What is believed can't all hold.";
-  else if (shown.reduced) at("cell-core").textContent = `None can be left out of: ${reasonsOf(shown)}`;
-  else at("cell-core").textContent = `So far: ${reasonsOf(shown)} (maybe too many)`;
+  const { shown } = told;
+  let text = "What is believed can't all hold.";
+  if (shown?.reduced) text = `None can be left out of: ${reasonsOf(shown)}`;
+  else if (shown) text = `So far: ${reasonsOf(shown)} (maybe too many)`;
+  at("cell-core").textContent = text;
 }
 
 async function best(sort) {
   const name = picked;
   const told = await asked({ what: "best", cell: name, sort });
   if (!told || picked !== name) return;
-  const lines = told.plan.map(([cell, value]) => made("tr", {}, made("th", { scope: "row" }, cell), made("td", {}, value)));
-  at("best").replaceChildren(made("p", {}, told.text), made("table", {}, made("tbody", {}, ...lines)),
-    ...(told.plan.length ? [made("p", {}, told.says)] : []));
+  const lines = told.plan.map(([cell, value]) =>
+    made("tr", {}, made("th", { scope: "row" }, cell), made("td", {}, value)));
+  const plan = made("table", {}, made("tbody", {}, ...lines));
+  const says = lines.length ? [plan, made("p", {}, told.says)] : [];
+  at("best").replaceChildren(made("p", {}, told.text), ...says);
 }
 
 // --- a conflict ---
@@ -328,7 +345,8 @@ async function showClash() {
   at("clash").hidden = !clash || frame >= 0;
   if (!clash) return;
   const says = clash.premises.map((name) => made("li", {}, `${name}: ${clash.says[name] ?? ""}`));
-  at("clash-says").replaceChildren(...(clash.text ? [made("p", {}, clash.text)] : []), made("ul", {}, ...says));
+  const text = clash.text ? [made("p", {}, clash.text)] : [];
+  at("clash-says").replaceChildren(...text, made("ul", {}, ...says));
   if (mendedAt === state.version) return;
   mendedAt = state.version;
   at("mending").replaceChildren(made("p", {}, "Looking for what to give up."));
@@ -337,13 +355,16 @@ async function showClash() {
 }
 
 function showMending(told) {
-  const conflicts = told.conflicts.map((each) => made("li", {}, each.join(", ") || "what always holds"));
+  const conflicts = told.conflicts.map(
+    (each) => made("li", {}, each.join(", ") || "what always holds"));
   const repairs = told.repairs.map((premises) => {
     const tried = made("p", { class: "tried" });
     const attempt = made("button", { type: "button" }, "Try");
     attempt.addEventListener("click", async () => {
       const seen = (await asked({ what: "try", premises }))?.seen;
-      if (seen) tried.textContent = seen.clash ? "Still a conflict." : seen.values.slice(0, 40).map((each) => `${textOf(each.cell)} = ${each.text}`).join(", ");
+      if (!seen) return;
+      const some = seen.values.slice(0, 40).map((each) => `${textOf(each.cell)} = ${each.text}`);
+      tried.textContent = seen.clash ? "Still a conflict." : some.join(", ");
     });
     const apply = made("button", { type: "button" }, "Apply");
     apply.addEventListener("click", async () => {
@@ -353,10 +374,13 @@ function showMending(told) {
     const name = made("span", {}, `give up ${premises.join(" and ")}`);
     return made("div", {}, made("div", { class: "repair" }, name, attempt, apply), tried);
   });
+  const none = "Nothing that is believed can be given up to mend this.";
   at("mending").replaceChildren(
-    made("h3", {}, told.conflicts.length === 1 ? "The conflict, made least" : "The least conflicts"), made("ul", {}, ...conflicts),
-    made("h3", {}, "Repairs"), ...repairs,
-    made("p", {}, told.repairs.length ? told.says : "Nothing that is believed can be given up to mend this."),
+    made("h3", {}, conflicts.length === 1 ? "The conflict, made least" : "The least conflicts"),
+    made("ul", {}, ...conflicts),
+    made("h3", {}, "Repairs"),
+    ...repairs,
+    made("p", {}, repairs.length ? told.says : none),
     ...(told.complete ? [] : [made("p", {}, "There may be others.")]));
 }
 
@@ -397,16 +421,19 @@ function showStep() {
   at("first").disabled = frame === 0;
   at("back").disabled = frame <= 0;
   at("forward").disabled = at("last").disabled = Boolean(shown?.end);
-  at("step").textContent = on ? `step ${frame}${shown.end ? `, the end: ${shown.end}` : ""}` : "steps";
+  const end = shown?.end ? `, the end: ${shown.end}` : "";
+  at("step").textContent = on ? `step ${frame}${end}` : "steps";
   at("changes").hidden = !on;
   if (!on) return;
   const changes = shown.changes.map((each) => {
     const before = frame && each.before ? `${each.before} \u2192 ` : "";
-    const reasons = each.because.join(", ");
-    return made("li", {}, `${textOf(each.cell)}: ${before}${each.after}${reasons ? ` because of ${reasons}` : ""}`);
+    const reasons = each.because.length ? ` because of ${each.because.join(", ")}` : "";
+    return made("li", {}, `${textOf(each.cell)}: ${before}${each.after}${reasons}`);
   });
-  const nogoods = shown.nogoods.map((each) => made("li", { class: "wrong" }, `impossible together: ${each.join(", ")}`));
-  const head = frame === 0 ? "Before the first step" : changes.length || nogoods.length ? `Step ${frame} changed` : `Step ${frame} changed nothing`;
+  const nogoods = shown.nogoods.map(
+    (each) => made("li", { class: "wrong" }, `impossible together: ${each.join(", ")}`));
+  const what = changes.length || nogoods.length ? "changed" : "changed nothing";
+  const head = frame === 0 ? "Before the first step" : `Step ${frame} ${what}`;
   at("changes").replaceChildren(made("strong", {}, head), made("ul", {}, ...changes, ...nogoods));
 }
 
@@ -438,7 +465,8 @@ press("replay", async () => {
   const told = await asked({ what: "replay" });
   if (!told) return;
   take(told);
-  say(told.same ? "Replayed: the same follows." : "Replayed: something else follows now.", !told.same);
+  const follows = told.same ? "the same follows." : "something else follows now.";
+  say(`Replayed: ${follows}`, !told.same);
 });
 at("plain").addEventListener("toggle", async () => {
   if (at("plain").open) await freshLines();
