@@ -350,6 +350,10 @@ def test_lines_are_typed(program: str, browser: Any) -> None:
                 and not page.js("return document.getElementById('line').value")
             )
         assert page.values == {"x": "3..5", "y": "6..10"} == page.drawn
+        # each text stands in the box of its cell
+        for cell in ("x", "y"):
+            page.click(cell)
+            page.until(lambda: page.text("cell-name") == cell)
         page.one("#line").send_keys("why z\n")
         page.until(lambda: "error 9: no such cell" in page.text("reply"))
         assert page.one("#reply").get_attribute("class") == "wrong"

@@ -31,6 +31,7 @@ export class Drawing {
     this.under = under;
     this.pick = pick;
     this.paths = new Map(PATHS.map((name) => [name, made("path", { class: name })]));
+    this.said = new Map();
     this.texts = made("g", {});
     this.sheet.append(...this.paths.values(), this.texts);
     this.network = { cells: [], uses: [] };
@@ -48,12 +49,16 @@ export class Drawing {
   draw(network) {
     this.network = network;
     this.places = layout(network);
+    this.shown.clear();
+    this.texts.replaceChildren();
     this.at = new Map(network.cells.map((cell, at) => [cell.name, at]));
     this.wires = network.uses.map((use, at) => {
       const cells = [...new Set(use.cells)].filter((cell) => this.at.has(cell));
       return cells.map((cell) => [cell, this._wire(network.cells.length + at, this.at.get(cell))]);
     });
     this.svg.classList.toggle("many", this.places.x.length > MANY);
+    this.boxes = network.cells.map((_, at) => this._box(at, CELL));
+    this.boxes.push(...network.uses.map((_, at) => this._box(network.cells.length + at, USE)));
     this._set("wires", this.wires.flatMap((wires) => wires.map(([, path]) => path)));
     this.here = null;
     this.fit();
@@ -113,8 +118,12 @@ export class Drawing {
 
   // --- painting ---
 
+  // Gives a path its parts, where these are others than before.
   _set(name, parts) {
-    this.paths.get(name).setAttribute("d", parts.join(""));
+    const text = parts.join("");
+    if (this.said.get(name) === text) return;
+    this.said.set(name, text);
+    this.paths.get(name).setAttribute("d", text);
   }
 
   _wire(use, cell) {
@@ -139,7 +148,7 @@ export class Drawing {
     const parts = Object.fromEntries(PATHS.map((name) => [name, []]));
     this.network.cells.forEach((cell, at) => {
       const sort = cells.has(cell.name) ? "bears" : changed.has(cell.name) ? "changed" : "cells";
-      const box = this._box(at, CELL);
+      const box = this.boxes[at];
       parts[sort].push(box);
       if (cell.name === this.last) parts.picked.push(box);
       if (cell.name === this.here) parts.here.push(box);
@@ -147,7 +156,7 @@ export class Drawing {
     this.network.uses.forEach((use, at) => {
       const isOut = use.premise && !believed.has(use.premise);
       const sort = isOut ? "out" : uses.has(use.name) ? "bears" : "uses";
-      parts[sort].push(this._box(this.network.cells.length + at, USE));
+      parts[sort].push(this.boxes[this.network.cells.length + at]);
       if (uses.has(use.name)) {
         const lit = this.wires[at].filter(([cell]) => cells.has(cell));
         parts["wires lit"].push(...lit.map(([, path]) => path));
