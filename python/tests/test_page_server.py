@@ -7,6 +7,8 @@ import signal
 import socket
 import subprocess
 import sys
+import threading
+import time
 from collections.abc import Iterator
 from pathlib import Path
 from typing import Any
@@ -71,7 +73,7 @@ def request(
     if method == "POST":
         sent.update({"Origin": f"http://{host}", "Content_Type": "application/json"})
     sent.update(headers)
-    link = http.client.HTTPConnection("127.0.0.1", port, timeout=20)
+    link = http.client.HTTPConnection("127.0.0.1", port, timeout=90)
     try:
         link.putrequest(method, path.replace("TOKEN/", token[1:]), True, True)
         for name, value in sent.items():
@@ -116,7 +118,7 @@ def test_only_who_knows_the_token(page: Page) -> None:
         assert request(page, "POST", path, b'{"what": "replay"}').status == 403
     host, port, _ = place(page)
     for raw in (b"/\xe4\xf6/state", b"/" + b"a" * 60_000, b"*", b"http://x/" + token[1:].encode()):
-        with socket.create_connection(("127.0.0.1", port), timeout=20) as link:
+        with socket.create_connection(("127.0.0.1", port), timeout=90) as link:
             link.sendall(b"GET %b HTTP/1.1\r\nHost: %b\r\n\r\n" % (raw, host.encode()))
             assert re.match(rb"HTTP/1.1 4\d\d ", link.recv(1000))
     assert len(token) >= 32
@@ -270,7 +272,7 @@ def test_the_desk_serves_a_file(program: str) -> None:
             r"The page is at (http://127\.0\.0\.1:(\d+)/\S+/)$", served.stdout.readline()
         )
         assert found
-        link = http.client.HTTPConnection("127.0.0.1", int(found[2]), timeout=20)
+        link = http.client.HTTPConnection("127.0.0.1", int(found[2]), timeout=90)
         link.request("GET", found[1].partition(found[2])[2] + "state")
         state = json.loads(link.getresponse().read())
         assert state["title"] == "talks.prop" and len(state["network"]["cells"]) == 3
@@ -282,3 +284,26 @@ def test_the_desk_serves_a_file(program: str) -> None:
     for wrong, status in (("none.prop", 3), ("talks.out", 1)):
         words[4] = str(REPOSITORY / "examples" / wrong)
         assert subprocess.run(words, capture_output=True, timeout=60).returncode == status
+
+
+def test_long_questions_are_stopped(program: str) -> None:
+    """Without a or b the rest creeps on and on: looking for repairs is stopped, and all goes on."""
+    lines = ["cell x span", "cell one span", "fix one 1", "attach adder x one x", "cell y span"]
+    lines += ["tell start x 0..1000000000000000000", "tell a y 1", "tell b y 2"]
+    with Session(program) as session:
+        session.send_all(lines)
+        with Page(SessionWatched(session), "endless") as page:
+            assert request(page, "GET", "/TOKEN/state").json["seen"]["clash"]
+            for asked in ({"what": "mend"}, {"what": "try", "premises": ["a"]}):
+                came: list[Answer] = []
+                asking = threading.Thread(target=lambda: came.append(do(page, **asked)))
+                asking.start()
+                end = time.monotonic() + 60
+                while "so far" not in request(page, "GET", "/TOKEN/version").json["busy"]:
+                    assert time.monotonic() < end
+                    time.sleep(0.05)
+                assert request(page, "POST", "/TOKEN/stop", b"{}").status == 200
+                asking.join(60)
+                assert came[0].status == 400 and "stopped" in came[0].json["error"]
+            state = do(page, what="apply", premises=["start", "a"]).json
+            assert {each["cell"]: each["text"] for each in state["seen"]["values"]}["y"] == "2"

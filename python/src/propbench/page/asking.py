@@ -142,7 +142,7 @@ class Asking:
         return asdict(self._watched.mend(self._telling))
 
     def _try(self, asked: Mapping[str, object]) -> dict[str, object]:
-        return {"seen": _seen(self._watched.without(self._premises(asked)))}
+        return {"seen": _seen(self._watched.without(self._premises(asked), self._progress))}
 
     def _apply(self, asked: Mapping[str, object]) -> dict[str, object]:
         for premise in self._premises(asked):

@@ -87,7 +87,7 @@ class Watched(Protocol):
         """Conflicts among what is believed, and repairs."""
         ...
 
-    def without(self, premises: Sequence[str]) -> Seen:
+    def without(self, premises: Sequence[str], progress: Progress | None = None) -> Seen:
         """What would follow without these premises; nothing is changed."""
         ...
 

@@ -45,7 +45,7 @@ def mended(session: Session, premises: Sequence[str], most: int, clock: Clock) -
         out = [premise for premise in premises if bits[premise] & hit]
         rest = [premise for premise in premises if not bits[premise] & hit]
         session.send_all([f"kick {premise}" for premise in out])
-        end = session.send("settle", seconds=clock.seconds_left())
+        end = session.send("settle", seconds=clock.seconds_left(), progress=lambda *_: clock.tick())
         if isinstance(end, Contradiction):
             least = shrunk(session, rest, end.premises)
             conflicts.append(tuple(each for each in premises if each in least))

@@ -83,10 +83,10 @@ class SessionWatched:
             other.send_all(self.lines())
             return mended(other, self._believed(), _MOST_MENDS, Clock(seconds, progress))
 
-    def without(self, premises: Sequence[str]) -> Seen:
+    def without(self, premises: Sequence[str], progress: Progress | None = None) -> Seen:
         with self.session.another() as other:
             other.send_all([*self.lines(), *(f"kick {premise}" for premise in premises)])
-            other.send("settle")
+            other.send("settle", progress=progress)
             return self._known_in(other)
 
     def best(

@@ -154,9 +154,9 @@ class WorkbenchWatched:
             FITS,
         )
 
-    def without(self, premises: Sequence[str]) -> Seen:
+    def without(self, premises: Sequence[str], progress: Progress | None = None) -> Seen:
         with self.workbench.what_if(kick=list(premises)):
-            return self.see()
+            return self.see(progress)
 
     def best(
         self, cell: str, sort: str, progress: Telling | None = None, seconds: float | None = None
