@@ -264,6 +264,7 @@ def test_choices(program: str, bare: Bare, browser: Any) -> None:
             assert wanted == {"ana": "eleven", "ben": "ten", "cleo": "nine"}
             assert stands() == {f"{cell} = {value}" for cell, value in wanted.items()}
             page.until(lambda: "wish_ben_2" in page.believed)
+            assert "ben: ben = ten" in page.text("status") and page.marked("changed") == 3
             page.all("fieldset:nth-of-type(2) input")[0].click()
             page.until(lambda: stands() == {"ana = nine", "ben = eleven", "cleo = ten"})
             assert "wish_ben_2" not in page.believed

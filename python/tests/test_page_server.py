@@ -294,7 +294,11 @@ def test_long_questions_are_stopped(program: str) -> None:
         session.send_all(lines)
         with Page(SessionWatched(session), "endless") as page:
             assert request(page, "GET", "/TOKEN/state").json["seen"]["clash"]
-            for asked in ({"what": "mend"}, {"what": "try", "premises": ["a"]}):
+            questions: list[dict[str, object]] = [
+                {"what": "mend"},
+                {"what": "try", "premises": ["a"]},
+            ]
+            for asked in questions:
                 came: list[Answer] = []
                 asking = threading.Thread(target=lambda: came.append(do(page, **asked)))
                 asking.start()

@@ -78,7 +78,7 @@ async function load() {
 
 // Takes in what was answered: all of it, or what changed.
 function take(told) {
-  const before = state ? values() : null;
+  const before = state?.byCell;
   const plan = state?.seen.plan;
   if (state && !told.network && told.shape !== state.shape) return load();
   const isNew = !state || told.shape !== state.shape;
@@ -87,15 +87,11 @@ function take(told) {
   if (isNew) build();
   frame = -1;
   frames = [];
-  const changed = new Set();
-  if (before && !isNew) {
-    for (const [name, shown] of values()) {
-      if (before.get(name)?.text !== shown.text) changed.add(name);
-    }
-  }
+  const differs = ([name, shown]) => before?.has(name) && before.get(name).text !== shown.text;
+  const changed = new Set([...state.byCell].filter(differs).map(([name]) => name));
   show(changed);
   if (picked) look(picked);
-  if (before && !isNew) tell(changed, plan);
+  if (before) tell(changed, plan);
 }
 
 function tell(changed, plan) {
