@@ -51,12 +51,16 @@ class Session:
             raise ValueError(f"the limit is not a number from 0 to {MOST_STEPS}: {limit}")
         found = find_program(program)
         self._found = found
-        self._way = (order, seed)
+        self._order, self._seed = order, seed
         self._command = [found.path, "--order", order, "--seed", str(seed)]
         self._first_limit = STEPS if limit is None else limit
         self._sent = 0
         self._closed = False
         self._begin()
+
+    def fresh(self) -> "Session":
+        """A session of its own, of the same program, that begins as this one did."""
+        return Session(self.program, order=self._order, seed=self._seed, limit=self._first_limit)
 
     def __enter__(self) -> "Session":
         return self
@@ -104,11 +108,6 @@ class Session:
     def pid(self) -> int:
         """The number of the program's process."""
         return self._talk.program.pid
-
-    def another(self) -> "Session":
-        """A session that begins as this one did, and was told nothing."""
-        order, seed = self._way
-        return Session(self._found.path, order=order, seed=seed, limit=self._first_limit)
 
     def close(self) -> None:
         """Ends the program. Nothing can be sent after that."""

@@ -79,12 +79,12 @@ class SessionWatched:
         return {choice: side for (choice, side), each in self._wishes.items() if each in believed}
 
     def mend(self, progress: Telling | None = None, seconds: float | None = None) -> Mending:
-        with self.session.another() as other:
+        with self.session.fresh() as other:
             other.send_all(self.lines())
             return mended(other, self._believed(), _MOST_MENDS, Clock(seconds, progress))
 
     def without(self, premises: Sequence[str], progress: Progress | None = None) -> Seen:
-        with self.session.another() as other:
+        with self.session.fresh() as other:
             other.send_all([*self.lines(), *(f"kick {premise}" for premise in premises)])
             other.send("settle", progress=progress)
             return self._known_in(other)
@@ -103,7 +103,7 @@ class SessionWatched:
 
     def steps(self) -> Steps:
         return Steps(
-            self.session.another(), self.lines(), list(self._known.cells), self._shown, self._named
+            self.session.fresh(), self.lines(), list(self._known.cells), self._shown, self._named
         )
 
     def lines(self) -> list[str]:

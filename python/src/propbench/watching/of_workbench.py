@@ -171,7 +171,7 @@ class WorkbenchWatched:
         made = self.workbench.network
         names = [made.vocabulary.cells.line(cell) for cell in made.cells]
         return Steps(
-            made.session.another(),
+            made.session.fresh(),
             made.base(),
             names,
             lambda reply: self._shown(reply, {}),
