@@ -223,7 +223,14 @@ def test_run_of_what_is_no_file(
 
 def test_the_parser_can_be_shown() -> None:
     text = parser().format_help()
-    assert re.findall(r"^ {4}(\w+)", text, flags=re.M) == ["run", "shell", "check", "blame"]
+    assert re.findall(r"^ {4}(\w+)", text, flags=re.M) == [
+        "run",
+        "shell",
+        "check",
+        "blame",
+        "page",
+        "draw",
+    ]
     with pytest.raises(SystemExit) as caught:
         main(["no such command"])
     assert caught.value.code == 2

@@ -1,6 +1,7 @@
 """`propdesk`: the command line of the package, `python3 -m propbench` too."""
 
 import argparse
+import os
 import sys
 from collections.abc import Sequence
 from contextlib import suppress
@@ -8,10 +9,13 @@ from pathlib import Path
 
 from propbench.checking import NoReport, check_file
 from propbench.finding import NoProgram
+from propbench.pictures import NoGraphviz, picture_of
 from propbench.program import ProgramEnded
-from propbench.running import Way, lines_of, run_as_json, run_file
+from propbench.refusals import Refused
+from propbench.running import Way, lines_of, run_as_json, run_file, told_of
 from propbench.session import ORDERS
-from propbench.showing import said_of
+from propbench.showing import printable, said_of
+from propbench.watching import Watched
 
 DESCRIPTION = """\
 A desk for the workbench propbench: runs files of its language, and speaks it with you line by line.
@@ -91,9 +95,31 @@ def parser() -> argparse.ArgumentParser:
     blame.add_argument("--seconds", type=_seconds, metavar="N", help="how long it may take")
     blame.add_argument("--picture", metavar="FILE", help="draw the conflicts: .svg, .png or .dot")
     blame.add_argument("--certificate", metavar="FILE", help="save what `propdesk check` checks")
-    for each in (run, shell, check, blame):
+    page = commands.add_parser(
+        "page",
+        help="show a file in a browser",
+        description="Serves a file, of the language or saved by a workbench, as a page on this"
+        " machine alone: the network drawn, switches, reasons, conflicts with repairs, steps. Prints"
+        " its address, and ends at Ctrl-C.",
+    )
+    page.add_argument("file", metavar="FILE", help="the file")
+    page.add_argument(
+        "--port", type=int, default=0, metavar="N", help="where it is served (any that is free)"
+    )
+    draw = commands.add_parser(
+        "draw",
+        help="draw a file as a picture",
+        description="Draws what a file states and what follows, by Graphviz: cells with values,"
+        " procedures, premises, those that are out in grey.",
+    )
+    draw.add_argument("file", metavar="FILE", help="the file")
+    draw.add_argument("--cell", metavar="X", help="only what bears on this cell")
+    draw.add_argument(
+        "--out", metavar="PICTURE", help="where to, as SVG or .dot (beside the file, as .svg)"
+    )
+    for each in (run, shell, check, blame, page, draw):
         each.add_argument("--program", metavar="PATH", help="the program that answers")
-    for each in (run, shell):
+    for each in (run, shell, page, draw):
         _add_begin(each)
     return top
 
@@ -126,7 +152,10 @@ def main(words: Sequence[str] | None = None) -> int:
     except ValueError as error:
         print(f"propdesk: {error}", file=sys.stderr)
         return 2
-    except (NoProgram, NoReport, ProgramEnded, OSError) as error:
+    except Refused as refused:
+        print(told_of(refused, printable(options.file)), file=sys.stderr)
+        return 1
+    except (NoProgram, NoReport, NoGraphviz, ProgramEnded, OSError) as error:
         print(f"propdesk: {said_of(error)}", file=sys.stderr)
         return 3
 
@@ -150,6 +179,13 @@ def _done(options: argparse.Namespace) -> int:
     if options.command == "blame":
         return _blamed(options)
     begin = {"order": options.order, "seed": options.seed, "limit": options.limit}
+    if options.command in ("page", "draw"):
+        from propbench.watching.opening import opened
+
+        with opened(options.file, Way(**begin), options.program) as watched:
+            if options.command == "page":
+                return _page(watched, options.file, options.port)
+            return _draw(watched, options.file, options.cell, options.out)
     if options.command == "shell":
         from propbench.shell import run_shell
 
@@ -165,3 +201,17 @@ def _lines(path: str | None) -> list[str]:
     with suppress(OSError):
         return lines_of(path) if path else []
     return []
+
+
+def _page(watched: Watched, path: str, port: int) -> int:
+    from propbench.page import serve
+
+    serve(watched, os.path.basename(path), path=path, port=port)
+    return 0
+
+
+def _draw(watched: Watched, path: str, cell: str | None, out: str | None) -> int:
+    where = out if out is not None else f"{os.path.splitext(path)[0]}.svg"
+    picture_of(watched, cell).save(where)
+    print(f"The picture is in {printable(where)}.")
+    return 0

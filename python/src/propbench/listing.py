@@ -31,6 +31,13 @@ class Told:
     attached: list[str] = field(default_factory=list)
     kicked: dict[str, None] = field(default_factory=dict)
 
+    def learn(self, line: str) -> None:
+        """Takes in a line that was carried out."""
+        words = line.split(None, 2)
+        learn = _LEARNS.get(words[0])
+        if learn:
+            learn(self, words[1], line)
+
     def side(self, name: str) -> Statement | None:
         """What a side such as `venue=2` says, None where the name is no side."""
         choice, mark, number = name.partition("=")
@@ -43,10 +50,7 @@ def told_by(lines: Iterable[str]) -> Told:
     """What lines that were carried out have told."""
     told = Told()
     for line in lines:
-        words = line.split(None, 2)
-        learn = _LEARNS.get(words[0])
-        if learn:
-            learn(told, words[1], line)
+        told.learn(line)
     return told
 
 

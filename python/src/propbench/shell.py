@@ -13,6 +13,7 @@ from propbench.grammar import ASKING
 from propbench.helping import all_help, columns, help_on
 from propbench.listing import Told, told_by
 from propbench.overview import UNPROVED, overview
+from propbench.pictures import NoGraphviz, picture_of
 from propbench.program import ProgramEnded
 from propbench.refusals import Refused
 from propbench.replies import Contradiction, Done, Reply, Silent, Value
@@ -21,6 +22,7 @@ from propbench.runs import is_settled
 from propbench.session import Session
 from propbench.showing import printable, said_of
 from propbench.tables import table
+from propbench.watching.of_session import SessionWatched
 
 Result = TypeVar("Result")
 
@@ -30,6 +32,7 @@ ASIDES = {
     ":list": "[cells|premises|choices|definitions|attached]  what the session knows; all of it",
     ":undo": "takes back the last line that changed something",
     ":step": "[N]  takes one step, or N, and shows which cells changed",
+    ":draw": "[X] [FILE]  draws the network, or what bears on the cell X, as SVG or .dot",
     ":limit": "[N]  shows or sets how many steps a run takes at most",
     ":save": "FILE  writes the lines that were carried out",
     ":load": "FILE  carries out the lines of a file, to the first that is refused",
@@ -66,6 +69,7 @@ class Shell:
             ":list": self._list,
             ":undo": self._undo,
             ":step": self._step,
+            ":draw": self._draw,
             ":limit": self._limit,
             ":save": self._save,
             ":load": self._load,
@@ -84,7 +88,7 @@ class Shell:
         except ProgramEnded as ended:
             self._write(f"{ended}; it is begun anew with what was carried out.")
             self.session.replay()
-        except (OSError, ValueError) as error:
+        except (NoGraphviz, OSError, ValueError) as error:
             self._write(said_of(error))
 
     def _obey(self, line: str) -> None:
@@ -211,6 +215,15 @@ class Shell:
             cell: str(reply.value) if isinstance(reply, Value) else "(in conflict)"
             for cell, reply in zip(cells, replies)
         }
+
+    def _draw(self, words: list[str]) -> None:
+        cell = words[0] if words and words[0] in self.session.known.cells else None
+        path, *more = words[1 if cell else 0 :] or [f"{cell or 'network'}.svg"]
+        if more or not path.endswith((".svg", ".dot")):
+            self._write("Say what: :draw, :draw X, with the name of a file (.svg or .dot) behind")
+            return
+        picture_of(SessionWatched(self.session), cell).save(path)
+        self._write(f"The picture is in {printable(path)}.")
 
     def _limit(self, words: list[str]) -> None:
         if words:

@@ -13,7 +13,8 @@
 import os
 from collections.abc import Iterable, Iterator, Mapping, Sequence
 from datetime import date
-from typing import TypeVar, overload
+from typing import TYPE_CHECKING, TypeVar, overload
+
 
 from propbench.closing import Closing
 from propbench.finding import find_wide
@@ -56,6 +57,10 @@ from propbench.questions.clock import Progress
 from propbench.questions.model import First
 from propbench.replies import Contradiction, Settled, Value, Worldview
 from propbench.session import Session
+
+if TYPE_CHECKING:
+    from propbench.page import Page
+    from propbench.pictures import Film, Picture
 
 # What each alternative of a choice states: one constraint or several.
 Stated = Truth | bool | Sequence[Truth | bool]
@@ -104,6 +109,11 @@ class Workbench(Measuring, Closing):
     def session(self) -> Session:
         """The session that the workbench speaks through."""
         return self._network.session
+
+    @property
+    def network(self) -> Network:
+        """What was stated, and how it stands on lines: what views are made of."""
+        return self._network
 
     @property
     def model(self) -> BenchModel:
@@ -370,6 +380,38 @@ class Workbench(Measuring, Closing):
         if isinstance(cell, Quantity):
             return self.improvements(cell, seconds=seconds, progress=progress)
         return super().sensitivity(cell, of, seconds=seconds, progress=progress)
+
+    # --- views ---
+
+    def picture(self, cell: Cell | None = None) -> "Picture":
+        """A picture of the network, or of what bears on a cell: cells with their values, the
+        constraints between them, and premises, those that are out in grey. A notebook shows it;
+        `.svg` and `.save(path)` need Graphviz. Of more than 60 cells those that play the same part
+        are drawn as one."""
+        from propbench.pictures import picture_of
+        from propbench.watching.of_workbench import WorkbenchWatched
+
+        name = None if cell is None else self._own(cell).name
+        return picture_of(WorkbenchWatched(self), name)
+
+    def film(self, steps: int = 12) -> "Film":
+        """The first steps that change something, of a run from nothing, as a strip of pictures."""
+        from propbench.pictures import film_of
+        from propbench.watching.of_workbench import WorkbenchWatched
+
+        return film_of(WorkbenchWatched(self), steps)
+
+    def serve(self, *, port: int = 0, wait: bool = True) -> "Page":
+        """Serves the workbench as a page, on this machine alone, and prints its address; until
+        Ctrl-C. Where it is not to `wait`, the page is given at once: `page.address` is where it is,
+        and `page.close()` ends it; whoever uses the workbench meanwhile does so `with page.held()`.
+        """
+        from propbench.page import serve
+        from propbench.watching.of_workbench import WorkbenchWatched
+
+        return serve(WorkbenchWatched(self), "a workbench", port=port, wait=wait)
+
+    # --- lines ---
 
     def lines(self, constraint: Truth | Law) -> list[str]:
         """The lines of the language that state a constraint, where it was required.

@@ -1,12 +1,15 @@
 """Cells: what a user declares, states and asks."""
 
 from collections.abc import Iterable
-from typing import Protocol
+from typing import TYPE_CHECKING, Protocol
 
 from propbench.model.answers import Answer
 from propbench.model.expressions import Element, Expression, Number, Symbol, Truth
 from propbench.model.kinds import Domain
 from propbench.model.nodes import Declared, cell
+
+if TYPE_CHECKING:
+    from propbench.pictures import Picture
 
 
 class Asked(Protocol):
@@ -16,6 +19,9 @@ class Asked(Protocol):
         self, command: str, cell: Declared, seconds: float | None, over: str | None
     ) -> Answer:
         """The answer to `why` or `core`."""
+
+    def picture(self, cell: "Cell | None" = None) -> "Picture":
+        """A picture of what bears on a cell."""
 
 
 class Cell(Expression):
@@ -52,6 +58,10 @@ class Cell(Expression):
     def core(self, *, seconds: float | None = None) -> Answer:
         """The same, from premises of which none can be left out."""
         return self._workbench.answer("core", self._declared, seconds, None)
+
+    def picture(self) -> "Picture":
+        """A picture of what bears on the cell, as a notebook shows it."""
+        return self._workbench.picture(self)
 
 
 class NumberCell(Cell, Number):

@@ -51,6 +51,17 @@ def tried(trial: Trial, run: Callable[[], None], result: Callable[[], Result]) -
             trial.clock.end()
 
 
+def so_far(ask: Callable[[], Result], kind: type[Result]) -> Result:
+    """The result of a question, or what was known of it where it was interrupted. Raises
+    Interrupted where it had no result of this kind yet."""
+    try:
+        return ask()
+    except Interrupted as stopped:
+        if isinstance(stopped.so_far, kind):
+            return stopped.so_far
+        raise
+
+
 def cell_named(model: Model, cell: CellLike) -> str:
     """The name of a cell of the model. Raises NoSuchName, and TypeError for what is no cell."""
     name = cell if isinstance(cell, str) else getattr(cell, "name", None)

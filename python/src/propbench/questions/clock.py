@@ -21,7 +21,7 @@ class Clock:
             raise ValueError(f"a question can't take {seconds} seconds")
         self._began = time.monotonic()
         self._until = None if seconds is None else self._began + seconds
-        self._progress = progress or on_terminal
+        self._progress = progress or _shown_by
         self._is_asked_for = progress is not None
         self._next = self._began + _FIRST
         self._told = False
@@ -58,3 +58,12 @@ def on_terminal(text: str) -> None:
     """Shows a line on standard error where that is a terminal, in place of the one before."""
     if sys.stderr.isatty():
         print(f"\r\x1b[K{text}", end="", file=sys.stderr, flush=True)
+
+
+_shown_by: Progress = on_terminal
+
+
+def show_by(progress: Progress) -> None:
+    """From now on what is told of questions without a `progress` of their own is shown by this."""
+    global _shown_by
+    _shown_by = progress

@@ -1,0 +1,128 @@
+"""In a notebook: cells of the language, and a bar for what takes long.
+
+    %load_ext propbench.notebook
+
+    %%propbench
+    cell x span
+    tell ana x 3..5
+    why x
+
+A cell's lines are carried out in a session that is kept for the next cell, as the variable
+`session`, or as the one that is named behind `%%propbench`. What takes long shows a bar. The
+notebook's stop button ends it there, and the session goes on.
+"""
+
+from html import escape
+from typing import Any
+
+from IPython.display import display
+
+from propbench.notebook.bar import Bar
+from propbench.overview import UNPROVED
+from propbench.questions.clock import on_terminal, show_by
+from propbench.refusals import Refused
+from propbench.replies import Done, Reply, Silent
+from propbench.session import Session
+from propbench.showing import printable
+from propbench.tables import table
+
+
+class Replies:
+    """What came of the lines of a cell: each question with its reply, and the refusal that ended
+    them, if one did. `replies` are those of all lines."""
+
+    def __init__(self, proved: bool) -> None:
+        self.replies: list[Reply] = []
+        self.rows: list[tuple[str, str]] = []
+        self.done = 0
+        self.wrong = ""
+        self._notes = [] if proved else [UNPROVED]
+
+    def take(self, line: str, reply: Reply) -> None:
+        """Takes in the reply to a line."""
+        self.replies.append(reply)
+        if isinstance(reply, Done):
+            self.done += 1
+        elif not isinstance(reply, Silent):
+            self.rows.append((line.strip(), str(reply)))
+
+    def __str__(self) -> str:
+        parts = [table(("asked", "answered"), self.rows)] if self.rows else []
+        return "\n".join([*parts, *self._below()])
+
+    def __repr__(self) -> str:
+        return str(self)
+
+    def _repr_html_(self) -> str:
+        rows = "".join(
+            "<tr>" + "".join(f"<td>{_lines(text)}</td>" for text in row) + "</tr>"
+            for row in self.rows
+        )
+        head = "<tr><th>asked</th><th>answered</th></tr>"
+        shown = f"<table>{head}{rows}</table>" if rows else ""
+        wrong = f'<pre style="color:#b3261e">{escape(self.wrong)}</pre>' if self.wrong else ""
+        notes = "".join(f"<p>{escape(note)}</p>" for note in (self._count(), *self._notes) if note)
+        return shown + wrong + notes
+
+    def _count(self) -> str:
+        return f"{self.done} line{'' if self.done == 1 else 's'} carried out." if self.done else ""
+
+    def _below(self) -> list[str]:
+        return [each for each in (self.wrong, self._count(), *self._notes) if each]
+
+
+def _lines(text: str) -> str:
+    return "<br>".join(escape(printable(line)) for line in text.split("\n"))
+
+
+def carried_out(session: Session, text: str) -> Replies:
+    """What comes of the lines of a text, up to the first that is refused. A stop shows what came by
+    then, and raises KeyboardInterrupt."""
+    found = Replies(session.proved)
+    bar = Bar()
+    try:
+        for number, line in enumerate(text.removesuffix("\n").split("\n"), 1):
+            try:
+                found.take(line, session.send(line, progress=bar.steps))
+            except Refused as refused:
+                refused.line_number = number
+                found.wrong = refused.told(f"line {number}")
+                break
+    except KeyboardInterrupt:
+        found.wrong = "Stopped. The session goes on: the next question goes on from there."
+        display(found)
+        raise
+    finally:
+        bar.end()
+    return found
+
+
+def load_ipython_extension(shell: Any) -> None:
+    """Has a notebook know `%%propbench`, and shows a bar for questions that take long."""
+
+    def propbench(line: str, cell: str) -> Replies:
+        """Carries out lines of the language, in the session that is named, `session` otherwise."""
+        name = line.strip() or "session"
+        if not name.isidentifier():
+            raise ValueError(f"behind %%propbench stands the name of a variable, not {name!r}")
+        session = shell.user_ns.get(name)
+        if not isinstance(session, Session):
+            session = shell.user_ns[name] = Session()
+        return carried_out(session, cell)
+
+    shell.register_magic_function(propbench, "cell", "propbench")
+    show_by(Bar().tell)
+
+
+def unload_ipython_extension(shell: Any) -> None:
+    """Takes both back."""
+    shell.magics_manager.magics["cell"].pop("propbench", None)
+    show_by(on_terminal)
+
+
+__all__ = [
+    "Replies",
+    "carried_out",
+    "load_ipython_extension",
+    "unload_ipython_extension",
+]

@@ -1,0 +1,77 @@
+"""The page: a session or a workbench in a browser, served on this machine alone.
+
+The network drawn, switches for premises and choices, reasons, conflicts with their repairs, steps
+forward and back, and the plain lines.
+"""
+
+import threading
+from contextlib import AbstractContextManager
+from types import TracebackType
+
+from propbench.page.asking import Asking
+from propbench.page.server import Server
+from propbench.watching import Watched
+
+
+class Page:
+    """A page that is served, in threads of its own, until it is closed."""
+
+    def __init__(
+        self, watched: Watched, title: str, *, path: str | None = None, port: int = 0
+    ) -> None:
+        """Serves what is watched, which was read from the file at this path, if from any."""
+        self._asking = Asking(watched, title, path)
+        self._server = Server(self._asking, port)
+        self._thread = threading.Thread(target=self._server.serve_forever, daemon=True)
+        self._thread.start()
+
+    def __enter__(self) -> "Page":
+        return self
+
+    def __exit__(
+        self,
+        kind: type[BaseException] | None,
+        error: BaseException | None,
+        trace: TracebackType | None,
+    ) -> None:
+        self.close()
+
+    @property
+    def address(self) -> str:
+        """Where the page is, with the token that nobody else knows."""
+        return self._server.address
+
+    def held(self) -> AbstractContextManager[None]:
+        """The page asks nothing meanwhile, and looks anew afterwards: for whoever uses the session
+        or the workbench beside it."""
+        return self._asking.held()
+
+    def wait(self) -> None:
+        """Waits until the page is closed. Raises KeyboardInterrupt at Ctrl-C."""
+        while self._thread.is_alive():
+            self._thread.join(0.5)
+
+    def close(self) -> None:
+        """Ends the server; what was served stays as it is."""
+        self._asking.stop()
+        self._server.shutdown()
+        self._server.server_close()
+        self._asking.close()
+
+
+def serve(
+    watched: Watched, title: str, *, path: str | None = None, port: int = 0, wait: bool = True
+) -> Page:
+    """Serves a page and prints its address; until Ctrl-C, where it is to `wait`."""
+    page = Page(watched, title, path=path, port=port)
+    print(f"The page is at {page.address}", flush=True)
+    if wait:
+        print("Ctrl-C ends it.", flush=True)
+        try:
+            page.wait()
+        except KeyboardInterrupt:
+            page.close()
+    return page
+
+
+__all__ = ["Page", "serve"]

@@ -1,0 +1,85 @@
+"""A film: the steps of a run as a strip of small pictures, or as a table where there are many cells."""
+
+from collections.abc import Sequence
+from html import escape
+
+from propbench.pictures.dot import Look, dot_of
+from propbench.pictures.graphviz import NoGraphviz, svgs_of
+from propbench.showing import printable
+from propbench.tables import table
+from propbench.watching import Frame, Network, Seen, Shown
+
+# So many cells are drawn in each picture of a strip at the most; of more there is a table.
+_MOST_DRAWN = 16
+
+
+class Film:
+    """The first steps of a run that change something. `frames` has what each changed, with the
+    number of the step; frame 0 is what is known before the first."""
+
+    def __init__(self, network: Network, frames: Sequence[Frame]) -> None:
+        self.network, self.frames = network, list(frames)
+        self._texts = {cell.name: cell.text for cell in network.cells}
+
+    def rows(self) -> list[tuple[str, str, str]]:
+        """For each step, which cells changed, and what else came of it."""
+        return [(str(each.number), *self._says(each)) for each in self.frames]
+
+    def __str__(self) -> str:
+        return table(("step", "changed", ""), self.rows())
+
+    def __repr__(self) -> str:
+        return str(self)
+
+    @property
+    def svgs(self) -> list[str]:
+        """The pictures, one for each step, all of one layout. Raises NoGraphviz."""
+        return svgs_of(self._dots())
+
+    def _repr_html_(self) -> str:
+        if len(self.network.cells) <= _MOST_DRAWN:
+            try:
+                return self._strip()
+            except NoGraphviz:
+                pass
+        return self._table()
+
+    def _strip(self) -> str:
+        parts = []
+        for frame, svg in zip(self.frames, self.svgs):
+            told = escape(": ".join(filter(None, (f"step {frame.number}", *self._says(frame)))))
+            parts.append(
+                f'<figure style="margin:4px;border:1px solid #ccc;padding:4px">{svg}'
+                f'<figcaption style="max-width:24em">{told}</figcaption></figure>'
+            )
+        return f'<div style="display:flex;overflow-x:auto">{"".join(parts)}</div>'
+
+    def _table(self) -> str:
+        head = "<tr><th>step</th><th>changed</th><th></th></tr>"
+        rows = "".join(
+            f"<tr>{''.join(f'<td>{escape(text)}</td>' for text in row)}</tr>" for row in self.rows()
+        )
+        return f"<table>{head}{rows}</table>"
+
+    def _says(self, frame: Frame) -> tuple[str, str]:
+        changed = ", ".join(
+            printable(f"{self._texts[each.cell]} = {each.after}") for each in frame.changes
+        )
+        nogoods = [f"impossible together: {', '.join(each)}" for each in frame.nogoods]
+        return changed, printable("; ".join([*nogoods, *([frame.end] if frame.end else [])]))
+
+    def _dots(self) -> list[str]:
+        """The pictures in DOT, with cells as wide as what they hold in any step."""
+        values: dict[str, Shown] = {}
+        widths = {name: len(text) for name, text in self._texts.items()}
+        for frame in self.frames:
+            for each in frame.changes:
+                widths[each.cell] = max(widths[each.cell], len(each.after))
+        texts = []
+        for frame in self.frames:
+            for each in frame.changes:
+                values[each.cell] = Shown(each.cell, each.after, each.because)
+            changed = frozenset(each.cell for each in frame.changes)
+            look = Look(changed=changed, widths=widths, is_open=False)
+            texts.append(dot_of(self.network, Seen(dict(values)), look))
+        return texts

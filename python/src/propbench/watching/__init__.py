@@ -1,0 +1,138 @@
+"""What views see of a session or a workbench, behind one interface.
+
+Pictures, the page and the notebook know `Watched` and no more. It rests on what the program answers
+today (`settle`, `why`, `core`, `worldview`, `nogoods`) and on the lines that were carried out; where
+the program tells more by itself, that takes its place behind the same methods.
+"""
+
+from collections.abc import Sequence
+from dataclasses import dataclass
+from typing import Protocol
+
+from propbench.questions.clock import Progress as Told
+from propbench.runs import Progress
+from propbench.session import Session
+from propbench.watching.bearing import Bearing, bearing
+from propbench.watching.mending import Mending
+from propbench.watching.network import (
+    NOTHING_SEEN,
+    Cell,
+    Choice,
+    Clash,
+    Network,
+    Premise,
+    Reason,
+    Said,
+    Seen,
+    Shown,
+    Use,
+)
+from propbench.watching.steps import Change, Frame, Steps
+
+
+@dataclass(frozen=True)
+class Best:
+    """The least or greatest value of a cell in any plan, in a sentence, and that plan by cell.
+    `says` is what holds of the plan."""
+
+    text: str
+    plan: tuple[tuple[str, str], ...]
+    proved: bool
+    says: str
+
+
+class Watched(Protocol):
+    """A session or a workbench as views see it. What is asked may raise as a Session does."""
+
+    @property
+    def session(self) -> Session:
+        """The session that answers."""
+        ...
+
+    @property
+    def is_workbench(self) -> bool:
+        """Whether it is a workbench; else it takes lines of the language."""
+        ...
+
+    def network(self) -> Network:
+        """What was stated."""
+        ...
+
+    def see(self, progress: Progress | None = None) -> Seen:
+        """What follows now, by a run."""
+        ...
+
+    def known(self) -> Seen:
+        """What is known now, without a step."""
+        ...
+
+    def core(self, cell: str, progress: Progress | None = None) -> Shown | None:
+        """The value of a cell with reasons of which none can be left out, None at a conflict."""
+        ...
+
+    def believe(self, premise: str, is_believed: bool) -> None:
+        """Brings a premise in, or kicks it out."""
+        ...
+
+    def wish(self, choice: str, side: int | None) -> None:
+        """States what a side of a choice states, under a premise of its own, and takes back what
+        was wished of the choice before; None takes that back alone."""
+        ...
+
+    def wished(self) -> dict[str, int]:
+        """For each choice the place of the side that is wished for, where one is."""
+        ...
+
+    def mend(self, progress: Told | None = None, seconds: float | None = None) -> Mending:
+        """Conflicts among what is believed, and repairs."""
+        ...
+
+    def without(self, premises: Sequence[str], progress: Progress | None = None) -> Seen:
+        """What would follow without these premises; nothing is changed."""
+        ...
+
+    def best(
+        self, cell: str, sort: str, progress: Told | None = None, seconds: float | None = None
+    ) -> Best:
+        """The "least" or "greatest" value of a cell in any plan. Raises ValueError where that can't
+        be asked."""
+        ...
+
+    def steps(self) -> Steps:
+        """A run from nothing, step by step, in a session of its own."""
+        ...
+
+    def lines(self) -> list[str]:
+        """The lines that make it, of the language."""
+        ...
+
+    def saved(self) -> list[str]:
+        """The lines of a file that it is saved in."""
+        ...
+
+    def replay(self) -> None:
+        """Has the program begin anew, with the same lines."""
+        ...
+
+
+__all__ = [
+    "NOTHING_SEEN",
+    "Bearing",
+    "Best",
+    "Cell",
+    "Change",
+    "Choice",
+    "Clash",
+    "Frame",
+    "Mending",
+    "Network",
+    "Premise",
+    "Reason",
+    "Said",
+    "Seen",
+    "Shown",
+    "Steps",
+    "Use",
+    "Watched",
+    "bearing",
+]

@@ -1,0 +1,181 @@
+"""A session as views see it: its cells, the procedures and compounds on them, its premises."""
+
+from collections.abc import Sequence
+
+from propbench.grammar import ASKING
+from propbench.known import Known
+from propbench.listing import Told
+from propbench.model.kinds import point_text
+from propbench.questions.asking import so_far
+from propbench.questions.bounding import Optimum, find_optimum
+from propbench.questions.clock import Clock
+from propbench.questions.clock import Progress as Telling
+from propbench.replies import Contradiction, Value, Worldview
+from propbench.runs import Progress
+from propbench.session import Session
+from propbench.values import Nothing
+from propbench.watching import Best
+from propbench.watching.lines import Lines
+from propbench.watching.mending import Mending, mended
+from propbench.watching.network import Clash, Network, Reason, Seen, Shown
+from propbench.watching.session_model import SessionModel
+from propbench.watching.steps import Steps
+
+# What is said of a plan: the program finds nothing against its values.
+SETTLES = "With one value for each cell the program settles."
+# So many conflicts and repairs are looked for at the most.
+_MOST_MENDS = 30
+
+
+class SessionWatched:
+    """A session of the language. Its lines may be sent by others too, between what is asked here."""
+
+    is_workbench = False
+
+    def __init__(self, session: Session, source: Sequence[str] = ()) -> None:
+        """A session, and the lines of a file that it was told so far, with comments and all."""
+        self.session = session
+        self._source = list(source)
+        self._since = len(session.lines)
+        self._lines = Lines()
+        # The premises under which a side of a choice is wished for.
+        self._wishes: dict[tuple[str, int], str] = {}
+
+    def network(self) -> Network:
+        return self._read().network(self._known)
+
+    def see(self, progress: Progress | None = None) -> Seen:
+        self.session.send("settle", progress=progress)
+        return self._known_in(self.session)
+
+    def known(self) -> Seen:
+        return self._known_in(self.session)
+
+    def core(self, cell: str, progress: Progress | None = None) -> Shown | None:
+        reply = self.session.send(f"core {cell}", progress=progress)
+        return self._shown(reply) if isinstance(reply, Value) else None
+
+    def believe(self, premise: str, is_believed: bool) -> None:
+        self.session.send(f"{'bring' if is_believed else 'kick'} {premise}")
+
+    def wish(self, choice: str, side: int | None) -> None:
+        sides = self._told.choices[choice]
+        believed = set(self._believed())
+        for (other, _), premise in self._wishes.items():
+            if other == choice and premise in believed:
+                self.session.send(f"kick {premise}")
+        if side is None:
+            return
+        premise = self._wishes.get((choice, side), "")
+        if not premise:
+            premise = self._fresh(f"wish_{choice}_{side + 1}")
+            self.session.send(f"tell {premise} {sides[side].cell} {sides[side].value}")
+            self._wishes[choice, side] = premise
+        else:
+            self.session.send(f"bring {premise}")
+
+    def wished(self) -> dict[str, int]:
+        believed = set(self._believed())
+        return {choice: side for (choice, side), each in self._wishes.items() if each in believed}
+
+    def mend(self, progress: Telling | None = None, seconds: float | None = None) -> Mending:
+        with self.session.fresh() as other:
+            other.send_all(self.lines())
+            return mended(other, self._believed(), _MOST_MENDS, Clock(seconds, progress))
+
+    def without(self, premises: Sequence[str], progress: Progress | None = None) -> Seen:
+        with self.session.fresh() as other:
+            other.send_all([*self.lines(), *(f"kick {premise}" for premise in premises)])
+            other.send("settle", progress=progress)
+            return self._known_in(other)
+
+    def best(
+        self, cell: str, sort: str, progress: Telling | None = None, seconds: float | None = None
+    ) -> Best:
+        model = SessionModel(self.session, self.lines(), self._told)
+        found = so_far(lambda: find_optimum(model, cell, sort, seconds, progress), Optimum)
+        return Best(
+            found.headline(),
+            tuple((name, point_text(value)) for name, value in (found.plan or {}).items()),
+            found.proved,
+            SETTLES,
+        )
+
+    def steps(self) -> Steps:
+        return Steps(
+            self.session.fresh(), self.lines(), list(self._known.cells), self._shown, self._named
+        )
+
+    def lines(self) -> list[str]:
+        return [line for line in self.session.lines if not _is_aside(line)]
+
+    def saved(self) -> list[str]:
+        since = self.session.lines[self._since :]
+        return [*self._source, *(line for line in since if not _is_aside(line))]
+
+    def replay(self) -> None:
+        self.session.replay()
+
+    @property
+    def _known(self) -> Known:
+        return self.session.known
+
+    @property
+    def _told(self) -> Told:
+        return self._read().told
+
+    def _read(self) -> Lines:
+        self._lines.take(self.session.lines, self._known)
+        return self._lines
+
+    def _believed(self) -> list[str]:
+        told = self._told
+        return [each for each in told.premises if each and each not in told.kicked]
+
+    def _fresh(self, name: str) -> str:
+        """A name that no premise and no choice has."""
+        taken = self._known.premises.keys() | self._known.choices.keys()
+        while name in taken:
+            name += "_"
+        return name
+
+    def _known_in(self, session: Session) -> Seen:
+        """What is known in a session that has this one's cells and choices."""
+        replies = session.look([*(f"why {cell}" for cell in session.known.cells), "worldview"])
+        found = next((each for each in replies if isinstance(each, Contradiction)), None)
+        if found:
+            return Seen(clash=self._clash(found))
+        shown = [self._shown(reply) for reply in replies if isinstance(reply, Value)]
+        plan: dict[str, int] = {}
+        if isinstance(replies[-1], Worldview):
+            sides = (each.partition("=") for each in replies[-1].inside)
+            plan = {choice: int(place) - 1 for choice, mark, place in sides if mark}
+        is_sure = isinstance(replies[-1], Worldview)
+        return Seen({each.cell: each for each in shown}, is_sure, None, plan)
+
+    def _clash(self, found: Contradiction) -> Clash:
+        told = self._told.premises
+        says = {
+            each: ", ".join(map(str, told.get(each, ()))) or "(nothing was told)"
+            for each in found.premises
+        }
+        return Clash(found.premises, says, "" if says else "What is fixed can't all hold.")
+
+    def _shown(self, reply: Value) -> Shown:
+        reasons = tuple(map(self._reason, reply.because or ()))
+        known = not isinstance(reply.value, Nothing)
+        return Shown(reply.cell, str(reply.value), reasons, reply.settled, reply.reduced, known)
+
+    def _reason(self, name: str) -> Reason:
+        choice, mark, _ = name.partition("=")
+        return Reason(self._named(name), choice=choice) if mark else Reason(name, premise=name)
+
+    def _named(self, name: str) -> str:
+        """A premise, or what a side of a choice says."""
+        side = self._lines.told.side(name)
+        return f"{name.partition('=')[0]}: {side}" if side else name
+
+
+def _is_aside(line: str) -> bool:
+    """Whether a line states nothing."""
+    return line.split(None, 1)[0] in ASKING | {"limit"}

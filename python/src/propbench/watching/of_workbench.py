@@ -1,0 +1,260 @@
+"""A workbench as views see it: the user's cells, and constraints in place of procedures."""
+
+from collections.abc import Sequence
+
+from propbench.model.answers import value_text
+from propbench.model.blaming import always
+from propbench.model.choosing import first_name
+from propbench.model.events import (
+    ConstraintChoice,
+    Event,
+    Required,
+    Told,
+    ValueChoice,
+    values_text,
+)
+from propbench.model.kinds import MOST, Plain, kind_text, point_text
+from propbench.model.nodes import Declared, cells_in
+from propbench.model.reading import Reader
+from propbench.model.saving import saved
+from propbench.questions.asking import so_far
+from propbench.questions.bounding import Optimum
+from propbench.questions.clock import Progress as Telling
+from propbench.questions.conflicts import Conflicts, Repairs, find_conflicts, find_repairs
+from propbench.replies import Contradiction, Value, Worldview
+from propbench.runs import Progress
+from propbench.session import Session
+from propbench.values import Nothing
+from propbench.watching import Best
+from propbench.watching.mending import FITS, Mending
+from propbench.watching.network import (
+    Cell,
+    Choice,
+    Clash,
+    Network,
+    Premise,
+    Reason,
+    Said,
+    Seen,
+    Shown,
+    Use,
+)
+from propbench.watching.steps import Steps
+from propbench.workbench import Workbench
+
+# What is said of a plan.
+PLAN = "Each constraint was evaluated on this plan."
+# So many conflicts, and so many repairs, are looked for at the most.
+_MOST_MENDS = 30
+# Constraints between cells, and what is said of one cell by premise, "" for what always holds.
+_Stated = tuple[tuple[Use, ...], dict[str, tuple[Said, ...]]]
+
+
+class WorkbenchWatched:
+    """A workbench, in the words of its user."""
+
+    is_workbench = True
+
+    def __init__(self, workbench: Workbench) -> None:
+        self.workbench = workbench
+        self._wishes: dict[tuple[str, int], str] = {}
+        self._events: list[Event] = []
+        self._stated: _Stated = ((), {})
+
+    @property
+    def session(self) -> Session:
+        return self.workbench.session
+
+    def network(self) -> Network:
+        made = self.workbench.network
+        if self._events != made.events:
+            self._events = list(made.events)
+            self._stated = _stated(made.events)
+        uses, says = self._stated
+        premises = (
+            Premise(name, name, says.get(name, ()), is_believed)
+            for name, is_believed in made.premises.believed.items()
+        )
+        return Network(
+            tuple(Cell(name, name, kind_text(cell.kind)) for name, cell in made.cells.items()),
+            uses,
+            tuple(premises),
+            tuple(map(_choice, made.premises.choices.values())),
+            (*map(_declared, made.cells.values()), *says.get("", ())),
+        )
+
+    def see(self, progress: Progress | None = None) -> Seen:
+        self.session.send("settle", progress=progress)
+        return self.known()
+
+    def known(self) -> Seen:
+        made = self.workbench.network
+        names = [made.vocabulary.cells.line(cell) for cell in made.cells]
+        replies = made.session.look([*(f"why {name}" for name in names), "worldview"])
+        found = next((each for each in replies if isinstance(each, Contradiction)), None)
+        if found:
+            return Seen(clash=self._clash(found))
+        stands = replies[-1]
+        plan = self._reader().plan(stands.inside) if isinstance(stands, Worldview) else {}
+        shown = [self._shown(reply, plan) for reply in replies if isinstance(reply, Value)]
+        return Seen({each.cell: each for each in shown}, isinstance(stands, Worldview), None, plan)
+
+    def core(self, cell: str, progress: Progress | None = None) -> Shown | None:
+        made = self.workbench.network
+        line = f"core {made.vocabulary.cells.line(cell)}"
+        reply = made.session.send(line, progress=progress)
+        if not isinstance(reply, Value):
+            return None
+        made.session.send("settle", progress=progress)
+        [found] = made.session.look(["worldview"])
+        plan = self._reader().plan(found.inside) if isinstance(found, Worldview) else {}
+        return self._shown(reply, plan)
+
+    def believe(self, premise: str, is_believed: bool) -> None:
+        (self.workbench.bring if is_believed else self.workbench.kick)(premise)
+
+    def wish(self, choice: str, side: int | None) -> None:
+        made = self.workbench.network
+        event = made.premises.choices[choice]
+        for (other, _), premise in self._wishes.items():
+            if other == choice and made.premises.believed.get(premise):
+                made.kick(premise)
+        if side is None:
+            return
+        premise = self._wishes.get((choice, side), "")
+        if made.premises.believed.get(premise) is not None:
+            made.bring(premise)
+            return
+        premise = f"{choice}: {event.sides[side]}"
+        while premise in made.premises.believed or premise in made.premises.choices:
+            premise += " (wished)"
+        if isinstance(event, ValueChoice):
+            made.do(Told(event.cell, event.alternatives[side], premise))
+        else:
+            for constraint in event.alternatives[side][1]:
+                made.do(Required(constraint, premise))
+        self._wishes[choice, side] = premise
+
+    def wished(self) -> dict[str, int]:
+        believed = self.workbench.network.premises.believed
+        return {choice: side for (choice, side), each in self._wishes.items() if believed.get(each)}
+
+    def mend(self, progress: Telling | None = None, seconds: float | None = None) -> Mending:
+        model = self.workbench.model
+        conflicts = so_far(
+            lambda: find_conflicts(model, (), _MOST_MENDS, seconds, progress), Conflicts
+        )
+        repairs = so_far(
+            lambda: find_repairs(model, {}, (), _MOST_MENDS, seconds, progress), Repairs
+        )
+        return Mending(
+            tuple(each.names for each in conflicts),
+            tuple(each.names for each in repairs),
+            conflicts.complete and repairs.complete,
+            FITS,
+        )
+
+    def without(self, premises: Sequence[str], progress: Progress | None = None) -> Seen:
+        with self.workbench.what_if(kick=list(premises)):
+            return self.see(progress)
+
+    def best(
+        self, cell: str, sort: str, progress: Telling | None = None, seconds: float | None = None
+    ) -> Best:
+        ask = self.workbench.least if sort == "least" else self.workbench.greatest
+        found = so_far(lambda: ask(cell, seconds=seconds, progress=progress), Optimum)
+        plan = found.plan or {}
+        rows = tuple((name, point_text(value)) for name, value in plan.items())
+        return Best(found.headline(), rows, found.proved, PLAN)
+
+    def steps(self) -> Steps:
+        made = self.workbench.network
+        names = [made.vocabulary.cells.line(cell) for cell in made.cells]
+        return Steps(
+            made.session.fresh(),
+            made.base(),
+            names,
+            lambda reply: self._shown(reply, {}),
+            self._named,
+        )
+
+    def lines(self) -> list[str]:
+        return self.workbench.network.base()
+
+    def saved(self) -> list[str]:
+        return list(saved(self.workbench.network))
+
+    def replay(self) -> None:
+        self.workbench.network.begin_anew()
+
+    def _reader(self) -> Reader:
+        made = self.workbench.network
+        return Reader(made.vocabulary, made.premises)
+
+    def _named(self, line: str) -> str:
+        """What the user calls a premise of a line, or an alternative."""
+        return self._reader().premise(line, {})
+
+    def _clash(self, found: Contradiction) -> Clash:
+        made = self.workbench.network
+        names = list(dict.fromkeys(made.vocabulary.premises.text(each) for each in found.premises))
+        says = {name: made.premises.text(name) for name in names}
+        if says:
+            return Clash(tuple(says), says, "")
+        texts = "; ".join(always(made))
+        return Clash((), {}, f"What always holds can't hold by itself: {texts or 'see the lines'}.")
+
+    def _shown(self, reply: Value, plan: dict[str, int]) -> Shown:
+        made = self.workbench.network
+        cell = made.cells[made.vocabulary.cells.text(reply.cell)]
+        answer = self._reader().answer(cell, reply, plan)
+        reasons = tuple(dict.fromkeys(self._reason(each, plan) for each in reply.because or ()))
+        known = not isinstance(reply.value, Nothing)
+        text = value_text(answer.value)
+        return Shown(cell.name, text, reasons, reply.settled, reply.reduced, known)
+
+    def _reason(self, line: str, plan: dict[str, int]) -> Reason:
+        text = self._reader().premise(line, plan)
+        choice, mark, _ = line.partition("=")
+        if not mark:
+            return Reason(text, premise=text)
+        return Reason(
+            text, choice=self.workbench.network.vocabulary.premises.text(first_name(choice))
+        )
+
+
+def _declared(cell: Declared) -> Said:
+    """What holds of a cell as it was declared; of a number without ends nothing."""
+    if cell.kind is not Plain.NUMBER:
+        return Said(f"{cell.name} is {kind_text(cell.kind)}", cell.name)
+    if (cell.low, cell.high) == (None, None):
+        return Said(f"{cell.name} is a number")
+    low = -MOST if cell.low is None else cell.low
+    high = MOST if cell.high is None else cell.high
+    return Said(f"{cell.name} = {values_text(cell, (low, high))}", cell.name)
+
+
+def _stated(events: Sequence[Event]) -> _Stated:
+    """What events state. A constraint on a single cell is what is said of that."""
+    uses: list[Use] = []
+    says: dict[str, list[Said]] = {}
+    for event in events:
+        if isinstance(event, Required):
+            cells = tuple(cell.name for cell in cells_in(event.constraint))
+            said = Said(event.text, cells[0] if len(cells) == 1 else "")
+            if len(cells) > 1:
+                uses.append(Use(str(len(uses) + 1), event.text, cells, "", event.premise or ""))
+            if len(cells) < 2 or event.premise:
+                says.setdefault(event.premise or "", []).append(said)
+        elif isinstance(event, Told):
+            says.setdefault(event.premise or "", []).append(Said(event.text, event.cell.name))
+    return tuple(uses), {name: tuple(said) for name, said in says.items()}
+
+
+def _choice(event: ValueChoice | ConstraintChoice) -> Choice:
+    if isinstance(event, ValueChoice):
+        cells: tuple[str, ...] = (event.cell.name,)
+    else:
+        nodes = [node for _, constraints in event.alternatives for node in constraints]
+        cells = tuple(dict.fromkeys(cell.name for node in nodes for cell in cells_in(node)))
+    return Choice(event.name, event.name, event.sides, cells)

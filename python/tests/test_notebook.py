@@ -1,0 +1,147 @@
+"""The notebook: cells of the language, what shows itself, and a stop that keeps the session."""
+
+import os
+import time
+from collections.abc import Iterator
+from typing import Any
+
+import nbformat
+import pytest
+from conftest import REPOSITORY
+from jupyter_client.manager import start_new_kernel
+from nbclient import NotebookClient
+
+ENDLESS = """%%propbench
+cell x span
+cell one span
+fix one 1
+attach adder x one x
+tell start x 0..1000000000000000000
+ask x
+"""
+
+
+@pytest.fixture
+def environment(program: str, monkeypatch: pytest.MonkeyPatch) -> None:
+    """What a kernel is told: the program, and where to find the package."""
+    monkeypatch.setenv("PROPBENCH", program)
+    monkeypatch.setenv("PYTHONPATH", str(REPOSITORY / "python" / "src"))
+    monkeypatch.setenv("PYDEVD_DISABLE_FILE_VALIDATION", "1")
+
+
+def outputs(cells: list[str]) -> list[list[dict[str, Any]]]:
+    """What each cell of a notebook shows, by its kinds."""
+    book = nbformat.v4.new_notebook(cells=[nbformat.v4.new_code_cell(cell) for cell in cells])
+    NotebookClient(book, timeout=120, kernel_name="python3", allow_errors=True).execute()
+    return [
+        [output.get("data") or {output.output_type: output} for output in cell.outputs]
+        for cell in book.cells
+    ]
+
+
+def test_a_notebook(environment: None) -> None:
+    shown = outputs(
+        [
+            "%load_ext propbench.notebook",
+            "%%propbench\ncell x span\ncell y span\n# twice\nattach adder x x y\ntell ana x 3..5\nwhy y",
+            "%%propbench\nask x\nkick anna\nask y",
+            "%%propbench other\nworldview",
+            "(session.lines, str(other.send('settle')))",
+            "from propbench import Workbench\nw = Workbench()\nx = w.number('<b>x</b>', 0, 9)\n"
+            "y = w.number('y', 0, 9)\nw.require(x + y == 7)\nw.tell('ana', x, 2)\nw",
+            "w.picture()",
+            "w.film(3)",
+            "x.picture()",
+            "w.least(y)",
+            "%unload_ext propbench.notebook",
+            "%%propbench\nask x",
+        ]
+    )
+    assert shown[0] == []
+    [told] = shown[1]
+    assert "y = 6..10 because ana" in told["text/plain"] and "4 lines carried" in told["text/plain"]
+    assert "<td>why y</td><td>y = 6..10 because ana</td>" in told["text/html"]
+    assert "<p>4 lines carried out.</p>" in told["text/html"]
+    [refused] = shown[2]
+    assert "x = 3..5" in refused["text/plain"] and "line 2" in refused["text/plain"]
+    assert "Did you mean ana?" in refused["text/html"] and "ask y" not in refused["text/html"]
+    assert "in:" in shown[3][0]["text/plain"]
+    assert "'tell ana x 3..5', 'why y', 'ask x']" in shown[4][0]["text/plain"].replace("\n ", "")
+    assert (
+        "&lt;b&gt;x&lt;/b&gt;" in shown[5][0]["text/html"]
+        and "<td>5</td>" in shown[5][0]["text/html"]
+    )
+    for place in (6, 8):
+        assert (
+            shown[place][0]["image/svg+xml"].startswith("<svg")
+            and "&lt;b&gt;" in shown[place][0]["image/svg+xml"]
+        )
+    assert shown[7][0]["text/html"].count("<figure") >= 2
+    assert "The least y is 5" in shown[9][0]["text/html"]
+    assert "UsageError" in str(shown[11]) or "not found" in str(shown[11])
+
+
+class Kernel:
+    """A kernel in which cells are run one by one."""
+
+    def __init__(self) -> None:
+        self.manager, self.client = start_new_kernel(kernel_name="python3", env=dict(os.environ))
+
+    def close(self) -> None:
+        self.client.stop_channels()
+        self.manager.shutdown_kernel(now=True)
+
+    def run(self, code: str, interrupt_at: str = "") -> list[str]:
+        """What a cell shows, as texts; it is interrupted once it shows something with this."""
+        asked = self.client.execute(code)
+        found = []
+        end = time.monotonic() + 120
+        while time.monotonic() < end:
+            message = self.client.get_iopub_msg(timeout=120)
+            if message["parent_header"].get("msg_id") != asked:
+                continue
+            content = message["content"]
+            if message["msg_type"] in ("display_data", "update_display_data", "execute_result"):
+                found.append(content["data"].get("text/html") or content["data"]["text/plain"])
+                if interrupt_at and interrupt_at in found[-1]:
+                    interrupt_at = ""
+                    self.manager.interrupt_kernel()
+            elif message["msg_type"] == "error":
+                found.append(content["ename"])
+            elif message["msg_type"] == "status" and content["execution_state"] == "idle":
+                return found
+        raise AssertionError(f"no end: {found}")
+
+
+@pytest.fixture
+def kernel(environment: None) -> Iterator[Kernel]:
+    made = Kernel()
+    try:
+        yield made
+    finally:
+        made.close()
+
+
+def test_a_stop_keeps_the_session(kernel: Kernel) -> None:
+    kernel.run("%load_ext propbench.notebook")
+    shown = kernel.run(ENDLESS, interrupt_at="<progress>")
+    bars = [each for each in shown if "<progress>" in each]
+    assert bars and "steps so far (the stop button ends it, and the session goes on)" in bars[0]
+    assert shown[-1] == "KeyboardInterrupt"
+    assert any("Stopped. The session goes on" in each for each in shown)
+    # (the bar goes)
+    assert "<span></span>" in shown
+    [after] = kernel.run("%%propbench\nkick start\nask x")
+    assert "x = nothing" in after
+    [steps] = kernel.run("session.send('limit 3'), session.limit")
+    assert "(Done(), 3)" in steps
+
+
+def test_a_question_shows_a_bar(kernel: Kernel) -> None:
+    kernel.run("%load_ext propbench.notebook\nfrom propbench import Workbench\nw = Workbench()")
+    kernel.run(
+        "xs = [w.number(f'x{i}', 0, 10**6) for i in range(30)]\n"
+        "for a, b in zip(xs, xs[1:]):\n    w.require(a * b % 1009 == 17)\n"
+    )
+    shown = kernel.run("w.plans(seconds=6)")
+    assert any("<progress>" in each for each in shown) and "<progress>" not in shown[-1]
