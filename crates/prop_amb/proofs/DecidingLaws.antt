@@ -7,8 +7,8 @@ use Rattle.prop_scheduler.specs.Shifts.{AreShifted}
 use Rattle.prop_amb.specs.Search.{Stand, IsStand, believed_with}
 use Rattle.prop_amb.specs.Moving.{advanced, reasons_advanced}
 use Rattle.prop_amb.specs.Culprits.{AreCulprits, IsBlamed, MayLeave, MayMove}
-use Rattle.prop_amb.specs.Going.{Passes}
-use Rattle.prop_amb.specs.Going.Passes.{none, next}
+use Rattle.prop_amb.specs.Going.{Passes, MaySkip}
+use Rattle.prop_amb.specs.Going.Passes.{none, next, skipped}
 use Rattle.prop_amb.specs.inner.Settling.{IsMet}
 use Rattle.prop_amb.proofs.MetLaws.{believes_worldview}
 
@@ -58,6 +58,24 @@ passes_on {old} {mid} {n = n} first none = let e : n ≡ n + 0 = omega arith in 
 passes_on {old} {new = new} {n = n} first (next k j s later reason rest may culprits same) =
     let e : (n + k) + 1 ≡ n + (k + 1) = omega arith in
     subst (λ m. Passes old m later) e (next (n + k) j s later reason (passes_on first rest) may culprits same)
+passes_on {old} {new = new} {n = n} first (skipped k s later nogood rest may same) =
+    let e : (n + k) + 1 ≡ n + (k + 1) = omega arith in
+    subst (λ m. Passes old m later) e (skipped (n + k) s later nogood (passes_on first rest) may same)
+
+-- the choice at the level was skipped
+pub goes_past : (s new : Stand) (nogood : List ℕ) → MaySkip s nogood → new.premises ≡ s.premises
+    → new.listed ≡ s.listed → new.list ≡ advanced s.list s.level → new.level ≡ s.level + 1
+    → new.reasons ≡ reasons_advanced s.reasons s.level nogood → Passes s 1 new
+goes_past s new nogood may premises listed list level reasons =
+    skipped 0 s new nogood none may
+    (λ i. record {
+      premises = premises i;
+      list = list i;
+      level = level i;
+      reasons = reasons i;
+      listed = listed i;
+      worldview = new.worldview;
+    })
 
 -- of the cells that a move shifted the readers and writers wait
 pub are_shifted : (d : Data) (s new : Stand) (waiting line : List ℕ) → IsStand s → IsStand new

@@ -31,3 +31,4 @@ pub mod SettlingLaws
 pub mod Shown
 pub mod StandLaws
 pub mod ZipLemmas
+pub mod SkippingLaws

@@ -8,6 +8,8 @@ ghost use Rattle.prop_nogoods.specs.Stores.{has_part, NoneEndsBelow, AddsSet};
 ghost use Rattle.prop_amb.specs.Refuted.{IsNogood};
 ghost use Rattle.prop_amb.specs.Search.{Stand, no_stand, users_of, choices_in, IsStand, IsSearch};
 ghost use Rattle.prop_amb.specs.Moving.{deepened};
+ghost use Rattle.prop_amb.specs.Resolving.{IsReason};
+ghost use Rattle.prop_amb.specs.Going.{MaySkip};
 
 use crate::reasons::Reasons;
 use prop_nogoods::Store;
@@ -136,6 +138,29 @@ impl Search {
         self.from = premise;
         self.level += 1;
         Ok(before)
+    }
+
+    /// A noted nogood of which every premise would be believed if the side of one choice more were,
+    /// where none is believed now and the choice has a later side. None where there is none.
+    pub(crate) fn refuted_next(&self) -> Result<Option<PremiseSet>, AllocError>
+        requires left { self.now.level < length self.now.list }
+        requires unblocked { has_part self.now.listed (set_of self.now.worldview) ≡ false }
+        ensures may { IfOk result (λ found. IfSome found (MaySkip self.now)) }
+        ensures reason { IfOk result (λ found. IfSome found (λ n. (problem : Problem)
+            → IsSearch problem self.now → IsReason problem self.now self.now.level (set_of n))) }
+    {
+        let choice = self.premises.choices()[self.level];
+        let side = self.list[self.level];
+        if side >= choice.sides {
+            return Ok(None);
+        }
+        let premise = choice.first + Premise::from(side - 1);
+        let mut deeper = self.worldview.copy()?;
+        deeper.believe(premise)?;
+        match self.store.blocks_from(&deeper, premise) {
+            Some(nogood) => Ok(Some(nogood.copy()?)),
+            None => Ok(None),
+        }
     }
 
     /// Notes a nogood, of which no part was noted. After want of memory nothing has changed.

@@ -171,8 +171,34 @@ fn try_list<R: Rule + Drop, O: Order>(
     }
 }
 
+/// The first choice of which no side is believed goes to its next side, where with the one on which
+/// it stands a noted nogood would be believed. Answers whether it did. After want of memory nothing
+/// has changed.
+fn skip(search: &mut Search) -> Result<bool, AllocError>
+    requires { has_part search.old.listed (set_of search.old.worldview) ≡ false }
+    ensures premises { search.new.premises ≡ search.old.premises }
+    ensures listed { search.new.listed ≡ search.old.listed }
+    ensures search { (problem : Problem) → IsSearch problem search.old
+        → IsSearch problem search.new }
+    ensures stays { result ≡ Ok false → search.new ≡ search.old }
+    ensures moves { IfOk result (λ moved. IsTrue moved → Passes search.old 1 search.new) }
+{
+    if search.is_whole() {
+        return Ok(false);
+    }
+    match search.refuted_next()? {
+        Some(nogood) => {
+            let place = search.level;
+            drop(search.advance(place, nogood)?);
+            Ok(true)
+        }
+        None => Ok(false),
+    }
+}
+
 /// The choices go on to a later list, where a noted nogood is believed and a choice may leave its
-/// side. Answers whether they did. After want of memory nothing has changed.
+/// side, or would be with the side of one choice more. Answers whether they did. After want of
+/// memory nothing has changed.
 fn go_on(search: &mut Search) -> Result<bool, AllocError>
     ensures premises { search.new.premises ≡ search.old.premises }
     ensures listed { search.new.listed ≡ search.old.listed }
@@ -183,7 +209,7 @@ fn go_on(search: &mut Search) -> Result<bool, AllocError>
 {
     let Some(blocking) = search.blocked() else {
         search.pass_over();
-        return Ok(false);
+        return skip(search);
     };
     let believed = blocking.copy()?;
     match search.resolve(believed)? {
