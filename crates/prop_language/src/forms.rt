@@ -22,6 +22,9 @@ use crate::tokens::{Token, next_token};
 use prop_refusals::Refusal;
 use std::alloc::Global;
 
+/// The highest limit of the steps that a running command may take.
+pub const MOST_STEPS: u64 = 1_000_000_000_000_000;
+
 /// The word that the bytes begin with, and what stands behind it.
 pub(crate) fn word(bytes: &[u8]) -> Result<(&[u8], &[u8]), Refusal>
     ensures ok { IfOk result (λ found. tokens bytes.now ≡ Word found.0.now ∷ tokens found.1.now) }
@@ -278,7 +281,7 @@ pub fn limit(rest: &[u8]) -> Result<Command<'_>, Refusal>
         (command_in_form (forms.on_word forms.limit_of (tokens rest.now))) }
     ensures memory { result ≢ Err Refusal.Memory }
 {
-    match natural_in(1_000_000_000_000_000, only_word(rest)?) {
+    match natural_in(MOST_STEPS, only_word(rest)?) {
         Some(steps) => Ok(Command::Limit(steps)),
         None => Err(Refusal::NotANumber),
     }

@@ -15,6 +15,7 @@ mod steps;
 mod tokens;
 
 pub use command::{By, Command, KindWord, Passed, Step, Value};
+pub use forms::MOST_STEPS;
 pub use names::name;
 pub use numbers::{natural_in, number_in};
 pub use reading::{lines_have_one_reading, read_line};

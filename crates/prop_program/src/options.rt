@@ -10,14 +10,11 @@ ghost use Rattle.prop_program.specs.inner.Program.{word_of};
 use crate::chosen::{Options, Pick};
 use clap::error::ErrorKind;
 use clap::{Arg, ArgAction, ArgMatches, Command, Error};
-use prop_language::natural_in;
+use prop_language::{MOST_STEPS, natural_in};
 use std::alloc::{AllocError, Global};
 
 /// The steps of a running command where no limit is given.
 const STEPS: u64 = 1_000_000_000;
-
-/// The highest limit that can be given.
-const MOST_STEPS: u64 = 1_000_000_000_000_000;
 
 /// What a program says of itself.
 #[derive(Clone, Copy)]
