@@ -17,7 +17,8 @@ PATH is crates/propbench/out/propbench where it is left out. What is run:
 - an example of each use in each compound of the prelude (tests/prelude.py);
 - each procedure of the kit on small informations, against plain enumeration (tests/rules.py), and
   those beside the kit over propwide, where that is built (tests/wide_rules.py), and values that all
-  differ, and Sudokus (tests/wide_puzzles.py);
+  differ, and Sudokus (tests/wide_puzzles.py), and random networks over both, and sums as chains
+  (tests/wide_sessions.py);
 - random sessions, each answer of which is compared with a plain and slow evaluation
   (tests/plain.py), such with choices, of which every list is tried (tests/choices.py), and such
   under small limits, of which every step is taken anew (tests/steps.py);
@@ -75,6 +76,7 @@ import stacks
 import steps
 import wide_puzzles
 import wide_rules
+import wide_sessions
 from case import NO_END, Case, in_each_order
 from drawn import Drawn
 from transcripts import Transcript, transcripts
@@ -131,6 +133,7 @@ def cases() -> Iterator[Runnable]:
         yield from module.cases()
     yield from wide_rules.built()
     yield from wide_puzzles.built()
+    yield from wide_sessions.built()
     yield from in_each_order(worked())
 
 
