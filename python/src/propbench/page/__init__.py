@@ -6,14 +6,14 @@ forward and back, and the plain lines.
 
 import threading
 from contextlib import AbstractContextManager
-from types import TracebackType
 
+from propbench.closing import Closing
 from propbench.page.asking import Asking
 from propbench.page.server import Server
 from propbench.watching import Watched
 
 
-class Page:
+class Page(Closing):
     """A page that is served, in threads of its own, until it is closed."""
 
     def __init__(
@@ -24,17 +24,6 @@ class Page:
         self._server = Server(self._asking, port)
         self._thread = threading.Thread(target=self._server.serve_forever, daemon=True)
         self._thread.start()
-
-    def __enter__(self) -> "Page":
-        return self
-
-    def __exit__(
-        self,
-        kind: type[BaseException] | None,
-        error: BaseException | None,
-        trace: TracebackType | None,
-    ) -> None:
-        self.close()
 
     @property
     def address(self) -> str:
