@@ -30,4 +30,5 @@ pub mod SearchLaws
 pub mod SettlingLaws
 pub mod Shown
 pub mod StandLaws
+pub mod SteppingLaws
 pub mod ZipLemmas

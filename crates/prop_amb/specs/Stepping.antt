@@ -1,5 +1,5 @@
 -- One step of settling, told.
-use Rattle.std.specs.Prelude.{◌≡◌, ℕ, ◌+◌, List, length}
+use Rattle.std.specs.Prelude.{◌≡◌, ◌<◌, ℕ, ◌+◌, List, All, length}
 use Rattle.prop_numbers.specs.Sets.{set_of}
 use Rattle.prop_premises.specs.ChoiceLists.{hypothetical}
 use Rattle.prop_procedures.specs.Stored.{Stored}
@@ -23,6 +23,7 @@ pub record HasMoved (s later : Stand) (m : Move) : Type 0 where
   pub may : MayMove s m.place
   pub side_is : m.side ≡ hypothetical may.leaves.may.choice may.leaves.may.side
   pub culprits : AreCulprits s may.nogood (set_of m.nogood)
+  pub known : All (λ p. p < length s.premises) m.nogood
   pub later_is : later ≡ record s {
     list = advanced s.list m.place;
     level = m.place + 1;

@@ -2,7 +2,8 @@
 ghost use Rattle.std.specs.Prelude.{◌≡◌, ◌<◌, ℕ, IsTrue, IfOk, Some, length, slice_get};
 ghost use Rattle.prop_numbers.specs.Sets.{Members, set_of};
 ghost use Rattle.prop_procedures.specs.Kept.{AllMean};
-ghost use Rattle.prop_scheduler.specs.Live.{library_of, problem_in, IsLiveIn, OnlyRan};
+ghost use Rattle.prop_scheduler.specs.Live.{cells_of, line_of, library_of, problem_in};
+ghost use Rattle.prop_scheduler.specs.Live.{IsLiveIn, OnlyRan};
 ghost use Rattle.prop_nogoods.specs.Stores.{has_part};
 ghost use Rattle.prop_premises.specs.declared.choice.Choice.{Choice};
 ghost use Rattle.prop_premises.specs.ChoiceLists.{hypothetical};
@@ -10,6 +11,7 @@ ghost use Rattle.prop_amb.specs.Search.{choices_in, IsStand, IsSearch};
 ghost use Rattle.prop_amb.specs.Going.{work_on, MayGoOn};
 ghost use Rattle.prop_amb.specs.Stepping.{IsStepTo, Steps};
 ghost use Rattle.prop_amb.specs.inner.Settling.{IsMet};
+ghost use Rattle.prop_amb.specs.inner.Stepping.{IsMove};
 
 use crate::outcome::Outcome;
 use crate::resolving::Resolved;
@@ -101,7 +103,7 @@ fn take_step<R: Rule + Drop, O: Order>(
     match search.blocked() {
         Some(nogood) => {
             let nogood = nogood.copy()?;
-            move_on(live, search, nogood)
+            move_for(live, search, nogood)
         }
         None => Ok(Step::Called(call_next(live, search.worldview(), order)?)),
     }
@@ -121,7 +123,7 @@ impl Search {
 }
 
 /// What follows from a noted nogood that is believed: a choice moves, or every list is refuted.
-fn move_on<R: Rule + Drop>(
+fn move_for<R: Rule + Drop>(
     live: &mut Live<R>,
     search: &mut Search,
     nogood: PremiseSet,
@@ -136,9 +138,8 @@ fn move_on<R: Rule + Drop>(
     ensures listed { search.new.listed ≡ search.old.listed }
     ensures search { IsSearch (problem_in R.value_of live.old) search.new }
     ensures stand { IsStand search.new }
-    ensures told { IfOk result (λ step. {O : Type 0} → (picks : O → ℕ → ℕ → O → Type 0) → (order : O)
-        → IsStepTo picks (library_of R.value_of live.old) (problem_in R.value_of live.old)
-        (work_on search.old live.old order) step (work_on search.new live.new order)) }
+    ensures told { IfOk result (λ step. IsMove (problem_in R.value_of live.old) search.old
+        (cells_of live.old) (line_of live.old) step search.new (line_of live.new)) }
 {
     match search.resolve(nogood)? {
         Resolved::RuledOut(premises) => Ok(Step::Contradiction(premises)),

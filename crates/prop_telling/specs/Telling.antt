@@ -13,7 +13,7 @@ use Rattle.prop_amb.specs.declared.stepping.Step.{Step}
 use Rattle.prop_amb.specs.declared.stepping.Step.TheVariants.{Called, Moved, Settled, Contradiction}
 use Rattle.prop_engine.specs.Answers.{Answer, Text, Refused}
 use Rattle.prop_engine.specs.Transcripts.{Machine}
-use Rattle.prop_texts.specs.Texts.{equation, because, contradiction_text, premises_text}
+use Rattle.prop_texts.specs.Texts.{equation, because, contradiction_text, support_text}
 use Rattle.prop_workbench.specs.Machine.{State, text_at, problem_in}
 use Rattle.prop_workbench.specs.Steps.{Covers}
 use Rattle.prop_workbench.specs.Questions.{Picks}
@@ -22,19 +22,25 @@ use Rattle.prop_telling.specs.Asking.{is_step}
 use Rattle.prop_telling.specs.Texts.{cell_text, call_text, sides_text, moved_text}
 use Rattle.prop_telling.specs.Texts.{two_lines, three_lines}
 
--- The text names the instance that was called, with its cells, and what is believed of its output
--- then, with the premises of believed entries that say so, none of which can be left out.
+-- The text says what is believed of the cell, with the premises of believed entries that say so,
+-- none of which can be left out.
+pub record SaysValue {O : Type 0} (s : State) (w : Work O) (cell : ℕ) (text : List ℕ) : Type 0 where
+  pub premises : List ℕ
+  pub lean : IsLeanAt (set_of w.search.worldview) w.cells.contents cell premises
+  pub text_is : text ≡ equation (cell_text s.names cell)
+      (text_at s cell (beliefs (set_of w.search.worldview) w.cells.contents cell))
+      (because s.premises [] premises)
+
+-- The text names the sides that are believed, the instance that was called, with its cells, and
+-- says what is believed of its output.
 pub record SaysCall {O : Type 0} (library : List Stored) (s : State) (w : Work O) (i : ℕ)
     (text : List ℕ) : Type 0 where
   pub instance : Instance
   pub at : slice_get w.cells.instances i ≡ Some instance
-  pub premises : List ℕ
-  pub lean : IsLeanAt (set_of w.search.worldview) w.cells.contents instance.output premises
+  pub value : List ℕ
+  pub says : SaysValue s w instance.output value
   pub text_is : text ≡ three_lines (sides_text s.premises (set_of w.search.worldview))
-      (call_text s.names library i instance)
-      (equation (cell_text s.names instance.output) (text_at s instance.output
-      (beliefs (set_of w.search.worldview) w.cells.contents instance.output))
-      (because s.premises [] premises))
+      (call_text s.names library i instance) value
 
 -- what is said of a step after which it stands so: the sides that were believed before it, and the
 -- call, the move with the nogood that asked for it, or the end
@@ -43,7 +49,7 @@ SaysStep library s w (Called i) text = SaysCall library s w i text
 SaysStep library s w (Moved m) text =
     text ≡ three_lines (sides_text s.premises (set_of m.before))
     (codes "moved:" ++ moved_text s.premises m.side)
-    (codes "nogood:" ++ premises_text s.premises m.nogood)
+    (codes "nogood:" ++ support_text s.premises m.nogood)
 SaysStep library s w Settled text =
     text ≡ two_lines (sides_text s.premises (set_of w.search.worldview)) (codes "settled")
 SaysStep library s w (Contradiction n) text =

@@ -7,6 +7,9 @@ ghost use Rattle.prop_program.specs.Faults.{TellsDevices};
 ghost use Rattle.prop_program.specs.Answering.{stocked};
 ghost use Rattle.prop_workbench.specs.Engine.{standing_of};
 ghost use Rattle.prop_workbench.specs.Sessions.{library_of, IsSound, IsMeant};
+ghost use Rattle.prop_engine.specs.Endings.{WritesPrefix};
+ghost use Rattle.prop_telling.specs.Telling.{telling};
+ghost use Rattle.prop_telling.specs.inner.Answering.{Writes};
 ghost use Rattle.prop_telling.specs.Answering.{IsToldBy, IsToldInPartBy, IsTold, IsToldInPart};
 
 use crate::telling::Teller;
@@ -92,7 +95,20 @@ fn serve<R: Rule + Drop, O: Order + Drop, Rd: Read, W: Write>(
 fn tell<R: Rule + Drop, O: Order + Drop, Rd: Read, W: Write>(
     mut teller: Teller<R, O>,
     devices: &mut Devices<Rd, W>,
-) -> Result<Counts, Fault> {
+) -> Result<Counts, Fault>
+    requires reader { IsFresh (reader devices.old) }
+    requires writer { IsPassedOn devices.old }
+    requires means { IsMeant R.value_of teller.session }
+    requires sound { IsSound R.value_of teller.session }
+    ensures ok { IfOk result (Writes O.picks (library_of R.value_of teller.session)
+        (standing_of teller.session)
+        (Rd.remaining (device (reader devices.old))) (W.contents (device (writer devices.old)))
+        (W.contents (device (writer devices.new)))) }
+    ensures err { OnErr result (WritesPrefix (telling O.picks (library_of R.value_of teller.session))
+        (Rd.remaining (device (reader devices.old))) (W.contents (device (writer devices.old)))
+        (W.contents (device (writer devices.new))) (standing_of teller.session)) }
+    ensures devices { TellsDevices result devices.old devices.new }
+{
     let counts = answer(&mut teller, devices);
     // One call in place of the drop of each part, which a proof would go through one by one.
     drop(teller);
@@ -103,6 +119,20 @@ fn tell<R: Rule + Drop, O: Order + Drop, Rd: Read, W: Write>(
 fn answer<R: Rule + Drop, O: Order + Drop, Rd: Read, W: Write>(
     teller: &mut Teller<R, O>,
     devices: &mut Devices<Rd, W>,
-) -> Result<Counts, Fault> {
+) -> Result<Counts, Fault>
+    requires reader { IsFresh (reader devices.old) }
+    requires writer { IsPassedOn devices.old }
+    requires means { IsMeant R.value_of teller.old.session }
+    requires sound { IsSound R.value_of teller.old.session }
+    ensures ok { IfOk result (Writes O.picks (library_of R.value_of teller.old.session)
+        (standing_of teller.old.session)
+        (Rd.remaining (device (reader devices.old))) (W.contents (device (writer devices.old)))
+        (W.contents (device (writer devices.new)))) }
+    ensures err { OnErr result (WritesPrefix
+        (telling O.picks (library_of R.value_of teller.old.session))
+        (Rd.remaining (device (reader devices.old))) (W.contents (device (writer devices.old)))
+        (W.contents (device (writer devices.new))) (standing_of teller.old.session)) }
+    ensures devices { TellsDevices result devices.old devices.new }
+{
     Ok(run_session(teller, devices, READS)?)
 }

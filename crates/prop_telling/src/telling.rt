@@ -20,14 +20,16 @@ pub struct Teller<R, O> {
 }
 
 impl<R: Rule + Drop, O: Order + Drop> Teller<R, O> {
-    ghost use Rattle.std.specs.Prelude.{◌≡◌, ◌<◌, ◌++◌, length, codes, All, IfOk, string_bytes};
+    ghost use Rattle.std.specs.Prelude.{◌≡◌, ◌<◌, ◌+◌, ◌++◌, length, codes, All, IfOk};
+    ghost use Rattle.std.specs.Prelude.{string_bytes};
+    ghost use Rattle.prop_numbers.specs.Sets.{set_of};
     ghost use Rattle.prop_engine.specs.Answers.{answer_of};
-    ghost use Rattle.prop_amb.specs.Search.{IsStand};
-    ghost use Rattle.prop_texts.specs.Texts.{premises_text, contradiction_text};
+    ghost use Rattle.prop_texts.specs.Texts.{support_text, contradiction_text};
     ghost use Rattle.prop_workbench.specs.Engine.{standing_of};
     ghost use Rattle.prop_workbench.specs.Sessions.{library_of, state_of, work_of, IsSound, IsMeant};
-    ghost use Rattle.prop_telling.specs.Telling.{telling, TellsStep, SaysStep, SaysCall};
-    ghost use Rattle.prop_telling.specs.Texts.{moved_text};
+    ghost use Rattle.prop_telling.specs.Telling.{telling, TellsStep, SaysStep, SaysCall, SaysValue};
+    ghost use Rattle.prop_telling.specs.Texts.{moved_text, sides_text, two_lines, three_lines};
+    ghost use Rattle.prop_telling.specs.inner.Telling.{IsNamed};
 
     /// A teller of a session.
     pub fn new(session: Session<R, O>) -> Teller<R, O>
@@ -67,8 +69,13 @@ impl<R: Rule + Drop, O: Order + Drop> Teller<R, O> {
         }
     }
 
-    /// What is said of a step.
-    fn told(&self, step: &Step) -> Result<String, AllocError> {
+    /// What is said of a step that was taken.
+    fn told(&self, step: &Step) -> Result<String, AllocError>
+        requires sound { IsSound R.value_of self.now.session }
+        requires named { IsNamed (work_of self.now.session) step.now }
+        ensures { IfOk result (λ text. SaysStep (library_of R.value_of self.now.session)
+            (state_of self.now.session) (work_of self.now.session) step.now (string_bytes text)) }
+    {
         match step {
             Step::Called(called) => self.call(*called),
             Step::Moved(by) => self.moved(by),
@@ -77,13 +84,13 @@ impl<R: Rule + Drop, O: Order + Drop> Teller<R, O> {
         }
     }
 
-    /// The sides that are believed in a worldview.
-    fn sides(&self, worldview: &Worldview) -> Result<String, AllocError> {
-        sides_text(self.session.alloc(), self.session.search().premises(), worldview)
-    }
-
     /// What is said of a call.
-    fn call(&self, called: usize) -> Result<String, AllocError> {
+    fn call(&self, called: usize) -> Result<String, AllocError>
+        requires sound { IsSound R.value_of self.now.session }
+        requires called { called < length self.now.session.live.network.cells.instances }
+        ensures { IfOk result (λ text. SaysCall (library_of R.value_of self.now.session)
+            (state_of self.now.session) (work_of self.now.session) called (string_bytes text)) }
+    {
         let alloc = self.session.alloc();
         let network = self.session.live().network();
         let sides = self.sides(self.session.search().worldview())?;
@@ -93,7 +100,12 @@ impl<R: Rule + Drop, O: Order + Drop> Teller<R, O> {
     }
 
     /// What is believed of a cell, and why.
-    fn value(&self, cell: usize) -> Result<String, AllocError> {
+    fn value(&self, cell: usize) -> Result<String, AllocError>
+        requires sound { IsSound R.value_of self.now.session }
+        requires cell { cell < length self.now.session.live.network.cells.kinds }
+        ensures { IfOk result (λ text. SaysValue (state_of self.now.session)
+            (work_of self.now.session) cell (string_bytes text)) }
+    {
         let alloc = self.session.alloc();
         let network = self.session.live().network();
         let why = network.explanation(cell, self.session.search().worldview())?;
@@ -104,8 +116,23 @@ impl<R: Rule + Drop, O: Order + Drop> Teller<R, O> {
         format!(in alloc; "{name} = {value}{because}")
     }
 
+    /// The sides that are believed in a worldview.
+    fn sides(&self, worldview: &Worldview) -> Result<String, AllocError>
+        ensures { IfOk result (λ text. string_bytes text ≡ sides_text
+            self.now.session.search.premises (set_of worldview.now)) }
+    {
+        sides_text(self.session.alloc(), self.session.search().premises(), worldview)
+    }
+
     /// What is said of a move.
-    fn moved(&self, by: &Move) -> Result<String, AllocError> {
+    fn moved(&self, by: &Move) -> Result<String, AllocError>
+        requires side { by.now.side + 1 < length self.now.session.search.premises }
+        requires known { All (λ p. p < length self.now.session.search.premises) by.now.nogood }
+        ensures { IfOk result (λ text. string_bytes text ≡ three_lines
+            (sides_text self.now.session.search.premises (set_of by.now.before))
+            (codes "moved:" ++ moved_text self.now.session.search.premises by.now.side)
+            (codes "nogood:" ++ support_text self.now.session.search.premises by.now.nogood)) }
+    {
         let alloc = self.session.alloc();
         let premises = self.session.search().premises();
         let sides = self.sides(&by.before)?;
@@ -117,7 +144,13 @@ impl<R: Rule + Drop, O: Order + Drop> Teller<R, O> {
     }
 
     /// What is said where no step is left, and every list is refuted.
-    fn contradiction(&self, premises: &PremiseSet) -> Result<String, AllocError> {
+    fn contradiction(&self, premises: &PremiseSet) -> Result<String, AllocError>
+        requires { All (λ p. p < length self.now.session.search.premises) premises.now }
+        ensures { IfOk result (λ text. string_bytes text ≡ two_lines
+            (sides_text self.now.session.search.premises
+            (set_of self.now.session.search.worldview))
+            (contradiction_text self.now.session.search.premises premises.now)) }
+    {
         let alloc = self.session.alloc();
         let names = print_set(alloc, self.session.search().premises(), premises)?;
         let end = format!(in alloc; "contradiction:{names}")?;
@@ -125,7 +158,11 @@ impl<R: Rule + Drop, O: Order + Drop> Teller<R, O> {
     }
 
     /// What is said where no step is left.
-    fn end(&self, end: &str) -> Result<String, AllocError> {
+    fn end(&self, end: &str) -> Result<String, AllocError>
+        ensures { IfOk result (λ text. string_bytes text ≡ two_lines
+            (sides_text self.now.session.search.premises
+            (set_of self.now.session.search.worldview)) end.now) }
+    {
         let sides = self.sides(self.session.search().worldview())?;
         format!(in self.session.alloc(); "step 2\nsides:{sides}\n{end}")
     }
