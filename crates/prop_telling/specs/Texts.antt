@@ -36,7 +36,7 @@ sides_text premises w =
 
 -- the side that a choice left, and its next one
 abbrev pub moved_text : List Origin → ℕ → List ℕ
-moved_text premises side = premises_text premises (side ∷ side + 1 ∷ [])
+moved_text premises side = premises_text premises (side ∷ (side + 1) ∷ [])
 
 -- lines of a reply, the first of which says how many follow
 abbrev pub two_lines : List ℕ → List ℕ → List ℕ
