@@ -1,7 +1,7 @@
 //! Sets of numbers as words of bits.
 ghost use Rattle.std.specs.Prelude.{◌≡◌, ◌↔◌, ◌<◌, ◌≤◌, ◌+◌, ◌*◌, ◌/◌, ◌&&◌, ◌==◌, not, ℕ, List};
-ghost use Rattle.std.specs.Prelude.{[], ◌∷◌, ◌++◌, false, length, max, nat_lt, filter, IsTrue, IsOk};
-ghost use Rattle.std.specs.Prelude.{IfOk, IfSome, OnOk, OnErr};
+ghost use Rattle.std.specs.Prelude.{[], ◌∷◌, ◌++◌, false, length, max, nat_lt, filter, IsTrue};
+ghost use Rattle.std.specs.Prelude.{IsOk, IfOk, IfSome, OnOk, OnErr};
 ghost use Rattle.std.specs.List.Sorted.{IsStrictlyIncreasing};
 ghost use Rattle.prop_numbers.specs.Sets.{set_of, union, without, is_within, is_below};
 ghost use Rattle.prop_numbers.specs.Sets.{is_at_most_one_of, IsSame, IsBelow};
