@@ -98,7 +98,8 @@ first_is_truth s shapes f = by s (and_parts (is_truth s) (list_all is_truth shap
     by From e = absurd (never e)
     by To e = absurd (never e)
 
-pub others_are_truths : (s : Shape) (shapes : List Shape) → AreTruths (s ∷ shapes) → AreTruths shapes
+pub others_are_truths : (s : Shape) (shapes : List Shape) → AreTruths (s ∷ shapes)
+    → AreTruths shapes
 others_are_truths s shapes f = (and_parts (is_truth s) (list_all is_truth shapes) f).1
 
 -- points that the truths leave are as many `yes` as is sure at least, and as is possible at most
