@@ -10,6 +10,11 @@
 A cell's lines are carried out in a session that is kept for the next cell, as the variable
 `session`, or as the one that is named behind `%%propbench`. What takes long shows a bar. The
 notebook's stop button ends it there, and the session goes on.
+
+    from propbench.notebook import film, picture
+    picture(session)
+
+draws what such a session has stated, and `film(session)` the steps of its run.
 """
 
 from html import escape
@@ -19,12 +24,14 @@ from IPython.display import display
 
 from propbench.notebook.bar import Bar
 from propbench.overview import UNPROVED
+from propbench.pictures import Film, Picture, film_of, picture_of
 from propbench.questions.clock import on_terminal, show_by
 from propbench.refusals import Refused
 from propbench.replies import Done, Reply, Silent
 from propbench.session import Session
 from propbench.showing import printable
 from propbench.tables import table
+from propbench.watching.of_session import SessionWatched
 
 
 class Replies:
@@ -47,7 +54,12 @@ class Replies:
             self.rows.append((line.strip(), str(reply)))
 
     def __str__(self) -> str:
-        parts = [table(("asked", "answered"), self.rows)] if self.rows else []
+        rows = [
+            (line if place == 0 else "", part)
+            for line, reply in self.rows
+            for place, part in enumerate(reply.split("\n"))
+        ]
+        parts = [table(("asked", "answered"), rows)] if rows else []
         return "\n".join([*parts, *self._below()])
 
     def __repr__(self) -> str:
@@ -97,6 +109,18 @@ def carried_out(session: Session, text: str) -> Replies:
     return found
 
 
+def picture(session: Session, cell: str | None = None) -> Picture:
+    """A picture of a session, or of what bears on one of its cells. Raises ValueError where there
+    is no such cell, or nothing follows for it."""
+    return picture_of(SessionWatched(session), cell)
+
+
+def film(session: Session, steps: int = 12) -> Film:
+    """The first steps that change something, of a session's run from nothing, as a strip of
+    pictures."""
+    return film_of(SessionWatched(session), steps)
+
+
 def load_ipython_extension(shell: Any) -> None:
     """Has a notebook know `%%propbench`, and shows a bar for questions that take long."""
 
@@ -123,6 +147,8 @@ def unload_ipython_extension(shell: Any) -> None:
 __all__ = [
     "Replies",
     "carried_out",
+    "film",
     "load_ipython_extension",
+    "picture",
     "unload_ipython_extension",
 ]
