@@ -29,5 +29,7 @@ pub mod RunLaws
 pub mod SearchLaws
 pub mod SettlingLaws
 pub mod Shown
+pub mod SkippingLaws
 pub mod StandLaws
+pub mod SteppingLaws
 pub mod ZipLemmas

@@ -1,3 +1,4 @@
 pub mod Joined
 pub mod Settling
+pub mod Stepping
 pub mod Trying
