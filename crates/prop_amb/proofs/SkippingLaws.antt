@@ -14,7 +14,7 @@ use Rattle.prop_amb.specs.Refuted.{IsNogood}
 use Rattle.prop_amb.specs.Search.{Stand, IsStand, IsSearch, choices_in}
 use Rattle.prop_amb.specs.Resolving.{IsReason}
 use Rattle.prop_amb.specs.Going.{MaySkip}
-use Rattle.prop_amb.specs.inner.Stepping.{IsNext}
+use Rattle.prop_amb.specs.inner.Refuting.{IsNext}
 use Rattle.prop_amb.proofs.BelievingLaws.{stand_deeper, search_deeper}
 use Rattle.prop_amb.proofs.LeavingLaws.{TakenAt}
 use Rattle.prop_amb.proofs.LevelLaws.{or_no}
@@ -26,7 +26,7 @@ module _ (s : Stand) (cs : List Choice) (c : Choice) (side q : ℕ) (deeper n : 
     (same : cs ≡ choices_in s) (below : s.level < length s.list) (taken : TakenAt cs s.list s.level c side)
     (is : q ≡ hypothetical c side) (more : IsSame (set_of deeper) (union (set_of s.worldview) (set_of (q ∷ []))))
     (noted : Contains s.listed n) (within : is_within (set_of deeper) n ≡ true) where
-  later : Stand
+  abbrev later : Stand
   later = record s { level = s.level + 1; worldview = deeper }
 
   stands : IsStand later

@@ -1,4 +1,4 @@
 pub mod Joined
+pub mod Refuting
 pub mod Settling
-pub mod Stepping
 pub mod Trying

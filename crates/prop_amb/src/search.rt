@@ -8,7 +8,7 @@ ghost use Rattle.prop_nogoods.specs.Stores.{has_part, NoneEndsBelow, AddsSet};
 ghost use Rattle.prop_amb.specs.Refuted.{IsNogood};
 ghost use Rattle.prop_amb.specs.Search.{Stand, no_stand, users_of, choices_in, IsStand, IsSearch};
 ghost use Rattle.prop_amb.specs.Moving.{deepened};
-ghost use Rattle.prop_amb.specs.inner.Stepping.{IsNext};
+ghost use Rattle.prop_amb.specs.inner.Refuting.{IsNext};
 
 use crate::reasons::Reasons;
 use prop_nogoods::Store;

@@ -21,8 +21,8 @@ ghost use Rattle.prop_amb.specs.Settling.{IfContradiction, IsResting, Learns, Ha
 ghost use Rattle.prop_amb.specs.Moving.{deepened};
 ghost use Rattle.prop_amb.specs.Resolving.{IsResolved, IfAgainst};
 ghost use Rattle.prop_amb.specs.inner.Settling.{IsMet};
-ghost use Rattle.prop_amb.specs.inner.Stepping.{IsNext, IsFound, IsRefuting, MayStep, IfStep};
-ghost use Rattle.prop_amb.specs.inner.Stepping.{IfRuledOut};
+ghost use Rattle.prop_amb.specs.inner.Refuting.{IsNext, IsFound, IsRefuting, MayStep, IfStep};
+ghost use Rattle.prop_amb.specs.inner.Refuting.{IfRuledOut};
 ghost use Rattle.prop_amb.specs.inner.Trying.{Attempted};
 
 use crate::outcome::Outcome;

@@ -4,9 +4,9 @@ use Rattle.prop_cells.specs.Data.{problem_of}
 use Rattle.prop_numbers.specs.Sets.{set_of}
 use Rattle.prop_amb.specs.Going.{Passes}
 use Rattle.prop_amb.specs.Resolving.{IsReason}
-use Rattle.prop_amb.specs.inner.Stepping.{IsRefuting, MayStep}
+use Rattle.prop_amb.specs.inner.Refuting.{IsRefuting, MayStep}
 use Rattle.prop_amb.proofs.DecidingLaws.{passes_on, are_shifted}
-use Rattle.prop_amb.proofs.SteppingLaws.{found_of, refuting_here}
+use Rattle.prop_amb.proofs.RefutingLaws.{found_of, refuting_here}
 use Rattle.prop_amb.proofs.settling.decide.Goals as goal
 
 pub shown-requires : goal.shown-requires

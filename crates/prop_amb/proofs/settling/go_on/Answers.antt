@@ -1,7 +1,7 @@
 use Rattle.std.proofs.Common.{◌≡◌}
 use Rattle.prop_numbers.specs.Sets.{set_of}
 use Rattle.prop_amb.specs.Resolving.{IsReason}
-use Rattle.prop_amb.specs.inner.Stepping.{MayStep}
+use Rattle.prop_amb.specs.inner.Refuting.{MayStep}
 use Rattle.prop_amb.proofs.settling.go_on.Goals as goal
 
 pub advance-requires-clause-may : goal.advance-requires-clause-may

@@ -9,7 +9,7 @@ use Rattle.prop_amb.specs.declared.outcome.Outcome.TheVariants.{Settled, Unsettl
 use Rattle.prop_scheduler.specs.declared.outcome.Ended.{Ended}
 use Rattle.prop_scheduler.specs.declared.outcome.Run.TheVariants.{Quiet, Spent}
 use Rattle.prop_scheduler.specs.Ends.{IfClash}
-use Rattle.prop_amb.specs.inner.Stepping.{IsRefuting}
+use Rattle.prop_amb.specs.inner.Refuting.{IsRefuting}
 use Rattle.prop_amb.specs.inner.Trying.{Attempted}
 use Rattle.prop_amb.proofs.Blocked.{kept_block}
 use Rattle.prop_amb.proofs.OnWay.{OnTry}

@@ -2,7 +2,7 @@ use Rattle.std.proofs.Common.{◌≡◌, sym, true, false}
 use Rattle.prop_numbers.specs.Sets.{set_of, is_within}
 use Rattle.prop_numbers.proofs.WithinLemmas.{within_from}
 use Rattle.prop_amb.proofs.SearchLaws.{both}
-use Rattle.prop_amb.proofs.SteppingLaws.{here_of, next_of, step_here, may_here, blamed_here, nogood_here, step_next}
+use Rattle.prop_amb.proofs.RefutingLaws.{here_of, next_of, step_here, may_here, blamed_here, nogood_here, step_next}
 use Rattle.prop_amb.proofs.settling.shown.Goals as goal
 
 pub resolve-requires : goal.resolve-requires
@@ -12,32 +12,32 @@ resolve-requires c =
     let here = here_of c.args.search.now c.args.nogood c.requires within in
     record { believed = here.believed }
 
-pub returns-in_ok-shown-clause-step : goal.returns-in_ok-shown-clause-step
-returns-in_ok-shown-clause-step c =
+pub returns-then-believes-clause-step : goal.returns-then-believes-clause-step
+returns-then-believes-clause-step c =
     let within : is_within (set_of c.args.search.now.worldview) c.args.nogood ≡ true =
     sym (rw c.worldview.ensures.same at c.if-believes.ensures) in
     let here = here_of c.args.search.now c.args.nogood c.requires within in
     step_here c.args.search.now c.args.nogood c.in_ok-shown.shown c.worldview.ensures.stand here
     c.in_ok-shown.ensures.may c.in_ok-shown.ensures.below c.in_ok-shown.ensures.culprits
 
-pub returns-in_ok-shown-clause-met : goal.returns-in_ok-shown-clause-met
-returns-in_ok-shown-clause-met c = λ _.
+pub returns-then-believes-clause-met : goal.returns-then-believes-clause-met
+returns-then-believes-clause-met c = λ _.
     let within : is_within (set_of c.args.search.now.worldview) c.args.nogood ≡ true =
     sym (rw c.worldview.ensures.same at c.if-believes.ensures) in
     let here = here_of c.args.search.now c.args.nogood c.requires within in
     may_here c.args.search.now c.args.nogood c.in_ok-shown.shown c.worldview.ensures.stand here
     c.in_ok-shown.ensures.may
 
-pub returns-in_ok-shown-clause-blamed : goal.returns-in_ok-shown-clause-blamed
-returns-in_ok-shown-clause-blamed c =
+pub returns-then-believes-clause-blamed : goal.returns-then-believes-clause-blamed
+returns-then-believes-clause-blamed c =
     let within : is_within (set_of c.args.search.now.worldview) c.args.nogood ≡ true =
     sym (rw c.worldview.ensures.same at c.if-believes.ensures) in
     let here = here_of c.args.search.now c.args.nogood c.requires within in
     blamed_here c.args.search.now c.args.nogood c.in_ok-shown.shown c.worldview.ensures.stand here
     c.in_ok-shown.ensures.culprits
 
-pub returns-in_ok-shown-clause-resolved : goal.returns-in_ok-shown-clause-resolved
-returns-in_ok-shown-clause-resolved c problem h =
+pub returns-then-believes-clause-resolved : goal.returns-then-believes-clause-resolved
+returns-then-believes-clause-resolved c problem h =
     let within : is_within (set_of c.args.search.now.worldview) c.args.nogood ≡ true =
     sym (rw c.worldview.ensures.same at c.if-believes.ensures) in
     let here = here_of c.args.search.now c.args.nogood c.requires within in

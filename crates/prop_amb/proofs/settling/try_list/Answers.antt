@@ -7,7 +7,7 @@ use Rattle.prop_amb.specs.inner.Trying.{Attempted}
 use Rattle.prop_amb.proofs.OnWay.{AtLevel}
 use Rattle.prop_amb.proofs.SettlingLaws.{search_from}
 use Rattle.prop_amb.proofs.DeepeningLaws.{at_level, at_first, list_tried, ahead_tried, deepened_on}
-use Rattle.prop_amb.proofs.SteppingLaws.{clash_refutes}
+use Rattle.prop_amb.proofs.RefutingLaws.{clash_refutes}
 use Rattle.prop_amb.proofs.settling.try_list.Goals as goal
 
 pub loop-tried-init : goal.loop-tried-init
@@ -227,4 +227,4 @@ returns-in_default-clause-refuted g c =
     c.loop-tried.live.network.cells) c.attempt.new.search _ c.in_ok-tried.tried.end c.in_ok-tried.ensures.refuted
 
 pub returns-in-Some-clause-refuted : goal.returns-in-Some-clause-refuted
-returns-in-Some-clause-refuted g c = inr c.in-Some.ensures
+returns-in-Some-clause-refuted g c = inr (rw c.in-Some.is at c.in_ok-nogood-in-Quiet.ensures)

@@ -16,7 +16,7 @@ use Rattle.prop_scheduler.specs.Ends.{IfClash}
 use Rattle.prop_scheduler.specs.declared.outcome.Run.{Run}
 use Rattle.prop_scheduler.specs.declared.outcome.Run.TheVariants.{Quiet, Spent, Clash}
 use Rattle.prop_amb.specs.inner.Settling.{IsMet}
-use Rattle.prop_amb.specs.inner.Stepping.{IsHere, IsNext, IsFound, IsRefuting, MayStep, IfStep, IfRuledOut}
+use Rattle.prop_amb.specs.inner.Refuting.{IsHere, IsNext, IsFound, IsRefuting, MayStep, IfStep, IfRuledOut}
 use Rattle.prop_amb.proofs.DecidingLaws.{may_move, goes_later, goes_past}
 use Rattle.prop_amb.proofs.SearchLaws.{both}
 
