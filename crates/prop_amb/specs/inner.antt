@@ -1,3 +1,4 @@
 pub mod Joined
+pub mod Refuting
 pub mod Settling
 pub mod Trying
