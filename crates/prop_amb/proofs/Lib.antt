@@ -32,4 +32,5 @@ pub mod SettlingLaws
 pub mod Shown
 pub mod SkippingLaws
 pub mod StandLaws
+pub mod SteppingLaws
 pub mod ZipLemmas

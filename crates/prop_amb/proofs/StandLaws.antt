@@ -6,7 +6,7 @@ use Rattle.prop_premises.specs.ChoiceLists.{is_hypothetical}
 use Rattle.prop_amb.specs.Search.{Stand, IsStand, users_of, choices_in, reason_at}
 use Rattle.prop_amb.proofs.ZipLemmas.{zip_at, index_at}
 
-believed_user : (os : List Origin) (p : ℕ) → IsTrue (believed_in os p) → IsTrue (is_user_at os p)
+pub believed_user : (os : List Origin) (p : ℕ) → IsTrue (believed_in os p) → IsTrue (is_user_at os p)
 believed_user [] p h = cc
 believed_user (User name believed ∷ os) zero h = refl
 believed_user (Side name side sides ∷ os) zero h = cc

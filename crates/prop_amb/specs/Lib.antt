@@ -6,4 +6,5 @@ pub mod Refuted
 pub mod Resolving
 pub mod Search
 pub mod Settling
+pub mod Stepping
 pub mod inner

@@ -1,6 +1,6 @@
 -- The cells that have a name.
 use Rattle.std.specs.Prelude.{ℕ, ◌-◌, List, [], ◌∷◌, ◌++◌, Bool, Option, length, map, take, is_none}
-use Rattle.std.specs.Prelude.{slice_get, unwrap_or}
+use Rattle.std.specs.Prelude.{slice_get, unwrap_or, position, ◌==◌}
 use Rattle.std.specs.List.{list_any}
 use Rattle.std.specs.Option.{option_and_then}
 use Rattle.prop_vocabulary.specs.Names.{number_in}
@@ -16,6 +16,10 @@ no_cell_names = record { names = []; cells = [] }
 -- the number of the cell with the name
 abbrev pub cell_named : CellNames → List ℕ → Option ℕ
 cell_named c name = option_and_then (λ n. slice_get c.cells n) (number_in c.names name)
+
+-- the name of the cell of this number, of several the first
+abbrev pub name_at : CellNames → ℕ → Option (List ℕ)
+name_at c cell = option_and_then (λ n. slice_get c.names n) (position (λ x. x == cell) c.cells)
 
 -- the numbers of the cells with these names, 0 where there is none
 abbrev pub cells_named : CellNames → List (List ℕ) → List ℕ

@@ -1,8 +1,8 @@
 //! The names of cells. A cell may have none.
-ghost use Rattle.std.specs.Prelude.{◌≡◌, ◌∷◌, [], ℕ, map, length, is_none, unwrap_or, None, OnOk};
-ghost use Rattle.std.specs.Prelude.{OnErr, IfOk, IfSome, Contains};
+ghost use Rattle.std.specs.Prelude.{◌≡◌, ◌∷◌, ◌<◌, ◌==◌, [], ℕ, map, length, is_none, unwrap_or};
+ghost use Rattle.std.specs.Prelude.{None, Some, OnOk, OnErr, IfOk, IfSome, Contains, position};
 ghost use Rattle.std.specs.List.{list_any};
-ghost use Rattle.prop_vocabulary.specs.Cells.{no_cell_names, cell_named, cells_named};
+ghost use Rattle.prop_vocabulary.specs.Cells.{no_cell_names, cell_named, cells_named, name_at};
 ghost use Rattle.prop_vocabulary.specs.Cells.{is_cell_missing, with_cell_name};
 ghost use Rattle.prop_vocabulary.specs.Cells.{without_last_cell_name};
 
@@ -46,6 +46,27 @@ impl CellNames {
     {
         let number = self.names.find(name)?;
         self.cells.get(number).copied()
+    }
+
+    /// The name of the cell with this number, of several the first. It looks at each name.
+    pub fn name_of(&self, cell: usize) -> Option<&str>
+        ensures some { IfSome result (λ name. name_at self.now cell ≡ Some name.now) }
+        ensures none { result ≡ None → name_at self.now cell ≡ None }
+    {
+        let number = self.place_of(cell)?;
+        Some(self.names.name(number))
+    }
+
+    /// The place of the cell among those that have a name.
+    fn place_of(&self, cell: usize) -> Option<usize>
+        ensures place { result ≡ position (λ c. c == cell) self.now.cells }
+        ensures within { IfSome result (λ n. n < length self.now.names) }
+    {
+        self.cells.iter().position(
+            |c: &usize| -> bool
+                ensures { result ≡ c.now == cell }
+            { *c == cell },
+        )
     }
 
     /// Whether one of the words names no cell.

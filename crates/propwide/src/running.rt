@@ -66,5 +66,5 @@ pub fn run<Rd: Read, W: Write>(
             call,
         ))?;
     }
-    prop_program::run(alloc, procedures, &prelude, options, devices)
+    prop_telling::run(alloc, procedures, &prelude, options, devices)
 }

@@ -1,0 +1,91 @@
+-- One step of settling.
+use Rattle.std.proofs.Common.{◌≡◌, ◌∙◌, ℕ, zero, suc, ◌<◌, ◌≤◌, ◌||◌, ◌==◌, IsTrue, false, List, [], ◌∷◌, All, length}
+use Rattle.std.proofs.Common.{take, get_or, slice_get, Some, true, refl, sym, inl, inr}
+use Rattle.std.proofs.lemmas.Bool.{cases_eq, or_cases, eqb-true, eq-eqb}
+use Rattle.std.proofs.lemmas.List.Folds.{list_any_at}
+use Rattle.prop_numbers.specs.Sets.{Members, set_of}
+use Rattle.prop_premises.specs.declared.choice.Choice.{Choice}
+use Rattle.prop_premises.specs.ChoiceLists.{hypothetical, hypotheticals_of, is_hypothetical, is_side_of, IsChoiceList}
+use Rattle.prop_premises.proofs.OriginLemmas.{in_range}
+use Rattle.prop_cells.specs.Problems.{Problem}
+use Rattle.prop_nogoods.specs.Stores.{has_part}
+use Rattle.prop_nogoods.proofs.StoreLaws.{has_part-from}
+use Rattle.prop_amb.specs.Search.{Stand, IsStand, users_of, choices_in, IsKept}
+use Rattle.prop_procedures.specs.Stored.{Stored}
+use Rattle.prop_cells.specs.Data.{Data}
+use Rattle.prop_amb.specs.Going.{Work, work, MayCall, MayGoOn}
+use Rattle.prop_amb.specs.Stepping.{IsStepTo}
+use Rattle.prop_amb.specs.inner.Stepping.{IsMove}
+use Rattle.prop_amb.specs.declared.stepping.Step.{Step}
+use Rattle.prop_amb.specs.declared.stepping.Step.TheVariants.{Called, Moved, Settled, Contradiction}
+use Rattle.prop_amb.proofs.SearchLaws.{both, or_true_left, or_true_right}
+use Rattle.prop_amb.proofs.LookingLaws.{its_side, is_its_side}
+use Rattle.prop_amb.proofs.StandLaws.{believed_user}
+
+-- where a step may be taken and no noted nogood is believed, it is a call
+pub may_call : {O : Type 0} (w : Work O) → IsStand w.search
+    → has_part w.search.listed (set_of w.search.worldview) ≡ false → MayGoOn w → MayCall w
+may_call w stand unblocked (inl call) = call
+may_call w stand unblocked (inr (j, may)) =
+    absurd (both (has_part-from w.search.listed (set_of w.search.worldview) may.nogood may.noted
+    (λ p t. stand.believes p ∙ may.believed p t)) unblocked)
+
+-- what the first choices take, all do
+first_taken : (cs : List Choice) (l : List ℕ) (n p : ℕ) → IsTrue (hypotheticals_of (take n cs) (take n l) p)
+    → IsTrue (hypotheticals_of cs l p)
+first_taken cs l zero p t = absurd (both t refl)
+first_taken [] l (suc n) p t = absurd (both t refl)
+first_taken (c ∷ cs) [] (suc n) p t = absurd (both t refl)
+first_taken (c ∷ cs) (s ∷ l) (suc n) p t =
+    elim (or_cases (hypothetical c s == p) (hypotheticals_of (take n cs) (take n l) p) t) [
+      | inl e ↦ or_true_left (hypothetical c s == p) (hypotheticals_of cs l p) e
+      | inr e ↦ or_true_right (hypothetical c s == p) (hypotheticals_of cs l p) (first_taken cs l n p e)
+    ]
+
+-- and what is taken is a side
+taken_is_side : (cs : List Choice) (l : List ℕ) (p : ℕ) → IsChoiceList cs l → IsTrue (hypotheticals_of cs l p)
+    → IsTrue (is_hypothetical cs p)
+taken_is_side [] l p h t = absurd (both t refl)
+taken_is_side (c ∷ cs) [] p h t = absurd h
+taken_is_side (c ∷ cs) (s ∷ l) p h t =
+    elim (or_cases (hypothetical c s == p) (hypotheticals_of cs l p) t) [
+      | inl e ↦ rw (← eqb-true (hypothetical c s) p e) (its_side (c ∷ cs) 0 c s refl h.0)
+      | inr e ↦ or_true_right (is_side_of c p) (is_hypothetical cs p) (taken_is_side cs l p h.1 e)
+    ]
+
+set_has : (ps : List ℕ) (k d : ℕ) → k < length ps → set_of ps (get_or ps k d) ≡ true
+set_has ps k d l = list_any_at (λ q. q == get_or ps k d) ps k d l (eq-eqb (get_or ps k d) (get_or ps k d) refl)
+
+-- the premises of a reason are there
+pub reason_known : (problem : Problem) (s : Stand) (j : ℕ) (choice : Choice) (side : ℕ) (reason : List ℕ) → IsStand s
+    → slice_get (choices_in s) j ≡ Some choice → slice_get s.list j ≡ Some side
+    → IsKept problem s j choice side (set_of reason) → All (λ p. p < length s.premises) reason
+reason_known problem s j choice side reason stand choice_at side_at kept =
+    λ k d l. known (get_or reason k d) (set_has reason k d l)
+  where
+    here : IsTrue (is_hypothetical (choices_in s) (hypothetical choice side))
+    here = its_side (choices_in s) j choice side choice_at (is_its_side s j choice side (record {
+      stand = stand;
+      choice_at = choice_at;
+      side_at = side_at;
+    }))
+
+    known : (p : ℕ) → IsTrue (set_of reason p) → p < length s.premises
+    known p t = elim (cases_eq p (hypothetical choice side)) [
+      | inl e ↦ rw e (stand.numbered.below (hypothetical choice side) here)
+      | inr n ↦ elim (kept.beside p t n) [
+        | inl u ↦ in_range s.premises p (believed_user s.premises p u)
+        | inr h ↦ stand.numbered.below p (taken_is_side (choices_in s) s.list p stand.is_list
+            (first_taken (choices_in s) s.list j p h))
+      ]
+    ]
+
+-- a step that is no call, with the order in which instances are called
+pub move_to : {O : Type 0} (picks : O → ℕ → ℕ → O → Type 0) (library : List Stored) (problem : Problem) (s new : Stand)
+    (d : Data) (line after : List ℕ) (order : O) (step : Step) → IsMove problem s d line step new after
+    → IsStepTo picks library problem (work s d line order) step (work new d after order)
+move_to picks library problem s new d line after order (Moved m) (moved, shifted) = (moved, refl, refl, shifted)
+move_to picks library problem s new d line after order (Contradiction n) (same, idle, out, blamed) =
+    ((λ i. work (same i) d (idle i) order), out, blamed)
+move_to picks library problem s new d line after order (Called i) h = absurd h
+move_to picks library problem s new d line after order Settled h = absurd h

@@ -1,0 +1,58 @@
+-- One step of settling, told.
+use Rattle.std.specs.Prelude.{◌≡◌, ◌<◌, ℕ, ◌+◌, List, All, length}
+use Rattle.prop_numbers.specs.Sets.{set_of}
+use Rattle.prop_premises.specs.ChoiceLists.{hypothetical}
+use Rattle.prop_procedures.specs.Stored.{Stored}
+use Rattle.prop_cells.specs.Problems.{Problem}
+use Rattle.prop_scheduler.specs.Shifts.{AreShifted}
+use Rattle.prop_scheduler.specs.Turns.{CallsNext}
+use Rattle.prop_amb.specs.Search.{Stand, users_of, choices_in, believed_with}
+use Rattle.prop_amb.specs.Moving.{advanced, reasons_advanced}
+use Rattle.prop_amb.specs.Culprits.{MayMove, AreCulprits, IsBlamed}
+use Rattle.prop_amb.specs.Refuted.{IsRuledOut}
+use Rattle.prop_amb.specs.Settling.{HasSettled}
+use Rattle.prop_amb.specs.Going.{Work, MayCall, Goes}
+use Rattle.prop_amb.specs.declared.stepping.Move.{Move}
+use Rattle.prop_amb.specs.declared.stepping.Step.{Step}
+use Rattle.prop_amb.specs.declared.stepping.Step.TheVariants.{Called, Moved, Settled, Contradiction}
+
+-- The choice at the place went to its next side, for a noted nogood that is believed, and the later
+-- ones to their first. The set that is told is the reason that is kept against the side that it
+-- left, and what was believed is what is told of that.
+pub record HasMoved (s later : Stand) (m : Move) : Type 0 where
+  pub may : MayMove s m.place
+  pub side_is : m.side ≡ hypothetical may.leaves.may.choice may.leaves.may.side
+  pub culprits : AreCulprits s may.nogood (set_of m.nogood)
+  pub known : All (λ p. p < length s.premises) m.nogood
+  pub later_is : later ≡ record s {
+    list = advanced s.list m.place;
+    level = m.place + 1;
+    reasons = reasons_advanced s.reasons m.place m.nogood;
+    worldview = later.worldview;
+  }
+  pub before_is : m.before ≡ s.worldview
+
+-- from one work to another by the step that is told; where none is left both are one
+abbrev pub IsStepTo : {O : Type 0} → (O → ℕ → ℕ → O → Type 0) → List Stored → Problem → Work O
+    → Step → Work O → Type 0
+IsStepTo picks library problem w (Called i) v =
+    MayCall w × (v.search ≡ w.search)
+    × CallsNext picks library (believed_with w.search) i w.cells w.line w.order v.cells v.line
+    v.order
+IsStepTo picks library problem w (Moved m) v =
+    HasMoved w.search v.search m × (v.cells ≡ w.cells) × (v.order ≡ w.order)
+    × AreShifted (believed_with w.search) (believed_with v.search) w.cells (length w.cells.kinds)
+    w.line v.line
+IsStepTo picks library problem w Settled v =
+    (v ≡ w) × HasSettled library problem w.search w.cells w.line
+IsStepTo picks library problem w (Contradiction n) v =
+    (v ≡ w)
+    × IsRuledOut problem (users_of w.search) (choices_in w.search) w.search.listed (set_of n)
+    × IsBlamed w.search (set_of n)
+
+-- what takes no step is done first, and then the step that is told
+pub record Steps {O : Type 0} (picks : O → ℕ → ℕ → O → Type 0) (library : List Stored)
+    (problem : Problem) (old : Work O) (step : Step) (new : Work O) : Type 0 where
+  pub ready : Work O
+  pub readied : Goes picks library old 0 ready
+  pub taken : IsStepTo picks library problem ready step new

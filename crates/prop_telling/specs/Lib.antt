@@ -1,0 +1,6 @@
+pub mod Asking
+pub mod Texts
+pub mod Telling
+pub mod Answering
+pub mod inner
+pub mod laws

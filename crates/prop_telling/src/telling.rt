@@ -1,0 +1,169 @@
+//! A session that tells what it does.
+ghost use Rattle.std.specs.Prelude.{◌≡◌};
+
+use crate::asking::is_step;
+use crate::texts::{call_text, cell_text, push_label, sides_text};
+use prop_amb::{Move, Step};
+use prop_engine::Reply;
+use prop_premises::{PremiseSet, Worldview};
+use prop_procedures::Rule;
+use prop_refusals::Refusal;
+use prop_scheduler::Order;
+use prop_texts::{because, print_set};
+use prop_workbench::Session;
+use std::alloc::{AllocError, Global};
+
+/// A session that tells what it does.
+#[derive(Drop)]
+pub struct Teller<R, O> {
+    session: Session<R, O>,
+}
+
+impl<R: Rule + Drop, O: Order + Drop> Teller<R, O> {
+    ghost use Rattle.std.specs.Prelude.{◌≡◌, ◌<◌, ◌+◌, ◌++◌, length, codes, All, IfOk};
+    ghost use Rattle.std.specs.Prelude.{string_bytes};
+    ghost use Rattle.prop_numbers.specs.Sets.{set_of};
+    ghost use Rattle.prop_engine.specs.Answers.{answer_of};
+    ghost use Rattle.prop_texts.specs.Texts.{support_text, contradiction_text};
+    ghost use Rattle.prop_workbench.specs.Engine.{standing_of};
+    ghost use Rattle.prop_workbench.specs.Sessions.{library_of, state_of, work_of, IsSound, IsMeant};
+    ghost use Rattle.prop_telling.specs.Telling.{telling, TellsStep, SaysStep, SaysCall, SaysValue};
+    ghost use Rattle.prop_telling.specs.Texts.{moved_text, sides_text, two_lines, three_lines};
+    ghost use Rattle.prop_telling.specs.inner.Telling.{IsNamed};
+
+    /// A teller of a session.
+    pub fn new(session: Session<R, O>) -> Teller<R, O>
+        ensures { result.session ≡ session }
+    {
+        Teller { session }
+    }
+
+    /// Carries out a line: one of its own, or as its session does.
+    pub fn command(&mut self, line: &[u8]) -> Reply
+        requires means { IsMeant R.value_of self.old.session }
+        requires sound { IsSound R.value_of self.old.session }
+        ensures same { self.new.session.live.network.library ≡ self.old.session.live.network.library }
+        ensures sound { IsSound R.value_of self.new.session }
+        ensures tells { telling O.picks (library_of R.value_of self.old.session)
+            (standing_of self.old.session) line.now (answer_of result)
+            (standing_of self.new.session) }
+    {
+        if is_step(line) {
+            return self.step();
+        }
+        self.session.command(line)
+    }
+
+    /// Takes one step of a run and tells it.
+    fn step(&mut self) -> Reply
+        requires means { IsMeant R.value_of self.old.session }
+        requires sound { IsSound R.value_of self.old.session }
+        ensures same { self.new.session.live.network.library ≡ self.old.session.live.network.library }
+        ensures sound { IsSound R.value_of self.new.session }
+        ensures tells { TellsStep O.picks (library_of R.value_of self.old.session)
+            (standing_of self.old.session) (answer_of result) (standing_of self.new.session) }
+    {
+        match self.session.step() {
+            Ok(step) => Reply::saying(self.told(&step)),
+            Err(AllocError) => Reply::Refused(Refusal::Memory),
+        }
+    }
+
+    /// What is said of a step that was taken.
+    fn told(&self, step: &Step) -> Result<String, AllocError>
+        requires sound { IsSound R.value_of self.now.session }
+        requires named { IsNamed (work_of self.now.session) step.now }
+        ensures { IfOk result (λ text. SaysStep (library_of R.value_of self.now.session)
+            (state_of self.now.session) (work_of self.now.session) step.now (string_bytes text)) }
+    {
+        match step {
+            Step::Called(called) => self.call(*called),
+            Step::Moved(by) => self.moved(by),
+            Step::Settled => self.end("settled"),
+            Step::Contradiction(premises) => self.contradiction(premises),
+        }
+    }
+
+    /// What is said of a call.
+    fn call(&self, called: usize) -> Result<String, AllocError>
+        requires sound { IsSound R.value_of self.now.session }
+        requires called { called < length self.now.session.live.network.cells.instances }
+        ensures { IfOk result (λ text. SaysCall (library_of R.value_of self.now.session)
+            (state_of self.now.session) (work_of self.now.session) called (string_bytes text)) }
+    {
+        let alloc = self.session.alloc();
+        let network = self.session.live().network();
+        let sides = self.sides(self.session.search().worldview())?;
+        let call = call_text(alloc, self.session.names(), network, called)?;
+        let value = self.value(network.output(called))?;
+        format!(in alloc; "step 3\nsides:{sides}\n{call}\n{value}")
+    }
+
+    /// What is believed of a cell, and why.
+    fn value(&self, cell: usize) -> Result<String, AllocError>
+        requires sound { IsSound R.value_of self.now.session }
+        requires cell { cell < length self.now.session.live.network.cells.kinds }
+        ensures { IfOk result (λ text. SaysValue (state_of self.now.session)
+            (work_of self.now.session) cell (string_bytes text)) }
+    {
+        let alloc = self.session.alloc();
+        let network = self.session.live().network();
+        let why = network.explanation(cell, self.session.search().worldview())?;
+        let name = cell_text(alloc, self.session.names(), cell)?;
+        let kind = network.data().kind(cell).kind;
+        let value = self.session.words().print_value(alloc, kind, why.value)?;
+        let because = because(alloc, self.session.search().premises(), "", &why.support)?;
+        format!(in alloc; "{name} = {value}{because}")
+    }
+
+    /// The sides that are believed in a worldview.
+    fn sides(&self, worldview: &Worldview) -> Result<String, AllocError>
+        ensures { IfOk result (λ text. string_bytes text ≡ sides_text
+            self.now.session.search.premises (set_of worldview.now)) }
+    {
+        sides_text(self.session.alloc(), self.session.search().premises(), worldview)
+    }
+
+    /// What is said of a move.
+    fn moved(&self, by: &Move) -> Result<String, AllocError>
+        requires side { by.now.side + 1 < length self.now.session.search.premises }
+        requires known { All (λ p. p < length self.now.session.search.premises) by.now.nogood }
+        ensures { IfOk result (λ text. string_bytes text ≡ three_lines
+            (sides_text self.now.session.search.premises (set_of by.now.before))
+            (codes "moved:" ++ moved_text self.now.session.search.premises by.now.side)
+            (codes "nogood:" ++ support_text self.now.session.search.premises by.now.nogood)) }
+    {
+        let alloc = self.session.alloc();
+        let premises = self.session.search().premises();
+        let sides = self.sides(&by.before)?;
+        let mut labels = String::new(alloc);
+        push_label(&mut labels, premises, by.side)?;
+        push_label(&mut labels, premises, by.side + 1)?;
+        let nogood = print_set(alloc, premises, &by.nogood)?;
+        format!(in alloc; "step 3\nsides:{sides}\nmoved:{labels}\nnogood:{nogood}")
+    }
+
+    /// What is said where no step is left, and every list is refuted.
+    fn contradiction(&self, premises: &PremiseSet) -> Result<String, AllocError>
+        requires { All (λ p. p < length self.now.session.search.premises) premises.now }
+        ensures { IfOk result (λ text. string_bytes text ≡ two_lines
+            (sides_text self.now.session.search.premises
+            (set_of self.now.session.search.worldview))
+            (contradiction_text self.now.session.search.premises premises.now)) }
+    {
+        let alloc = self.session.alloc();
+        let names = print_set(alloc, self.session.search().premises(), premises)?;
+        let end = format!(in alloc; "contradiction:{names}")?;
+        self.end(&end)
+    }
+
+    /// What is said where no step is left.
+    fn end(&self, end: &str) -> Result<String, AllocError>
+        ensures { IfOk result (λ text. string_bytes text ≡ two_lines
+            (sides_text self.now.session.search.premises
+            (set_of self.now.session.search.worldview)) end.now) }
+    {
+        let sides = self.sides(self.session.search().worldview())?;
+        format!(in self.session.alloc(); "step 2\nsides:{sides}\n{end}")
+    }
+}

@@ -1,0 +1,114 @@
+//! The texts of what is told. Each is the text that the specs state, or memory was refused.
+ghost use Rattle.std.specs.Prelude.{◌≡◌, ◌<◌, ◌++◌, ◌∷◌, ◌&&◌, is_some, IfOk, OnOk, length};
+ghost use Rattle.std.specs.Prelude.{string_bytes, Some, slice_get};
+ghost use Rattle.prop_numbers.specs.Sets.{set_of};
+ghost use Rattle.prop_premises.specs.Origins.{side_at};
+ghost use Rattle.prop_procedures.specs.Kept.{stored_of};
+ghost use Rattle.prop_cells.specs.Data.{IsKept};
+ghost use Rattle.prop_cells.specs.Instances.{Instance as InstanceOf};
+ghost use Rattle.prop_texts.specs.Texts.{label_at};
+ghost use Rattle.prop_telling.specs.Texts.{cell_text, cells_text, call_text, sides_text};
+
+use prop_cells::Network;
+use prop_premises::{Premise, Premises, Worldview};
+use prop_procedures::Rule;
+use prop_vocabulary::CellNames;
+use std::alloc::{AllocError, Global};
+use std::fmt::Write;
+
+/// Writes a space and the cell behind the text: its name, or `#` and its number.
+fn push_cell(text: &mut String, names: &CellNames, cell: usize) -> Result<(), AllocError>
+    ensures { OnOk result (string_bytes text.new ≡ string_bytes
+        text.old ++ (32 ∷ cell_text names.now cell)) }
+{
+    match names.name_of(cell) {
+        Some(name) => write!(text, " {name}"),
+        None => write!(text, " #{cell}"),
+    }
+}
+
+/// The cells, each with one space before it.
+fn cells_text(alloc: Global, names: &CellNames, cells: &[usize]) -> Result<String, AllocError>
+    ensures { IfOk result (λ text. string_bytes text ≡ cells_text names.now cells.now) }
+{
+    let mut text = String::new(alloc);
+    for cell in cells {
+        push_cell(&mut text, names, *cell)?;
+    }
+    Ok(text)
+}
+
+/// The cell's name, or `#` and its number.
+pub(crate) fn cell_text(alloc: Global, names: &CellNames, cell: usize) -> Result<String, AllocError>
+    ensures { IfOk result (λ text. string_bytes text ≡ cell_text names.now cell) }
+{
+    match names.name_of(cell) {
+        Some(name) => String::from_str(alloc, name),
+        None => format!(in alloc; "#{cell}"),
+    }
+}
+
+/// An instance by its number, with its procedure, its inputs and its output.
+pub(crate) fn call_text<R: Rule + Drop>(
+    alloc: Global,
+    names: &CellNames,
+    network: &Network<R>,
+    called: usize,
+) -> Result<String, AllocError>
+    requires called { called < length network.now.cells.instances }
+    requires kept { IsKept (stored_of R.value_of network.now.library) network.now.cells }
+    ensures { (x : InstanceOf) → slice_get network.now.cells.instances called ≡ Some x
+        → IfOk result (λ text. string_bytes text ≡ call_text names.now
+        (stored_of R.value_of network.now.library) called x) }
+{
+    let instance = network.data().instance(called);
+    let name = network.library().get(instance.procedure()).name();
+    let inputs = cells_text(alloc, names, instance.inputs())?;
+    let output = cell_text(alloc, names, instance.output())?;
+    format!(in alloc; "called: {called} {name}{inputs} {output}")
+}
+
+/// Writes a space and the label of a premise behind the text: a user's premise by its name, a side
+/// of a choice by the choice's name, `=` and the side's number.
+pub(crate) fn push_label(
+    text: &mut String,
+    premises: &Premises,
+    premise: Premise,
+) -> Result<(), AllocError>
+    requires { premise < length premises.now }
+    ensures { OnOk result (string_bytes text.new ≡ string_bytes
+        text.old ++ (32 ∷ label_at premises.now premise)) }
+{
+    let name = premises.name(premise);
+    match premises.side(premise) {
+        Some(side) => write!(text, " {name}={side}"),
+        None => write!(text, " {name}"),
+    }
+}
+
+/// Whether a premise is believed and a side of a choice.
+fn is_side_in(premises: &Premises, worldview: &Worldview, premise: Premise) -> bool
+    requires { premise < length premises.now }
+    ensures { result ≡ (set_of worldview.now premise && is_some (side_at premises.now premise)) }
+{
+    worldview.has(premise) && premises.side(premise).is_some()
+}
+
+/// The sides of choices that are believed, each with one space before it.
+pub(crate) fn sides_text(
+    alloc: Global,
+    premises: &Premises,
+    worldview: &Worldview,
+) -> Result<String, AllocError>
+    ensures { IfOk result (λ text.
+        string_bytes text ≡ sides_text premises.now (set_of worldview.now)) }
+{
+    let mut text = String::new(alloc);
+    for number in 0..premises.len() {
+        let premise = number as Premise;
+        if is_side_in(premises, worldview, premise) {
+            push_label(&mut text, premises, premise)?;
+        }
+    }
+    Ok(text)
+}
