@@ -1,14 +1,14 @@
 -- The move that follows where a noted nogood refutes a list.
 use Rattle.std.proofs.Common.{◌≡◌, ◌∙◌, ◌<◌, ℕ, List, Contains, true, false, IsTrue, sym, arith, inl, inr}
 use Rattle.std.proofs.lemmas.List.Elements.{All-contains}
-use Rattle.prop_numbers.specs.Sets.{set_of, is_within, IsPart}
+use Rattle.prop_numbers.specs.Sets.{set_of, is_within}
 use Rattle.prop_numbers.proofs.WithinLemmas.{within_has, within_from}
 use Rattle.prop_cells.specs.Problems.{Problem}
 use Rattle.prop_nogoods.specs.Stores.{has_part}
 use Rattle.prop_nogoods.proofs.StoreLaws.{has_part-from}
 use Rattle.prop_amb.specs.Refuted.{IsNogood}
 use Rattle.prop_amb.specs.Search.{Stand, IsStand, IsSearch, choices_in}
-use Rattle.prop_amb.specs.Resolving.{IsReason, IsResolved, IfAgainst, premises_of}
+use Rattle.prop_amb.specs.Resolving.{IfAgainst, premises_of}
 use Rattle.prop_amb.specs.declared.resolving.Resolved.{Resolved}
 use Rattle.prop_amb.specs.declared.resolving.Resolved.TheVariants.{Against, RuledOut}
 use Rattle.prop_amb.specs.Culprits.{AreCulprits, IsBlamed, MayLeave, MayMove}

@@ -1,10 +1,10 @@
 -- A choice of which no side is believed, where a noted nogood would be with the one on which it stands.
-use Rattle.std.proofs.Common.{◌≡◌, ◌∙◌, ◌+◌, ◌<◌, ◌==◌, ◌||◌, ℕ, Bool, true, false, List, [], ◌∷◌, length, refl, sym, subst}
+use Rattle.std.proofs.Common.{◌≡◌, ◌∙◌, ◌+◌, ◌<◌, ◌==◌, ℕ, Bool, true, false, List, [], ◌∷◌, length, refl, sym, subst}
 use Rattle.std.proofs.Common.{inl, inr, Contains, Some, slice_get}
 use Rattle.std.proofs.lemmas.Bool.{eqb-true, or_cases}
 use Rattle.std.proofs.lemmas.List.Elements.{All-contains}
-use Rattle.prop_numbers.specs.Sets.{Members, set_of, union, is_within, IsSame}
-use Rattle.prop_numbers.proofs.WithinLemmas.{within_has, within_from}
+use Rattle.prop_numbers.specs.Sets.{set_of, union, is_within, IsSame}
+use Rattle.prop_numbers.proofs.WithinLemmas.{within_has}
 use Rattle.prop_premises.specs.declared.choice.Choice.{Choice}
 use Rattle.prop_premises.specs.ChoiceLists.{hypothetical}
 use Rattle.prop_cells.specs.Problems.{Problem}

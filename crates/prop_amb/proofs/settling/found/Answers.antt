@@ -1,4 +1,4 @@
-use Rattle.std.proofs.Common.{◌≡◌, inl, inr}
+use Rattle.std.proofs.Common.{inl}
 use Rattle.prop_amb.proofs.RefutingLaws.{blocking_here}
 use Rattle.prop_amb.proofs.settling.found.Goals as goal
 

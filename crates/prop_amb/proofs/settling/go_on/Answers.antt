@@ -1,4 +1,3 @@
-use Rattle.std.proofs.Common.{◌≡◌}
 use Rattle.prop_numbers.specs.Sets.{set_of}
 use Rattle.prop_amb.specs.Resolving.{IsReason}
 use Rattle.prop_amb.specs.inner.Refuting.{MayStep}

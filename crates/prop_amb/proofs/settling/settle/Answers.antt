@@ -1,7 +1,7 @@
-use Rattle.std.proofs.Common.{◌≡◌, ◌∙◌, ℕ, ◌+◌, ◌-◌, ◌⊎◌, length, Option, Some, None, Result, Ok, Err, refl, sym, ap, subst}
+use Rattle.std.proofs.Common.{◌≡◌, ◌∙◌, ℕ, ◌+◌, ◌-◌, ◌⊎◌, Option, Some, None, Result, Ok, Err, refl, sym, ap, subst}
 use Rattle.std.proofs.Common.{inl, inr, arith}
 use Rattle.prop_procedures.specs.Kept.{stored_of}
-use Rattle.prop_cells.specs.Data.{Data, problem_of}
+use Rattle.prop_cells.specs.Data.{problem_of}
 use Rattle.prop_amb.specs.Search.{IsSearch}
 use Rattle.prop_amb.specs.Culprits.{MayMove}
 use Rattle.prop_amb.specs.declared.outcome.Outcome.{Outcome}

@@ -1,4 +1,4 @@
-use Rattle.std.proofs.Common.{◌≢◌, ◌∙◌, ◌+◌, ◌<◌, IsTrue, ℕ, length, sym, arith}
+use Rattle.std.proofs.Common.{◌≢◌, ◌∙◌, ◌<◌, IsTrue, ℕ, length, sym, arith}
 use Rattle.std.proofs.lemmas.Bool.{false≢true}
 use Rattle.prop_premises.specs.ChoiceLists.{is_hypothetical}
 use Rattle.prop_amb.specs.contracts.search.Search.{the_view}
