@@ -1,6 +1,7 @@
 -- One step of settling.
 use Rattle.std.proofs.Common.{◌≡◌, ◌∙◌, ℕ, zero, suc, ◌<◌, ◌≤◌, ◌||◌, ◌==◌, IsTrue, false, List, [], ◌∷◌, All, length}
-use Rattle.std.proofs.Common.{take, get_or, slice_get, Some, true, refl, sym, inl, inr}
+use Rattle.std.proofs.Common.{take, get_or, slice_get, Some, true, refl, sym, ap, subst, inl, inr}
+use Rattle.std.proofs.Common.{◌+◌, ◌-◌}
 use Rattle.std.proofs.lemmas.Bool.{cases_eq, or_cases, eqb-true, eq-eqb}
 use Rattle.std.proofs.lemmas.List.Folds.{list_any_at}
 use Rattle.prop_numbers.specs.Sets.{Members, set_of}
@@ -14,7 +15,10 @@ use Rattle.prop_amb.specs.Search.{Stand, IsStand, users_of, choices_in, IsKept}
 use Rattle.prop_procedures.specs.Stored.{Stored}
 use Rattle.prop_cells.specs.Data.{Data}
 use Rattle.prop_amb.specs.Going.{Work, work, MayCall, MayGoOn}
-use Rattle.prop_amb.specs.Stepping.{IsStepTo}
+use Rattle.prop_amb.specs.Culprits.{MayMove, AreCulprits}
+use Rattle.prop_amb.specs.Moving.{advanced, reasons_advanced}
+use Rattle.prop_amb.specs.Stepping.{IsStepTo, HasMoved}
+use Rattle.prop_amb.specs.declared.stepping.Move.{Move}
 use Rattle.prop_amb.specs.inner.Stepping.{IsMove}
 use Rattle.prop_amb.specs.declared.stepping.Step.{Step}
 use Rattle.prop_amb.specs.declared.stepping.Step.TheVariants.{Called, Moved, Settled, Contradiction}
@@ -49,7 +53,8 @@ taken_is_side [] l p h t = absurd (both t refl)
 taken_is_side (c ∷ cs) [] p h t = absurd h
 taken_is_side (c ∷ cs) (s ∷ l) p h t =
     elim (or_cases (hypothetical c s == p) (hypotheticals_of cs l p) t) [
-      | inl e ↦ rw (← eqb-true (hypothetical c s) p e) (its_side (c ∷ cs) 0 c s refl h.0)
+      | inl e ↦ subst (λ (q : ℕ). IsTrue (is_hypothetical (c ∷ cs) q)) (eqb-true (hypothetical c s) p e)
+          (its_side (c ∷ cs) 0 c s refl h.0)
       | inr e ↦ or_true_right (is_side_of c p) (is_hypothetical cs p) (taken_is_side cs l p h.1 e)
     ]
 
@@ -89,3 +94,34 @@ move_to picks library problem s new d line after order (Contradiction n) (same, 
     ((λ i. work (same i) d (idle i) order), out, blamed)
 move_to picks library problem s new d line after order (Called i) h = absurd h
 move_to picks library problem s new d line after order Settled h = absurd h
+
+-- one side of one choice
+pub same_side : (c d : Choice) (a b n : ℕ) → n ≡ a - 1 → c ≡ d → a ≡ b → c.first + n ≡ hypothetical d b
+same_side c d a b n one same side = ap (λ m. c.first + m) one ∙ (λ i. hypothetical (same i) (side i))
+
+-- a choice moved, and what is told of that
+pub has_moved : (s new : Stand) (m : Move) (reason : List ℕ) → (may : MayMove s m.place)
+    → m.side ≡ hypothetical may.leaves.may.choice may.leaves.may.side
+    → AreCulprits s may.nogood (set_of reason) → m.nogood ≡ reason
+    → All (λ p. p < length s.premises) reason
+    → new.premises ≡ s.premises → new.listed ≡ s.listed → new.list ≡ advanced s.list m.place
+    → new.level ≡ m.place + 1 → new.reasons ≡ reasons_advanced s.reasons m.place reason
+    → m.before ≡ s.worldview → HasMoved s new m
+has_moved s new m reason may side culprits same known premises listed list level reasons before =
+    let kept : new.reasons ≡ reasons_advanced s.reasons m.place m.nogood =
+    reasons ∙ ap (λ n. reasons_advanced s.reasons m.place n) (sym same) in
+    record {
+      may = may;
+      side_is = side;
+      culprits = subst (λ (n : List ℕ). AreCulprits s may.nogood (set_of n)) (sym same) culprits;
+      known = subst (λ (n : List ℕ). All (λ p. p < length s.premises) n) (sym same) known;
+      later_is = λ i. record {
+        premises = premises i;
+        list = list i;
+        level = level i;
+        reasons = kept i;
+        listed = listed i;
+        worldview = new.worldview;
+      };
+      before_is = before;
+    }

@@ -15,7 +15,7 @@
 //! ruled out, and culprits of a noted nogood that is believed. `Unsettled`: the whole budget is
 //! used, budget + 1 is below lists * (most steps + 1), and one more step could be taken. Each step
 //! is a call where no noted nogood is believed and no cell holds a contradiction, or a move of a
-//! choice for a noted nogood that is believed. `step` takes one of these and tells which.
+//! choice for a noted nogood that is believed. `step_once` takes one of these and tells which.
 #![tactic(auto)]
 
 pub mod believing;
@@ -37,4 +37,4 @@ pub use outcome::Outcome;
 pub use resolving::Resolved;
 pub use search::Search;
 pub use settling::settle;
-pub use stepping::{Move, Step, step};
+pub use stepping::{Move, Step, step_once};

@@ -54,7 +54,7 @@ pub struct Move {
 /// nothing waits the side of one choice more is believed.
 ///
 /// After want of memory a step was taken or none was.
-pub fn step<R: Rule + Drop, O: Order>(
+pub fn step_once<R: Rule + Drop, O: Order>(
     live: &mut Live<R>,
     search: &mut Search,
     order: &mut O,

@@ -2,7 +2,7 @@
 ghost use Rattle.std.specs.Prelude.{◌≡◌};
 
 use crate::session::Session;
-use prop_amb::{Search, Step, step};
+use prop_amb::{Search, Step, step_once};
 use prop_procedures::Rule;
 use prop_scheduler::{Live, Order};
 use prop_vocabulary::{CellNames, Vocabulary};
@@ -63,6 +63,6 @@ impl<R: Rule + Drop, O: Order + Drop> Session<R, O> {
             (problem_in (library_of R.value_of self.old) (state_of self.old)) (work_of self.old)
             step (work_of self.new)) }
     {
-        step(&mut self.live, &mut self.search, &mut self.order)
+        step_once(&mut self.live, &mut self.search, &mut self.order)
     }
 }
