@@ -1,5 +1,5 @@
 -- What is kept beside the parts of a log.
-use Rattle.std.proofs.Common.{◌≡◌, ◌≢◌, ◌∙◌, ◌+◌, ◌<◌, ◌==◌, ◌||◌, ◌++◌, ℕ, zero, suc, Bool, true, false, List, [], ◌∷◌}
+use Rattle.std.proofs.Common.{◌≡◌, ◌∙◌, ◌+◌, ◌<◌, ◌==◌, ◌||◌, ◌++◌, ℕ, zero, suc, Bool, true, false, List, [], ◌∷◌}
 use Rattle.std.proofs.Common.{refl, sym, ap, subst, arith, if◌then◌else◌, inl, inr, All, length, take, get_or, slice_set}
 use Rattle.std.proofs.Common.{slice_index_or, Result, Ok, Err, OnErr, get_or-set_same, get_or-set_other}
 use Rattle.std.specs.List.{list_any}
@@ -10,7 +10,7 @@ use Rattle.std.proofs.lemmas.List.Folds.{list_any-append}
 use Rattle.prop_lattice.specs.declared.info.Info.{Info}
 use Rattle.prop_lattice.specs.declared.info.Info.TheVariants.{Nothing}
 use Rattle.prop_lattice.specs.Order.{merge_of}
-use Rattle.prop_numbers.specs.Sets.{Members, set_of, union, IsSame}
+use Rattle.prop_numbers.specs.Sets.{set_of, union, IsSame}
 use Rattle.prop_origins.specs.Parts.{Part, made, rests_on}
 use Rattle.prop_origins.specs.inner.Logs.{IsLogged, IsPartWithin, UnitesAt}
 

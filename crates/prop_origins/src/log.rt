@@ -47,11 +47,7 @@ fn no_premises(alloc: Global, count: usize) -> Result<Vec<PremiseSet>, AllocErro
 }
 
 /// The set at this place has these premises too. After want of memory each set is as before.
-fn unite_at(
-    sets: &mut Vec<PremiseSet>,
-    place: usize,
-    more: &PremiseSet,
-) -> Result<(), AllocError>
+fn unite_at(sets: &mut Vec<PremiseSet>, place: usize, more: &PremiseSet) -> Result<(), AllocError>
     requires { place < length sets.old.items }
     ensures count { length sets.new.items ≡ length sets.old.items }
     ensures ok { OnOk result (UnitesAt sets.old.items sets.new.items place more.now) }
