@@ -157,7 +157,8 @@ from_kept library d s wanted p ps (Called n) h =
           (λ c t. sym (pruned_rests w ps c q t)) x.inputs read);
     }
 
-founded_by : (library : List Stored) (d : Data) (s : Premises) (wanted : ℕ → Bool) (p : Part) (ps : List Part) (b : Bool)
+founded_by : (library : List Stored) (d : Data) (s : Premises) (wanted : ℕ → Bool) (p : Part) (ps : List Part)
+    (b : Bool)
     → wanted p.cell ≡ b → IsFounded library d s ps p → AreFounded library d s (pruned (wanted_behind wanted p) ps)
     → AreFounded library d s (pruned wanted ps) →
     AreFounded library d s (if b then p ∷ pruned (wanted_behind wanted p) ps else pruned wanted ps)
