@@ -1,12 +1,11 @@
 -- What is founded.
-use Rattle.std.proofs.Common.{◌≡◌, ◌∙◌, ◌==◌, ◌||◌, ◌<◌, ℕ, Bool, true, false, IsTrue, List, [], ◌∷◌, refl, sym, ap, subst}
+use Rattle.std.proofs.Common.{◌≡◌, ◌∙◌, ◌==◌, ◌||◌, ℕ, Bool, true, false, IsTrue, List, [], ◌∷◌, refl, sym, ap, subst}
 use Rattle.std.proofs.Common.{if◌then◌else◌, inl, inr, map, length, Some, All, slice_get, arith}
 use Rattle.std.specs.List.{list_any}
 use Rattle.std.proofs.lemmas.Bool.Decides.{eqb_tells}
 use Rattle.std.proofs.lemmas.Option.{get_or_from_slice_get}
 use Rattle.std.proofs.lemmas.List.Elements.{All-cons, All-weaker, All-head, All-tail}
 use Rattle.prop_lattice.specs.declared.info.Info.{Info}
-use Rattle.prop_lattice.specs.declared.info.Info.TheVariants.{Nothing}
 use Rattle.prop_lattice.specs.Order.{Below, merge_of}
 use Rattle.prop_lattice.specs.Rank.{IsOf}
 use Rattle.prop_numbers.specs.Sets.{set_of, IsSame}
@@ -23,7 +22,7 @@ use Rattle.prop_cells.proofs.Keeping.{All-at}
 use Rattle.prop_origins.specs.declared.part.Origin.{Origin}
 use Rattle.prop_origins.specs.declared.part.Origin.TheVariants.{Told, Called}
 use Rattle.prop_origins.specs.Parts.{Part, made, rests_on, reads}
-use Rattle.prop_origins.specs.Founded.{IsTold, IsCalled, IsFrom, IsFounded, AreFounded, MakeUp}
+use Rattle.prop_origins.specs.Founded.{IsFrom, IsFounded, AreFounded, MakeUp}
 use Rattle.prop_origins.specs.Pruned.{pruned}
 use Rattle.prop_origins.proofs.LogLaws.{same_test}
 use Rattle.prop_origins.proofs.PrunedLaws.{or_first, or_second, wanted_behind, pruned_made, pruned_rests}
@@ -158,7 +157,8 @@ from_kept library d s wanted p ps (Called n) h =
           (λ c t. sym (pruned_rests w ps c q t)) x.inputs read);
     }
 
-founded_by : (library : List Stored) (d : Data) (s : Premises) (wanted : ℕ → Bool) (p : Part) (ps : List Part) (b : Bool)
+founded_by : (library : List Stored) (d : Data) (s : Premises) (wanted : ℕ → Bool) (p : Part) (ps : List Part)
+    (b : Bool)
     → wanted p.cell ≡ b → IsFounded library d s ps p → AreFounded library d s (pruned (wanted_behind wanted p) ps)
     → AreFounded library d s (pruned wanted ps) →
     AreFounded library d s (if b then p ∷ pruned (wanted_behind wanted p) ps else pruned wanted ps)

@@ -1,6 +1,7 @@
 -- What is kept beside the parts of a log.
-use Rattle.std.proofs.Common.{◌≡◌, ◌≢◌, ◌∙◌, ◌+◌, ◌<◌, ◌==◌, ◌||◌, ◌++◌, ℕ, zero, suc, Bool, true, false, List, [], ◌∷◌}
-use Rattle.std.proofs.Common.{refl, sym, ap, subst, arith, if◌then◌else◌, inl, inr, All, length, take, get_or, slice_set}
+use Rattle.std.proofs.Common.{◌≡◌, ◌∙◌, ◌+◌, ◌<◌, ◌==◌, ◌||◌, ◌++◌, ℕ, zero, suc, Bool, true, false, List, [], ◌∷◌}
+use Rattle.std.proofs.Common.{refl, sym, ap, subst, arith, if◌then◌else◌, inl, inr, All, length, take, get_or}
+use Rattle.std.proofs.Common.{slice_set}
 use Rattle.std.proofs.Common.{slice_index_or, Result, Ok, Err, OnErr, get_or-set_same, get_or-set_other}
 use Rattle.std.specs.List.{list_any}
 use Rattle.std.proofs.lemmas.Bool.Decides.{eqb_tells}
@@ -10,7 +11,7 @@ use Rattle.std.proofs.lemmas.List.Folds.{list_any-append}
 use Rattle.prop_lattice.specs.declared.info.Info.{Info}
 use Rattle.prop_lattice.specs.declared.info.Info.TheVariants.{Nothing}
 use Rattle.prop_lattice.specs.Order.{merge_of}
-use Rattle.prop_numbers.specs.Sets.{Members, set_of, union, IsSame}
+use Rattle.prop_numbers.specs.Sets.{set_of, union, IsSame}
 use Rattle.prop_origins.specs.Parts.{Part, made, rests_on}
 use Rattle.prop_origins.specs.inner.Logs.{IsLogged, IsPartWithin, UnitesAt}
 
@@ -110,7 +111,8 @@ or_none false = refl
 
 pub support_more : (parts : List Part) (cells : List ℕ) (i : ℕ) (support here new : List ℕ) → i < length cells →
     IsSame (set_of support) (λ q. list_any (λ cell. rests_on parts cell q) (take i cells)) →
-    IsSame (set_of here) (rests_on parts (get_or cells i 0)) → IsSame (set_of new) (union (set_of support) (set_of here))
+    IsSame (set_of here) (rests_on parts (get_or cells i 0))
+    → IsSame (set_of new) (union (set_of support) (set_of here))
     → IsSame (set_of new) (λ q. list_any (λ cell. rests_on parts cell q) (take (i + 1) cells))
 support_more parts cells i support here new l so_far is unites q =
     let f : ℕ → Bool = λ cell. rests_on parts cell q in

@@ -1,10 +1,10 @@
 -- What pruning leaves.
-use Rattle.std.proofs.Common.{◌≡◌, ◌∙◌, ◌==◌, ◌||◌, ◌++◌, ℕ, Bool, true, false, IsTrue, List, [], ◌∷◌, refl, sym, ap, subst}
+use Rattle.std.proofs.Common.{◌≡◌, ◌∙◌, ◌==◌, ◌||◌, ◌++◌, ℕ, Bool, true, false, List, [], ◌∷◌, refl, sym, ap}
 use Rattle.std.proofs.Common.{if◌then◌else◌, inl, inr, append_assoc, slice_index_or}
 use Rattle.std.proofs.lemmas.Bool.Decides.{eqb_tells}
 use Rattle.prop_lattice.specs.declared.info.Info.{Info}
 use Rattle.prop_lattice.specs.Order.{merge_of}
-use Rattle.prop_numbers.specs.Sets.{union, set_of}
+use Rattle.prop_numbers.specs.Sets.{set_of}
 use Rattle.prop_origins.specs.Parts.{Part, made, rests_on, reads, AreWanted}
 use Rattle.prop_origins.specs.Pruned.{pruned, marked_in}
 

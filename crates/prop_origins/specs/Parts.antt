@@ -27,7 +27,8 @@ made (p ∷ behind) cell =
 abbrev pub rests_on : List Part → ℕ → Members
 rests_on [] cell q = false
 rests_on (p ∷ behind) cell q =
-    if p.cell == cell then union (rests_on behind cell) (set_of p.support) q else rests_on behind cell q
+    if p.cell == cell then union (rests_on behind cell) (set_of p.support) q
+    else rests_on behind cell q
 
 -- ---- which parts are read
 

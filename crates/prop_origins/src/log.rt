@@ -1,6 +1,6 @@
 //! The parts that were made so far, the latest first.
-ghost use Rattle.std.specs.Prelude.{◌≡◌, ◌<◌, [], ◌∷◌, ℕ, List, All, map, length, IfOk, OnOk, OnErr};
-ghost use Rattle.std.specs.Prelude.{slice_index_or};
+ghost use Rattle.std.specs.Prelude.{◌≡◌, ◌<◌, [], ◌∷◌, ℕ, List, All, map, length, IfOk, OnOk};
+ghost use Rattle.std.specs.Prelude.{OnErr, slice_index_or};
 ghost use Rattle.std.specs.List.{list_any};
 ghost use Rattle.prop_lattice.specs.Order.{Below};
 ghost use Rattle.prop_numbers.specs.Sets.{set_of, IsSame};
@@ -47,11 +47,7 @@ fn no_premises(alloc: Global, count: usize) -> Result<Vec<PremiseSet>, AllocErro
 }
 
 /// The set at this place has these premises too. After want of memory each set is as before.
-fn unite_at(
-    sets: &mut Vec<PremiseSet>,
-    place: usize,
-    more: &PremiseSet,
-) -> Result<(), AllocError>
+fn unite_at(sets: &mut Vec<PremiseSet>, place: usize, more: &PremiseSet) -> Result<(), AllocError>
     requires { place < length sets.old.items }
     ensures count { length sets.new.items ≡ length sets.old.items }
     ensures ok { OnOk result (UnitesAt sets.old.items sets.new.items place more.now) }

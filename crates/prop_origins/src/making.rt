@@ -115,7 +115,8 @@ fn note(
 {
     let statement = held.statements()[number];
     let cell = statement.cell;
-    if !is_among(premises, &statement) || !is_news(held.kind(cell), log.made(cell), statement.info)
+    if !is_among(premises, &statement)
+        || !is_news(held.kind(cell), log.made(cell), statement.info)
     {
         return Ok(());
     }

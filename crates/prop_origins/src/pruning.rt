@@ -1,6 +1,6 @@
 //! Which parts are read.
-ghost use Rattle.std.specs.Prelude.{◌≡◌, ◌<◌, ◌==◌, ◌||◌, ◌++◌, ◌∷◌, ℕ, List, All, length, IfOk, OnOk};
-ghost use Rattle.std.specs.Prelude.{slice_index_or, false};
+ghost use Rattle.std.specs.Prelude.{◌≡◌, ◌<◌, ◌==◌, ◌||◌, ◌++◌, ◌∷◌, ℕ, List, All, length};
+ghost use Rattle.std.specs.Prelude.{IfOk, OnOk, slice_index_or, false};
 ghost use Rattle.std.specs.List.{list_any};
 ghost use Rattle.prop_origins.specs.Parts.{Part as OnePart};
 ghost use Rattle.prop_origins.specs.Pruned.{pruned, marked_in};

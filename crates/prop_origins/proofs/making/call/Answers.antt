@@ -1,4 +1,4 @@
-use Rattle.std.proofs.Common.{◌≡◌, ◌<◌, length, map, slice_get, Some, subst, sym}
+use Rattle.std.proofs.Common.{◌≡◌, length, map, slice_get, Some, subst, sym}
 use Rattle.std.specs.List.{list_any}
 use Rattle.std.proofs.lemmas.Option.{slice_get_within}
 use Rattle.prop_lattice.specs.Order.{Below}
@@ -11,7 +11,7 @@ use Rattle.prop_cells.proofs.Keeping.{All-at, call_fits, unless_true}
 use Rattle.prop_cells.proofs.Reading.{readers_are}
 use Rattle.prop_origins.specs.Parts.{made, rests_on}
 use Rattle.prop_origins.specs.Founded.{AreFounded}
-use Rattle.prop_origins.specs.inner.Logs.{IsPartWithin, Logged}
+use Rattle.prop_origins.specs.inner.Logs.{Logged}
 use Rattle.prop_origins.proofs.Founding.{called_founded}
 use Rattle.prop_origins.proofs.making.call.Goals as goal
 

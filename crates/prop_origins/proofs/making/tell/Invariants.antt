@@ -9,5 +9,5 @@ invariant-loop-number l = record {
   cells : l.log.cells ≡ l.initial.log.cells;
   line : l.line.count ≡ l.initial.line.count;
   founded : (library : List Stored) → AreFounded library l.held (set_of l.premises) l.initial.log.parts
-  → AreFounded library l.held (set_of l.premises) l.log.parts;
+      → AreFounded library l.held (set_of l.premises) l.log.parts;
 }

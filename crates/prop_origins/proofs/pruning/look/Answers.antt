@@ -1,5 +1,4 @@
-use Rattle.std.proofs.Common.{◌≡◌, ◌∙◌, ◌<◌, ◌||◌, ◌++◌, ◌∷◌, [], ℕ, true, false, length, sym, ap, slice_index_or, arith}
-use Rattle.std.proofs.lemmas.Grind.{common_steps}
+use Rattle.std.proofs.Common.{◌≡◌, ◌∙◌, ◌<◌, ◌||◌, ℕ, true, false, length, sym, ap, slice_index_or}
 use Rattle.std.proofs.lemmas.List.{get_or_read}
 use Rattle.prop_origins.specs.Parts.{reads}
 use Rattle.prop_origins.proofs.PrunedLaws.{looked_left, looked_kept}

@@ -1,4 +1,4 @@
-use Rattle.std.proofs.Common.{◌≡◌, ◌+◌, ◌==◌, ◌++◌, ℕ, All, length}
+use Rattle.std.proofs.Common.{◌≡◌, ◌+◌, ◌==◌, ◌++◌, All, length}
 use Rattle.prop_origins.specs.Pruned.{pruned, marked_in}
 use Rattle.prop_origins.specs.inner.Logs.{IsPartWithin}
 use Rattle.prop_origins.proofs.pruning.prune.Given as goal
@@ -9,5 +9,5 @@ invariant-loop l = record {
   left : length l.parts.items + l.counter ≡ length l.initial.parts.items;
   within : All (IsPartWithin l.cells) l.parts.items;
   kept : pruned (λ c. c == l.cell) l.initial.parts.items
-  ≡ l.kept.items ++ pruned (marked_in l.marks.items) l.parts.items;
+      ≡ l.kept.items ++ pruned (marked_in l.marks.items) l.parts.items;
 }
