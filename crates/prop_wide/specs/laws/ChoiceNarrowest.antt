@@ -1,11 +1,11 @@
 -- Choices by a truth are answered as narrowly as can be.
-use Rattle.std.specs.Prelude.{◌≡◌, ◌≢◌, ℕ, suc, zero, ◌<◌, ◌^◌, ◌⊎◌, ℤ, neg_ℤ, ◌≤ℤ◌, Bool, true}
+use Rattle.std.specs.Prelude.{◌≡◌, ◌≢◌, ℕ, ◌⊎◌, ℤ, neg_ℤ, ◌≤ℤ◌, Bool, true}
 use Rattle.std.specs.Prelude.{false, not, ◌&&◌, ◌==◌, List, [], ◌∷◌, if◌then◌else◌, bit_and, bit_or}
 use Rattle.std.specs.Int.{bit_at, int_max, int_min, w64, trailing_zeros}
 use Rattle.std.proofs.Common.{arith, refl, rules, sym, subst, ◌∙◌, inl, inr, eqb-true, eq-eqb}
 use Rattle.std.proofs.lemmas.Int.{ints, clamps}
 use Rattle.std.proofs.lemmas.Nat.Bits.{bit_at_and, bit_at-trailing_zeros}
-use Rattle.prop_arith.specs.Comparing.{comparer_of, is_just, is_single}
+use Rattle.prop_arith.specs.Comparing.{is_just, is_single}
 use Rattle.prop_arith.specs.laws.Combined.{at_three, told_alike}
 use Rattle.prop_intervals.specs.Comparisons.{no_bits}
 use Rattle.prop_intervals.specs.laws.Relations.{IsInRange}
@@ -27,7 +27,7 @@ use Rattle.prop_lattice.specs.declared.info.Kind.TheVariants as kinds
 use Rattle.prop_procedures.specs.declared.shape.Kinded.{Kinded}
 use Rattle.prop_procedures.specs.declared.shape.Shape.{Shape}
 use Rattle.prop_procedures.specs.declared.shape.Shape.TheVariants.{Truth, Any}
-use Rattle.prop_procedures.specs.Rules.{AreOf, ArePointsOf, AreClear}
+use Rattle.prop_procedures.specs.Rules.{AreOf, AreClear}
 use Rattle.prop_sets.specs.Truth.{leaves}
 use Rattle.prop_sets.specs.laws.NarrowestLaws.{bit_from_held}
 use Rattle.prop_wide.specs.Answers.{HavePoints}

@@ -6,7 +6,6 @@ use Rattle.std.proofs.Common.{arith, refl, ap, sym, inl, inr, negsuc, eq-eqb, â—
 use Rattle.std.proofs.lemmas.Bool.{cases_lt}
 use Rattle.std.proofs.lemmas.Int.{ints, by_lt_z}
 use Rattle.std.proofs.lemmas.Nat.Bits.{bit_at-trailing_zeros}
-use Rattle.prop_intervals.specs.laws.Relations.{IsInRange}
 use Rattle.prop_lattice.specs.Points.{Point, Number, Element, Symbol, Holds}
 use Rattle.prop_lattice.specs.Rank.{IsOf}
 use Rattle.prop_lattice.specs.declared.info.Info.{Info}

@@ -1,7 +1,6 @@
 -- From what is the narrowest of numbers and of truths to answers at lists of arguments.
-use Rattle.std.specs.Prelude.{◌≡◌, ℕ, suc, zero, ◌<◌, ℤ, neg_ℤ, ◌≤ℤ◌, Bool, true, false}
+use Rattle.std.specs.Prelude.{◌≡◌, suc, zero, ℤ, neg_ℤ, ◌≤ℤ◌, Bool, true, false}
 use Rattle.std.specs.Prelude.{List, [], ◌∷◌, if◌then◌else◌}
-use Rattle.std.specs.Int.{bit_at}
 use Rattle.std.proofs.Common.{arith, refl, sym, subst}
 use Rattle.std.proofs.lemmas.Int.{ints}
 use Rattle.prop_arith.specs.laws.Combined.{RelatesOne, RelatesTwo, at_one, at_two}
@@ -21,7 +20,7 @@ use Rattle.prop_procedures.specs.declared.shape.Param.{Param}
 use Rattle.prop_procedures.specs.declared.shape.Param.TheVariants.{Plain, Scale, Rows}
 use Rattle.prop_procedures.specs.declared.shape.Shape.{Shape}
 use Rattle.prop_procedures.specs.declared.shape.Shape.TheVariants.{Span}
-use Rattle.prop_procedures.specs.Rules.{AreOf, ArePointsOf, EachHolds, AreClear, Admits, is_scale}
+use Rattle.prop_procedures.specs.Rules.{AreOf, AreClear, Admits, is_scale}
 use Rattle.prop_sets.specs.laws.NarrowestLaws.{bit_from_held}
 use Rattle.prop_wide.specs.Answers.{Belongs}
 use Rattle.prop_wide.specs.Narrowest.{IsNarrowest, BelongsToOne, BelongsToTwo, OneIsNarrowest}
@@ -29,7 +28,6 @@ use Rattle.prop_wide.specs.Narrowest.{TwoIsNarrowest}
 use Rattle.prop_wide.specs.Points.{RelatesAtScale}
 use Rattle.prop_wide.specs.Truths.{told_of}
 use Rattle.prop_wide.specs.Values.{at_a_scale}
-use Rattle.prop_wide.specs.laws.TruthLaws.{never}
 
 -- no point is left out by another information of the kind which leaves all that belong
 abbrev pub IsWithin : (Shape → Kinded) → List Shape → Kinded → (List Point → Point → Type 0)

@@ -13,7 +13,7 @@ use Rattle.prop_lattice.specs.declared.info.Kind.TheVariants as kinds
 use Rattle.prop_wide.specs.Ends.{low_of, high_of, known, part_of}
 use Rattle.prop_wide.specs.Narrowest.{IsNarrowest, BelongsToOne, BelongsToTwo}
 use Rattle.prop_wide.specs.Narrowest.{RemainderIsNarrowest, DivisorIsNarrowest}
-use Rattle.prop_wide.specs.Quotients.{IsRemainder, is_zero, remainder_of, divisors_above}
+use Rattle.prop_wide.specs.Quotients.{IsRemainder, is_zero, divisors_above}
 use Rattle.prop_wide.specs.Quotients.{divisors_below}
 use Rattle.prop_wide.specs.laws.EndLaws.{AreOrdered, IsBetween, ends_ordered, held_between}
 use Rattle.prop_wide.specs.laws.EndLaws.{part_holds, part_kind, both_from}

@@ -28,7 +28,7 @@ use Rattle.prop_procedures.specs.declared.shape.Shape.{Shape}
 use Rattle.prop_procedures.specs.declared.shape.Shape.TheVariants as shapes
 use Rattle.prop_procedures.specs.Rules.{AreOf, AreClear, Admits}
 use Rattle.prop_wide.specs.Answers.{IsInside}
-use Rattle.prop_wide.specs.Distances.{IsDistance, abs_of, at_distance, least_distance}
+use Rattle.prop_wide.specs.Distances.{IsDistance, at_distance, least_distance}
 use Rattle.prop_wide.specs.Distances.{greatest_distance}
 use Rattle.prop_wide.specs.Ends.{low_of, high_of, part_of}
 use Rattle.prop_wide.specs.Narrowest.{IsNarrowest, IsNumber, BelongsToOne, BelongsToTwo}

@@ -1,27 +1,23 @@
 -- The rules answer as narrowly as can be.
-use Rattle.std.specs.Prelude.{◌≡◌, ℤ, List, [], ◌∷◌, ◌*ℤ◌, ◌≤ℤ◌}
+use Rattle.std.specs.Prelude.{◌≡◌, List, [], ◌∷◌}
 use Rattle.std.specs.Int.{int_max, int_min}
 use Rattle.std.proofs.Common.{refl, sym, subst}
-use Rattle.prop_arith.specs.laws.Combined.{RelatesOne, RelatesTwo, at_one, at_two}
+use Rattle.prop_arith.specs.laws.Combined.{RelatesTwo, at_two}
 use Rattle.prop_arith.specs.laws.NumberLaws.{at_least_one}
-use Rattle.prop_lattice.specs.declared.span.TheConstants.{B}
 use Rattle.prop_lattice.specs.declared.info.Info.{Info}
 use Rattle.prop_procedures.specs.declared.shape.Kinded.{Kinded}
 use Rattle.prop_procedures.specs.declared.shape.Need.{Need}
-use Rattle.prop_procedures.specs.declared.shape.Need.TheVariants as needs
 use Rattle.prop_procedures.specs.declared.shape.Param.{Param}
-use Rattle.prop_procedures.specs.declared.shape.Param.TheVariants.{Scale}
 use Rattle.prop_procedures.specs.declared.shape.Shape.{Shape}
 use Rattle.prop_procedures.specs.declared.shape.Shape.TheVariants.{Span}
-use Rattle.prop_procedures.specs.Rules.{AreOf, AreClear, Admits, kind_of, is_scale}
+use Rattle.prop_procedures.specs.Rules.{AreOf, AreClear, Admits, kind_of}
 use Rattle.prop_wide.specs.Answers.{EachIsNarrowest, HavePoints, IsInside}
-use Rattle.prop_wide.specs.Choices.{choose_of, decide_of}
-use Rattle.prop_wide.specs.Distances.{IsDistance, abs_of, abs_back_of, greatest_distance}
+use Rattle.prop_wide.specs.Distances.{IsDistance, abs_of, abs_back_of}
 use Rattle.prop_wide.specs.Extremes.{max_of, max_back_of, min_of, min_back_of}
 use Rattle.prop_wide.specs.Points.{Related}
 use Rattle.prop_wide.specs.Quotients.{IsQuotient, IsRemainder, quotient_of, remainder_of}
 use Rattle.prop_wide.specs.Quotients.{divisor_of}
-use Rattle.prop_wide.specs.Squares.{IsSquareBy, square_of, root_of}
+use Rattle.prop_wide.specs.Squares.{IsSquareBy, root_of}
 use Rattle.prop_wide.specs.Values.{value_of}
 use Rattle.prop_wide.specs.Wide.{FormOf, AreNumberAndTruths, out_of, need_of}
 use Rattle.prop_wide.specs.declared.wide.Wide.{Wide}
@@ -34,7 +30,7 @@ use Rattle.prop_wide.specs.laws.CountNarrowest.{count_within, count_back_within}
 use Rattle.prop_wide.specs.laws.DistanceNarrowest.{abs_narrowest, abs_back_narrowest}
 use Rattle.prop_wide.specs.laws.ExtremeNarrowest.{max_narrowest, max_back_narrowest, min_narrowest}
 use Rattle.prop_wide.specs.laws.ExtremeNarrowest.{min_back_narrowest}
-use Rattle.prop_wide.specs.laws.NarrowestPoints.{IsWithin, of_numbers, number_within, one_within}
+use Rattle.prop_wide.specs.laws.NarrowestPoints.{IsWithin, one_within}
 use Rattle.prop_wide.specs.laws.NarrowestPoints.{two_within, at_a_scale_within}
 use Rattle.prop_wide.specs.laws.QuotientNarrowest.{quotient_narrowest}
 use Rattle.prop_wide.specs.laws.RemainderNarrowest.{remainder_narrowest, divisor_narrowest}
