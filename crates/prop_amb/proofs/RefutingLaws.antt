@@ -64,7 +64,8 @@ step_here s n (Against j reason) stand here leaves below culprits = record {
   below = omega (arith, below);
   may = leaves.may;
   passes = λ new premises listed list level reasons.
-      goes_later s new j reason (may_move s n j stand here.noted here.believed leaves) culprits premises listed list level
+      goes_later s new j reason (may_move s n j stand here.noted here.believed leaves) culprits premises listed
+      list level
       reasons;
 }
 step_here s n (RuledOut premises) stand here leaves below culprits = tt

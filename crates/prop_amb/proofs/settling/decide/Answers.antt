@@ -11,7 +11,8 @@ use Rattle.prop_amb.proofs.settling.decide.Goals as goal
 
 pub shown-requires : goal.shown-requires
 shown-requires g c =
-    let refuting : IsRefuting c.args.search.now c.args.most c.in-Clash.nogood = rw c.in-Clash.is at c.requires.refuted in
+    let refuting : IsRefuting c.args.search.now c.args.most c.in-Clash.nogood =
+    rw c.in-Clash.is at c.requires.refuted in
     found_of c.args.search.now c.args.most c.in-Clash.nogood refuting
 
 pub advance-requires-clause-may : goal.advance-requires-clause-may
@@ -29,7 +30,8 @@ advance-requires-clause-below g c =
 pub returns-then-most-eq0-clause-unsettled : goal.returns-then-most-eq0-clause-unsettled
 returns-then-most-eq0-clause-unsettled g c =
     λ e.
-    let refuting : IsRefuting c.args.search.now c.args.most c.in-Clash.nogood = rw c.in-Clash.is at c.requires.refuted in
+    let refuting : IsRefuting c.args.search.now c.args.most c.in-Clash.nogood =
+    rw c.in-Clash.is at c.requires.refuted in
     let here = refuting_here c.args.search.now c.args.most c.in-Clash.nogood refuting c.if-most-eq0.true in
     inr (
       c.if-most-eq0.true,

@@ -48,7 +48,8 @@ pub returns-clause-step : goal.returns-clause-step
 returns-clause-step c =
     let lacks : is_within (set_of c.args.search.now.worldview) c.args.nogood ≡ false =
     sym (rw c.worldview.ensures.same at c.if-believes.ensures) in
-    rw c.level.ensures (step_next c.args.search.now c.args.nogood (next_of c.args.search.now c.args.nogood c.requires lacks))
+    rw c.level.ensures (step_next c.args.search.now c.args.nogood (next_of c.args.search.now c.args.nogood
+    c.requires lacks))
 
 pub returns-clause-met : goal.returns-clause-met
 returns-clause-met c = λ believed.

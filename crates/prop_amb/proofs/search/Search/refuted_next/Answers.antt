@@ -12,7 +12,8 @@ pub bounds-choices-self-inside : goal.bounds-choices-self-inside
 bounds-choices-self-inside c =
     let apart : c.args.self.now.level ≢ length c.args.self.now.list =
     λ e. false≢true (sym c.if-is_whole.false ∙ c.is_whole.ensures.whole.1 e) in
-    let left : c.args.self.now.level < length c.args.self.now.list = omega (arith, apart, c.is_whole.ensures.stand.level)
+    let left : c.args.self.now.level < length c.args.self.now.list =
+    omega (arith, apart, c.is_whole.ensures.stand.level)
     in
     let below : c.self.inside.level < length c.self.inside.list.items = rw (← c.self.view_is) at left in
     rw c.choices.ensures (omega (arith, below, choices_count (the_view c.self.inside) c.self.invariant.0))
@@ -26,7 +27,8 @@ pub overflow_sub-side : goal.overflow_sub-side
 overflow_sub-side c =
     let apart : c.args.self.now.level ≢ length c.args.self.now.list =
     λ e. false≢true (sym c.if-is_whole.false ∙ c.is_whole.ensures.whole.1 e) in
-    let left : c.args.self.now.level < length c.args.self.now.list = omega (arith, apart, c.is_whole.ensures.stand.level)
+    let left : c.args.self.now.level < length c.args.self.now.list =
+    omega (arith, apart, c.is_whole.ensures.stand.level)
     in
     let below : c.self.inside.level < length c.self.inside.list.items = rw (← c.self.view_is) at left in
     let taken = taken_there c.choices.result.now c.self.inside.list.items c.self.inside.level
@@ -39,7 +41,8 @@ pub overflow_add-ahead : goal.overflow_add-ahead
 overflow_add-ahead c =
     let apart : c.args.self.now.level ≢ length c.args.self.now.list =
     λ e. false≢true (sym c.if-is_whole.false ∙ c.is_whole.ensures.whole.1 e) in
-    let left : c.args.self.now.level < length c.args.self.now.list = omega (arith, apart, c.is_whole.ensures.stand.level)
+    let left : c.args.self.now.level < length c.args.self.now.list =
+    omega (arith, apart, c.is_whole.ensures.stand.level)
     in
     let below : c.self.inside.level < length c.self.inside.list.items = rw (← c.self.view_is) at left in
     let taken = taken_there c.choices.result.now c.self.inside.list.items c.self.inside.level
@@ -59,7 +62,8 @@ pub returns-in-Some : goal.returns-in-Some
 returns-in-Some c =
     let apart : c.args.self.now.level ≢ length c.args.self.now.list =
     λ e. false≢true (sym c.if-is_whole.false ∙ c.is_whole.ensures.whole.1 e) in
-    let left : c.args.self.now.level < length c.args.self.now.list = omega (arith, apart, c.is_whole.ensures.stand.level)
+    let left : c.args.self.now.level < length c.args.self.now.list =
+    omega (arith, apart, c.is_whole.ensures.stand.level)
     in
     let below : c.self.inside.level < length c.self.inside.list.items = rw (← c.self.view_is) at left in
     let taken = taken_there c.choices.result.now c.self.inside.list.items c.self.inside.level
