@@ -89,7 +89,7 @@ def test_a_notebook(environment: None) -> None:
     # (a picture and a film of the session of the cells)
     assert shown[10][0]["image/svg+xml"].startswith("<svg") and "6..10" in str(shown[10])
     assert "y = 6..10" in shown[11][0]["text/plain"] and "<figure" in shown[11][0]["text/html"]
-    assert "there is no cell 'z'" in str(shown[12])
+    assert "there is no cell `z`" in str(shown[12])
     # (sessions that begin anew)
     assert "x = nothing" in shown[13][0]["text/plain"]
     assert shown[15][0]["text/plain"] == "(['cell x span', 'ask x'], 1)"
