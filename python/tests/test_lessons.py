@@ -25,7 +25,7 @@ EXERCISES = range(4, 7)
 # What only holds on one machine: a path, the place of something in memory, when something was run.
 OF_A_MACHINE = re.compile(r"/(?:home|root|tmp|usr|work|opt)/|\b0x[0-9a-f]{6,}|\d{4}-\d\d-\d\dT\d")
 
-each_lesson = pytest.mark.parametrize("path", paths(), ids=lambda path: path.stem)
+each_lesson = pytest.mark.parametrize("path", paths(), ids=[path.stem for path in paths()])
 
 
 @pytest.fixture
@@ -82,12 +82,15 @@ def test_it_has_pictures_and_sources(path: Path) -> None:
 @each_lesson
 def test_each_exercise_has_an_answer_that_checks_itself(path: Path) -> None:
     texts, code = cells(path, "markdown"), cells(path, "code")
-    numbers = re.findall(r"^\*\*(\d)\. ", texts["exercises"].source, flags=re.M)
-    assert len(numbers) in EXERCISES and numbers == [str(n + 1) for n in range(len(numbers))]
+    asked = [name.split("-")[1] for name in texts if name.startswith("exercise-")]
+    numbers = [str(n + 1) for n in range(len(asked))]
+    assert asked == numbers and len(numbers) in EXERCISES
     assert {name for name, cell in code.items() if is_answer(cell)} == {
         f"answer-{number}" for number in numbers
     }
     for number in numbers:
+        assert texts[f"exercise-{number}"].source.startswith(f"**{number}. ")
+        assert not code[f"yours-{number}"].outputs
         told, cell = texts[f"answer-{number}-text"], code[f"answer-{number}"]
         assert is_answer(told) and told.source.startswith(f"**{number}.**")
         assert cell.metadata.jupyter.source_hidden

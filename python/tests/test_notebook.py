@@ -56,6 +56,10 @@ def test_a_notebook(environment: None) -> None:
             "from propbench.notebook import film, picture\npicture(session, 'y')",
             "film(session)",
             "picture(session, 'z')",
+            "%%propbench --new\ncell x span\nask x",
+            "%%propbench --new other\nworldview",
+            "(session.lines, len(other.lines))",
+            "%%propbench other --new\nworldview",
             "%unload_ext propbench.notebook",
             "%%propbench\nask x",
         ]
@@ -85,8 +89,12 @@ def test_a_notebook(environment: None) -> None:
     # (a picture and a film of the session of the cells)
     assert shown[10][0]["image/svg+xml"].startswith("<svg") and "6..10" in str(shown[10])
     assert "y = 6..10" in shown[11][0]["text/plain"] and "<figure" in shown[11][0]["text/html"]
-    assert "there is no cell 'z'" in str(shown[12])
-    assert "UsageError" in str(shown[14]) or "not found" in str(shown[14])
+    assert "there is no cell `z`" in str(shown[12])
+    # (sessions that begin anew)
+    assert "x = nothing" in shown[13][0]["text/plain"]
+    assert shown[15][0]["text/plain"] == "(['cell x span', 'ask x'], 1)"
+    assert "before it maybe --new, not 'other --new'" in str(shown[16])
+    assert "UsageError" in str(shown[18]) or "not found" in str(shown[18])
 
 
 class Kernel:

@@ -8,8 +8,9 @@
     why x
 
 A cell's lines are carried out in a session that is kept for the next cell, as the variable
-`session`, or as the one that is named behind `%%propbench`. What takes long shows a bar. The
-notebook's stop button ends it there, and the session goes on.
+`session`, or as the one that is named behind `%%propbench`. Behind `--new` it begins anew, so that
+the cell can be changed and run again. What takes long shows a bar. The notebook's stop button ends
+it there, and the session goes on.
 
     from propbench.notebook import film, picture
     picture(session)
@@ -32,6 +33,8 @@ from propbench.session import Session
 from propbench.showing import printable
 from propbench.tables import table
 from propbench.watching.of_session import SessionWatched
+
+_NEW = "--new"
 
 
 class Replies:
@@ -87,6 +90,18 @@ def _lines(text: str) -> str:
     return "<br>".join(escape(printable(line)) for line in text.split("\n"))
 
 
+def _named(line: str) -> tuple[bool, str]:
+    """What stands behind `%%propbench`: whether the session is to begin anew, and its name."""
+    words = line.split()
+    is_new = words[:1] == [_NEW]
+    name = " ".join(words[1:] if is_new else words) or "session"
+    if not name.isidentifier():
+        raise ValueError(
+            f"behind %%propbench stands the name of a variable, before it maybe {_NEW}, not {name!r}"
+        )
+    return is_new, name
+
+
 def carried_out(session: Session, text: str) -> Replies:
     """What comes of the lines of a text, up to the first that is refused. A stop shows what came by
     then, and raises KeyboardInterrupt."""
@@ -125,12 +140,13 @@ def load_ipython_extension(shell: Any) -> None:
     """Has a notebook know `%%propbench`, and shows a bar for questions that take long."""
 
     def propbench(line: str, cell: str) -> Replies:
-        """Carries out lines of the language, in the session that is named, `session` otherwise."""
-        name = line.strip() or "session"
-        if not name.isidentifier():
-            raise ValueError(f"behind %%propbench stands the name of a variable, not {name!r}")
+        """Carries out lines of the language, in the session that is named, `session` otherwise;
+        behind `--new` in one that begins anew."""
+        is_new, name = _named(line)
         session = shell.user_ns.get(name)
-        if not isinstance(session, Session):
+        if is_new and isinstance(session, Session):
+            session.close()
+        if is_new or not isinstance(session, Session):
             session = shell.user_ns[name] = Session()
         return carried_out(session, cell)
 
