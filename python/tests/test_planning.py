@@ -156,13 +156,13 @@ def test_the_chart(p: Project) -> None:
     w = p.workbench
     strange = p.task("<b>&\x1b", 1, who="ben")
     p.done_by(20, under="soon")
-    drawn = ElementTree.fromstring(p.chart())
+    drawn = ElementTree.fromstring(p.chart().svg)
     texts = [each.text or "" for each in drawn.iter() if each.tag.endswith("text")]
     assert "<b>&\\x1b (ben)" in texts and "04.03." in texts
     titles = [each.text or "" for each in drawn.iter() if each.tag.endswith("title")]
     assert titles[0] == "venue (ana): day 0 to 2, in any plan from 0 to 15"
     plan = w.least(p.end).plan
-    assert plan is not None and len(ElementTree.fromstring(p.chart(plan, rooms=False))) > 10
+    assert plan is not None and len(ElementTree.fromstring(p.chart(plan, rooms=False).svg)) > 10
     w.tell("late", strange.start, 20)
     with pytest.raises(NothingFits):
         p.chart()
