@@ -32,6 +32,8 @@ w.require(house["green"] == house["ivory"] + 1, under="green right of ivory")
 w.require(house["milk"] == 3, under="milk in the middle")
 w.require(house["Norwegian"] == 1, under="Norwegian at the left end")
 
+house["water"].picture().save("zebra.svg")
+
 plans = w.plans(most=2)
 print(plans.headline())
 [plan] = plans
@@ -43,4 +45,3 @@ print(f"The {who[plan['water']]} drinks water, and the {who[plan['zebra']]} has 
 # Someone swears that the zebra drinks no water but lives left of it. What speaks against that?
 w.require(house["zebra"] < house["water"], under="zebra left of water")
 print(w.conflicts(most=1))
-house["milk"].picture().save("zebra.svg")

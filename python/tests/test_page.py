@@ -230,7 +230,10 @@ def test_reload_save_replay(program: str, bare: Bare, tmp_path: Path, browser: A
             page.until(lambda: page.table == table and page.believed == {"shadows"})
             page.one("#plain summary").click()
             page.until(lambda: page.text("lines").endswith("kick fall"))
-            assert page.text("lines").split("\n") == [*lines_of("measuring/premises.prop"), "kick fall"]
+            assert page.text("lines").split("\n") == [
+                *lines_of("measuring/premises.prop"),
+                "kick fall",
+            ]
             page.press("replay")
             page.until(lambda: page.text("status") == "Replayed: the same follows.")
             assert page.table == table and path.read_text() == before

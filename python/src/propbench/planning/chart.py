@@ -41,7 +41,7 @@ def chart_of(project: "Project", plan: Plan | None, has_rooms: bool) -> Chart:
     if shown is None:
         raise NothingFits("there is no plan to be drawn")
     rooms = rooms_of(project) if has_rooms else {}
-    width, height = _NAMES + project.days * _DAY + 10, _HEAD + len(project.tasks) * _ROW + 10
+    width, height = _NAMES + project.days * _DAY + 24, _HEAD + len(project.tasks) * _ROW + 10
     parts = "\n".join(
         [
             f'<svg xmlns="http://www.w3.org/2000/svg" width="{width}" height="{height}" '

@@ -1,0 +1,46 @@
+"""Each example prints and draws what lies beside it, and stands in the table of examples/README.md.
+
+That what it prints is right is held to plain reckoning by test_examples_planning, .._measuring and
+.._puzzles; the replies to sessions are compared by test_pipe.
+"""
+
+import re
+from pathlib import Path
+
+import pytest
+from examples import DRAWN, EXAMPLES, SCRIPTS, ran
+
+MOST_LINES, MOST_BYTES = 60, 40_000
+# What a picture says, whatever Graphviz drew it, and which one that was.
+TEXTS, VERSION = re.compile(r"<text[^>]*>([^<]*)</text>"), re.compile(r"graphviz version (\S+)")
+
+
+@pytest.mark.parametrize("name", SCRIPTS)
+def test_what_it_prints(name: str) -> None:
+    assert ran(name).printed == (EXAMPLES / f"{name}.txt").read_text(encoding="utf-8")
+
+
+@pytest.mark.parametrize("name", [*SCRIPTS, *DRAWN])
+def test_what_it_draws(name: str) -> None:
+    drawn, kept = ran(name).drawn, (EXAMPLES / f"{name}.svg").read_text(encoding="utf-8")
+    assert len(kept.encode()) <= MOST_BYTES
+    assert TEXTS.findall(drawn) == TEXTS.findall(kept) != []
+    if VERSION.findall(drawn) == VERSION.findall(kept):
+        assert drawn == kept
+
+
+@pytest.mark.parametrize("name", SCRIPTS)
+def test_how_it_is_written(name: str) -> None:
+    first, second, *_ = lines = (EXAMPLES / f"{name}.py").read_text().split("\n")
+    assert len(lines) <= MOST_LINES + 1 and first == "#!/usr/bin/python3"
+    assert re.fullmatch(r'""".+[.?!:]"""', second)
+
+
+def test_each_is_in_the_table() -> None:
+    table = (EXAMPLES / "README.md").read_text(encoding="utf-8")
+    linked = set(re.findall(r"\]\(([\w./]+)\)", table))
+    there = {path for each in (*SCRIPTS, *DRAWN) for path in [Path(each)]}
+    for example in there:
+        assert linked & {f"{example}.py", f"{example}.prop"}, f"README.md lacks {example}"
+    for link in linked:
+        assert (EXAMPLES / link).exists(), f"README.md links to {link}"
