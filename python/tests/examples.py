@@ -1,7 +1,7 @@
 #!/usr/bin/python3
 """Runs the examples over propwide, each once, and reads the tables that they print.
 
-usage: python/tests/examples.py [NAME ..]
+usage: PYTHONPATH=python/src python/tests/examples.py [NAME ..]
 
 writes what they print and draw beside them, of all or of those that are named (as puzzles/zebra),
 for whoever has changed one to look at.
