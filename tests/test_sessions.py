@@ -7,7 +7,7 @@ PATH is crates/propbench/out/propbench where it is left out. What is run:
 - each session of tests/sessions/*.session: `== ` and a title begin one, with options of the program
   in brackets behind it; a line of input stands behind `> `, and below it the replies that it wants;
   in input \\t, \\r and \\xNN are those bytes;
-- each examples/NAME.prop, whose replies are examples/NAME.out;
+- each NAME.prop in examples/, whose replies are NAME.out beside it;
 - the sessions of README.md and docs/ (tests/documents.py), and these texts themselves: how long
   they are, links and names (tests/pages.py);
 - how long the lines of the crates are (tests/lines.py);
@@ -107,7 +107,7 @@ def transcribed() -> Iterator[Transcript]:
 
 
 def examples() -> Iterator[Case]:
-    for path in sorted(glob.glob(f"{TOP}/examples/*.prop")):
+    for path in sorted(glob.glob(f"{TOP}/examples/**/*.prop", recursive=True)):
         with open(path, "rb") as sent, open(path.removesuffix(".prop") + ".out", "rb") as wanted:
             yield Case(f"examples: {os.path.basename(path)}", sent.read(), wanted.read())
 

@@ -151,7 +151,7 @@ def of_documents() -> dict[str, bytes]:
     """README.md, docs/, examples/, notebooks/ and what is said of the Python package, beside each
     other as they are in the repository."""
     paths = [f"{TOP}/README.md", *tracked("docs", "*.md"), *tracked("python", "README.md")]
-    paths += [*tracked("examples", "*.*"), *tracked("notebooks", "*.*")]
+    paths += [*tracked("examples", "**/*.*"), *tracked("notebooks", "*.*")]
     return {f"{DOC}/{os.path.relpath(path, TOP)}": read(path) for path in paths}
 
 

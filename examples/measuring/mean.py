@@ -9,3 +9,4 @@ w.law(middle == mean(weighings))
 for weighing, shown in zip(weighings, (1010, 1010, 1011)):
     w.read(f"balance, {weighing.name}", weighing, shown)
 print(middle.ask())
+w.picture().save("mean.svg")

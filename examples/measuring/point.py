@@ -14,3 +14,4 @@ for post, (east, north) in posts.items():
 print(w.shave(x))
 print(w.shave(y))
 print(w.sensitivity(y))
+w.picture().save("point.svg")
