@@ -68,12 +68,10 @@ class Value:
     def read(self) -> "Value":
         """The same, of which all fields are read: to be called where they are looked at anyway,
         since to find one unread takes longer."""
-        held = vars(self)
-        unread = held.get("_unread")
+        unread = self.__dict__.get("_unread")
         if unread:
-            # (another thread may do the same, so they are there before the text goes)
-            held.update(_fields(*unread))
-            held.pop("_unread", None)
+            # (all at once, since another thread may do the same)
+            object.__setattr__(self, "__dict__", _fields(*unread))
         return self
 
     def __str__(self) -> str:
@@ -181,7 +179,10 @@ def reply_of(words: list[str], text: str, kinds: Mapping[str, str]) -> Reply:
     command = words[0]
     # (no name has the mark `=`)
     if command in _VALUED and " = " in text:
-        return _unread(text, command, kinds[words[1]])
+        made = object.__new__(Value)
+        # (past the freeze; by `vars` it would take twice the time and memory)
+        object.__setattr__(made, "_unread", (text, command, kinds[words[1]]))
+        return made
     if text.startswith("contradiction:"):
         return Contradiction(_names(text[15:]))
     if command == "worldview" and text != "unsettled":
@@ -192,16 +193,8 @@ def reply_of(words: list[str], text: str, kinds: Mapping[str, str]) -> Reply:
     return _PLAIN[text]
 
 
-def _unread(text: str, command: str, kind: str) -> Value:
-    """The value that a text says in reply to a command, of a cell of this kind."""
-    made = object.__new__(Value)
-    # (past the freeze; by `vars` it would take twice the time and memory)
-    object.__setattr__(made, "_unread", (text, command, kind))
-    return made
-
-
 def _fields(text: str, command: str, kind: str) -> dict[str, object]:
-    """The fields of such a value."""
+    """The fields of the value that a text says in reply to a command, of a cell of this kind."""
     cell, _, said = text.partition(" = ")
     # (a value has no space but within its braces)
     end = said.find("}") + 1 if said[0] == "{" else said.find(" ")

@@ -24,6 +24,8 @@ from propbench.words import MOST_STEPS, as_line, is_silent
 STEPS = 1_000_000_000
 MOST_SEED = 2**64 - 1
 ORDERS = ("fifo", "lifo", "mixed")
+# With what most questions begin.
+_QUESTIONS = frozenset(("ask ", "why "))
 
 
 class Session(Closing):
@@ -133,6 +135,8 @@ class Session(Closing):
         self._sent += 1
         if seconds is not None or progress is not None or "core" in text:
             return self._send_watched(text, seconds, progress)
+        if text[:4] in _QUESTIONS:
+            return self._runner.ask(text, self._sent)
         self._runner.tell(text)
         # What the line asks is looked at while the program is at work.
         words = text.split()

@@ -37,8 +37,7 @@ class Names:
 
     def texts(self, lines: Iterable[str]) -> tuple[str, ...]:
         """What a user calls several of them."""
-        known = self._texts
-        return tuple([known[line] for line in lines])
+        return tuple(map(self._texts.__getitem__, lines))
 
     def has(self, line: str) -> bool:
         """Whether something has this name on a line."""

@@ -36,7 +36,16 @@ class BenchModel:
     def forks(self) -> Sequence[str]:
         """Truths on lines of the base by which one way or another is taken, where one of some
         constraints has to hold."""
-        return self._network.forks
+        return list(self._network.forks)
+
+    def rooms_by(
+        self, forks: Sequence[str], ends: Mapping[str, tuple[int, int]]
+    ) -> Mapping[str, tuple[int, int]]:
+        """For those of these truths that compare numbers, how far apart the numbers may be where it
+        holds, and where another way is taken, by the ends of the user's cells."""
+        known = self._network.forks
+        found = {fork: known[fork].rooms(ends) for fork in forks}
+        return {fork: rooms for fork, rooms in found.items() if rooms is not None}
 
     def premises(self) -> Sequence[str]:
         """The user's premises, in the order of their first mention."""
