@@ -1,7 +1,7 @@
 -- One step of settling.
 use Rattle.std.proofs.Common.{◌≡◌, ◌∙◌, ℕ, zero, suc, ◌<◌, ◌≤◌, ◌||◌, ◌==◌, IsTrue, false, List, [], ◌∷◌, All, length}
 use Rattle.std.proofs.Common.{take, get_or, slice_get, Some, true, refl, sym, ap, subst, inl, inr}
-use Rattle.std.proofs.Common.{◌+◌, ◌-◌}
+use Rattle.std.proofs.Common.{◌+◌, ◌-◌, arith}
 use Rattle.std.proofs.lemmas.Bool.{cases_eq, or_cases, eqb-true, eq-eqb}
 use Rattle.std.proofs.lemmas.List.Folds.{list_any_at}
 use Rattle.prop_numbers.specs.Sets.{Members, set_of}
@@ -13,11 +13,11 @@ use Rattle.prop_nogoods.specs.Stores.{has_part}
 use Rattle.prop_nogoods.proofs.StoreLaws.{has_part-from}
 use Rattle.prop_amb.specs.Search.{Stand, IsStand, users_of, choices_in, IsKept}
 use Rattle.prop_procedures.specs.Stored.{Stored}
-use Rattle.prop_cells.specs.Data.{Data}
-use Rattle.prop_amb.specs.Going.{Work, work, MayCall, MayGoOn}
+use Rattle.prop_cells.specs.Data.{Data, problem_of}
+use Rattle.prop_amb.specs.Going.{Work, work, MayCall, MayGoOn, Goes}
 use Rattle.prop_amb.specs.Culprits.{MayMove, AreCulprits}
 use Rattle.prop_amb.specs.Moving.{advanced, reasons_advanced}
-use Rattle.prop_amb.specs.Stepping.{IsStepTo, HasMoved}
+use Rattle.prop_amb.specs.Stepping.{IsStepTo, HasMoved, Steps}
 use Rattle.prop_amb.specs.declared.stepping.Move.{Move}
 use Rattle.prop_amb.specs.inner.Stepping.{IsMove}
 use Rattle.prop_amb.specs.declared.stepping.Step.{Step}
@@ -125,3 +125,22 @@ has_moved s new m reason may side culprits same known premises listed list level
       };
       before_is = before;
     }
+
+-- what took no step
+pub no_steps : {O : Type 0} {picks : O → ℕ → ℕ → O → Type 0} {library : List Stored} {start w : Work O} {n : ℕ}
+    → n ≤ 0 → Goes picks library start n w → Goes picks library start 0 w
+no_steps {picks = picks} {library} {start} {w} {n} few goes =
+    let e : n ≡ 0 = omega (arith, few) in subst (λ m. Goes picks library start m w) e goes
+
+-- and then one, over the same library and the same problem
+pub steps_then : {O L : Type 0} (picks : O → ℕ → ℕ → O → Type 0) (stored : L → List Stored) (a b : L) → b ≡ a
+    → (old mid : Data) → mid ≡ record old { contents = mid.contents }
+    → {start : Work O} (w : Work O) (step : Step) (v : Work O) → Goes picks (stored a) start 0 w
+    → IsStepTo picks (stored b) (problem_of (stored b) mid) w step v
+    → Steps picks (stored a) (problem_of (stored a) old) start step v
+steps_then picks stored a b same old mid rest w step v goes taken = record {
+  ready = w;
+  readied = goes;
+  taken = subst (λ (P : Type 0). P)
+      (λ i. IsStepTo picks (stored (same i)) (problem_of (stored (same i)) (rest i)) w step v) taken;
+}
