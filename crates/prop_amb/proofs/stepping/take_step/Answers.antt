@@ -36,8 +36,7 @@ returns-in_ok-call_next-in-None-clause-told g c =
     let s = c.args.search.now in
     let d = c.args.live.now.network.cells in
     let believed : set_of c.worldview.result.now ≡ believed_with s =
-    ap set_of c.worldview.ensures.same ∙ believes_worldview s c.in-None.ensures.stand in
-    (
+    ap set_of c.worldview.ensures.same ∙ believes_worldview s c.in-None.ensures.stand in (
       may_call (work s d c.args.live.now.agenda.line c.args.order.now) c.in-None.ensures.stand
           (c.in-None.ensures.none refl) c.requires.may,
       refl,
