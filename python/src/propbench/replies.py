@@ -71,8 +71,15 @@ class Value:
         unread = self.__dict__.get("_unread")
         if unread:
             # (all at once, since another thread may do the same)
-            object.__setattr__(self, "__dict__", _fields(*unread))
+            object.__setattr__(self, "__dict__", dict(zip(_FIELDS, _said(*unread))))
         return self
+
+    def all(self) -> "Said":
+        """All fields in order, for who looks at each of them once."""
+        unread = self.__dict__.get("_unread")
+        if unread:
+            return _said(*unread)
+        return self.cell, self.value, self.settled, self.because, self.reduced
 
     def __str__(self) -> str:
         text = f"{self.cell} = {self.value}"
@@ -81,6 +88,11 @@ class Value:
         elif self.reduced is False:
             text += " not reduced"
         return text if self.because is None else f"{text} because {_named(self.because)}"
+
+
+# The fields of a Value: their names in order, and what they are.
+_FIELDS = ("cell", "value", "settled", "because", "reduced")
+Said = tuple[str, Held, bool, tuple[str, ...] | None, bool | None]
 
 
 @dataclass(frozen=True)
@@ -193,17 +205,16 @@ def reply_of(words: list[str], text: str, kinds: Mapping[str, str]) -> Reply:
     return _PLAIN[text]
 
 
-def _fields(text: str, command: str, kind: str) -> dict[str, object]:
+def _said(text: str, command: str, kind: str) -> Said:
     """The fields of the value that a text says in reply to a command, of a cell of this kind."""
     cell, _, said = text.partition(" = ")
     # (a value has no space but within its braces)
-    end = said.find("}") + 1 if said[0] == "{" else said.find(" ")
-    held, behind = (said, "") if end < 0 else (said[:end], said[end:])
-    mark, _, names = behind.partition(" because ")
-    return {
-        "cell": cell,
-        "value": value_of(held, kind),
-        "settled": mark != " unsettled",
-        "because": None if command == "ask" else _names(names),
-        "reduced": (mark == "") if command == "core" else None,
-    }
+    if said[0] == "{":
+        end = said.find("}") + 1
+        held, behind = said[:end], said[end + 1 :]
+    else:
+        held, _, behind = said.partition(" ")
+    mark, _, names = behind.partition("because ")
+    because = None if command == "ask" else _names(names)
+    reduced = (mark == "") if command == "core" else None
+    return cell, value_of(held, kind), mark[:9] != "unsettled", because, reduced
