@@ -65,10 +65,11 @@ export class Drawing {
     this._paint();
   }
 
-  // Shows what is known of each cell, marks those that changed, and what doesn't count.
-  show(values, changed, believed) {
+  // Shows what is known of each cell, marks those that changed, what doesn't count, and the use that
+  // was called, if any.
+  show(values, changed, believed, called) {
     this.values = values;
-    Object.assign(this.marks, { changed, believed });
+    Object.assign(this.marks, { changed, believed, called });
     this._paint();
     this._write();
   }
@@ -144,7 +145,7 @@ export class Drawing {
 
   // Has each box in the path of what it is.
   _paint() {
-    const { changed, cells, uses, believed } = this.marks;
+    const { changed, cells, uses, believed, called } = this.marks;
     const parts = Object.fromEntries(PATHS.map((name) => [name, []]));
     this.network.cells.forEach((cell, at) => {
       const sort = cells.has(cell.name) ? "bears" : changed.has(cell.name) ? "changed" : "cells";
@@ -155,7 +156,8 @@ export class Drawing {
     });
     this.network.uses.forEach((use, at) => {
       const isOut = use.premise && !believed.has(use.premise);
-      const sort = isOut ? "out" : uses.has(use.name) ? "bears" : "uses";
+      const isLit = uses.has(use.name) || use.name === called;
+      const sort = isOut ? "out" : isLit ? "bears" : "uses";
       parts[sort].push(this.boxes[this.network.cells.length + at]);
       if (uses.has(use.name)) {
         const lit = this.wires[at].filter(([cell]) => cells.has(cell));
