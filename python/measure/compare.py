@@ -100,7 +100,8 @@ def why_here() -> set[str]:
             lines += [f"tell d{i}of{k} d{i} {-k}..{10 + k}" for k in range(OTHERS)]
         session.send_all(lines)
         reply = session.send(f"core x{SUMS}")
-        assert span(reply) == (0, 10 * SUMS) and reply.reduced and reply.because is not None
+        assert span(reply) == (0, 10 * SUMS)
+        assert isinstance(reply, Value) and reply.reduced and reply.because is not None
         return set(reply.because)
 
 
@@ -210,7 +211,11 @@ def main(words: list[str]) -> int:
         others = [told(question, tool, ours.result) for tool in TOOLS[:-1]]
         is_right = is_right and all(right for _, right in others)
         rows.append(
-            (question.asked, seconds(ours.seconds / question.answers), *(said for said, _ in others))
+            (
+                question.asked,
+                seconds(ours.seconds / question.answers),
+                *(said for said, _ in others),
+            )
         )
     heads = ("question", "propbench", *TOOLS[:-1])
     if options.markdown:

@@ -78,21 +78,28 @@ def queens_by_gecode() -> int:
 
 
 def queens_by_prolog() -> int:
-    return int(prolog("""
+    return int(
+        prolog(
+            """
 queens(Q) :- length(Q, 8), Q ins 1..8, all_distinct(Q),
     shifted(Q, 1, U), all_distinct(U), shifted(Q, -1, D), all_distinct(D), labeling([ff], Q).
 shifted(Q, S, R) :- shifted(Q, S, 0, R).
 shifted([], _, _, []).
 shifted([Q|Qs], S, I, [R|Rs]) :- R #= Q + S * I, J is I + 1, shifted(Qs, S, J, Rs).
 main :- findall(Q, queens(Q), All), length(All, N), writeln(N).
-"""))
+"""
+        )
+    )
 
 
 def queens_by_clingo() -> int:
-    told = printed(["clingo", "0", "-q"], """
+    told = printed(
+        ["clingo", "0", "-q"],
+        """
 1 {at(R,C) : C=1..8} 1 :- R=1..8.   1 {at(R,C) : R=1..8} 1 :- C=1..8.
 :- at(R,C), at(S,D), R<S, S-R=|C-D|.
-""")
+""",
+    )
     return int(re.findall(r"Models +: (\d+)", told)[0])
 
 
@@ -132,7 +139,10 @@ def plan_by_clingo(plan: puzzles.Plan) -> int:
     facts = [f"long({i},{long})." for i, long in enumerate(plan.long)]
     facts += [f"before({i},{j})." for i, j in plan.before]
     facts += [f"either({i},{j})." for i, j in plan.either]
-    told = printed(["clingo", "--quiet=1,1"], "\n".join(facts) + f"""
+    told = printed(
+        ["clingo", "--quiet=1,1"],
+        "\n".join(facts)
+        + f"""
 #const most={sum(plan.long)}.
 1 {{at(T,S) : S=0..most-L}} 1 :- long(T,L).
 1 {{last(D) : D=0..most}} 1.
@@ -141,7 +151,8 @@ def plan_by_clingo(plan: puzzles.Plan) -> int:
 after(I,J) :- before(I,J).   after(I,J) :- first(I,J).
 :- after(I,J), at(I,S), long(I,L), at(J,T), T < S+L.
 #minimize {{D : last(D)}}.
-""")
+""",
+    )
     if "OPTIMUM FOUND" not in told:
         raise TooLong
     return int(re.findall(r"Optimization : (\d+)", told)[-1])
@@ -190,13 +201,15 @@ def what_if_by_gecode(cells: int) -> Spans:
 
 
 def what_if_by_prolog(cells: int, rounds: int) -> Spans:
-    told = prolog(f"""
+    told = prolog(
+        f"""
 links([X,Y|R]) :- Y #= X + 1, links([Y|R]).
 links([_]).
 main :- N is {cells} + 1, length(L, N), L = [A|_], last(L, Z), A in -5000..5000, links(L),
     forall(between(1, {rounds}, _), (ask(Z), \\+ \\+ (A in 0..10, ask(Z)))).
 ask(Z) :- fd_inf(Z, Low), fd_sup(Z, High), writeln(Low-High).
-""")
+"""
+    )
     found = [(int(low), int(high)) for low, high in re.findall(r"(-?\d+)-(-?\d+)", told)]
     return found[-2], found[-1]
 
@@ -248,9 +261,7 @@ def why_by_z3(sums: int, others: int) -> set[str]:
 
 
 def conflicts_there(count: int, seed: int) -> tuple[Sets, Sets]:
-    conflicts, repairs, is_all = conflicts_by_z3(
-        z3_library(), wishes(count, seed), 1000, SECONDS
-    )
+    conflicts, repairs, is_all = conflicts_by_z3(z3_library(), wishes(count, seed), 1000, SECONDS)
     if not is_all:
         raise TooLong
     return conflicts, repairs
