@@ -341,6 +341,7 @@ def test_the_shell_tells_steps(wide: str) -> None:
         assert talk(":step") == "settled"
         assert talk("step") == "step 2\nsides: plan=2\nsettled"
         assert talk(":undo") == "Taken back: choose plan z 20 or 14"
+        assert "propwide alone has this command" in talk(":help step")
 
 
 def test_a_film_tells_what_was_called(wide: str) -> None:
