@@ -39,8 +39,7 @@ named_to picks library problem w (Moved m) v stand (moved, cells, order, shifted
     below (hypothetical there.choice there.side)
     (subst (λ (os : List Origin). IsTrue (is_hypothetical (choices_of os) (hypothetical there.choice there.side)))
     (sym same)
-    (side_there (choices_of w.search.premises) m.place there.choice there.side there.choice_at there.more)) in
-    (
+    (side_there (choices_of w.search.premises) m.place there.choice there.side there.choice_at there.more)) in (
       omega (arith, small, moved.side_is),
       subst (λ (os : List Origin). All (λ p. p < length os) m.nogood) (sym same) moved.known,
     )

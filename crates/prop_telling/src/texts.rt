@@ -71,11 +71,7 @@ pub(crate) fn call_text<R: Rule + Drop>(
 
 /// Writes a space and the label of a premise behind the text: a user's premise by its name, a side
 /// of a choice by the choice's name, `=` and the side's number.
-fn push_label(
-    text: &mut String,
-    premises: &Premises,
-    premise: Premise,
-) -> Result<(), AllocError>
+fn push_label(text: &mut String, premises: &Premises, premise: Premise) -> Result<(), AllocError>
     requires { premise < length premises.now }
     ensures { OnOk result (string_bytes text.new ≡ string_bytes
         text.old ++ (32 ∷ label_at premises.now premise)) }
