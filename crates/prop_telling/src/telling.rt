@@ -26,7 +26,8 @@ impl<R: Rule + Drop, O: Order + Drop> Teller<R, O> {
     ghost use Rattle.prop_engine.specs.Answers.{answer_of};
     ghost use Rattle.prop_texts.specs.Texts.{support_text, contradiction_text};
     ghost use Rattle.prop_workbench.specs.Engine.{standing_of};
-    ghost use Rattle.prop_workbench.specs.Sessions.{library_of, state_of, work_of, IsSound, IsMeant};
+    ghost use Rattle.prop_workbench.specs.Sessions.{library_of, state_of, work_of};
+    ghost use Rattle.prop_workbench.specs.Sessions.{IsSound, IsMeant};
     ghost use Rattle.prop_telling.specs.Telling.{telling, TellsStep, SaysStep, SaysCall, SaysValue};
     ghost use Rattle.prop_telling.specs.Texts.{moved_text, sides_text, two_lines, three_lines};
     ghost use Rattle.prop_telling.specs.inner.Telling.{IsNamed};
