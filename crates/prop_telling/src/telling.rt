@@ -43,7 +43,8 @@ impl<R: Rule + Drop, O: Order + Drop> Teller<R, O> {
     pub fn command(&mut self, line: &[u8]) -> Reply
         requires means { IsMeant R.value_of self.old.session }
         requires sound { IsSound R.value_of self.old.session }
-        ensures same { self.new.session.live.network.library ≡ self.old.session.live.network.library }
+        ensures same { self.new.session.live.network.library
+            ≡ self.old.session.live.network.library }
         ensures sound { IsSound R.value_of self.new.session }
         ensures tells { telling O.picks (library_of R.value_of self.old.session)
             (standing_of self.old.session) line.now (answer_of result)
@@ -59,7 +60,8 @@ impl<R: Rule + Drop, O: Order + Drop> Teller<R, O> {
     fn step(&mut self) -> Reply
         requires means { IsMeant R.value_of self.old.session }
         requires sound { IsSound R.value_of self.old.session }
-        ensures same { self.new.session.live.network.library ≡ self.old.session.live.network.library }
+        ensures same { self.new.session.live.network.library
+            ≡ self.old.session.live.network.library }
         ensures sound { IsSound R.value_of self.new.session }
         ensures tells { TellsStep O.picks (library_of R.value_of self.old.session)
             (standing_of self.old.session) (answer_of result) (standing_of self.new.session) }
