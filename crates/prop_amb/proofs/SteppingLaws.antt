@@ -1,7 +1,7 @@
 -- One step of settling.
 use Rattle.std.proofs.Common.{◌≡◌, ◌∙◌, ℕ, zero, suc, ◌<◌, ◌≤◌, ◌||◌, ◌==◌, IsTrue, false, List, [], ◌∷◌, All, length}
 use Rattle.std.proofs.Common.{take, get_or, slice_get, Some, true, refl, sym, ap, subst, inl, inr}
-use Rattle.std.proofs.Common.{◌+◌, ◌-◌}
+use Rattle.std.proofs.Common.{◌+◌, ◌-◌, arith}
 use Rattle.std.proofs.lemmas.Bool.{cases_eq, or_cases, eqb-true, eq-eqb}
 use Rattle.std.proofs.lemmas.List.Folds.{list_any_at}
 use Rattle.prop_numbers.specs.Sets.{Members, set_of}
@@ -13,15 +13,17 @@ use Rattle.prop_nogoods.specs.Stores.{has_part}
 use Rattle.prop_nogoods.proofs.StoreLaws.{has_part-from}
 use Rattle.prop_amb.specs.Search.{Stand, IsStand, users_of, choices_in, IsKept}
 use Rattle.prop_procedures.specs.Stored.{Stored}
-use Rattle.prop_cells.specs.Data.{Data}
-use Rattle.prop_amb.specs.Going.{Work, work, MayCall, MayGoOn}
-use Rattle.prop_amb.specs.Culprits.{MayMove, AreCulprits}
+use Rattle.prop_cells.specs.Data.{Data, problem_of}
+use Rattle.prop_amb.specs.Going.{Work, work, MayCall, MayGoOn, Goes}
+use Rattle.prop_amb.specs.Culprits.{MayMove, MayLeave, AreCulprits, IsBlamed}
 use Rattle.prop_amb.specs.Moving.{advanced, reasons_advanced}
-use Rattle.prop_amb.specs.Stepping.{IsStepTo, HasMoved}
+use Rattle.prop_amb.specs.Stepping.{IsStepTo, HasMoved, Steps}
 use Rattle.prop_amb.specs.declared.stepping.Move.{Move}
+use Rattle.prop_amb.specs.inner.Settling.{IsMet}
 use Rattle.prop_amb.specs.inner.Stepping.{IsMove}
 use Rattle.prop_amb.specs.declared.stepping.Step.{Step}
 use Rattle.prop_amb.specs.declared.stepping.Step.TheVariants.{Called, Moved, Settled, Contradiction}
+use Rattle.prop_amb.proofs.DecidingLaws.{may_move}
 use Rattle.prop_amb.proofs.SearchLaws.{both, or_true_left, or_true_right}
 use Rattle.prop_amb.proofs.LookingLaws.{its_side, is_its_side}
 use Rattle.prop_amb.proofs.StandLaws.{believed_user}
@@ -33,6 +35,23 @@ may_call w stand unblocked (inl call) = call
 may_call w stand unblocked (inr (j, may)) =
     absurd (both (has_part-from w.search.listed (set_of w.search.worldview) may.nogood may.noted
     (λ p t. stand.believes p ∙ may.believed p t)) unblocked)
+
+-- a nogood that is met has a listed part, lets a choice leave its side, and its culprits are blamed
+pub met_part : (problem : Problem) (s : Stand) (n : List ℕ) → IsMet problem s n → IsTrue (has_part s.listed (set_of n))
+met_part problem s n met = has_part-from s.listed (set_of n) n met.noted (λ p t. t)
+
+abbrev pub met_moves : {problem : Problem} (s : Stand) (n : List ℕ) (j : ℕ) → IsStand s → IsMet problem s n
+    → MayLeave s n j → MayMove s j
+met_moves s n j stand met leaves = may_move s n j stand met.noted met.believed leaves
+
+pub met_blames : {problem : Problem} (s : Stand) (n : List ℕ) (set : Members) → IsStand s → IsMet problem s n
+    → AreCulprits s n set → IsBlamed s set
+met_blames s n set stand met culprits = record {
+  nogood = n;
+  noted = met.noted;
+  believed = λ p t. sym (stand.believes p) ∙ met.believed p t;
+  culprits = culprits;
+}
 
 -- what the first choices take, all do
 first_taken : (cs : List Choice) (l : List ℕ) (n p : ℕ) → IsTrue (hypotheticals_of (take n cs) (take n l) p)
@@ -125,3 +144,22 @@ has_moved s new m reason may side culprits same known premises listed list level
       };
       before_is = before;
     }
+
+-- what took no step
+pub no_steps : {O : Type 0} {picks : O → ℕ → ℕ → O → Type 0} {library : List Stored} {start w : Work O} {n : ℕ}
+    → n ≤ 0 → Goes picks library start n w → Goes picks library start 0 w
+no_steps {picks = picks} {library} {start} {w} {n} few goes =
+    let e : n ≡ 0 = omega (arith, few) in subst (λ m. Goes picks library start m w) e goes
+
+-- and then one, over the same library and the same problem
+pub steps_then : {O L : Type 0} (picks : O → ℕ → ℕ → O → Type 0) (stored : L → List Stored) (a b : L) → b ≡ a
+    → (old mid : Data) → mid ≡ record old { contents = mid.contents }
+    → {start : Work O} (w : Work O) (step : Step) (v : Work O) → Goes picks (stored a) start 0 w
+    → IsStepTo picks (stored b) (problem_of (stored b) mid) w step v
+    → Steps picks (stored a) (problem_of (stored a) old) start step v
+steps_then picks stored a b same old mid rest w step v goes taken = record {
+  ready = w;
+  readied = goes;
+  taken = subst (λ (P : Type 0). P)
+      (λ i. IsStepTo picks (stored (same i)) (problem_of (stored (same i)) (rest i)) w step v) taken;
+}

@@ -19,7 +19,7 @@ use crate::search::Search;
 use crate::settling::settle;
 use prop_premises::{Premise, PremiseSet, Worldview};
 use prop_procedures::Rule;
-use prop_scheduler::{Live, Order, alert_shifted, call_next};
+use prop_scheduler::{Ended, Live, Order, alert_shifted, call_next};
 use std::alloc::AllocError;
 
 /// What a step was.
@@ -73,7 +73,8 @@ pub fn step_once<R: Rule + Drop, O: Order>(
         (problem_in R.value_of live.old) (work_on search.old live.old order.old) step
         (work_on search.new live.new order.new)) }
 {
-    match settle(live, search, order, 0)?.end {
+    let Ended { end, steps: _ } = settle(live, search, order, 0)?;
+    match end {
         Outcome::Settled => Ok(Step::Settled),
         Outcome::Contradiction(premises) => Ok(Step::Contradiction(premises)),
         Outcome::Unsettled => take_step(live, search, order),

@@ -72,8 +72,15 @@ class Value:
         unread = self.__dict__.get("_unread")
         if unread:
             # (all at once, since another thread may do the same)
-            object.__setattr__(self, "__dict__", _fields(*unread))
+            object.__setattr__(self, "__dict__", dict(zip(_FIELDS, _said(*unread))))
         return self
+
+    def all(self) -> "Said":
+        """All fields in order, for who looks at each of them once."""
+        unread = self.__dict__.get("_unread")
+        if unread:
+            return _said(*unread)
+        return self.cell, self.value, self.settled, self.because, self.reduced
 
     def __str__(self) -> str:
         text = f"{self.cell} = {self.value}"
@@ -82,6 +89,11 @@ class Value:
         elif self.reduced is False:
             text += " not reduced"
         return text if self.because is None else f"{text} because {_named(self.because)}"
+
+
+# The fields of a Value: their names in order, and what they are.
+_FIELDS = ("cell", "value", "settled", "because", "reduced")
+Said = tuple[str, Held, bool, tuple[str, ...] | None, bool | None]
 
 
 @dataclass(frozen=True)
@@ -247,16 +259,25 @@ def reply_of(words: list[str], text: str, kinds: Mapping[str, str]) -> Reply:
     return _PLAIN[text]
 
 
+def _said(text: str, command: str, kind: str) -> Said:
+    """The fields of the value that a text says in reply to a command, of a cell of this kind."""
+    cell, held, behind = _cut(text)
+    mark, _, names = behind.partition("because ")
+    because = None if command == "ask" else _names(names)
+    reduced = (mark == "") if command == "core" else None
+    return cell, value_of(held, kind), mark[:9] != "unsettled", because, reduced
+
+
 def _step(lines: list[str], kinds: Mapping[str, str]) -> Step:
     """The step that these lines tell, those behind the first."""
     sides = tuple(lines[0].split(" ")[1:])
     word, *said = lines[1].split(" ")
     if word == "called:":
         number, procedure, *inputs, output = said
-        held, behind = _cut(lines[2])
+        _, held, behind = _cut(lines[2])
         # (of a cell without a name the value tells whether it is of numbers: no name begins so)
         kind = kinds.get(output, "span" if looks_like_number(held) else "")
-        because = _names(behind.removeprefix(" because "))
+        because = _names(behind.removeprefix("because "))
         value = value_of(held, kind)
         return Step(sides, Called(int(number), procedure, tuple(inputs), output, value, because))
     if word == "moved:":
@@ -265,22 +286,12 @@ def _step(lines: list[str], kinds: Mapping[str, str]) -> Step:
     return Step(sides, SETTLED if word == "settled" else Contradiction(_names(lines[1][15:])))
 
 
-def _fields(text: str, command: str, kind: str) -> dict[str, object]:
-    """The fields of the value that a text says in reply to a command, of a cell of this kind."""
-    held, behind = _cut(text)
-    mark, _, names = behind.partition(" because ")
-    return {
-        "cell": text.partition(" = ")[0],
-        "value": value_of(held, kind),
-        "settled": mark != " unsettled",
-        "because": None if command == "ask" else _names(names),
-        "reduced": (mark == "") if command == "core" else None,
-    }
-
-
-def _cut(text: str) -> tuple[str, str]:
-    """The value that a text says of a cell, and what stands behind that."""
-    said = text.partition(" = ")[2]
+def _cut(text: str) -> tuple[str, str, str]:
+    """The cell of which a text says a value, that value, and what stands behind it."""
+    cell, _, said = text.partition(" = ")
     # (a value has no space but within its braces)
-    end = said.find("}") + 1 if said[0] == "{" else said.find(" ")
-    return (said, "") if end < 0 else (said[:end], said[end:])
+    if said[0] == "{":
+        end = said.find("}") + 1
+        return cell, said[:end], said[end + 1 :]
+    held, _, behind = said.partition(" ")
+    return cell, held, behind

@@ -133,10 +133,10 @@ class Session(Closing):
         if not self._talk.in_step:
             self._be_ready()
         self._sent += 1
+        if seconds is None and progress is None and text[:4] in _QUESTIONS:
+            return self._runner.ask(text, self._sent)
         if seconds is not None or progress is not None or "core" in text:
             return self._send_watched(text, seconds, progress)
-        if text[:4] in _QUESTIONS:
-            return self._runner.ask(text, self._sent)
         self._runner.tell(text)
         # What the line asks is looked at while the program is at work.
         words = text.split()

@@ -5,7 +5,7 @@ be hit; the cheapest way to do so is tried next, and either repairs all or bring
 """
 
 import heapq
-from collections.abc import Sequence
+from collections.abc import Callable, Sequence
 from itertools import count
 
 # What a set costs: its weight, and how many it has.
@@ -47,10 +47,16 @@ class Hitting:
         for bit in bits_of(hit):
             self._done_with[bit].append(hit)
 
-    def next(self) -> int | None:
+    @property
+    def is_done(self) -> bool:
+        """Whether there is no more to look at."""
+        return not self._open
+
+    def next(self, is_over: Callable[[], bool] = lambda: False) -> int | None:
         """The cheapest set that hits all, and has none of those that are finished; None where there
-        is no more. It comes again until it is finished or another conflict is learned."""
-        while self._open:
+        is no more, or the time is over. It comes again until it is finished or another conflict is
+        learned."""
+        while self._open and not is_over():
             cost, order, hit, out, known = heapq.heappop(self._open)
             if any(done & hit == done for done in self._done[known:]):
                 continue

@@ -3,17 +3,15 @@ use Rattle.prop_procedures.specs.Kept.{stored_of}
 use Rattle.prop_cells.specs.Data.{problem_of}
 use Rattle.prop_numbers.specs.Sets.{set_of}
 use Rattle.prop_amb.specs.Resolving.{IsReason}
-use Rattle.prop_amb.proofs.DecidingLaws.{met_moves, met_blames, are_shifted}
-use Rattle.prop_amb.proofs.MetLaws.{met_part}
-use Rattle.prop_amb.proofs.SteppingLaws.{reason_known, has_moved}
+use Rattle.prop_amb.proofs.DecidingLaws.{are_shifted}
+use Rattle.prop_amb.proofs.SteppingLaws.{met_part, met_moves, met_blames, reason_known, has_moved}
 use Rattle.prop_amb.proofs.stepping.move_for.Goals as goal
 
 pub returns-in-RuledOut-clause-told : goal.returns-in-RuledOut-clause-told
 returns-in-RuledOut-clause-told g c =
     let problem = problem_of (stored_of g.R.Rule.value_of c.args.live.now.network.library)
     c.args.live.now.network.cells in
-    let met = c.requires.met in
-    (
+    let met = c.requires.met in (
       refl,
       refl,
       rw c.in-RuledOut.is at (c.in_ok-premises.ensures.resolved problem c.requires.search met.nogood
@@ -44,8 +42,7 @@ returns-in_ok-before-in-Against-clause-told g c =
     let there = may.leaves.may in
     let reason : IsReason problem s c.in-Against.place (set_of c.in-Against.reason) =
     rw c.in-Against.is at (c.in_ok-premises.ensures.resolved problem c.requires.search met.nogood
-    (met_part problem s c.args.nogood met)) in
-    (
+    (met_part problem s c.args.nogood met)) in (
       has_moved s c.advance.new.self _ c.in-Against.reason may
           (c.side_at-side.ensures.side there.choice there.side there.choice_at there.side_at)
           (rw c.in-Against.is at c.in_ok-premises.ensures.culprits) c.in_ok-nogood-in-Against.ensures
