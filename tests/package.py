@@ -238,7 +238,8 @@ def wide_runs(program: str) -> Optional[str]:
 def examples_run(program: str) -> Optional[str]:
     """Each example that is installed, in the root, with the replies that lie beside it."""
     root = installed(program)
-    paths = sorted(glob.glob(f"{root}/usr/share/doc/propbench/examples/*.prop"))
+    folder = f"{root}/usr/share/doc/propbench/examples"
+    paths = sorted(glob.glob(f"{folder}/**/*.prop", recursive=True))
     for path in paths:
         with open(path, "rb") as sent, open(path.removesuffix("prop") + "out", "rb") as wanted:
             if inside(root, "propbench", sent=sent.read()).stdout != wanted.read():
@@ -424,7 +425,7 @@ def copy_without_program(to: str) -> None:
     """What tools/package reads, where nothing is built."""
     for folder in ("tools", "docs", "examples", "python"):
         shutil.copytree(f"{TOP}/{folder}", f"{to}/{folder}")
-    for name in ("README.md", "crates.txt"):
+    for name in ("README.md", "CHANGELOG.md", "VERSION", "crates.txt"):
         shutil.copy(f"{TOP}/{name}", to)
     for name in PROGRAMS:
         os.makedirs(f"{to}/crates/{name}/src")

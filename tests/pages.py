@@ -1,4 +1,4 @@
-"""What README.md and docs/ are held to as texts: their length, their lines, links and names.
+"""What README.md, docs/ and examples/README.md are held to as texts: length, lines, links, names.
 
 - They have MOST bytes in all, and a paragraph fewer than WORDS words. An item of a list is a
   paragraph of its own; rows of tables and indented blocks are none.
@@ -20,7 +20,7 @@ from typing import Callable, Iterator, Optional
 from documents import is_command
 
 TOP = os.path.dirname(os.path.dirname(os.path.realpath(__file__)))
-MOST, WORDS, COLUMNS = 143_900, 90, 100
+MOST, WORDS, COLUMNS = 156_000, 90, 100
 FOREIGN = re.compile(
     r"\b(?:issue|demand|row|paper)s? [A-Z]?\d|\bth(?:e|is) (?:paper|issue)|#\d", re.I
 )
@@ -38,8 +38,8 @@ def read(path: str) -> str:
 
 def pages() -> dict[str, str]:
     """The documents by path."""
-    found = sorted(glob.glob(f"{TOP}/docs/*.md"))
-    return {path: read(path) for path in ["README.md", *(os.path.relpath(it, TOP) for it in found)]}
+    paths = ["README.md", *glob.glob("docs/*.md", root_dir=TOP), "examples/README.md"]
+    return {path: read(path) for path in sorted(paths)}
 
 
 def is_set_apart(line: str) -> bool:

@@ -23,8 +23,9 @@ from puzzles import Puzzle, pigeons, queens, small_colouring, tenants, tenants_b
 SOLVED = ["6 pigeons", "tenants", "tenants told apart by one floor at a time"]
 SOLVED += ["6 queens", "8 queens"]
 
-# The limits of slices, and how many hundredths of the steps of one run they may take together.
-SLICES, MOST = [1, 10, 1_000], 120
+# The limits of slices, and how many hundredths of the steps of one run they may take together. Of
+# limit 1 no step is left to pass over a side: it is believed first, and left with the next limit.
+SLICES = {1: 140, 10: 120, 1_000: 120}
 
 
 def puzzles() -> Iterator[Puzzle]:
@@ -81,8 +82,8 @@ class Sliced:
     def wrong(self, program: str) -> Optional[str]:
         """What is wrong with the slices, or None."""
         whole = steps(program, self.puzzle, *self.options)
-        for limit in SLICES:
-            most = whole * MOST // 100
+        for limit, hundredths in SLICES.items():
+            most = whole * hundredths // 100
             wrong = self.wrong_in_slices(program, limit, most)
             if wrong:
                 return f"by {limit}, where one run takes {whole} steps: {wrong}"

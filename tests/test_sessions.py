@@ -7,7 +7,7 @@ PATH is crates/propbench/out/propbench where it is left out. What is run:
 - each session of tests/sessions/*.session: `== ` and a title begin one, with options of the program
   in brackets behind it; a line of input stands behind `> `, and below it the replies that it wants;
   in input \\t, \\r and \\xNN are those bytes;
-- each examples/NAME.prop, whose replies are examples/NAME.out;
+- each NAME.prop in examples/, whose replies are NAME.out beside it;
 - the sessions of README.md and docs/ (tests/documents.py), and these texts themselves: how long
   they are, links and names (tests/pages.py);
 - how long the lines of the crates are (tests/lines.py);
@@ -36,6 +36,7 @@ PATH is crates/propbench/out/propbench where it is left out. What is run:
 - ./propbench where nothing is proved yet, with a stand-in for what builds (tests/first_start.py);
 - the Debian package of the program, installed in a root of its own (tests/package.py);
 - what the gate does around the proofs (tests/gate.py);
+- that all say the same version, and what tools/release makes of the gate's log (tests/versions.py);
 - the scripts of the repository: what runs them, their types and their layout (tests/scripts.py).
 
 What is worked, written in a document or random is run in each order of calls. -k runs those whose
@@ -74,6 +75,7 @@ import searches
 import spoiled
 import stacks
 import steps
+import versions
 import wide_puzzles
 import wide_rules
 import wide_sessions
@@ -107,7 +109,7 @@ def transcribed() -> Iterator[Transcript]:
 
 
 def examples() -> Iterator[Case]:
-    for path in sorted(glob.glob(f"{TOP}/examples/*.prop")):
+    for path in sorted(glob.glob(f"{TOP}/examples/**/*.prop", recursive=True)):
         with open(path, "rb") as sent, open(path.removesuffix(".prop") + ".out", "rb") as wanted:
             yield Case(f"examples: {os.path.basename(path)}", sent.read(), wanted.read())
 
@@ -121,7 +123,7 @@ def worked() -> Iterator[Case]:
 
 def cases() -> Iterator[Runnable]:
     """What is run, the long ones first. A large or random session is made once it is run."""
-    for module in (scripts, gate, package, first_start, spoiled, lines, pages, believed):
+    for module in (scripts, gate, versions, package, first_start, spoiled, lines, pages, believed):
         yield from module.cases()
     yield from stacks.cases(worked())
     yield from refusals.cases(list(transcribed()))

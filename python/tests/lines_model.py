@@ -64,6 +64,11 @@ class LineModel(Questions):
     def forks(self) -> list[str]:
         return []
 
+    def rooms_by(
+        self, forks: Sequence[str], ends: Mapping[str, tuple[int, int]]
+    ) -> Mapping[str, tuple[int, int]]:
+        return {}
+
     def premises(self) -> list[str]:
         return list(dict.fromkeys(line.split()[1] for line in self.lines if line[:5] == "tell "))
 

@@ -199,7 +199,7 @@ def test_run_is_cut_after_seconds(
     assert "This is not settled" in capsys.readouterr().out
 
 
-@pytest.mark.parametrize("path", sorted((REPOSITORY / "examples").glob("*.prop")))
+@pytest.mark.parametrize("path", sorted((REPOSITORY / "examples").glob("**/*.prop")))
 def test_run_of_the_examples(program: str, path: Path, capsys: pytest.CaptureFixture[str]) -> None:
     assert main(["run", str(path), "--program", program]) == 0
     out = capsys.readouterr().out

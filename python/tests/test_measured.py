@@ -1,13 +1,9 @@
 """Measured quantities: answers beside exact intervals, which are worked out by hand from formulas."""
 
-import re
-import subprocess
-import sys
 from collections.abc import Iterator
 from decimal import Decimal
 from fractions import Fraction
 from itertools import product
-from os import environ
 from pathlib import Path
 
 import pytest
@@ -16,8 +12,6 @@ from propbench import CertificateError, Conflict, Workbench, maximum, mean, mini
 from propbench.measuring.quantities import MeasuredAnswer, Quantity
 from propbench.measuring.translation import TooCoarse
 
-EXAMPLES = Path(__file__).parents[1] / "examples"
-MOST_LINES = 25
 Ends = tuple[Fraction, Fraction]
 
 
@@ -34,6 +28,10 @@ def ends(*texts: str | int) -> Ends:
 
 def around(middle: str, off: str) -> Ends:
     return Fraction(middle) - Fraction(off), Fraction(middle) + Fraction(off)
+
+
+def parallel(one: Fraction, other: Fraction) -> Fraction:
+    return one * other / (one + other)
 
 
 def is_tight(answer: MeasuredAnswer, wanted: Ends, more: str = "0.001") -> bool:
@@ -83,137 +81,6 @@ def test_the_mean_of_1010_1010_and_1011(w: Workbench) -> None:
         w.read(f"balance {each.name}", each, shown)
     assert is_tight(middle.ask(), ends("3031/3", "3031/3"), "0.000001")
     assert middle.ask().low is not None and isinstance(middle.ask().low, Decimal)
-
-
-# --- the examples ---
-
-SHOWN = re.compile(r"^(.+?)(?: = |  ) *(-?[\d.]+)\.\.(-?[\d.]+) (\S+)", re.M)
-
-
-def said(name: str, program: str) -> tuple[str, dict[str, list[Ends]]]:
-    """What an example prints, and the intervals in it by what they are of."""
-    path = EXAMPLES / f"{name}.py"
-    assert path.read_text().count("\n") < MOST_LINES
-    source = str(EXAMPLES.parent / "src")
-    ran = subprocess.run(
-        [sys.executable, str(path)],
-        env={**environ, "PROPBENCH": program, "PYTHONPATH": source},
-        capture_output=True,
-        text=True,
-        check=True,
-    )
-    found: dict[str, list[Ends]] = {}
-    for of, low, high, _ in SHOWN.findall(ran.stdout):
-        found.setdefault(of.strip(), []).append(ends(low, high))
-    return ran.stdout, found
-
-
-def is_shown(found: Ends, wanted: Ends, digit: str) -> bool:
-    """Whether an interval is shown that holds one, and is wider by a digit at each end at most."""
-    below, above = wanted[0] - found[0], found[1] - wanted[1]
-    return 0 <= below <= Fraction(digit) and 0 <= above <= Fraction(digit)
-
-
-def parallel(one: Fraction, other: Fraction) -> Fraction:
-    return one * other / (one + other)
-
-
-def test_two_resistors(program: str) -> None:
-    text, found = said("resistors", program)
-    ways = [line.split("  ")[1:3] for line in text.split("\n") if re.match(r" +\d ", line)]
-    assert ways[0][0] == "1" and text.count("  meter on R2  ") == 1
-    singles = [line for line in text.split("\n") if line.startswith("  1 ")]
-    assert len(singles) == 1 and "meter on R2" in singles[0] and "17.7 ohm" in singles[0]
-    assert re.search(r"\n  2 .*\n   +\S", text), "other ways give up more than one"
-    # (each is read by itself most narrowly; no sum and no parallel tells more of the two)
-    one, other = ends("465.6", "470.4"), (Fraction("331.2") - Fraction("1.2"), Fraction("332.4"))
-    series = ends("797.5", "800.5")
-    assert one[0] + other[0] < series[0] and series[1] < one[1] + other[1]
-    assert is_shown(found["R1"][0], one, "0") and is_shown(found["R2"][0], other, "0")
-    assert is_shown(found["series"][0], series, "0")
-    both = parallel(one[0], other[0]), parallel(one[1], other[1])
-    assert is_shown(found["parallel"][0], both, "0.1")
-
-
-def test_a_point(program: str) -> None:
-    """Each two distances along an edge tell a coordinate: (a^2 - b^2) / 2e + e / 2."""
-    text, found = said("point", program)
-    tapes = {"A": "29.284", "B": "40.167", "C": "40.483", "D": "48.899"}
-    far = {post: around(tape, "0.05") for post, tape in tapes.items()}
-
-    def along(near: str, other: str, edge: int) -> Ends:
-        low = (far[near][0] ** 2 - far[other][1] ** 2) / (2 * edge) + Fraction(edge, 2)
-        high = (far[near][1] ** 2 - far[other][0] ** 2) / (2 * edge) + Fraction(edge, 2)
-        return low, high
-
-    for name, pairs, edge in (("x", ("AB", "CD"), 60), ("y", ("AC", "BD"), 50)):
-        each = [along(pair[0], pair[1], edge) for pair in pairs]
-        wanted = max(low for low, _ in each), min(high for _, high in each)
-        shown = found[name][0]
-        assert shown[0] >= wanted[0] - Fraction("0.001")
-        assert shown[1] <= wanted[1] + Fraction("0.001")
-    assert text.count("because of tape A, tape B, tape C, tape D") == 2
-
-
-def test_a_density(program: str) -> None:
-    text, found = said("density", program)
-    mass, volume = around("100", "0.005"), around("7", "0.1")
-    water, hung = ends("0.9982", "0.9984"), around("93", "0.1")
-    by_volume = mass[0] / volume[1], mass[1] / volume[0]
-    # (water times 1 / (1 - hung / mass), which has each once)
-    lost = [1 - hung[1] / mass[0], 1 - hung[0] / mass[1]]
-    by_water = water[0] / lost[1], water[1] / lost[0]
-    wanted = max(by_volume[0], by_water[0]), min(by_volume[1], by_water[1])
-    assert all(is_shown(each, wanted, "0.001") for each in found["density"])
-    assert "has to show 6.8..7.2 cm3" in text
-
-
-def test_a_barometer(program: str) -> None:
-    _, found = said("barometer", program)
-    long, its, shadow = ends("0.300", "0.320"), ends("0.360", "0.370"), around("55", "0.1")
-    by_shadow = long[0] * shadow[0] / its[1], long[1] * shadow[1] / its[0]
-    gravity, time = ends("9.789", "9.832"), around("3", "0.1")
-    by_fall = gravity[1] * time[1] ** 2 / 2
-    assert is_shown(found["height"][0], by_shadow, "0.01")
-    assert is_shown(found["height"][1], (by_shadow[0], by_fall), "0.01")
-    assert is_shown(found["barometer"][0], (long[0], by_fall * its[1] / shadow[0]), "0.001")
-    least = found["time"][0][0]
-    assert gravity[1] * (least + Fraction("0.001")) ** 2 / 2 > by_shadow[0]
-    assert gravity[1] * least**2 / 2 <= by_shadow[0]
-
-
-def test_a_calibration_line(program: str) -> None:
-    """Slope, offset and a reading on the line by two variables: at the corners of what fits."""
-    _, found = said("calibration", program)
-    shown = dict(zip(range(0, 101, 20), ("0.012", "0.803", "1.611", "2.409", "3.222", "4.014")))
-    bands = [(x, *around(volts, "0.01")) for x, volts in shown.items()]
-    lines = [(low, x) for x, low, _ in bands] + [(high, x) for x, _, high in bands]
-    corners = []
-    for (one, left), (other, right) in product(lines, lines):
-        if left < right:
-            slope = (other - one) / (right - left)
-            offset = one - slope * left
-            if all(low <= offset + slope * x <= high for x, low, high in bands):
-                corners.append((slope, offset))
-    slopes, offsets = [slope for slope, _ in corners], [offset for _, offset in corners]
-    assert is_shown(found["slope"][0], (min(slopes), max(slopes)), "0.00001")
-    assert is_shown(found["offset"][0], (min(offsets), max(offsets)), "0.0001")
-    signal = around("2", "0.01")
-    unknowns = [(end - offset) / slope for slope, offset in corners for end in signal]
-    wanted = min(unknowns), max(unknowns)
-    table, shaved = found["unknown"]
-    assert table[0] <= shaved[0] <= wanted[0] and wanted[1] <= shaved[1] <= table[1]
-    assert shaved[1] - shaved[0] <= Fraction("1.15") * (wanted[1] - wanted[0])
-
-
-def test_a_mean(program: str) -> None:
-    _, found = said("mean", program)
-    assert is_shown(found["mean"][0], ends("3031/3", "3031/3"), "0.0002")
-
-
-def test_all_examples_are_compared() -> None:
-    names = {path.stem for path in EXAMPLES.glob("*.py")}
-    assert names == {"resistors", "point", "density", "barometer", "calibration", "mean"}
 
 
 # --- what each operation tells ---

@@ -53,6 +53,13 @@ def test_a_notebook(environment: None) -> None:
             "w.film(3)",
             "x.picture()",
             "w.least(y)",
+            "from propbench.notebook import film, picture\npicture(session, 'y')",
+            "film(session)",
+            "picture(session, 'z')",
+            "%%propbench --new\ncell x span\nask x",
+            "%%propbench --new other\nworldview",
+            "(session.lines, len(other.lines))",
+            "%%propbench other --new\nworldview",
             "%unload_ext propbench.notebook",
             "%%propbench\nask x",
         ]
@@ -65,7 +72,8 @@ def test_a_notebook(environment: None) -> None:
     [refused] = shown[2]
     assert "x = 3..5" in refused["text/plain"] and "line 2" in refused["text/plain"]
     assert "Did you mean ana?" in refused["text/html"] and "ask y" not in refused["text/html"]
-    assert "in:" in shown[3][0]["text/plain"]
+    # (a reply of two lines)
+    assert shown[3][0]["text/plain"].split("\n")[1:3] == ["worldview  in:", "           out:"]
     assert "'tell ana x 3..5', 'why y', 'ask x']" in shown[4][0]["text/plain"].replace("\n ", "")
     assert (
         "&lt;b&gt;x&lt;/b&gt;" in shown[5][0]["text/html"]
@@ -78,7 +86,15 @@ def test_a_notebook(environment: None) -> None:
         )
     assert shown[7][0]["text/html"].count("<figure") >= 2
     assert "The least y is 5" in shown[9][0]["text/html"]
-    assert "UsageError" in str(shown[11]) or "not found" in str(shown[11])
+    # (a picture and a film of the session of the cells)
+    assert shown[10][0]["image/svg+xml"].startswith("<svg") and "6..10" in str(shown[10])
+    assert "y = 6..10" in shown[11][0]["text/plain"] and "<figure" in shown[11][0]["text/html"]
+    assert "there is no cell `z`" in str(shown[12])
+    # (sessions that begin anew)
+    assert "x = nothing" in shown[13][0]["text/plain"]
+    assert shown[15][0]["text/plain"] == "(['cell x span', 'ask x'], 1)"
+    assert "before it maybe --new, not 'other --new'" in str(shown[16])
+    assert "UsageError" in str(shown[18]) or "not found" in str(shown[18])
 
 
 class Kernel:

@@ -263,7 +263,7 @@ def test_texts_are_never_markup() -> None:
 
 def test_the_desk_serves_a_file(program: str) -> None:
     """`propdesk page` prints the address, serves, and ends well at Ctrl-C."""
-    path = str(REPOSITORY / "examples" / "talks.prop")
+    path = str(REPOSITORY / "examples/planning/talks.prop")
     words = [sys.executable, "-m", "propbench", "page", path, "--program", program]
     served = subprocess.Popen(words, stdout=subprocess.PIPE, text=True)
     try:
@@ -282,7 +282,7 @@ def test_the_desk_serves_a_file(program: str) -> None:
         served.kill()
         served.wait()
     for wrong, status in (("none.prop", 3), ("talks.out", 1)):
-        words[4] = str(REPOSITORY / "examples" / wrong)
+        words[4] = str(REPOSITORY / "examples/planning" / wrong)
         assert subprocess.run(words, capture_output=True, timeout=60).returncode == status
 
 

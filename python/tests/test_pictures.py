@@ -237,7 +237,7 @@ def test_without_graphviz(
 
 
 def test_draw(program: str, tmp_path: Path, capsys: pytest.CaptureFixture[str]) -> None:
-    example = shutil.copy(REPOSITORY / "examples/premises.prop", tmp_path)
+    example = shutil.copy(REPOSITORY / "examples/measuring/premises.prop", tmp_path)
     assert main(["draw", example, "--program", program]) == 0
     assert capsys.readouterr().out == f"The picture is in {tmp_path}/premises.svg.\n"
     assert "44514..47243" in drawn_texts((tmp_path / "premises.svg").read_text())

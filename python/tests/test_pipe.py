@@ -23,7 +23,7 @@ WORKED = [
     for path in sorted((REPOSITORY / "tests/sessions").glob("*.session"))
     for transcript in transcripts(path)
 ]
-EXAMPLES = sorted((REPOSITORY / "examples").glob("*.prop"))
+EXAMPLES = sorted((REPOSITORY / "examples").glob("**/*.prop"))
 
 
 def said(reply: Reply | Refused) -> str:

@@ -4,6 +4,7 @@ from collections.abc import Iterator
 from dataclasses import dataclass
 from datetime import date
 from itertools import product
+from pathlib import Path
 from xml.etree import ElementTree
 
 import pytest
@@ -152,17 +153,31 @@ def test_dates(p: Project) -> None:
         p.day(date(2026, 3, 1))
 
 
-def test_the_chart(p: Project) -> None:
+def test_an_end_that_was_asked_for_in_a_what_if(p: Project) -> None:
+    """What is made there is gone behind it: so tasks can be added, and the end is made anew."""
+    w = p.workbench
+    with w.what_if(tell=[("late", p.tasks["venue"].start, 4, 60)]):
+        assert w.least(p.end).value == 4 + 2 + 5
+        assert w.least(p.total_cost).value == 1500 + 10
+    p.task("later", 3, after=[p.tasks["review"]])
+    assert w.least(p.end).value == 2 + 5 + 3
+    assert w.least(p.total_cost).value == 1500 + 10
+
+
+def test_the_chart(p: Project, tmp_path: Path) -> None:
     w = p.workbench
     strange = p.task("<b>&\x1b", 1, who="ben")
     p.done_by(20, under="soon")
-    drawn = ElementTree.fromstring(p.chart())
+    chart = p.chart()
+    chart.save(tmp_path / "chart.svg")
+    assert (tmp_path / "chart.svg").read_text() == f"{chart.svg}\n" == f"{chart._repr_svg_()}\n"
+    drawn = ElementTree.fromstring(chart.svg)
     texts = [each.text or "" for each in drawn.iter() if each.tag.endswith("text")]
     assert "<b>&\\x1b (ben)" in texts and "04.03." in texts
     titles = [each.text or "" for each in drawn.iter() if each.tag.endswith("title")]
     assert titles[0] == "venue (ana): day 0 to 2, in any plan from 0 to 15"
     plan = w.least(p.end).plan
-    assert plan is not None and len(ElementTree.fromstring(p.chart(plan, rooms=False))) > 10
+    assert plan is not None and len(ElementTree.fromstring(p.chart(plan, rooms=False).svg)) > 10
     w.tell("late", strange.start, 20)
     with pytest.raises(NothingFits):
         p.chart()

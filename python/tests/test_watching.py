@@ -61,7 +61,7 @@ def test_a_compound_is_taken_apart(program: str) -> None:
         "divider c a 1.2.k5",
     ]
     assert [(cell.name, cell.text, cell.kind) for cell in both.inner_cells()] == [
-        ("1.1.y", "y", ""),
+        ("1.1.y", "y", "span"),
         ("1.2.k", "k", "span"),
     ]
     assert [part.text for part in both.parts] == ["triple", "scaled"]
@@ -354,9 +354,9 @@ def test_files(program: str, tmp_path: Path) -> None:
         watched.believe("cheap", False)
         assert watched.see().values["days"].text == "2"
         assert watched.saved()[0].startswith("# A workbench") and watched.saved()[-1] == "kick odd"
-    with opened(str(REPOSITORY / "examples/talks.prop"), Way(), program) as watched:
+    with opened(str(REPOSITORY / "examples/planning/talks.prop"), Way(), program) as watched:
         assert isinstance(watched, SessionWatched)
-        text = (REPOSITORY / "examples/talks.prop").read_text()
+        text = (REPOSITORY / "examples/planning/talks.prop").read_text()
         assert "".join(f"{line}\n" for line in watched.saved()) == text
         watched.see()
         watched.believe("bus", False)

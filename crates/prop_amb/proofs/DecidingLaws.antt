@@ -1,15 +1,13 @@
 -- What is known where a list is refuted: that a choice may go on, or that it went on.
 use Rattle.std.proofs.Common.{◌≡◌, ◌∙◌, ◌+◌, ℕ, List, Contains, length, sym, subst, arith}
 use Rattle.prop_numbers.specs.Sets.{Members, IsPart, set_of}
-use Rattle.prop_cells.specs.Problems.{Problem}
 use Rattle.prop_cells.specs.Data.{Data}
 use Rattle.prop_scheduler.specs.Shifts.{AreShifted}
 use Rattle.prop_amb.specs.Search.{Stand, IsStand, believed_with}
 use Rattle.prop_amb.specs.Moving.{advanced, reasons_advanced}
-use Rattle.prop_amb.specs.Culprits.{AreCulprits, IsBlamed, MayLeave, MayMove}
-use Rattle.prop_amb.specs.Going.{Passes}
-use Rattle.prop_amb.specs.Going.Passes.{none, next}
-use Rattle.prop_amb.specs.inner.Settling.{IsMet}
+use Rattle.prop_amb.specs.Culprits.{AreCulprits, MayLeave, MayMove}
+use Rattle.prop_amb.specs.Going.{Passes, MaySkip}
+use Rattle.prop_amb.specs.Going.Passes.{none, next, skipped}
 use Rattle.prop_amb.proofs.MetLaws.{believes_worldview}
 
 -- a choice may go on for a noted nogood that is believed
@@ -20,20 +18,6 @@ may_move s n j stand noted believed leaves = record {
   noted = noted;
   believed = λ p t. sym (stand.believes p) ∙ believed p t;
   leaves = leaves;
-}
-
-abbrev pub met_moves : {problem : Problem} (s : Stand) (n : List ℕ) (j : ℕ) → IsStand s → IsMet problem s n
-    → MayLeave s n j → MayMove s j
-met_moves s n j stand met leaves = may_move s n j stand met.noted met.believed leaves
-
--- the culprits of a nogood that is met are blamed
-pub met_blames : {problem : Problem} (s : Stand) (n : List ℕ) (set : Members) → IsStand s → IsMet problem s n
-    → AreCulprits s n set → IsBlamed s set
-met_blames s n set stand met culprits = record {
-  nogood = n;
-  noted = met.noted;
-  believed = λ p t. sym (stand.believes p) ∙ met.believed p t;
-  culprits = culprits;
 }
 
 -- a choice went on
@@ -58,6 +42,24 @@ passes_on {old} {mid} {n = n} first none = let e : n ≡ n + 0 = omega arith in 
 passes_on {old} {new = new} {n = n} first (next k j s later reason rest may culprits same) =
     let e : (n + k) + 1 ≡ n + (k + 1) = omega arith in
     subst (λ m. Passes old m later) e (next (n + k) j s later reason (passes_on first rest) may culprits same)
+passes_on {old} {new = new} {n = n} first (skipped k s later nogood rest may same) =
+    let e : (n + k) + 1 ≡ n + (k + 1) = omega arith in
+    subst (λ m. Passes old m later) e (skipped (n + k) s later nogood (passes_on first rest) may same)
+
+-- the choice at the level was skipped
+pub goes_past : (s new : Stand) (nogood : List ℕ) → MaySkip s nogood → new.premises ≡ s.premises
+    → new.listed ≡ s.listed → new.list ≡ advanced s.list s.level → new.level ≡ s.level + 1
+    → new.reasons ≡ reasons_advanced s.reasons s.level nogood → Passes s 1 new
+goes_past s new nogood may premises listed list level reasons =
+    skipped 0 s new nogood none may
+    (λ i. record {
+      premises = premises i;
+      list = list i;
+      level = level i;
+      reasons = reasons i;
+      listed = listed i;
+      worldview = new.worldview;
+    })
 
 -- of the cells that a move shifted the readers and writers wait
 pub are_shifted : (d : Data) (s new : Stand) (waiting line : List ℕ) → IsStand s → IsStand new

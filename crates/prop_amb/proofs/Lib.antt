@@ -24,11 +24,13 @@ pub mod PlaceLemmas
 pub mod ProblemLaws
 pub mod ReasonLaws
 pub mod RefutedLaws
+pub mod RefutingLaws
 pub mod ResolvingLaws
 pub mod RunLaws
 pub mod SearchLaws
 pub mod SettlingLaws
 pub mod Shown
+pub mod SkippingLaws
 pub mod StandLaws
 pub mod SteppingLaws
 pub mod ZipLemmas

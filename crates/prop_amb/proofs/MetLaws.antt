@@ -40,10 +40,6 @@ met_listed problem s n search listed within = record {
   noted = listed;
 }
 
--- it is listed
-pub met_part : (problem : Problem) (s : Stand) (n : List ℕ) → IsMet problem s n → IsTrue (has_part s.listed (set_of n))
-met_part problem s n met = has_part-from s.listed (set_of n) n met.noted (λ p t. t)
-
 -- an advanced list stands later
 pub advanced_later : (list : List ℕ) (j side : ℕ) → slice_get list j ≡ Some side → IsBefore list (advanced list j)
 advanced_later [] j side e = cc

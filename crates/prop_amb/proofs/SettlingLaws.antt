@@ -16,9 +16,10 @@ use Rattle.prop_amb.specs.Refuted.{IsFirstConsistent, IsRuledOut}
 use Rattle.prop_amb.specs.Search.{Stand, IsStand, IsSearch, users_of, choices_in, believed_with, Moves}
 use Rattle.prop_amb.specs.Settling.{IfContradiction}
 use Rattle.prop_amb.specs.Moving.{advanced}
+use Rattle.prop_amb.specs.Resolving.{MayAdvance}
 use Rattle.prop_amb.specs.Culprits.{IsBlamed, MayMove}
 use Rattle.prop_amb.specs.Going.{work, Passes}
-use Rattle.prop_amb.specs.Going.Passes.{none, next as one_more}
+use Rattle.prop_amb.specs.Going.Passes.{none, next as one_more, skipped as past}
 use Rattle.prop_amb.specs.Going.Goes.{none as not_gone, moved}
 use Rattle.prop_amb.specs.declared.outcome.Outcome.{Outcome}
 use Rattle.prop_scheduler.specs.declared.outcome.Run.{Run}
@@ -61,15 +62,15 @@ moved_few further more most steps moves few some le =
 
 -- a choice that may go on goes on to a later list
 later_of : (s : Stand) (choices : List Choice) (j : ℕ) → choices_in s ≡ choices → IsChoiceList choices s.list
-    → MayMove s j →
+    → MayAdvance s j →
     (IsChoiceList choices (advanced s.list j)) × (place_of choices s.list < place_of choices (advanced s.list j))
 later_of s choices j same is_list may =
     let further : IsChoiceList choices (advanced s.list j) =
-    subst (λ cs. IsChoiceList cs (advanced s.list j)) same (advanced_is_list s j (rw same is_list) may.leaves.may)
+    subst (λ cs. IsChoiceList cs (advanced s.list j)) same (advanced_is_list s j (rw same is_list) may)
     in (
       further,
       earlier_place choices s.list (advanced s.list j) is_list further
-          (advanced_later s.list j may.leaves.may.side may.leaves.may.side_at),
+          (advanced_later s.list j may.side may.side_at),
     )
 
 -- moves go on in the order of the lists
@@ -81,7 +82,15 @@ passed_place old _ _ is_list (one_more n j s later reason rest may culprits same
     let before = passed_place old s n is_list rest in
     let choices : choices_in later ≡ choices_in old = ap (λ (x : Stand). choices_in x) same ∙ before.0 in
     let list : later.list ≡ advanced s.list j = ap (λ (x : Stand). x.list) same in
-    let next = later_of s (choices_in old) j before.0 before.1 may in
+    let next = later_of s (choices_in old) j before.0 before.1 may.leaves.may in
+    let is_list' : IsChoiceList (choices_in old) later.list = rw list next.0 in
+    let less : place_of (choices_in old) s.list < place_of (choices_in old) later.list = rw list next.1 in
+    (choices, is_list', omega (arith, before.2, less))
+passed_place old _ _ is_list (past n s later nogood rest may same) =
+    let before = passed_place old s n is_list rest in
+    let choices : choices_in later ≡ choices_in old = ap (λ (x : Stand). choices_in x) same ∙ before.0 in
+    let list : later.list ≡ advanced s.list s.level = ap (λ (x : Stand). x.list) same in
+    let next = later_of s (choices_in old) s.level before.0 before.1 may.may in
     let is_list' : IsChoiceList (choices_in old) later.list = rw list next.0 in
     let less : place_of (choices_in old) s.list < place_of (choices_in old) later.list = rw list next.1 in
     (choices, is_list', omega (arith, before.2, less))
@@ -297,7 +306,7 @@ module _ {O : Type 0} (picks : O → ℕ → ℕ → O → Type 0) (library : Li
     pub held_earned : budget ≤ steps → (j : ℕ) → MayMove s j
         → budget + 1 < lists_count (choices_in s) * (most_steps (problem_of library start) + 1)
     held_earned used j may =
-        let next = later_of s choices j same_choices (in_old s t.premises t.stand) may in
+        let next = later_of s choices j same_choices (in_old s t.premises t.stand) may.leaves.may in
         let less = next.1 in
         let last : place_of choices (advanced s.list j) < lists_count choices =
         place_below choices (advanced s.list j) next.0 in

@@ -15,13 +15,15 @@ use Rattle.prop_amb.specs.Search.{Stand, IsStand, users_of, choices_in, IsKept}
 use Rattle.prop_procedures.specs.Stored.{Stored}
 use Rattle.prop_cells.specs.Data.{Data, problem_of}
 use Rattle.prop_amb.specs.Going.{Work, work, MayCall, MayGoOn, Goes}
-use Rattle.prop_amb.specs.Culprits.{MayMove, AreCulprits}
+use Rattle.prop_amb.specs.Culprits.{MayMove, MayLeave, AreCulprits, IsBlamed}
 use Rattle.prop_amb.specs.Moving.{advanced, reasons_advanced}
 use Rattle.prop_amb.specs.Stepping.{IsStepTo, HasMoved, Steps}
 use Rattle.prop_amb.specs.declared.stepping.Move.{Move}
+use Rattle.prop_amb.specs.inner.Settling.{IsMet}
 use Rattle.prop_amb.specs.inner.Stepping.{IsMove}
 use Rattle.prop_amb.specs.declared.stepping.Step.{Step}
 use Rattle.prop_amb.specs.declared.stepping.Step.TheVariants.{Called, Moved, Settled, Contradiction}
+use Rattle.prop_amb.proofs.DecidingLaws.{may_move}
 use Rattle.prop_amb.proofs.SearchLaws.{both, or_true_left, or_true_right}
 use Rattle.prop_amb.proofs.LookingLaws.{its_side, is_its_side}
 use Rattle.prop_amb.proofs.StandLaws.{believed_user}
@@ -33,6 +35,23 @@ may_call w stand unblocked (inl call) = call
 may_call w stand unblocked (inr (j, may)) =
     absurd (both (has_part-from w.search.listed (set_of w.search.worldview) may.nogood may.noted
     (λ p t. stand.believes p ∙ may.believed p t)) unblocked)
+
+-- a nogood that is met has a listed part, lets a choice leave its side, and its culprits are blamed
+pub met_part : (problem : Problem) (s : Stand) (n : List ℕ) → IsMet problem s n → IsTrue (has_part s.listed (set_of n))
+met_part problem s n met = has_part-from s.listed (set_of n) n met.noted (λ p t. t)
+
+abbrev pub met_moves : {problem : Problem} (s : Stand) (n : List ℕ) (j : ℕ) → IsStand s → IsMet problem s n
+    → MayLeave s n j → MayMove s j
+met_moves s n j stand met leaves = may_move s n j stand met.noted met.believed leaves
+
+pub met_blames : {problem : Problem} (s : Stand) (n : List ℕ) (set : Members) → IsStand s → IsMet problem s n
+    → AreCulprits s n set → IsBlamed s set
+met_blames s n set stand met culprits = record {
+  nogood = n;
+  noted = met.noted;
+  believed = λ p t. sym (stand.believes p) ∙ met.believed p t;
+  culprits = culprits;
+}
 
 -- what the first choices take, all do
 first_taken : (cs : List Choice) (l : List ℕ) (n p : ℕ) → IsTrue (hypotheticals_of (take n cs) (take n l) p)

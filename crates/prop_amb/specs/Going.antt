@@ -1,6 +1,6 @@
 -- What settling does, step by step.
 use Rattle.std.specs.Prelude.{◌≡◌, ℕ, ◌+◌, ◌<◌, ◌⊎◌, false, List, [], length, Contains}
-use Rattle.prop_numbers.specs.Sets.{set_of}
+use Rattle.prop_numbers.specs.Sets.{set_of, IsPart}
 use Rattle.prop_procedures.specs.Stored.{Stored}
 use Rattle.prop_cells.specs.Data.{Data, IsFree, IsClash}
 use Rattle.prop_nogoods.specs.Stores.{has_part, AddsSet}
@@ -10,6 +10,7 @@ use Rattle.prop_scheduler.specs.Turns.{Turn}
 use Rattle.prop_scheduler.specs.Shifts.{AreShifted, AreGrown}
 use Rattle.prop_amb.specs.Search.{Stand, believed_with}
 use Rattle.prop_amb.specs.Moving.{advanced, reasons_advanced, deepened}
+use Rattle.prop_amb.specs.Resolving.{MayAdvance}
 use Rattle.prop_amb.specs.Culprits.{MayMove, AreCulprits}
 
 -- each of so many instances waits
@@ -49,8 +50,16 @@ pub record MayDeepen {O : Type 0} (w : Work O) : Type 0 where
   pub free : IsFree (believed_with w.search) w.cells
   pub left : w.search.level < length w.search.list
 
+-- the side of one choice more isn't its last, and with it a noted nogood would be believed
+pub record MaySkip (s : Stand) (nogood : List ℕ) : Type 0 where
+  pub noted : Contains s.listed nogood
+  pub believed : IsPart (set_of nogood) (believed_with (deepened s))
+  pub may : MayAdvance s s.level
+
 -- The choices went on by so many moves: by each, one that may goes to its next side, for a reason
 -- all of whose premises are culprits, and the later ones to their first. Of these none is believed.
+-- Or the first choice of which no side is believed goes to its next side, for a noted nogood that
+-- would be believed with the one on which it stands.
 pub data Passes (old : Stand) : ℕ → Stand → Type 0 where
   none : Passes old 0 old
   next : (n j : ℕ) (s later : Stand) (reason : List ℕ) → Passes old n s →
@@ -59,6 +68,13 @@ pub data Passes (old : Stand) : ℕ → Stand → Type 0 where
         list = advanced s.list j;
         level = j + 1;
         reasons = reasons_advanced s.reasons j reason;
+        worldview = later.worldview;
+      } → Passes old (n + 1) later
+  skipped : (n : ℕ) (s later : Stand) (nogood : List ℕ) → Passes old n s → MaySkip s nogood →
+      later ≡ record s {
+        list = advanced s.list s.level;
+        level = s.level + 1;
+        reasons = reasons_advanced s.reasons s.level nogood;
         worldview = later.worldview;
       } → Passes old (n + 1) later
 

@@ -1,4 +1,5 @@
 pub mod Joined
+pub mod Refuting
 pub mod Settling
 pub mod Stepping
 pub mod Trying

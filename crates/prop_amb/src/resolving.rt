@@ -1,5 +1,5 @@
 //! What a nogood shows of the choices, and the move that follows.
-ghost use Rattle.std.specs.Prelude.{◌≡◌, ◌+◌, ◌<◌, ℕ, length, IsTrue, IfOk, OnOk, OnErr};
+ghost use Rattle.std.specs.Prelude.{◌≡◌, ◌+◌, ◌<◌, ◌≤◌, ℕ, length, IsTrue, IfOk, OnOk, OnErr};
 ghost use Rattle.prop_numbers.specs.Sets.{set_of, IsPart};
 ghost use Rattle.prop_cells.specs.Problems.{Problem};
 ghost use Rattle.prop_nogoods.specs.Stores.{has_part};
@@ -63,7 +63,7 @@ impl Search {
     /// kept of them. Answers the worldview of before. After want of memory nothing has changed.
     pub fn advance(&mut self, place: usize, reason: PremiseSet) -> Result<Worldview, AllocError>
         requires may { MayAdvance self.old place }
-        requires below { place < self.old.level }
+        requires below { place ≤ self.old.level }
         ensures premises { self.new.premises ≡ self.old.premises }
         ensures listed { self.new.listed ≡ self.old.listed }
         ensures before { IfOk result (λ w. w ≡ self.old.worldview) }

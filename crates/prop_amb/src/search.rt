@@ -8,6 +8,7 @@ ghost use Rattle.prop_nogoods.specs.Stores.{has_part, NoneEndsBelow, AddsSet};
 ghost use Rattle.prop_amb.specs.Refuted.{IsNogood};
 ghost use Rattle.prop_amb.specs.Search.{Stand, no_stand, users_of, choices_in, IsStand, IsSearch};
 ghost use Rattle.prop_amb.specs.Moving.{deepened};
+ghost use Rattle.prop_amb.specs.inner.Refuting.{IsNext};
 
 use crate::reasons::Reasons;
 use prop_nogoods::Store;
@@ -83,6 +84,13 @@ impl Search {
         &self.list
     }
 
+    /// Of how many choices the side is believed.
+    pub(crate) fn level(&self) -> usize
+        ensures { result ≡ self.now.level }
+    {
+        self.level
+    }
+
     /// The nogoods that were noted.
     pub fn nogoods(&self) -> &Store
         ensures { result.now ≡ self.now.listed }
@@ -136,6 +144,30 @@ impl Search {
         self.from = premise;
         self.level += 1;
         Ok(before)
+    }
+
+    /// A noted nogood of which every premise would be believed if the side of one choice more were,
+    /// where none is believed now. None where there is no such choice or nogood, or the side is the
+    /// choice's last.
+    pub(crate) fn refuted_next(&self) -> Result<Option<PremiseSet>, AllocError>
+        requires { has_part self.now.listed (set_of self.now.worldview) ≡ false }
+        ensures { IfOk result (λ found. IfSome found (IsNext self.now)) }
+    {
+        if self.is_whole() {
+            return Ok(None);
+        }
+        let choice = self.premises.choices()[self.level];
+        let side = self.list[self.level];
+        if side >= choice.sides {
+            return Ok(None);
+        }
+        let ahead = choice.first + Premise::from(side - 1);
+        let mut deeper = self.worldview.copy()?;
+        deeper.believe(ahead)?;
+        match self.store.blocks_from(&deeper, ahead) {
+            Some(nogood) => Ok(Some(nogood.copy()?)),
+            None => Ok(None),
+        }
     }
 
     /// Notes a nogood, of which no part was noted. After want of memory nothing has changed.

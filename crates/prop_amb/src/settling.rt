@@ -1,7 +1,7 @@
 //! Settling: the first list of choices that isn't refuted, and the least solution with it.
-ghost use Rattle.std.specs.Prelude.{◌≡◌, ◌⊎◌, ℕ, ◌+◌, ◌<◌, ◌≤◌, [], false, IsTrue, length, Ok};
-ghost use Rattle.std.specs.Prelude.{Some, None, IfOk, IfSome, OnOk, OnErr};
-ghost use Rattle.prop_numbers.specs.Sets.{Members, set_of};
+ghost use Rattle.std.specs.Prelude.{◌≡◌, ◌⊎◌, ℕ, ◌+◌, ◌-◌, ◌<◌, ◌≤◌, [], false, IsTrue, length};
+ghost use Rattle.std.specs.Prelude.{Ok, Some, None, IfOk, IfSome, OnOk, OnErr};
+ghost use Rattle.prop_numbers.specs.Sets.{Members, IsPart, set_of};
 ghost use Rattle.prop_procedures.specs.Kept.{AllMean};
 ghost use Rattle.prop_cells.specs.Data.{IsFree};
 ghost use Rattle.prop_cells.specs.Problems.{Problem};
@@ -19,12 +19,16 @@ ghost use Rattle.prop_amb.specs.Culprits.{IsBlamed, MayMove};
 ghost use Rattle.prop_amb.specs.Going.{work_on, MayCall, Passes, Goes};
 ghost use Rattle.prop_amb.specs.Settling.{IfContradiction, IsResting, Learns, HasSettled, HasUsed};
 ghost use Rattle.prop_amb.specs.Moving.{deepened};
+ghost use Rattle.prop_amb.specs.Resolving.{IsResolved, IfAgainst};
 ghost use Rattle.prop_amb.specs.inner.Settling.{IsMet};
+ghost use Rattle.prop_amb.specs.inner.Refuting.{IsNext, IsFound, IsRefuting, MayStep, IfStep};
+ghost use Rattle.prop_amb.specs.inner.Refuting.{IfRuledOut};
 ghost use Rattle.prop_amb.specs.inner.Trying.{Attempted};
 
 use crate::outcome::Outcome;
 use crate::resolving::Resolved;
 use crate::search::Search;
+use prop_premises::PremiseSet;
 use prop_procedures::Rule;
 use prop_scheduler::{Ended, Live, Order, Run, alert_grown, alert_shifted, run};
 use std::alloc::AllocError;
@@ -125,6 +129,18 @@ fn believe_more<R: Rule + Drop>(live: &mut Live<R>, search: &mut Search) -> Resu
     Ok(())
 }
 
+/// A noted nogood that would be believed with the side of one choice more, where a move is allowed.
+fn ahead(search: &Search, most: u64) -> Result<Option<PremiseSet>, AllocError>
+    requires { has_part search.now.listed (set_of search.now.worldview) ≡ false }
+    ensures { IfOk result
+        (λ nogood. IfSome nogood (λ n. (1 ≤ most) × IsNext search.now n)) }
+{
+    if most == 0 {
+        return Ok(None);
+    }
+    search.refuted_next()
+}
+
 /// Tries the list on which the choices stand: with the sides that are believed, and where nothing
 /// waits then, with that of one choice more, until the list is refuted or the side of each choice
 /// is believed.
@@ -149,7 +165,7 @@ fn try_list<R: Rule + Drop, O: Order>(
     ensures search { IsSearch (problem_in R.value_of live.old) search.new }
     ensures stand { IsStand search.new }
     ensures refuted { IfOk result (λ r.
-        IfClash r.end (IsMet (problem_in R.value_of live.old) search.new)) }
+        IfClash r.end (IsRefuting search.new (budget - r.steps))) }
     ensures tried { IfOk result (λ r. Attempted O.picks (library_of R.value_of live.old)
         search.old (cells_of live.old) (line_of live.old) order.old budget r.end r.steps search.new
         (cells_of live.new) (line_of live.new) order.new) }
@@ -164,6 +180,10 @@ fn try_list<R: Rule + Drop, O: Order>(
                     let end = Run::Quiet;
                     return Ok(Ended { end, steps });
                 }
+                if let Some(nogood) = ahead(search, budget - steps)? {
+                    let end = Run::Clash(nogood);
+                    return Ok(Ended { end, steps });
+                }
                 believe_more(live, search)?;
             }
             end => return Ok(Ended { end, steps }),
@@ -171,8 +191,42 @@ fn try_list<R: Rule + Drop, O: Order>(
     }
 }
 
+/// A noted nogood that is believed, or where there is none, one that would be with the side of one
+/// choice more. It changes nothing.
+fn found(search: &mut Search) -> Result<Option<PremiseSet>, AllocError>
+    ensures same { search.new ≡ search.old }
+    ensures found { IfOk result (λ nogood. IfSome nogood (IsFound search.old)) }
+    ensures stand { IsStand search.old }
+{
+    let Some(nogood) = search.blocked() else {
+        search.pass_over();
+        return search.refuted_next();
+    };
+    Ok(Some(nogood.copy()?))
+}
+
+/// What such a nogood shows: one that is believed is looked at from the last choice whose side it
+/// holds, and with one that would be believed with the side of one choice more, that choice leaves
+/// its side.
+fn shown(search: &Search, nogood: PremiseSet) -> Result<Resolved, AllocError>
+    requires { IsFound search.now nogood }
+    ensures step { IfOk result (IfStep (MayStep search.now)) }
+    ensures met { IsPart (set_of nogood) (set_of search.now.worldview)
+        → IfOk result (λ r. IfAgainst r (MayMove search.now)) }
+    ensures blamed { IfOk result (IfRuledOut (λ n. IsBlamed search.now (set_of n))) }
+    ensures resolved { IfOk result (λ r. (problem : Problem) → IsSearch problem search.now
+        → IsResolved problem search.now r) }
+{
+    if search.worldview().believes(&nogood) {
+        let shown = search.resolve(nogood)?;
+        return Ok(shown);
+    }
+    Ok(Resolved::Against(search.level(), nogood))
+}
+
 /// The choices go on to a later list, where a noted nogood is believed and a choice may leave its
-/// side. Answers whether they did. After want of memory nothing has changed.
+/// side, or would be with the side of one choice more. Answers whether they did. After want of
+/// memory nothing has changed.
 fn go_on(search: &mut Search) -> Result<bool, AllocError>
     ensures premises { search.new.premises ≡ search.old.premises }
     ensures listed { search.new.listed ≡ search.old.listed }
@@ -181,12 +235,10 @@ fn go_on(search: &mut Search) -> Result<bool, AllocError>
     ensures stays { result ≡ Ok false → search.new ≡ search.old }
     ensures moves { IfOk result (λ moved. IsTrue moved → Passes search.old 1 search.new) }
 {
-    let Some(blocking) = search.blocked() else {
-        search.pass_over();
+    let Some(refuting) = found(search)? else {
         return Ok(false);
     };
-    let believed = blocking.copy()?;
-    match search.resolve(believed)? {
+    match shown(search, refuting)? {
         Resolved::RuledOut(_) => Ok(false),
         Resolved::Against(place, reason) => {
             drop(search.advance(place, reason)?);
@@ -232,7 +284,7 @@ fn decide<R: Rule + Drop>(
     requires alive { IsLiveIn R.value_of (set_of search.old.worldview) live.old }
     requires search { IsSearch (problem_in R.value_of live.old) search.old }
     requires stand { IsStand search.old }
-    requires met { IfClash tried (IsMet (problem_in R.value_of live.old) search.old) }
+    requires refuted { IfClash tried (IsRefuting search.old most) }
     ensures network { live.new.network ≡ live.old.network }
     ensures alive { IsLiveIn R.value_of (set_of search.new.worldview) live.new }
     ensures premises { search.new.premises ≡ search.old.premises }
@@ -270,7 +322,7 @@ fn decide<R: Rule + Drop>(
         }
         Run::Clash(nogood) => nogood,
     };
-    match search.resolve(nogood)? {
+    match shown(search, nogood)? {
         Resolved::RuledOut(premises) => {
             let end = Some(Outcome::Contradiction(premises));
             Ok(Ended { end, steps: 0 })

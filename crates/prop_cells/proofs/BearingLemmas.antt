@@ -1,8 +1,7 @@
 -- Which premises bear on which cells, as entries come and go.
-use Rattle.std.proofs.Common.{◌≡◌, ◌≢◌, ◌∙◌, ℕ, suc, ◌<◌, ◌≤◌, ◌/◌, ◌&&◌, ◌||◌, Bool, true, false, ◌==◌}
+use Rattle.std.proofs.Common.{◌≡◌, ◌∙◌, ℕ, suc, ◌<◌, ◌≤◌, ◌/◌, ◌&&◌, ◌||◌, Bool, true, false, ◌==◌}
 use Rattle.std.proofs.Common.{if◌then◌else◌, not, Contains, List, [], ◌∷◌, ◌++◌, length, take, map, filter, slice_set}
-use Rattle.std.proofs.Common.{slice_index_or, refl, sym, ap, subst, arith, inl, inr, ◌⊎◌, All}
-use Rattle.std.proofs.Math.Bool.{beq}
+use Rattle.std.proofs.Common.{slice_index_or, refl, sym, ap, subst, arith, inl, inr, All}
 use Rattle.std.proofs.lemmas.Bool.{cases_eq, cases_lt}
 use Rattle.std.proofs.lemmas.Bool.Decides.{eqb_tells}
 use Rattle.std.proofs.lemmas.List.{get_or-set_other, get_or-set_same, get_or-take, get_or_past, length-take}
@@ -10,7 +9,6 @@ use Rattle.std.proofs.lemmas.List.Elements.{All-contains, All-contains_itself, A
 use Rattle.prop_lattice.specs.declared.info.Info.TheVariants.{Nothing}
 use Rattle.prop_lattice.specs.Order.{merge_of}
 use Rattle.prop_numbers.specs.Sets.{Members, set_of, is_below, is_within, IsPart}
-use Rattle.prop_numbers.proofs.WithinLemmas.{within_has}
 use Rattle.prop_tms.specs.Beliefs.{believed_of, merge_of_all}
 use Rattle.prop_cells.specs.Problems.{Premises}
 use Rattle.prop_cells.specs.Data.{Entry, AddsAt, TrimsAt, beliefs, content_of}
@@ -127,13 +125,6 @@ same_more old mid new x same none is k =
 
 -- ---- premises that two worldviews agree on
 
-or_cases : (b c : Bool) → (b || c) ≡ true → (b ≡ true) ⊎ (c ≡ true)
-or_cases true c h = inl refl
-or_cases false c h = inr h
-
-one_of : (p q : ℕ) → (p == q) ≡ true → p ≡ q
-one_of p q h = elim (eqb_tells p q) [ inl e ↦ e.1 | inr e ↦ cc (e.0, h) ]
-
 -- the same of each premise
 abbrev pub Agree : Members → Members → List ℕ → Type 0
 Agree w z ps = (p : ℕ) → set_of ps p ≡ true → w p ≡ z p
@@ -141,25 +132,9 @@ Agree w z ps = (p : ℕ) → set_of ps p ≡ true → w p ≡ z p
 pub agree_none : (w z : Members) → Agree w z []
 agree_none w z p h = cc
 
-pub agree_more : (w z : Members) (ps : List ℕ) (p : ℕ) → Agree w z ps → w p ≡ z p → Agree w z (ps ++ p ∷ [])
-agree_more w z [] p h same q t = elim (or_cases (p == q) false t) [
-  | inl e ↦ subst (λ (k : ℕ). w k ≡ z k) (one_of p q e) same
-  | inr e ↦ cc
-]
-agree_more w z (x ∷ xs) p h same q t = elim (or_cases (x == q) (set_of (xs ++ p ∷ []) q) t) [
-  | inl e ↦ h q (or_left (x == q) (set_of xs q) e)
-  | inr e ↦ agree_more w z xs p (λ k u. h k (or_right (x == k) (set_of xs k) u)) same q e
-]
-
-pub same_bits : (a b : Bool) → not (beq a b) ≡ false → a ≡ b
-same_bits true true h = refl
-same_bits true false h = cc
-same_bits false true h = cc
-same_bits false false h = refl
-
--- both believe all of them
-pub agree_both : (w z : Members) (ps : List ℕ) → is_within w ps ≡ true → is_within z ps ≡ true → Agree w z ps
-agree_both w z ps h k p t = within_has w ps p h t ∙ sym (within_has z ps p k t)
+pub not_true : (b : Bool) → not b ≡ true → b ≡ false
+not_true true h = cc
+not_true false h = refl
 
 -- ---- entries come and go
 

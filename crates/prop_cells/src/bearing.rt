@@ -32,25 +32,6 @@ pub(crate) fn bear(
     Ok(())
 }
 
-/// Whether two worldviews believe the same of each premise of a set. It takes no memory.
-fn agree_on(premises: &PremiseSet, before: &Worldview, after: &Worldview) -> bool
-    ensures { IsTrue result → (p : ℕ) → IsTrue (set_of premises.now p)
-        → set_of before.now p ≡ set_of after.now p }
-{
-    if before.believes(premises) {
-        return after.believes(premises);
-    }
-    if after.believes(premises) {
-        return false;
-    }
-    for premise in premises.iter() {
-        if before.has(premise) != after.has(premise) {
-            return false;
-        }
-    }
-    true
-}
-
 /// Whether two worldviews believe the same of each premise of the set at a place. It takes no
 /// memory.
 pub(crate) fn agree_at(
@@ -63,7 +44,7 @@ pub(crate) fn agree_at(
         → set_of before.now p ≡ set_of after.now p }
 {
     match sets.get(place) {
-        Some(premises) => agree_on(premises, before, after),
+        Some(premises) => !before.differs_at(after, premises),
         None => true,
     }
 }

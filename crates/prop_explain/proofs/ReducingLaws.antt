@@ -1,20 +1,23 @@
 -- What a run over some premises tells of what they entail.
-use Rattle.std.proofs.Common.{◌≡◌, ◌∙◌, ◌+◌, ◌-◌, ◌*◌, ◌<◌, ◌≤◌, ◌++◌, ◌∷◌, [], ℕ, List, Contains, IsTrue, Option, Some}
+use Rattle.std.proofs.Common.{◌≡◌, ◌∙◌, ◌+◌, ◌-◌, ◌*◌, ◌≤◌, ◌++◌, ◌∷◌, [], ℕ, List, IsTrue, Option, Some}
 use Rattle.std.proofs.Common.{None, get_or, length, refl, sym, ap, subst, arith}
 use Rattle.prop_lattice.specs.declared.info.Info.{Info}
 use Rattle.prop_lattice.specs.Order.{Below}
 use Rattle.prop_numbers.specs.Sets.{Members, IsPart, set_of, without}
 use Rattle.prop_procedures.specs.Stored.{Stored}
-use Rattle.prop_cells.specs.Problems.{Problem, Assignment, IsSolution, Entails, IsConsistent, is_member}
+use Rattle.prop_cells.specs.Problems.{Problem, Assignment, IsSolution, Entails, IsConsistent, Meets, is_member}
 use Rattle.prop_cells.specs.Reach.{IsConflict}
 use Rattle.prop_cells.specs.Data.{Data, problem_of, beliefs}
 use Rattle.prop_scheduler.specs.Agendas.{Waiting}
 use Rattle.prop_scheduler.specs.Potential.{most_steps}
-use Rattle.prop_scheduler.specs.Turns.{IsSettled, Turns}
+use Rattle.prop_cells.proofs.Keeping.{All-at}
+use Rattle.prop_scheduler.specs.Shifts.{AreShifted}
+use Rattle.prop_scheduler.specs.Turns.{IsSettled, IsUnderWay, Turns}
+use Rattle.prop_scheduler.specs.Watching.{IsWatched}
 use Rattle.prop_scheduler.specs.Live.{IsReady}
 use Rattle.prop_explain.specs.inner.Ready.{StaysReady}
-use Rattle.prop_explain.specs.Trying.{Tries, TriesOf}
-use Rattle.prop_explain.specs.Trying.TriesOf.{none, tried}
+use Rattle.prop_explain.specs.Trying.{TriesOf, last_of}
+use Rattle.prop_explain.specs.Trying.TriesOf.{tried}
 use Rattle.prop_explain.proofs.TryingLaws.{AreHeld, few_more, held_next, lacks_itself, next_believed, next_held}
 
 -- at rest, what is entailed is below what is believed
@@ -63,66 +66,76 @@ stays_then library old middle new between after first then = record {
   ready = then.ready;
 }
 
--- the instances that were called in so many steps, each premise of the list having been tried and the rest not, and the
--- network that this left
-pub record HasTried {O : Type 0} (picks : O → ℕ → ℕ → O → Type 0) (library : List Stored) (believed : Members)
-    (start : Data) (before : Waiting) (first : O) (budget : ℕ) (ps rest : List ℕ) (s : Members) (steps : ℕ) (d : Data)
+-- the instances that were called in so many steps, each premise of the list having been tried and the rest not, the
+-- last in the worldview t, and the network that this left
+pub record HasTried {O : Type 0} (picks : O → ℕ → ℕ → O → Type 0) (library : List Stored) (why : Members) (start : Data)
+    (before : Waiting) (first : O) (budget : ℕ) (ps rest : List ℕ) (s t : Members) (steps : ℕ) (d : Data)
     (agenda : Waiting) (order : O) : Type 0 where
   pub left : StaysReady library start d agenda
   pub within : steps ≤ budget
   pub few : steps ≤ length ps * most_steps (problem_of library start)
-  pub tries : Tries picks library believed start before.line first steps d agenda.line order
-  pub held : AreHeld believed tries.0 s rest
+  pub sets : List Members
+  pub last : t ≡ last_of why sets
+  pub tries : TriesOf picks library why start before.line first sets steps d agenda.line order
+  pub held : AreHeld why sets s rest
 
--- so many calls, for which every instance waited
-abbrev pub Called : {O : Type 0} → (O → ℕ → ℕ → O → Type 0) → List Stored → Members → Data → O → ℕ → Data → List ℕ → O
-    → Type 0
-Called picks library s d order calls new after next = (all : List ℕ)
-    × ((j : ℕ) → j < length d.instances → Contains all j) × Turns picks library s d all order calls new after next
+-- so many calls in the second worldview, for which those wait whose cells shift from the first
+abbrev pub Called : {O : Type 0} → (O → ℕ → ℕ → O → Type 0) → List Stored → Members → Members → Data → List ℕ → O → ℕ
+    → Data → List ℕ → O → Type 0
+Called picks library t s d line order calls new after next = (waiting : List ℕ)
+    × AreShifted t s d (length d.kinds) line waiting × Turns picks library s d waiting order calls new after next
 
 -- without the next premise what is left is tried, in so many calls
 abbrev pub tried_on : {O : Type 0} {picks : O → ℕ → ℕ → O
-    → Type 0} {start d : Data} {line now rest : List ℕ} {first order next : O} {believed s : Members} {steps calls : ℕ}
-    (library : List Stored) (p : ℕ) (less : Members) (new : Data) (after : List ℕ) → less ≡ without s p →
-    (tries : Tries picks library believed start line first steps d now order) → AreHeld believed tries.0 s (p ∷ rest)
-    → IsPart less believed → Called picks library less d order calls new after next
-    → Tries picks library believed start line first (steps + calls) new after next
-tried_on {rest} {s} library p less new after is tries held part called = (
-  less ∷ tries.0,
-  tried tries.0 _ _ less p _ new _ called.0 after _ _ part (next_believed p rest held)
-      (ap (λ (t : Members). t p) is ∙ lacks_itself s p) (next_held p rest held) tries.1 called.1 called.2,
-)
+    → Type 0} {start d : Data} {line now rest : List ℕ} {first order next : O} {why s : Members} {steps calls : ℕ}
+    (library : List Stored) (p : ℕ) (t less : Members) (new : Data) (after : List ℕ) (sets : List Members)
+    → less ≡ without s p → t ≡ last_of why sets →
+    TriesOf picks library why start line first sets steps d now order → AreHeld why sets s (p ∷ rest)
+    → IsPart less why → Called picks library t less d now order calls new after next
+    → TriesOf picks library why start line first (less ∷ sets) (steps + calls) new after next
+tried_on {d} {now} {rest} {why} {s} library p t less new after sets is last tries held part called =
+    tried sets _ _ less p _ new _ called.0 after _ _ part (next_believed p rest held)
+    (ap (λ (u : Members). u p) is ∙ lacks_itself s p) (next_held p rest held) tries
+    (subst (λ (u : Members). AreShifted u less d (length d.kinds) now called.0) last called.1) called.2
 
 -- one premise more was tried: the network was run without it
 pub one_more : {O : Type 0} {picks : O → ℕ → ℕ → O
-    → Type 0} {new : Data} {before agenda after : Waiting} {first order next : O} {believed s : Members} {budget : ℕ}
-    (library : List Stored) (start d : Data) (ps rest : List ℕ) (p steps calls : ℕ) (less now : Members)
-    → less ≡ without s p → HasTried picks library believed start before first budget ps (p ∷ rest) s steps d agenda
-    order →
-    IsPart less believed → IsPart (set_of rest) now → StaysReady library d new after → calls ≤ budget - steps
-    → calls ≤ most_steps (problem_of library d) → Called picks library less d order calls new after.line next →
-    HasTried picks library believed start before first budget (ps ++ p ∷ []) rest now (steps + calls) new after next
-one_more {believed} library start d ps rest p steps calls less now is so_far part holds left within falls called =
-    record {
-      left = stays_then library start d _ _ _ so_far.left left;
-      within = omega (arith, within, so_far.within);
-      few = few_more ps p (most_steps (problem_of library start)) steps calls so_far.few
-          (subst (λ (q : Problem). calls ≤ most_steps q) (same_problem library library start d refl so_far.left.rest)
-          falls);
-      tries = tried_on library p less _ _ is so_far.tries so_far.held part called;
-      held = subst (λ (t : Members). AreHeld believed (t ∷ so_far.tries.0) now rest) (sym is)
-          (held_next p rest so_far.held now holds);
-    }
+    → Type 0} {new : Data} {before agenda after : Waiting} {first order next : O} {why s : Members} {budget : ℕ}
+    (library : List Stored) (start d : Data) (ps rest : List ℕ) (p steps calls : ℕ) (t less now : Members)
+    → less ≡ without s p → HasTried picks library why start before first budget ps (p ∷ rest) s t steps d agenda order →
+    IsPart less why → IsPart (set_of rest) now → StaysReady library d new after → calls ≤ budget - steps
+    → calls ≤ most_steps (problem_of library d)
+    → Called picks library t less d agenda.line order calls new after.line next →
+    HasTried picks library why start before first budget (ps ++ p ∷ []) rest now less (steps + calls) new after next
+one_more {why} library start d ps rest p steps calls t less now is so_far part holds left within falls called = record {
+  left = stays_then library start d _ _ _ so_far.left left;
+  within = omega (arith, within, so_far.within);
+  few = few_more ps p (most_steps (problem_of library start)) steps calls so_far.few
+      (subst (λ (q : Problem). calls ≤ most_steps q) (same_problem library library start d refl so_far.left.rest)
+      falls);
+  sets = less ∷ so_far.sets;
+  last = refl;
+  tries = tried_on library p t less _ _ so_far.sets is so_far.last so_far.tries so_far.held part called;
+  held = subst (λ (u : Members). AreHeld why (u ∷ so_far.sets) now rest) (sym is)
+      (held_next p rest so_far.held now holds);
+}
 
--- what was tried of some premises was tried of more
-pub tries_of_more : {O : Type 0} (picks : O → ℕ → ℕ → O → Type 0) (library : List Stored) (s t : Members) (start : Data)
-    (line : List ℕ) (order : O) (sets : List Members) (n : ℕ) (new : Data) (after : List ℕ) (next : O) → IsPart s t →
-    TriesOf picks library s start line order sets n new after next
-    → TriesOf picks library t start line order sets n new after next
-tries_of_more picks library s t start line order sets n new after next part none = none
-tries_of_more picks library s t start line order sets n new after next part
-    (tried before_sets k m set p d last before all behind first following within is_believed lacks hold earlier waits
-    turns) =
-    tried before_sets k m set p d new before all after first next (λ q h. part q (within q h)) (part p is_believed)
-    lacks hold (tries_of_more picks library s t start line order before_sets k d before first part earlier) waits
-    turns
+-- ---- a network at rest is under way
+
+pub under_way_at_rest : (library : List Stored) (s : Members) (d : Data) (agenda : Waiting) → IsReady library d agenda
+    → IsSettled library s d → IsUnderWay library s d agenda.line
+under_way_at_rest library s d agenda ready settled = record {
+  kept = ready.kept;
+  line_below = ready.line;
+  met = record {
+    met = λ j c at waits. All-at (Meets (beliefs s d.contents)) (problem_of library d).constraints j c
+        settled.least.solves.instances at;
+  };
+}
+
+pub watched_at_rest : (library : List Stored) (s : Members) (d : Data) (agenda : Waiting) → IsReady library d agenda
+    → IsSettled library s d → IsWatched s d agenda.watched
+watched_at_rest library s d agenda ready settled = record {
+  below = ready.watched;
+  holds = λ cell clash. absurd (settled.free cell clash);
+}

@@ -1,29 +1,42 @@
 -- What a reduction does, try by try.
-use Rattle.std.specs.Prelude.{ℕ, ◌+◌, ◌<◌, false, ◌≡◌, IsTrue, List, [], ◌∷◌, length, All, Contains}
+use Rattle.std.specs.Prelude.{ℕ, ◌+◌, false, ◌≡◌, IsTrue, List, [], ◌∷◌, length, All}
 use Rattle.prop_procedures.specs.Stored.{Stored}
 use Rattle.prop_numbers.specs.Sets.{Members, IsPart}
 use Rattle.prop_cells.specs.Data.{Data}
+use Rattle.prop_scheduler.specs.Shifts.{AreShifted}
 use Rattle.prop_scheduler.specs.Turns.{Turns}
 
--- The second cells, line and order are reached from the first by tries of these sets, the last
--- first, that called as many instances. Each set is of believed premises, and lacks one of them
--- that every set before it holds: so no set is tried twice. For each try every instance waits, and
--- then some are called in the worldview of the premises that are tried, each at the place that the
--- order picks.
-pub data TriesOf {O : Type 0} (picks : O → ℕ → ℕ → O → Type 0) (library : List Stored)
-    (believed : Members) (start : Data) (line : List ℕ) (order : O) : List Members → ℕ → Data
-    → List ℕ → O → Type 0 where
-  none : TriesOf picks library believed start line order [] 0 start line order
-  tried : (sets : List Members) (n m : ℕ) (s : Members) (p : ℕ) (d new : Data)
-      (before all after : List ℕ) (first next : O) → IsPart s believed → IsTrue (believed p)
-      → s p ≡ false → All (λ t. IsTrue (t p)) sets →
-      TriesOf picks library believed start line order sets n d before first
-      → ((j : ℕ) → j < length d.instances → Contains all j)
-      → Turns picks library s d all first m new after next →
-      TriesOf picks library believed start line order (s ∷ sets) (n + m) new after next
+-- the premises of the last try, and before the first those of the explanation
+abbrev pub last_of : Members → List Members → Members
+last_of why [] = why
+last_of why (s ∷ sets) = s
 
--- by tries of some sets
-abbrev pub Tries : {O : Type 0} → (O → ℕ → ℕ → O → Type 0) → List Stored → Members → Data → List ℕ
-    → O → ℕ → Data → List ℕ → O → Type 0
-Tries picks library believed start line order n new after next = (sets : List Members)
-    × TriesOf picks library believed start line order sets n new after next
+-- The second cells, line and order are reached from the first by tries of these sets, the last
+-- first, that called as many instances. Each set is of premises of the explanation, and lacks one
+-- of them that every set before it holds: so no set is tried twice. For each try those wait, behind
+-- what waited, that read or write a cell of which its premises believe something else than those of
+-- the try before, and then some are called in the worldview of the premises that are tried, each at
+-- the place that the order picks.
+pub data TriesOf {O : Type 0} (picks : O → ℕ → ℕ → O → Type 0) (library : List Stored)
+    (why : Members) (start : Data) (line : List ℕ) (order : O) : List Members → ℕ → Data → List ℕ
+    → O → Type 0 where
+  none : TriesOf picks library why start line order [] 0 start line order
+  tried : (sets : List Members) (n m : ℕ) (s : Members) (p : ℕ) (d new : Data)
+      (before waiting after : List ℕ) (first next : O) → IsPart s why → IsTrue (why p)
+      → s p ≡ false → All (λ t. IsTrue (t p)) sets →
+      TriesOf picks library why start line order sets n d before first
+      → AreShifted (last_of why sets) s d (length d.kinds) before waiting
+      → Turns picks library s d waiting first m new after next →
+      TriesOf picks library why start line order (s ∷ sets) (n + m) new after next
+
+-- By tries of some sets of premises of an explanation, all of which are believed. Before the first
+-- those wait that read or write a cell of which the explanation alone believes something else.
+pub record Tries {O : Type 0} (picks : O → ℕ → ℕ → O → Type 0) (library : List Stored)
+    (believed : Members) (start : Data) (line : List ℕ) (order : O) (n : ℕ) (new : Data)
+    (after : List ℕ) (next : O) : Type 0 where
+  pub why : Members
+  pub within : IsPart why believed
+  pub waiting : List ℕ
+  pub shifted : AreShifted believed why start (length start.kinds) line waiting
+  pub sets : List Members
+  pub tries : TriesOf picks library why start waiting order sets n new after next

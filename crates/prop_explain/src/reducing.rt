@@ -4,13 +4,13 @@ ghost use Rattle.std.specs.Prelude.{◌≡◌, ◌≢◌, ◌<◌, ◌≤◌, �
 ghost use Rattle.std.specs.Prelude.{length, IfOk};
 ghost use Rattle.prop_lattice.specs.Order.{Below};
 ghost use Rattle.std.specs.List.Sorted.{IsStrictlyIncreasing};
-ghost use Rattle.prop_numbers.specs.Sets.{set_of, IsPart};
+ghost use Rattle.prop_numbers.specs.Sets.{Members, set_of, IsPart};
 ghost use Rattle.prop_procedures.specs.Kept.{AllMean};
 ghost use Rattle.prop_cells.specs.Problems.{Entails, IsConsistent, Premises};
 ghost use Rattle.prop_cells.specs.Reach.{Explains};
 ghost use Rattle.prop_explain.specs.Irreducible.{IsIrreducible, IfLeast, IfNotReduced, OfCore};
 ghost use Rattle.prop_explain.specs.inner.Ready.{StaysReady};
-ghost use Rattle.prop_explain.specs.Trying.{Tries};
+ghost use Rattle.prop_explain.specs.Trying.{Tries, TriesOf};
 ghost use Rattle.prop_cells.specs.Data.{beliefs};
 ghost use Rattle.prop_scheduler.specs.Live.{cells_of, line_of, library_of, problem_in};
 ghost use Rattle.prop_scheduler.specs.Live.{IsLiveIn, IsReady, OnlyRan};
@@ -20,7 +20,7 @@ ghost use Rattle.prop_scheduler.specs.Potential.{most_steps};
 use prop_lattice::{Info, Partial};
 use prop_premises::{PremiseSet, Worldview};
 use prop_procedures::Rule;
-use prop_scheduler::{Ended, Live, Order, Run, run, wake_all};
+use prop_scheduler::{Ended, Live, Order, Run, alert_shifted, run, wake_all};
 use prop_tms::Supported;
 use std::alloc::AllocError;
 
@@ -61,7 +61,8 @@ enum Tried {
 
 /// What is believed of a cell of a network at rest, with premises of which none can be left out.
 /// The premises of the explanation are tried in order of number: one is left out where the others
-/// are enough. Each call of an instance is a step.
+/// are enough. For a try those wait that read or write a cell of which something else is believed
+/// than in the try before. Each call of an instance is a step.
 ///
 /// Afterwards every instance waits and every cell is watched, after want of memory too.
 pub fn reduce<R: Rule + Drop, O: Order>(
@@ -137,6 +138,9 @@ fn explained_least<R: Rule + Drop, O: Order>(
         × (budget < length ps * most_steps (problem_in R.value_of live.old)))) }
 {
     let why = live.network().explanation(cell, worldview)?;
+    let alone = Worldview::of(live.alloc(), &why.support)?;
+    alert_shifted(live, worldview, &alone);
+    drop(alone);
     let Ended { end: left, steps } = left_of(live, order, &why, cell, budget)?;
     let reduced = Supported {
         value: why.value,
@@ -151,7 +155,7 @@ fn explained_least<R: Rule + Drop, O: Order>(
 }
 
 /// What is left of the support of a value when each of its premises was tried, or the budget was
-/// used.
+/// used. The network is under way in that support, and then in the set that was tried last.
 fn left_of<R: Rule + Drop, O: Order>(
     live: &mut Live<R>,
     order: &mut O,
@@ -160,8 +164,7 @@ fn left_of<R: Rule + Drop, O: Order>(
     budget: u64,
 ) -> Result<Ended<Left>, AllocError>
     requires means { AllMean R.value_of live.old.network.library.procedures.items }
-    requires ready { IsReady (library_of R.value_of live.old) (cells_of live.old)
-        live.old.agenda }
+    requires alive { IsLiveIn R.value_of (set_of why.now.support) live.old }
     requires cell { cell < length (cells_of live.old).kinds }
     requires entails { Entails (problem_in R.value_of live.old) (set_of why.now.support) cell
         why.now.value }
@@ -181,17 +184,27 @@ fn left_of<R: Rule + Drop, O: Order>(
     ensures earned { IfOk result (λ r. r.end.is_least ≡ false
         → budget < length why.now.support * most_steps (problem_in R.value_of live.old)) }
     ensures in_order { IfOk result (λ r. IsStrictlyIncreasing why.now.support) }
-    ensures tries { IfOk result (λ r.
-        Tries O.picks (library_of R.value_of live.old) (set_of why.now.support)
-        (cells_of live.old) (line_of live.old) order.old r.steps (cells_of live.new)
+    ensures tries { IfOk result (λ r. (sets : List Members)
+        × TriesOf O.picks (library_of R.value_of live.old) (set_of why.now.support)
+        (cells_of live.old) (line_of live.old) order.old sets r.steps (cells_of live.new)
         (line_of live.new) order.new) }
 {
     let mut support = why.support.copy()?;
+    let mut believed = Worldview::of(live.alloc(), &support)?;
     let mut steps: u64 = 0;
     let value = why.value;
     for premise in why.support.iter() {
         let less = support.without(premise)?;
-        let tried = attempt(live, order, &less, Claim { cell, value }, budget - steps)?;
+        let next = Worldview::of(live.alloc(), &less)?;
+        alert_shifted(live, &believed, &next);
+        believed = next;
+        let tried = attempt(
+            live,
+            order,
+            &believed,
+            Claim { cell, value },
+            budget - steps,
+        )?;
         steps += tried.steps;
         match tried.end {
             Tried::Enough => support = less,
@@ -209,46 +222,42 @@ fn left_of<R: Rule + Drop, O: Order>(
     Ok(Ended { end, steps })
 }
 
-/// Runs the network in the worldview of the set alone, and tells whether the claim is believed
-/// there.
+/// Runs the network in the worldview, and tells whether the claim is believed there.
 fn attempt<R: Rule + Drop, O: Order>(
     live: &mut Live<R>,
     order: &mut O,
-    set: &PremiseSet,
+    worldview: &Worldview,
     claim: Claim,
     budget: u64,
 ) -> Result<Ended<Tried>, AllocError>
     requires means { AllMean R.value_of live.old.network.library.procedures.items }
-    requires ready { IsReady (library_of R.value_of live.old) (cells_of live.old)
-        live.old.agenda }
+    requires alive { IsLiveIn R.value_of (set_of worldview.now) live.old }
     requires cell { claim.cell < length (cells_of live.old).kinds }
-    requires consistent { IsConsistent (problem_in R.value_of live.old) (set_of set.now) }
+    requires consistent { IsConsistent (problem_in R.value_of live.old) (set_of worldview.now) }
     ensures same { live.new.network.library ≡ live.old.network.library }
     ensures left { StaysReady (library_of R.value_of live.old) (cells_of live.old)
         (cells_of live.new) live.new.agenda }
+    ensures alive { IsLiveIn R.value_of (set_of worldview.now) live.new }
     ensures enough { IfOk result (λ r. r.end ≡ Tried.Enough
-        → Entails (problem_in R.value_of live.old) (set_of set.now) claim.cell claim.value) }
+        → Entails (problem_in R.value_of live.old) (set_of worldview.now) claim.cell claim.value) }
     ensures too_few { IfOk result (λ r. r.end ≡ Tried.TooFew
-        → ¬ (Entails (problem_in R.value_of live.old) (set_of set.now) claim.cell claim.value)) }
+        → ¬ (Entails (problem_in R.value_of live.old) (set_of worldview.now) claim.cell
+        claim.value)) }
     ensures falls { IfOk result (λ r. r.steps ≤ most_steps (problem_in R.value_of live.old)) }
-    ensures turns { IfOk result (λ r. (all : List ℕ)
-        × ((j : ℕ) → j < length (cells_of live.old).instances → Contains all j)
-        × Turns O.picks (library_of R.value_of live.old) (set_of set.now) (cells_of live.old) all
-        order.old r.steps (cells_of live.new) (line_of live.new) order.new) }
+    ensures turns { IfOk result (λ r.
+        Turns O.picks (library_of R.value_of live.old) (set_of worldview.now) (cells_of live.old)
+        (line_of live.old) order.old r.steps (cells_of live.new) (line_of live.new) order.new) }
     ensures spent { IfOk result (λ r. r.end ≡ Tried.Spent → r.steps ≡ budget) }
     ensures earned { IfOk result (λ r. r.end ≡ Tried.Spent
         → budget < most_steps (problem_in R.value_of live.old)) }
     ensures steps { IfOk result (λ r. r.steps ≤ budget) }
 {
-    let worldview = Worldview::of(live.alloc(), set)?;
-    wake_all(live);
-    let Ended { end, steps } = run(live, &worldview, order, budget)?;
+    let Ended { end, steps } = run(live, worldview, order, budget)?;
     let tried = match end {
-        Run::Quiet => enough(live.network().belief(claim.cell, &worldview), claim.value),
+        Run::Quiet => enough(live.network().belief(claim.cell, worldview), claim.value),
         Run::Clash(_) => Tried::TooFew,
         Run::Spent => Tried::Spent,
     };
-    drop(worldview);
     Ok(Ended { end: tried, steps })
 }
 

@@ -7,3 +7,4 @@ pub mod PlaceLemmas
 pub mod OneLemmas
 pub mod WithinLemmas
 pub mod SignatureLemmas
+pub mod ApartLemmas

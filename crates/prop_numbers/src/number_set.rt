@@ -1,6 +1,6 @@
 //! Sets of numbers, of which those of one word stand in the value itself.
 ghost use Rattle.std.specs.Prelude.{◌≡◌, ◌↔◌, ◌<◌, ◌≤◌, ◌+◌, ◌*◌, ℕ, [], ◌∷◌, ◌++◌, length, nat_lt};
-ghost use Rattle.std.specs.Prelude.{◌%◌, false, filter, IsTrue, IsOk, IfOk, OnOk, OnErr};
+ghost use Rattle.std.specs.Prelude.{◌≢◌, ◌%◌, false, filter, IsTrue, IsOk, IfOk, OnOk, OnErr};
 ghost use Rattle.std.specs.List.Sorted.{IsStrictlyIncreasing};
 ghost use Rattle.prop_numbers.specs.Sets.{set_of, union, without, is_within, is_below};
 ghost use Rattle.prop_numbers.specs.Sets.{is_at_most_one_of, IsSame, IsBelow};
@@ -206,6 +206,22 @@ impl NumberSet {
         self.signature().meets(change)
     }
 
+    /// Whether some number of the set is in just one of two others. It takes no memory.
+    #[inline]
+    pub fn tells_apart(&self, one: &NumberSet, other: &NumberSet) -> bool
+        ensures apart { IsTrue result → (p : ℕ) × IsTrue (set_of self.now p)
+            × (set_of one.now p ≢ set_of other.now p) }
+        ensures alike { result ≡ false → (p : ℕ) → IsTrue (set_of self.now p)
+            → set_of one.now p ≡ set_of other.now p }
+    {
+        match &self.form {
+            Form::One(own) => {
+                (one.word_at(own.place) ^ other.word_at(own.place)) & own.word != 0
+            }
+            Form::Many(words) => tell_apart(words, one, other),
+        }
+    }
+
     /// Whether the set has no number, or a single one that is in the other set. It takes no memory.
     pub fn is_at_most_one_of(&self, other: &NumberSet) -> bool
         ensures { result ≡ is_at_most_one_of (set_of other.now) self.now }
@@ -344,4 +360,20 @@ impl NumberSet {
     pub fn alloc(&self) -> Global {
         self.alloc
     }
+}
+
+/// Whether some number of the words is in just one of two sets. It takes no memory.
+fn tell_apart(words: &Words, one: &NumberSet, other: &NumberSet) -> bool
+    ensures apart { IsTrue result → (p : ℕ) × IsTrue (set_of words.now p)
+        × (set_of one.now p ≢ set_of other.now p) }
+    ensures alike { result ≡ false → (p : ℕ) → IsTrue (set_of words.now p)
+        → set_of one.now p ≡ set_of other.now p }
+{
+    let (first, end) = words.places();
+    for place in first..end {
+        if (one.word_at(place) ^ other.word_at(place)) & words.word_at(place) != 0 {
+            return true;
+        }
+    }
+    false
 }

@@ -1,7 +1,7 @@
 //! Sets of numbers as words of bits.
-ghost use Rattle.std.specs.Prelude.{◌≡◌, ◌↔◌, ◌<◌, ◌≤◌, ◌+◌, ◌*◌, ◌&&◌, ◌==◌, not, ℕ, List, []};
-ghost use Rattle.std.specs.Prelude.{◌∷◌, ◌++◌, false, length, max, nat_lt, filter, IsTrue, IsOk};
-ghost use Rattle.std.specs.Prelude.{IfOk, IfSome, OnOk, OnErr};
+ghost use Rattle.std.specs.Prelude.{◌≡◌, ◌↔◌, ◌<◌, ◌≤◌, ◌+◌, ◌*◌, ◌/◌, ◌&&◌, ◌==◌, not, ℕ, List};
+ghost use Rattle.std.specs.Prelude.{[], ◌∷◌, ◌++◌, false, length, max, nat_lt, filter, IsTrue};
+ghost use Rattle.std.specs.Prelude.{IsOk, IfOk, IfSome, OnOk, OnErr};
 ghost use Rattle.std.specs.List.Sorted.{IsStrictlyIncreasing};
 ghost use Rattle.prop_numbers.specs.Sets.{set_of, union, without, is_within, is_below};
 ghost use Rattle.prop_numbers.specs.Sets.{is_at_most_one_of, IsSame, IsBelow};
@@ -277,6 +277,16 @@ impl Words {
         ensures { AreRemainders (set_of self.now) (remainders result) }
     {
         signature_of(self.first, &self.words)
+    }
+
+    /// The places of the words that may have a bit, from the first of them to the one behind the
+    /// last.
+    pub fn places(&self) -> (usize, usize)
+        ensures all { (p : ℕ) → IsTrue (set_of self.now p)
+            → (result.0 ≤ p / 64) × (p / 64 < result.1) }
+        ensures bound { result.1 ≤ 1_024 }
+    {
+        (self.first, self.first + self.words.len())
     }
 
     /// Whether the words are among the first two. It takes no memory.

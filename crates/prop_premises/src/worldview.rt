@@ -1,6 +1,6 @@
 //! What is believed.
 ghost use Rattle.std.specs.Prelude.{◌≡◌, List, [], ◌∷◌, ◌++◌, ℕ, nat_lt, filter, IsOk, IfOk, OnOk};
-ghost use Rattle.std.specs.Prelude.{OnErr};
+ghost use Rattle.std.specs.Prelude.{◌≢◌, false, IsTrue, OnErr};
 ghost use Rattle.prop_numbers.specs.Sets.{set_of, union, without, is_within, IsSame, IsBelow};
 ghost use Rattle.prop_numbers.specs.Signatures.{remainders, AreRemainders, CoversChange};
 
@@ -87,6 +87,20 @@ impl Worldview {
         ensures { result ≡ set_of self.now premise }
     {
         self.beliefs.has(premise)
+    }
+
+    /// Whether some premise of the set is believed in just one of this worldview and another. It
+    /// takes no memory.
+    #[inline]
+    pub fn differs_at(&self, other: &Worldview, premises: &PremiseSet) -> bool
+        ensures apart { IsTrue result → (p : ℕ) × IsTrue (set_of premises.now p)
+            × (set_of self.now p ≢ set_of other.now p) }
+        ensures alike { result ≡ false → (p : ℕ) → IsTrue (set_of premises.now p)
+            → set_of self.now p ≡ set_of other.now p }
+    {
+        premises
+            .numbers()
+            .tells_apart(&self.beliefs, &other.beliefs)
     }
 
     /// What is looked at first, to tell that a set of premises isn't believed. It takes no memory.

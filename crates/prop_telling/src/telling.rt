@@ -26,7 +26,8 @@ impl<R: Rule + Drop, O: Order + Drop> Teller<R, O> {
     ghost use Rattle.prop_engine.specs.Answers.{answer_of};
     ghost use Rattle.prop_texts.specs.Texts.{support_text, contradiction_text};
     ghost use Rattle.prop_workbench.specs.Engine.{standing_of};
-    ghost use Rattle.prop_workbench.specs.Sessions.{library_of, state_of, work_of, IsSound, IsMeant};
+    ghost use Rattle.prop_workbench.specs.Sessions.{library_of, state_of, work_of};
+    ghost use Rattle.prop_workbench.specs.Sessions.{IsSound, IsMeant};
     ghost use Rattle.prop_telling.specs.Telling.{telling, TellsStep, SaysStep, SaysCall, SaysValue};
     ghost use Rattle.prop_telling.specs.Texts.{moved_text, sides_text, two_lines, three_lines};
     ghost use Rattle.prop_telling.specs.inner.Telling.{IsNamed};
@@ -42,7 +43,8 @@ impl<R: Rule + Drop, O: Order + Drop> Teller<R, O> {
     pub fn command(&mut self, line: &[u8]) -> Reply
         requires means { IsMeant R.value_of self.old.session }
         requires sound { IsSound R.value_of self.old.session }
-        ensures same { self.new.session.live.network.library ≡ self.old.session.live.network.library }
+        ensures same { self.new.session.live.network.library
+            ≡ self.old.session.live.network.library }
         ensures sound { IsSound R.value_of self.new.session }
         ensures tells { telling O.picks (library_of R.value_of self.old.session)
             (standing_of self.old.session) line.now (answer_of result)
@@ -58,7 +60,8 @@ impl<R: Rule + Drop, O: Order + Drop> Teller<R, O> {
     fn step(&mut self) -> Reply
         requires means { IsMeant R.value_of self.old.session }
         requires sound { IsSound R.value_of self.old.session }
-        ensures same { self.new.session.live.network.library ≡ self.old.session.live.network.library }
+        ensures same { self.new.session.live.network.library
+            ≡ self.old.session.live.network.library }
         ensures sound { IsSound R.value_of self.new.session }
         ensures tells { TellsStep O.picks (library_of R.value_of self.old.session)
             (standing_of self.old.session) (answer_of result) (standing_of self.new.session) }

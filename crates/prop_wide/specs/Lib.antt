@@ -11,6 +11,7 @@ pub mod Wide
 pub mod Values
 pub mod Points
 pub mod Narrowest
+pub mod Answers
 pub mod Procedures
 pub mod Prelude
 pub mod laws

@@ -1,4 +1,4 @@
--- Which answers are the narrowest.
+-- Which information is the narrowest that holds some numbers.
 use Rattle.std.specs.Prelude.{◌≡◌, ◌≢◌, ℤ}
 use Rattle.std.specs.Int.{int_max, int_min}
 use Rattle.prop_intervals.specs.laws.Relations.{IsInRange}
@@ -10,7 +10,8 @@ use Rattle.prop_lattice.specs.declared.info.Kind.TheVariants as kinds
 use Rattle.prop_lattice.specs.declared.span.Span as spans
 use Rattle.prop_wide.specs.Distances.{IsDistance, abs_of, abs_back_of}
 use Rattle.prop_wide.specs.Extremes.{max_of, max_back_of, min_of, min_back_of}
-use Rattle.prop_wide.specs.Quotients.{IsQuotient, quotient_of}
+use Rattle.prop_wide.specs.Quotients.{IsQuotient, IsRemainder, quotient_of, remainder_of}
+use Rattle.prop_wide.specs.Quotients.{divisor_of}
 
 -- r leaves each number in range of which P is true, and no number that is left out by a span which
 -- has all of those
@@ -37,7 +38,7 @@ BelongsToOne related x w = (u : ℤ) × Leaves x u × related u w
 abbrev pub BelongsToTwo : (ℤ → ℤ → ℤ → Type 0) → Info → Info → ℤ → Type 0
 BelongsToTwo related x y w = (u : ℤ) × (v : ℤ) × Leaves x u × Leaves y v × related u v w
 
--- ---- the rules whose answers are the narrowest, of whatever is known of their inputs
+-- ---- functions whose answers are the narrowest, of whatever is known of their inputs
 
 abbrev pub OneIsNarrowest : (Info → Info) → (ℤ → ℤ → Type 0) → Type 0
 OneIsNarrowest f related = (x : Info) → IsNumber x → IsNarrowest (BelongsToOne related x) (f x)
@@ -66,3 +67,9 @@ AbsBackIsNarrowest = TwoIsNarrowest abs_back_of (λ y x v. (v ≡ x) × IsDistan
 
 abbrev pub QuotientIsNarrowest : Type 0
 QuotientIsNarrowest = TwoIsNarrowest quotient_of IsQuotient
+
+abbrev pub RemainderIsNarrowest : Type 0
+RemainderIsNarrowest = OneIsNarrowest remainder_of IsRemainder
+
+abbrev pub DivisorIsNarrowest : Type 0
+DivisorIsNarrowest = TwoIsNarrowest divisor_of (λ r y v. (v ≡ y) × IsRemainder y r)

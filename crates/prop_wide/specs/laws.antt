@@ -10,6 +10,12 @@ pub mod ChoiceLaws
 pub mod CountLaws
 pub mod WideLaws
 pub mod NarrowestLaws
+pub mod NarrowestPoints
 pub mod ExtremeNarrowest
 pub mod DistanceNarrowest
 pub mod QuotientNarrowest
+pub mod RemainderNarrowest
+pub mod ChoiceNarrowest
+pub mod CountNarrowest
+pub mod SquareNarrowest
+pub mod WideNarrowest

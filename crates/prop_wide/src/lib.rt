@@ -1,10 +1,9 @@
 //! Rules of a host's own beside the kit's, for those who plan and measure.
 //!
 //! Each of the fifteen rules is its plain function, which is its formula; it is monotone, keeps
-//! kinds, and holds every related point (`Wide`). A number of which nothing is known may be any in
-//! range, and an answer of all these is nothing. The maximizer, the minimizer, the absoluter, the
-//! way back from each, and the quotienter answer the narrowest information that does; the others
-//! are claimed no narrower than sound (`Wide::narrowest`).
+//! kinds, holds every related point (`Wide`), and is the narrowest information that does
+//! (`Wide::narrowest`), the squarer where no square is out of range. A number of which nothing is
+//! known may be any in range, and an answer of all these is nothing.
 //!
 //! The procedures are those that the specs list, each in a form that its rule has
 //! (`procedures_are_stated`), and the preludes' lines are those that the specs state

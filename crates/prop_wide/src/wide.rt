@@ -5,9 +5,7 @@ ghost use Rattle.prop_procedures.specs.declared.shape.Shape.TheVariants.{Span};
 ghost use Rattle.prop_wide.specs.Wide.{FormOf, HasInputs, is_truth, need_of, out_of};
 ghost use Rattle.prop_wide.specs.Points.{Related};
 ghost use Rattle.prop_wide.specs.Values.{value_of};
-ghost use Rattle.prop_wide.specs.Narrowest.{MaxIsNarrowest, MaxBackIsNarrowest};
-ghost use Rattle.prop_wide.specs.Narrowest.{MinIsNarrowest, MinBackIsNarrowest, AbsIsNarrowest};
-ghost use Rattle.prop_wide.specs.Narrowest.{AbsBackIsNarrowest, QuotientIsNarrowest};
+ghost use Rattle.prop_wide.specs.Answers.{EachIsNarrowest};
 ghost use Rattle.prop_wide.specs.laws.WideLaws.{wide_monotone, wide_keeps_kind, wide_sound};
 
 use crate::choices::{chooser, decider};
@@ -117,16 +115,11 @@ impl Wide {
         }
     }
 
-    /// Of whatever is known of their inputs, these rules answer the narrowest information that
-    /// holds each number that belongs to numbers of those.
+    /// A law: of whatever is known of its inputs, each rule answers the narrowest information that
+    /// holds each point that belongs to points of those. A square has to lie in range for that, as
+    /// the answer is else cut off there.
     pub fn narrowest()
-        ensures max { MaxIsNarrowest }
-        ensures max_back { MaxBackIsNarrowest }
-        ensures min { MinIsNarrowest }
-        ensures min_back { MinBackIsNarrowest }
-        ensures abs { AbsIsNarrowest }
-        ensures abs_back { AbsBackIsNarrowest }
-        ensures quotient { QuotientIsNarrowest }
+        ensures { EachIsNarrowest }
     {}
 
     /// What the rule answers, `Info::Nothing` where the parameter is none that it needs or the

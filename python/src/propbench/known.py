@@ -6,6 +6,7 @@ by the kind of their cell, and a refusal can say which word it speaks of.
 
 from collections.abc import Callable
 from dataclasses import dataclass, field
+from functools import cache
 
 from propbench.grammar import Parse, Place, Role, parsed
 from propbench.kit import KIT, PRELUDE
@@ -74,6 +75,12 @@ def definition_of(parse: Parse) -> Definition:
     return Definition(parameters, tuple(_step(each) for each in steps_of(list(parse.places))))
 
 
+@cache
+def _prelude() -> dict[str, Definition]:
+    """What the prelude defines, by name."""
+    return {line.split()[1]: definition_of(parsed(line)) for line in PRELUDE}
+
+
 @dataclass
 class Known:
     """What lines that were carried out have declared. Nothing of it ever goes: a premise that is
@@ -96,8 +103,7 @@ class Known:
             "define": self._define,
             "choose": self._choose,
         }
-        for line in PRELUDE:
-            self._define(line.split(), line)
+        self.definitions = {**_prelude(), **self.definitions}
 
     def domain_of(self, cell: str) -> tuple[str, ...]:
         """The elements of a cell's domain: none where it is no cell of elements."""

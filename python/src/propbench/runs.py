@@ -70,25 +70,52 @@ class Runner:
         talk = self.talk
         talk.tell(line, self.steps if self.steps < talk.limit else talk.limit)
 
+    def ask(self, line: str, number: int) -> Reply:
+        """The reply to an `ask` or a `why`, which is the one of so many lines that were sent, as
+        `hear` gives it. (All that most of them need is done here: calls take as long as they do.)
+        """
+        talk, program = self.talk, self.talk.program
+        steps = self.steps if self.steps < talk.limit else talk.limit
+        if steps != talk.program_limit:
+            talk.set_limit(steps)
+        talk.in_step = False
+        program.tell(line)
+        # What the line asks is looked at while the program is at work.
+        words = line.split()
+        try:
+            text = program.hear()
+        except KeyboardInterrupt as stopped:
+            return self._interrupted(Question(line, words, number), stopped)
+        if text[:6] == "error " or "unsettled" in text:
+            return self._heard(line, words, number, text)
+        reply = reply_of(words, text, talk.kinds)
+        talk.lines.append(line)
+        talk.in_step = True
+        return reply
+
     def hear(self, line: str, words: list[str], number: int) -> Reply:
         """The reply to a question that was told, which is no `core`, in as many slices as it needs;
         its words and its number among the lines that were sent are given with it. Raises its
         refusal, and KeyboardInterrupt, after which another question goes on from there."""
-        talk = self.talk
         try:
-            text = talk.hear(words[0])
+            text = self.talk.hear(words[0])
         except KeyboardInterrupt as stopped:
-            question, watch = Question(line, words, number), Watch(stopped=stopped)
-            return self._gone_on(question, watch, self._late(question, watch))
-        if text.startswith("error "):
-            reply = self._reply(Question(line, words, number), text)
-        else:
-            reply = reply_of(words, text, talk.kinds)
-        if "unsettled" in text and not is_settled(reply):
+            return self._interrupted(Question(line, words, number), stopped)
+        return self._heard(line, words, number, text)
+
+    def _heard(self, line: str, words: list[str], number: int, text: str) -> Reply:
+        """The reply to a question by the text of its first slice."""
+        reply = self._reply(Question(line, words, number), text)
+        if not is_settled(reply):
             return self._gone_on(Question(line, words, number), Watch(), reply)
-        talk.lines.append(line)
-        talk.in_step = True
+        self.talk.lines.append(line)
+        self.talk.in_step = True
         return reply
+
+    def _interrupted(self, question: Question, stopped: BaseException) -> Reply:
+        """The reply to a question that was told, and interrupted before its reply came."""
+        watch = Watch(stopped=stopped)
+        return self._gone_on(question, watch, self._late(question, watch))
 
     def watched(self, question: Question, watch: Watch) -> Reply:
         """The reply to a question that is not told yet, where somebody may end the run. Raises its

@@ -96,7 +96,7 @@ class Workbench(Measuring, Closing):
         those of a `Session`."""
         found = find_wide(program).path
         self._owner = object()
-        self._network = Network(Session(found, order=order, seed=seed, limit=limit))
+        self._use(Network(Session(found, order=order, seed=seed, limit=limit)))
         self._cells: dict[str, Cell] = {}
         self._laws: dict[Law, stating.Stated] = {}
         self._roots: dict[Real, Declared] = {}
@@ -325,11 +325,11 @@ class Workbench(Measuring, Closing):
             raise self._conflict(reply)
         assert isinstance(reply, Value)
         if not network.premises.choices:
-            return self._reader().answer(cell, reply, {})
+            return self._reader.answer(cell, reply, {})
         if command == "core" and reply.settled:
             # (after a core every procedure is called once more, before the plan is known)
             network.session.send("worldview", seconds=seconds)
-        return self._reader().answer(cell, reply, self._plan())
+        return self._reader.answer(cell, reply, self._plan())
 
     def table(self, *cells: Cell, seconds: float | None = None) -> Table:
         """What follows for these cells, of all where none is given, as a table.
@@ -342,7 +342,7 @@ class Workbench(Measuring, Closing):
             raise self._conflict(reply)
         names = self._network.vocabulary.cells
         replies = self.session.look([f"why {names.line(cell.name)}" for cell in declared])
-        plan, read = self._plan(), self._reader()
+        plan, read = self._plan(), self._reader
         answers = tuple(
             read.answer(cell, reply, plan)
             for cell, reply in zip(declared, replies)
@@ -487,13 +487,18 @@ class Workbench(Measuring, Closing):
         """Has a copy of the network, in a session of its own, stand in its place; gives the one
         that is to be put back."""
         kept = self._network
-        self._network = kept.copy()
+        self._use(kept.copy())
         return kept
 
     def _put_back(self, kept: Network) -> None:
         """Ends the copy, and puts back the network that it stood for."""
         self._network.session.close()
-        self._network = kept
+        self._use(kept)
+
+    def _use(self, network: Network) -> None:
+        """Has this network be that of the workbench."""
+        self._network = network
+        self._reader = Reader(network.vocabulary, network.premises)
 
     def _notes(self, answers: Sequence[Answer]) -> Iterator[str]:
         """What is to be known of the answers, and of the program."""
@@ -504,12 +509,9 @@ class Workbench(Measuring, Closing):
         if not self.proved:
             yield UNPROVED
 
-    def _reader(self) -> Reader:
-        return Reader(self._network.vocabulary, self._network.premises)
-
     def _read(self, cell: str, reply: Value, inside: Iterable[str]) -> Answer:
         """A reply about a cell of a session that has this one's lines, with these sides."""
-        read = self._reader()
+        read = self._reader
         return read.answer(self._network.cells[cell], reply, read.plan(inside))
 
     def _over_all_plans(self, cell: Declared, seconds: float | None) -> Answer:
@@ -529,7 +531,7 @@ class Workbench(Measuring, Closing):
         if not self._network.premises.choices:
             return {}
         [reply] = self.session.look(["worldview"])
-        return self._reader().plan(reply.inside) if isinstance(reply, Worldview) else {}
+        return self._reader.plan(reply.inside) if isinstance(reply, Worldview) else {}
 
     def _conflict(self, found: Contradiction) -> Conflict:
         """The conflict, made small."""

@@ -1,5 +1,5 @@
 -- What comes of a list that is tried, with the sides of one choice after the other.
-use Rattle.std.specs.Prelude.{◌≡◌, ℕ, ◌+◌, ◌<◌, ◌≤◌, IsTrue, false, List, [], length}
+use Rattle.std.specs.Prelude.{◌≡◌, ℕ, ◌+◌, ◌<◌, ◌≤◌, IsTrue, List, [], length}
 use Rattle.prop_numbers.specs.Sets.{Members, set_of}
 use Rattle.prop_procedures.specs.Stored.{Stored}
 use Rattle.prop_cells.specs.Data.{Data, beliefs, problem_of}

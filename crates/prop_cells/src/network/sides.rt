@@ -7,7 +7,7 @@ ghost use Rattle.prop_cells.specs.Data.{IsKept};
 ghost use Rattle.prop_cells.specs.Refusing.{may_be_stated, sides_refusal};
 ghost use Rattle.prop_cells.specs.Sides.{sides_at, StatesAll, AreUnderBelow};
 
-use super::{MOST_STATEMENTS, Network};
+use super::Network;
 use prop_lattice::{Info, Limit, Refusal};
 use prop_premises::Premise;
 use prop_procedures::Rule;
@@ -47,7 +47,7 @@ impl<R: Rule + Drop> Network<R> {
             ⊎ (e ≡ Refusal.Memory)) }
         ensures err_same { OnErr result (self.new.cells ≡ self.old.cells) }
     {
-        if self.cells.statement_count() > MOST_STATEMENTS - infos.len() {
+        if self.cells.statement_count() > Limit::Statements.most() - infos.len() {
             return Err(Refusal::LimitReached(Limit::Statements));
         }
         self.cells.push_sides(first, cell, infos)?;

@@ -95,7 +95,8 @@ narrowed_below size (Set s) (Set t) h p =
         absurd (never (sym e ∙ eq-eqb s.bits (all_bits size) all))
 narrowed_below size a b h p = search rules
 
-narrowed_kind : (kind : Kind) (n size : ℕ) (a : Info) → IsOf kind n a → IsOf kind n (narrowed size a)
+narrowed_kind : (kind : Kind) (n size : ℕ) (a : Info) → IsOf kind n a
+    → IsOf kind n (narrowed size a)
 narrowed_kind kind n size (Set s) h = by (s.bits == all_bits size)
   where
     by : (r : Bool) → IsOf kind n (if r then Nothing else Set s)

@@ -88,7 +88,7 @@ one_between t (suc zero) sure possible n l h p q =
     at_least false = omega (arith, q)
 one_between t (suc (suc i)) sure possible n l h p q = absurd (omega (arith, l))
 
-first_is_truth : (s : Shape) (shapes : List Shape) → AreTruths (s ∷ shapes) → s ≡ Truth
+pub first_is_truth : (s : Shape) (shapes : List Shape) → AreTruths (s ∷ shapes) → s ≡ Truth
 first_is_truth s shapes f = by s (and_parts (is_truth s) (list_all is_truth shapes) f).0
   where
     by : (s : Shape) → is_truth s ≡ true → s ≡ Truth
@@ -98,7 +98,8 @@ first_is_truth s shapes f = by s (and_parts (is_truth s) (list_all is_truth shap
     by From e = absurd (never e)
     by To e = absurd (never e)
 
-others_are_truths : (s : Shape) (shapes : List Shape) → AreTruths (s ∷ shapes) → AreTruths shapes
+pub others_are_truths : (s : Shape) (shapes : List Shape) → AreTruths (s ∷ shapes)
+    → AreTruths shapes
 others_are_truths s shapes f = (and_parts (is_truth s) (list_all is_truth shapes) f).1
 
 -- points that the truths leave are as many `yes` as is sure at least, and as is possible at most

@@ -6,13 +6,14 @@ use Rattle.std.proofs.lemmas.Int.{ints, clamps, by_lt_z}
 use Rattle.prop_intervals.specs.laws.Relations.{IsInRange}
 use Rattle.prop_lattice.specs.Points.{Number, Holds}
 use Rattle.prop_lattice.specs.declared.span.TheConstants.{B}
+use Rattle.prop_lattice.specs.declared.info.Info.{Info}
 use Rattle.prop_wide.specs.Distances.{IsDistance, abs_of, least_distance}
 use Rattle.prop_wide.specs.Distances.{greatest_distance}
 use Rattle.prop_wide.specs.Ends.{low_of, high_of, part_of}
-use Rattle.prop_wide.specs.Narrowest.{BelongsToOne, BelongsToTwo}
+use Rattle.prop_wide.specs.Narrowest.{IsNumber, BelongsToOne, BelongsToTwo}
 use Rattle.prop_wide.specs.Narrowest.{AbsIsNarrowest, AbsBackIsNarrowest}
 use Rattle.prop_wide.specs.laws.DistanceLaws.{abs_sound}
-use Rattle.prop_wide.specs.laws.EndLaws.{AreOrdered, IsBetween, ends_ordered, held_between}
+use Rattle.prop_wide.specs.laws.EndLaws.{IsBetween, ends_ordered, held_between}
 use Rattle.prop_wide.specs.laws.EndLaws.{part_holds, part_kind}
 use Rattle.prop_wide.specs.laws.NarrowestLaws.{low_left, high_left, between_left, span_from_from}
 use Rattle.prop_wide.specs.laws.NarrowestLaws.{reached, exact, same, hull_narrowest}
@@ -20,62 +21,70 @@ use Rattle.prop_wide.specs.laws.NarrowestLaws.{narrowed_narrowest, part_from}
 
 -- ---- distances
 
+-- the ends of how far it is are those of numbers that are left
+at_low : (l h : ℤ) → pos 0 ≤ℤ l → l ≤ℤ h
+    → int_max (int_max l (neg_ℤ h)) (pos 0) ≡ int_max l (neg_ℤ l)
+at_low l h p q = omega (arith, ints, clamps)
+
+at_high : (l h : ℤ) → h <ℤ pos 0 → l ≤ℤ h
+    → int_max (int_max l (neg_ℤ h)) (pos 0) ≡ int_max h (neg_ℤ h)
+at_high l h p q = omega (arith, ints, clamps)
+
+at_zero : (l h : ℤ) → l <ℤ pos 0 → pos 0 ≤ℤ h
+    → int_max (int_max l (neg_ℤ h)) (pos 0) ≡ int_max (pos 0) (neg_ℤ (pos 0))
+at_zero l h p q = omega (arith, ints, clamps)
+
+pub nearest : (x : Info) → IsNumber x → BelongsToOne IsDistance x (least_distance x)
+nearest x n = by_lt_z (low_of x) (pos 0) (λ l. by_lt_z (high_of x) (pos 0)
+    (λ k. (high_of x, high_left x n, at_high (low_of x) (high_of x) k (ends_ordered x).ordered))
+    (λ k. (
+      pos 0,
+      between_left x (pos 0) n (omega (arith, ints, l)) k,
+      at_zero (low_of x) (high_of x) l k,
+    )))
+    (λ l. (low_of x, low_left x n, at_low (low_of x) (high_of x) l (ends_ordered x).ordered))
+
+far_high : (l h : ℤ) → neg_ℤ l ≤ℤ h → l ≤ℤ h → int_max h (neg_ℤ l) ≡ int_max h (neg_ℤ h)
+far_high l h p q = omega (arith, ints, clamps)
+
+far_low : (l h : ℤ) → h <ℤ neg_ℤ l → l ≤ℤ h → int_max h (neg_ℤ l) ≡ int_max l (neg_ℤ l)
+far_low l h p q = omega (arith, ints, clamps)
+
+pub furthest : (x : Info) → IsNumber x → BelongsToOne IsDistance x (greatest_distance x)
+furthest x n = by_lt_z (high_of x) (neg_ℤ (low_of x))
+    (λ l. (low_of x, low_left x n, far_low (low_of x) (high_of x) l (ends_ordered x).ordered))
+    (λ l. (high_of x, high_left x n, far_high (low_of x) (high_of x) l (ends_ordered x).ordered))
+
+-- they are numbers in range, not below zero and in order
+pub record AreDistances (near far : ℤ) : Type 0 where
+  pub least : pos 0 ≤ℤ near
+  pub ordered : near ≤ℤ far
+  pub greatest : far ≤ℤ B
+
+pub distances_of : (x : Info) → AreDistances (least_distance x) (greatest_distance x)
+distances_of x =
+    let o = ends_ordered x in by (low_of x) (high_of x) o.above o.ordered o.below
+  where
+    by : (l h : ℤ) → neg_ℤ B ≤ℤ l → l ≤ℤ h → h ≤ℤ B
+        → AreDistances (int_max (int_max l (neg_ℤ h)) (pos 0)) (int_max h (neg_ℤ l))
+    by l h p q r = record {
+      least = omega (arith, ints, clamps);
+      ordered = omega (arith, ints, clamps);
+      greatest = omega (arith, ints, clamps);
+    }
+
 pub abs_narrowest : AbsIsNarrowest
 abs_narrowest x n =
-    reached P (least_distance x) (greatest_distance x) (abs_of x)
+    let d = distances_of x in
+    reached (BelongsToOne IsDistance x) (least_distance x) (greatest_distance x) (abs_of x)
     (λ w i b. abs_sound x b.0 w b.1.held b.1.in_range i b.2) (λ v i h. span_from_from _ _ v h)
-    least.0 least.1 greatest.0 greatest.1
+    (in_range (least_distance x) (greatest_distance x) d).0 (nearest x n)
+    (in_range (least_distance x) (greatest_distance x) d).1 (furthest x n)
   where
-    P : ℤ → Type 0
-    P = BelongsToOne IsDistance x
-
-    o : AreOrdered (low_of x) (high_of x)
-    o = ends_ordered x
-
-    at_low : (l h : ℤ) → pos 0 ≤ℤ l → l ≤ℤ h
-        → int_max (int_max l (neg_ℤ h)) (pos 0) ≡ int_max l (neg_ℤ l)
-    at_low l h p q = omega (arith, ints, clamps)
-
-    at_high : (l h : ℤ) → h <ℤ pos 0 → l ≤ℤ h
-        → int_max (int_max l (neg_ℤ h)) (pos 0) ≡ int_max h (neg_ℤ h)
-    at_high l h p q = omega (arith, ints, clamps)
-
-    at_zero : (l h : ℤ) → l <ℤ pos 0 → pos 0 ≤ℤ h
-        → int_max (int_max l (neg_ℤ h)) (pos 0) ≡ int_max (pos 0) (neg_ℤ (pos 0))
-    at_zero l h p q = omega (arith, ints, clamps)
-
-    distance_in : (l h : ℤ) → neg_ℤ B ≤ℤ l → l ≤ℤ h → h ≤ℤ B
-        → IsInRange (int_max (int_max l (neg_ℤ h)) (pos 0)) × IsInRange (int_max h (neg_ℤ l))
-    distance_in l h p q r = (
-      (omega (arith, ints, clamps), omega (arith, ints, clamps)),
-      (omega (arith, ints, clamps), omega (arith, ints, clamps)),
-    )
-
-    least : IsInRange (least_distance x) × P (least_distance x)
-    least = (
-      (distance_in (low_of x) (high_of x) o.above o.ordered o.below).0,
-      by_lt_z (low_of x) (pos 0) (λ l. by_lt_z (high_of x) (pos 0)
-          (λ k. (high_of x, high_left x n, at_high (low_of x) (high_of x) k o.ordered))
-          (λ k. (
-            pos 0,
-            between_left x (pos 0) n (omega (arith, ints, l)) k,
-            at_zero (low_of x) (high_of x) l k,
-          )))
-          (λ l. (low_of x, low_left x n, at_low (low_of x) (high_of x) l o.ordered)),
-    )
-
-    far_high : (l h : ℤ) → neg_ℤ l ≤ℤ h → l ≤ℤ h → int_max h (neg_ℤ l) ≡ int_max h (neg_ℤ h)
-    far_high l h p q = omega (arith, ints, clamps)
-
-    far_low : (l h : ℤ) → h <ℤ neg_ℤ l → l ≤ℤ h → int_max h (neg_ℤ l) ≡ int_max l (neg_ℤ l)
-    far_low l h p q = omega (arith, ints, clamps)
-
-    greatest : IsInRange (greatest_distance x) × P (greatest_distance x)
-    greatest = (
-      (distance_in (low_of x) (high_of x) o.above o.ordered o.below).1,
-      by_lt_z (high_of x) (neg_ℤ (low_of x))
-          (λ l. (low_of x, low_left x n, far_low (low_of x) (high_of x) l o.ordered))
-          (λ l. (high_of x, high_left x n, far_high (low_of x) (high_of x) l o.ordered)),
+    in_range : (l h : ℤ) → AreDistances l h → IsInRange l × IsInRange h
+    in_range l h d = (
+      (omega (arith, ints, d.least), omega (arith, ints, d.ordered, d.greatest)),
+      (omega (arith, ints, d.least, d.ordered), d.greatest),
     )
 
 -- ---- and back

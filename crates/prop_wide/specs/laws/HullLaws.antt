@@ -61,7 +61,7 @@ or_right_bits : (a b : ℕ) → HasBitsOf (bit_or a b) b
 or_right_bits a b i h = omega (arith, bit_at_or a b i, h, bit_at_le a i)
 
 -- a bit of both is one of either
-or_bit : (a b i : ℕ) → bit_at (bit_or a b) i ≡ 1 → (bit_at a i ≡ 1) ⊎ (bit_at b i ≡ 1)
+pub or_bit : (a b i : ℕ) → bit_at (bit_or a b) i ≡ 1 → (bit_at a i ≡ 1) ⊎ (bit_at b i ≡ 1)
 or_bit a b i h = by (bit_at a i) (bit_at b i) (bit_at_le a i) (bit_at_le b i)
     (sym (bit_at_or a b i) ∙ h)
   where

@@ -233,6 +233,12 @@ quotient_sound x y u v w h k r s t e = narrowed_holds _ (Number w) (by e)
 
 -- ---- remainders
 
+zero_ends : (l h : ℤ) → is_zero l h ≡ true → (pos 0 ≤ℤ l) × (h ≤ℤ pos 0)
+zero_ends l h = both_to (pos 0) l h (pos 0)
+
+ends_zero : (l h : ℤ) → pos 0 ≤ℤ l → h ≤ℤ pos 0 → is_zero l h ≡ true
+ends_zero l h = both_from (pos 0) l h (pos 0)
+
 -- ends that are not both zero have such ends around them
 not_both_zero : (l h l' h' : ℤ) → l ≤ℤ l' → h' ≤ℤ h → is_zero l' h' ≡ false → is_zero l h ≡ false
 not_both_zero l h l' h' p q e = by (is_zero l h) refl
@@ -240,8 +246,8 @@ not_both_zero l h l' h' p q e = by (is_zero l h) refl
     by : (t : Bool) → is_zero l h ≡ t → t ≡ false
     by false f = refl
     by true f =
-        let zero = both_to (pos 0) l h (pos 0) f in
-        absurd (never (sym e ∙ both_from (pos 0) l' h' (pos 0) (through (pos 0) l l' zero.0 p)
+        let zero = zero_ends l h f in
+        absurd (never (sym e ∙ ends_zero l' h' (through _ l l' zero.0 p)
         (through h' h (pos 0) q zero.1)))
 
 pub remainder_below : (y y' : Info) → Below y y' → y' ≢ Contradiction
@@ -287,10 +293,10 @@ remainder_sound y v w h r s e =
         → Holds (if t then Contradiction
         else known (int_min (l +ℤ pos 1) (pos 0)) (int_max (o -ℤ pos 1) (pos 0))) (Number w)
     by l o p q (inl e) true f =
-        let zero = both_to (pos 0) l o (pos 0) f in
+        let zero = zero_ends l o f in
         absurd (omega (arith, ints, e.0, e.1, zero.0, zero.1))
     by l o p q (inr e) true f =
-        let zero = both_to (pos 0) l o (pos 0) f in
+        let zero = zero_ends l o f in
         absurd (omega (arith, ints, e.0, e.1, zero.0, zero.1))
     by l o p q (inl e) false f = known_holds _ _ w (omega (arith, ints, clamps, e.0, e.1))
         (omega (arith, ints, clamps, e.0, e.1)) s

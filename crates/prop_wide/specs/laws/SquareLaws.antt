@@ -60,7 +60,7 @@ opposite_square u = neg-product u (neg_ℤ u) ∙ ap neg_ℤ (*ℤ_comm u (neg_�
     twice : (v : ℤ) → neg_ℤ (neg_ℤ v) ≡ v
     twice v = omega (arith, ints)
 
-distance_square : (u : ℤ) → (int_max u (neg_ℤ u) *ℤ int_max u (neg_ℤ u)) ≡ (u *ℤ u)
+pub distance_square : (u : ℤ) → (int_max u (neg_ℤ u) *ℤ int_max u (neg_ℤ u)) ≡ (u *ℤ u)
 distance_square u = by_lt_z u (pos 0) (λ l. rw (below l) (opposite_square u))
     (λ l. rw (above l) refl)
   where

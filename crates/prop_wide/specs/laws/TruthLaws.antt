@@ -40,6 +40,13 @@ held_is_left Nothing i h = refl
 held_is_left (Set a) i h = eq-eqb (bit_at a.bits i) 1 h
 held_is_left t i h = search rules
 
+pub left_is_held : (t : Info) (i : ℕ) → leaves t i ≡ true → Holds t (Element i)
+left_is_held Nothing i e = tt
+left_is_held (Set a) i e = eqb-true (bit_at a.bits i) 1 e
+left_is_held (Span a) i e = absurd (never e)
+left_is_held (Sym a) i e = absurd (never e)
+left_is_held Contradiction i e = absurd (never e)
+
 -- ---- what is told
 
 pub told_below : (y n y' n' : Bool) → (y' ≡ true → y ≡ true) → (n' ≡ true → n ≡ true)

@@ -98,6 +98,14 @@ def _alternative(chosen: object) -> str:
     return point_text(chosen) if isinstance(chosen, bool) else str(chosen)
 
 
+def numbers_left(span: Span) -> tuple[Span | int, int | None, int | None]:
+    """What is left for a number, and its ends, None where nothing is known."""
+    low, high = span.low, span.high
+    if low == high:
+        return low, low, low
+    return span, None if low == -MOST else low, None if high == MOST else high
+
+
 def ends_of(value: Left) -> tuple[int | None, int | None]:
     """The ends of a number, None where nothing is known."""
     if isinstance(value, Span):

@@ -252,7 +252,8 @@ def point_of(value: object, kind: Kind) -> Point:
 def _checked_number(value: object) -> int:
     if isinstance(value, float):
         raise TypeError(f"numbers are whole, and {value!r} is written with a point")
-    if isinstance(value, bool) or not isinstance(value, SupportsIndex):
+    # (what is an int is found at once, other numbers take their time)
+    if isinstance(value, bool) or not isinstance(value, (int, SupportsIndex)):
         raise TypeError(f"{value!r} is no whole number")
     number = index(value)
     if abs(number) > MOST:

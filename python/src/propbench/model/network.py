@@ -14,6 +14,7 @@ from propbench.model.events import (
     Told,
     ValueChoice,
 )
+from propbench.model.either import Either
 from propbench.model.kinds import Domain
 from propbench.model.kit import offered, written
 from propbench.model.nodes import Declared, Node
@@ -117,11 +118,12 @@ class Network:
         return [*self._base.writer.lines, *self.kicks()]
 
     @property
-    def forks(self) -> list[str]:
-        """Inner truths of the base, by which one way or another is taken where one of some holds."""
+    def forks(self) -> dict[str, Either]:
+        """Inner truths of the base, by which one way or another is taken where one of some holds,
+        by their cells on lines."""
         self.base()
         assert self._base
-        return list(dict.fromkeys(self._base.translation.forks))
+        return self._base.translation.forks
 
     def lines_of(self, constraint: Node) -> list[str]:
         """The lines of the base that state a constraint, wherever it was required."""

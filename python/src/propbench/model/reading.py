@@ -3,7 +3,7 @@
 from collections.abc import Iterable, Mapping
 
 from propbench.measuring.quantities import MeasuredAnswer, interval_of
-from propbench.model.answers import Answer, Left, ends_of
+from propbench.model.answers import Answer, Left, numbers_left
 from propbench.model.choosing import alternative_of, alternatives_at, first_name
 from propbench.model.kinds import Domain
 from propbench.model.measures import Interval, Measure
@@ -24,21 +24,22 @@ class Reader:
 
     def answer(self, cell: Declared, reply: Value, plan: Mapping[str, int]) -> Answer:
         """A reply about a cell, under the plan on which the choices stand."""
-        because = self._because(reply.because or (), plan)
+        _, held, settled, named, reduced = reply.all()
+        names = named or ()
+        if self._premises.choices:
+            # (two sides may stand for one alternative)
+            because = tuple(dict.fromkeys(self.premise(each, plan) for each in names))
+        else:
+            because = self._vocabulary.premises.texts(names)
         choices = self.choices(plan) if plan else {}
-        read = reply.read()
         if cell.measure is not None:
-            return self._measured(cell, cell.measure, read, because, choices)
-        value = self._value(cell, read.value)
-        low, high = ends_of(value)
-        return Answer(cell.name, value, low, high, read.settled, because, choices, read.reduced)
-
-    def _because(self, names: tuple[str, ...], plan: Mapping[str, int]) -> tuple[str, ...]:
-        """What the user calls premises and sides."""
-        if not self._premises.choices:
-            return self._vocabulary.premises.texts(names)
-        # (two sides may stand for one alternative)
-        return tuple(dict.fromkeys(self.premise(each, plan) for each in names))
+            return self._measured(cell, cell.measure, reply.read(), because, choices)
+        value: Left
+        if isinstance(held, Span):
+            value, low, high = numbers_left(held)
+        else:
+            value, low, high = self._value(cell, held), None, None
+        return Answer(cell.name, value, low, high, settled, because, choices, reduced)
 
     def _measured(
         self,
@@ -95,8 +96,7 @@ class Reader:
         return {name: self._premises.choices[name].stands_on(at) for name, at in plan.items()}
 
     def _value(self, cell: Declared, held: Held) -> Left:
-        if isinstance(held, Span):
-            return held.low if held.low == held.high else held
+        """What is left for a cell that is not for numbers."""
         if isinstance(held, Symbol):
             return self._vocabulary.symbols.text(held.name)
         if not isinstance(held, Elements):

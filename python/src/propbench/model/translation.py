@@ -6,6 +6,7 @@ contexts hold the same while these hold, so what one constraint finds out all ot
 
 from propbench.model.context import Context
 from propbench.model.core import different, in_core
+from propbench.model.either import Either
 from propbench.model.harmless import is_harmless
 from propbench.model.kinds import MOST, Domain, Plain, domain_of
 from propbench.model.nodes import FALSE, TRUE, Node, Op, negated
@@ -26,8 +27,8 @@ class Translation:
         # The cells of an expression within gates, and the one that joins them.
         self._gated: dict[Node, list[tuple[Context, str]]] = {}
         self._joints: dict[Node, str] = {}
-        # The truths of what is stated as one or another, each but the last.
-        self.forks: list[str] = []
+        # The truths of what is stated as one or another, each but the last, by their cells.
+        self.forks: dict[str, Either] = {}
 
     @property
     def vocabulary(self) -> Vocabulary:
@@ -163,7 +164,11 @@ class Translation:
 
     def _fork(self, each: Node, context: Context) -> None:
         """Takes in that one or another of these holds, or not all of them."""
-        self.forks += [self.cell_of(arg, context) for arg in each.args[:-1]]
+        for arg in each.args[:-1]:
+            others = tuple(other for other in each.args if other is not arg)
+            is_other = each.op is Op.OR
+            cell = self.cell_of(arg, context)
+            self.forks.setdefault(cell, Either(arg, others if is_other else ()))
 
     def _place(self, each: Node, context: Context) -> Context:
         """Where the cell of an expression is to stand of which something is stated: where it tells

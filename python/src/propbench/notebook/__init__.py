@@ -8,8 +8,14 @@
     why x
 
 A cell's lines are carried out in a session that is kept for the next cell, as the variable
-`session`, or as the one that is named behind `%%propbench`. What takes long shows a bar. The
-notebook's stop button ends it there, and the session goes on.
+`session`, or as the one that is named behind `%%propbench`. Behind `--new` it begins anew, so that
+the cell can be changed and run again. What takes long shows a bar. The notebook's stop button ends
+it there, and the session goes on.
+
+    from propbench.notebook import film, picture
+    picture(session)
+
+draws what such a session has stated, and `film(session)` the steps of its run.
 """
 
 from html import escape
@@ -19,12 +25,16 @@ from IPython.display import display
 
 from propbench.notebook.bar import Bar
 from propbench.overview import UNPROVED
+from propbench.pictures import Film, Picture, film_of, picture_of
 from propbench.questions.clock import on_terminal, show_by
 from propbench.refusals import Refused
 from propbench.replies import Done, Reply, Silent
 from propbench.session import Session
 from propbench.showing import printable
 from propbench.tables import table
+from propbench.watching.of_session import SessionWatched
+
+_NEW = "--new"
 
 
 class Replies:
@@ -47,7 +57,12 @@ class Replies:
             self.rows.append((line.strip(), str(reply)))
 
     def __str__(self) -> str:
-        parts = [table(("asked", "answered"), self.rows)] if self.rows else []
+        rows = [
+            (line if place == 0 else "", part)
+            for line, reply in self.rows
+            for place, part in enumerate(reply.split("\n"))
+        ]
+        parts = [table(("asked", "answered"), rows)] if rows else []
         return "\n".join([*parts, *self._below()])
 
     def __repr__(self) -> str:
@@ -75,6 +90,18 @@ def _lines(text: str) -> str:
     return "<br>".join(escape(printable(line)) for line in text.split("\n"))
 
 
+def _named(line: str) -> tuple[bool, str]:
+    """What stands behind `%%propbench`: whether the session is to begin anew, and its name."""
+    words = line.split()
+    is_new = words[:1] == [_NEW]
+    name = " ".join(words[1:] if is_new else words) or "session"
+    if not name.isidentifier():
+        raise ValueError(
+            f"behind %%propbench stands the name of a variable, before it maybe {_NEW}, not {name!r}"
+        )
+    return is_new, name
+
+
 def carried_out(session: Session, text: str) -> Replies:
     """What comes of the lines of a text, up to the first that is refused. A stop shows what came by
     then, and raises KeyboardInterrupt."""
@@ -97,16 +124,29 @@ def carried_out(session: Session, text: str) -> Replies:
     return found
 
 
+def picture(session: Session, cell: str | None = None) -> Picture:
+    """A picture of a session, or of what bears on one of its cells. Raises ValueError where there
+    is no such cell, or nothing follows for it."""
+    return picture_of(SessionWatched(session), cell)
+
+
+def film(session: Session, steps: int = 12) -> Film:
+    """The first steps that change something, of a session's run from nothing, as a strip of
+    pictures."""
+    return film_of(SessionWatched(session), steps)
+
+
 def load_ipython_extension(shell: Any) -> None:
     """Has a notebook know `%%propbench`, and shows a bar for questions that take long."""
 
     def propbench(line: str, cell: str) -> Replies:
-        """Carries out lines of the language, in the session that is named, `session` otherwise."""
-        name = line.strip() or "session"
-        if not name.isidentifier():
-            raise ValueError(f"behind %%propbench stands the name of a variable, not {name!r}")
+        """Carries out lines of the language, in the session that is named, `session` otherwise;
+        behind `--new` in one that begins anew."""
+        is_new, name = _named(line)
         session = shell.user_ns.get(name)
-        if not isinstance(session, Session):
+        if is_new and isinstance(session, Session):
+            session.close()
+        if is_new or not isinstance(session, Session):
             session = shell.user_ns[name] = Session()
         return carried_out(session, cell)
 
@@ -123,6 +163,8 @@ def unload_ipython_extension(shell: Any) -> None:
 __all__ = [
     "Replies",
     "carried_out",
+    "film",
     "load_ipython_extension",
+    "picture",
     "unload_ipython_extension",
 ]

@@ -28,6 +28,9 @@ class Picture:
             [self._svg] = svgs_of([self.dot])
         return self._svg
 
+    def __repr__(self) -> str:
+        return "a picture: a notebook shows it, and `save` writes it"
+
     def _repr_svg_(self) -> str:
         return self.svg
 

@@ -1,5 +1,7 @@
 """A Gantt chart as SVG: a bar for each task, and behind it the room that it has over all plans."""
 
+import os
+from dataclasses import dataclass
 from html import escape
 from typing import TYPE_CHECKING
 
@@ -18,14 +20,29 @@ _DAY, _ROW, _NAMES, _HEAD = 14, 24, 170, 28
 _COLOURS = ("#3366aa", "#aa5533", "#338855", "#886699", "#997722", "#227788")
 
 
-def chart_of(project: "Project", plan: Plan | None, has_rooms: bool) -> str:
+@dataclass(frozen=True)
+class Chart:
+    """A chart: a notebook shows it, and `svg` is its text."""
+
+    svg: str
+
+    def _repr_svg_(self) -> str:
+        return self.svg
+
+    def save(self, path: str | os.PathLike[str]) -> None:
+        """Writes the chart to a file."""
+        with open(path, "w", encoding="utf-8") as file:
+            file.write(f"{self.svg}\n")
+
+
+def chart_of(project: "Project", plan: Plan | None, has_rooms: bool) -> Chart:
     """The chart of a plan, or of the first that ends soonest."""
     shown = plan if plan is not None else project.workbench.least(project.end).plan
     if shown is None:
         raise NothingFits("there is no plan to be drawn")
     rooms = rooms_of(project) if has_rooms else {}
-    width, height = _NAMES + project.days * _DAY + 10, _HEAD + len(project.tasks) * _ROW + 10
-    return "\n".join(
+    width, height = _NAMES + project.days * _DAY + 24, _HEAD + len(project.tasks) * _ROW + 10
+    parts = "\n".join(
         [
             f'<svg xmlns="http://www.w3.org/2000/svg" width="{width}" height="{height}" '
             f'role="img" aria-label="Gantt chart" font-family="sans-serif" font-size="12">',
@@ -38,6 +55,7 @@ def chart_of(project: "Project", plan: Plan | None, has_rooms: bool) -> str:
             "</svg>",
         ]
     )
+    return Chart(parts)
 
 
 def rooms_of(project: "Project") -> dict[str, tuple[int, int]]:

@@ -12,6 +12,7 @@ from propbench.planning.tasks import Option, Task, Way, checked_ways, names_in
 from propbench.questions.model import Plan
 
 if TYPE_CHECKING:
+    from propbench.planning.chart import Chart
     from propbench.workbench import Workbench
 
 MOST_COST = 10**12
@@ -116,7 +117,7 @@ class Project:
     @property
     def end(self) -> NumberCell:
         """The day by which all is done. No task can be added once it was asked for."""
-        if self._end is None:
+        if self._end is None or not self._has(self._end):
             self._end = self.workbench.number("end", 0, self.days)
             if self.tasks:
                 self._bound(self._end)
@@ -125,7 +126,7 @@ class Project:
     @property
     def total_cost(self) -> NumberCell:
         """What all tasks cost. No task can be added once it was asked for."""
-        if self._total is None:
+        if self._total is None or not self._has(self._total):
             costs = [task.cost for task in self.tasks.values() if task.cost is not None]
             self._total = self.workbench.number("total cost", 0, MOST_COST)
             self.workbench.require(self._total == (total(costs) if costs else 0))
@@ -146,8 +147,8 @@ class Project:
             raise ValueError("the plan has no calendar: give w.plan a start")
         return self.calendar.date_of(day)
 
-    def chart(self, plan: Plan | None = None, *, rooms: bool = True) -> str:
-        """A Gantt chart as SVG: of this plan, or of the first that ends soonest, and of the room
+    def chart(self, plan: Plan | None = None, *, rooms: bool = True) -> "Chart":
+        """A Gantt chart: of this plan, or of the first that ends soonest, and of the room
         that each task has over all plans. Raises NothingFits where there is no plan."""
         from propbench.planning.chart import chart_of
 
@@ -157,12 +158,16 @@ class Project:
         """The people of a new task."""
         if name in self.tasks:
             raise ValueError(f"there is a task {name!r}")
-        if self._end is not None or self._total is not None:
+        if any(cell is not None and self._has(cell) for cell in (self._end, self._total)):
             raise ValueError(f"{name}: add tasks before the end or the total cost is asked for")
         people = names_in(who)
         for person in people:
             self._person(person)
         return people
+
+    def _has(self, cell: NumberCell) -> bool:
+        """Whether the workbench has the cell: one that was made for a what-if is gone behind it."""
+        return any(each is cell for each in self.workbench.cells)
 
     def _person(self, person: str) -> None:
         if person not in self.people:

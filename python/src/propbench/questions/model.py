@@ -34,6 +34,13 @@ class Model(Protocol):
         plan, and much hangs on it."""
         ...
 
+    def rooms_by(
+        self, forks: Sequence[str], ends: Mapping[str, tuple[int, int]]
+    ) -> Mapping[str, tuple[int, int]]:
+        """For some of these truths how much room numbers have where it is yes, and where it is no,
+        by the ends of cells: a hint to decide that first which leaves the least."""
+        ...
+
     def premises(self) -> Sequence[str]:
         """The user's premises, as the user wrote them, in the order of their first mention."""
         ...

@@ -60,7 +60,7 @@ def _searched(trial: Trial, premises: tuple[str, ...], told: tuple[Case, ...]) -
         if not loose:
             fits = _plan_in(trial, premises, seen)
             return fits or _forked(trial, premises, told, _beside(trial, seen, told))
-        if trial.cover_forks():
+        if trial.cover_forks(seen):
             continue
         corner: Fits | None = None
         if trial.has_forks:

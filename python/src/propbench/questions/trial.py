@@ -8,7 +8,7 @@ from collections import OrderedDict
 from collections.abc import Collection, Iterable, Sequence
 
 from propbench.closing import Closing
-from propbench.questions.checker import digits
+from propbench.questions.checker import MOST, digits
 from propbench.questions.clock import Clock
 from propbench.questions.model import Model
 from propbench.questions.rooms import (
@@ -22,7 +22,7 @@ from propbench.questions.rooms import (
     whole_room,
 )
 from propbench.replies import Contradiction, Reply, Settled, Unsettled, Value
-from propbench.values import Held, Nothing
+from propbench.values import Held, Nothing, Span
 from propbench.words import is_silent
 
 # A run takes so many steps before the clock is looked at, and the trial has so many choices and
@@ -30,6 +30,8 @@ from propbench.words import is_silent
 _STEPS, _CHOICES, _CASES = 20_000, 64, 2000
 # So many choices are kept for cells.
 _KEPT = 8
+# Forks of which it isn't known how much room they leave come behind all others.
+_LAST = 4 * MOST
 # Of the cells that have more than one value, this part is covered before the next look.
 _PART = 3
 
@@ -219,17 +221,21 @@ class Trial(Closing):
         self._inside.add(self._corners)
         return seen
 
-    def cover_forks(self) -> bool:
-        """Makes choices of truths that are to be decided first, as many as there is room for; whether
-        that was done."""
-        forks, self._forks = self._forks[: max(0, self._choices_left - _KEPT)], []
-        if not forks:
-            return False
-        self._choices_left -= len(forks)
-        for fork in forks:
-            self._cover(fork, _EITHER, [["yes", "no"]])
-        self.has_forks = True
-        return True
+    def cover_forks(self, held: dict[str, Held]) -> bool:
+        """Makes choices of truths that are to be decided first, as many as there is room for, by
+        what is left for cells: first those of which both ways leave little room, and of each the
+        way that leaves more. Whether that was done."""
+        forks, self._forks = self._forks, []
+        ends = {cell: (it.low, it.high) for cell, it in held.items() if isinstance(it, Span)}
+        rooms = self.model.rooms_by(forks, ends)
+        forks.sort(key=lambda fork: sum(rooms[fork]) if fork in rooms else _LAST)
+        kept = forks[: max(0, self._choices_left - _KEPT)]
+        for fork in kept:
+            yes, no = rooms.get(fork, (0, 0))
+            self._cover(fork, _EITHER, [["yes", "no"] if yes >= no else ["no", "yes"]])
+        self._choices_left -= len(kept)
+        self.has_forks = self.has_forks or bool(kept)
+        return bool(kept)
 
     def cover_some(self, loose: Sequence[str]) -> bool:
         """Makes choices that cover a few more of these cells, whose turn is first and then the

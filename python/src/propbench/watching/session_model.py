@@ -30,6 +30,12 @@ class SessionModel:
         """None that are known."""
         return ()
 
+    def rooms_by(
+        self, forks: Sequence[str], ends: Mapping[str, tuple[int, int]]
+    ) -> Mapping[str, tuple[int, int]]:
+        """Nothing, of none."""
+        return {}
+
     def premises(self) -> Sequence[str]:
         """The premises, in the order of their first mention."""
         return [name for name in self._told.premises if name]

@@ -1,13 +1,15 @@
-use Rattle.std.proofs.Common.{◌≡◌, ◌∙◌, ℕ, ◌+◌, ◌-◌, ◌⊎◌, length, Option, Some, None, Result, Ok, Err, refl, sym, ap}
+use Rattle.std.proofs.Common.{◌≡◌, ◌∙◌, ℕ, ◌+◌, ◌-◌, ◌⊎◌, Option, Some, None, Result, Ok, Err, refl, sym, ap, subst}
 use Rattle.std.proofs.Common.{inl, inr, arith}
 use Rattle.prop_procedures.specs.Kept.{stored_of}
-use Rattle.prop_cells.specs.Data.{Data, problem_of}
+use Rattle.prop_cells.specs.Data.{problem_of}
 use Rattle.prop_amb.specs.Search.{IsSearch}
 use Rattle.prop_amb.specs.Culprits.{MayMove}
 use Rattle.prop_amb.specs.declared.outcome.Outcome.{Outcome}
 use Rattle.prop_amb.specs.declared.outcome.Outcome.TheVariants.{Settled, Unsettled}
 use Rattle.prop_scheduler.specs.declared.outcome.Ended.{Ended}
 use Rattle.prop_scheduler.specs.declared.outcome.Run.TheVariants.{Quiet, Spent}
+use Rattle.prop_scheduler.specs.Ends.{IfClash}
+use Rattle.prop_amb.specs.inner.Refuting.{IsRefuting}
 use Rattle.prop_amb.specs.inner.Trying.{Attempted}
 use Rattle.prop_amb.proofs.Blocked.{kept_block}
 use Rattle.prop_amb.proofs.OnWay.{OnTry}
@@ -97,6 +99,12 @@ decide-requires-clause-search g c =
     search_from (stored_of g.R.Rule.value_of) c.loop-tried.live.network.library c.try_list.new.live.network.library
     c.loop-tried.live.network.cells c.try_list.new.live.network.cells c.try_list.new.search
     c.try_list.ensures.ran.library c.try_list.ensures.ran.rest c.try_list.ensures.search
+
+pub decide-requires-clause-refuted : goal.decide-requires-clause-refuted
+decide-requires-clause-refuted g c =
+    let e : (c.args.budget - c.loop-tried.steps) - c.in_ok-tried.field-0.steps ≡ c.args.budget -
+    (c.loop-tried.steps + c.in_ok-tried.field-0.steps) = omega arith in
+    subst (λ m. IfClash c.in_ok-tried.field-0.end (IsRefuting c.try_list.new.search m)) e c.in_ok-tried.ensures.refuted
 
 pub returns-in_err-end-clause-ran : goal.returns-in_err-end-clause-ran
 returns-in_err-end-clause-ran g c = record {

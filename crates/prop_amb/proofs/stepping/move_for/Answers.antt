@@ -3,9 +3,8 @@ use Rattle.prop_procedures.specs.Kept.{stored_of}
 use Rattle.prop_cells.specs.Data.{problem_of}
 use Rattle.prop_numbers.specs.Sets.{set_of}
 use Rattle.prop_amb.specs.Resolving.{IsReason}
-use Rattle.prop_amb.proofs.DecidingLaws.{met_moves, met_blames, are_shifted}
-use Rattle.prop_amb.proofs.MetLaws.{met_part}
-use Rattle.prop_amb.proofs.SteppingLaws.{reason_known, has_moved}
+use Rattle.prop_amb.proofs.DecidingLaws.{are_shifted}
+use Rattle.prop_amb.proofs.SteppingLaws.{met_part, met_moves, met_blames, reason_known, has_moved}
 use Rattle.prop_amb.proofs.stepping.move_for.Goals as goal
 
 pub returns-in-RuledOut-clause-told : goal.returns-in-RuledOut-clause-told

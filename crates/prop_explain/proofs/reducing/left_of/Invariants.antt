@@ -2,6 +2,7 @@ use Rattle.std.proofs.Common.{◌≡◌, ◌++◌}
 use Rattle.prop_numbers.specs.Sets.{set_of, IsPart}
 use Rattle.prop_procedures.specs.Kept.{stored_of}
 use Rattle.prop_cells.specs.Data.{problem_of}
+use Rattle.prop_scheduler.specs.Live.{IsLiveIn}
 use Rattle.prop_explain.proofs.ReducingLaws.{HasTried}
 use Rattle.prop_explain.proofs.TryingLaws.{AreTried}
 use Rattle.prop_explain.proofs.reducing.left_of.Given as goal
@@ -12,8 +13,8 @@ invariant-loop-premise g l = record {
   same : l.live.network.library ≡ l.fn.live.network.library;
   done : HasTried g.O.Order.picks (stored_of g.R.Rule.value_of l.fn.live.network.library) (set_of l.why.support)
       l.fn.live.network.cells l.fn.live.agenda l.fn.order l.budget l.yielded l.premise-iterator (set_of l.support)
-      l.steps
-      l.live.network.cells l.live.agenda l.order;
+      (set_of l.believed) l.steps l.live.network.cells l.live.agenda l.order;
+  alive : IsLiveIn g.R.Rule.value_of (set_of l.believed) l.live;
   tried : AreTried (problem_of (stored_of g.R.Rule.value_of l.fn.live.network.library) l.fn.live.network.cells) l.cell
       l.why.value
       l.yielded (set_of l.support);

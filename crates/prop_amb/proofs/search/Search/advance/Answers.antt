@@ -1,4 +1,4 @@
-use Rattle.std.proofs.Common.{◌≡◌, ◌∙◌, ◌<◌, ap, arith, length, slice_index_or}
+use Rattle.std.proofs.Common.{◌≡◌, ◌∙◌, ◌≤◌, ap, arith, length, slice_index_or}
 use Rattle.std.proofs.Math.Nat.{min-le_left, min-le_right}
 use Rattle.prop_premises.specs.Origins.{choices_of}
 use Rattle.prop_premises.specs.declared.choice.Choice.{Choice}
@@ -64,7 +64,7 @@ invariant_of-self-2 c =
     let left = rw (c.choices-choices.ensures, c.deref.ensures.value, c.in_ok-worldview.ensures) at c.leave.ensures in
     let users = users_of (the_view c.self.inside) in
     let is = left users (users_no_sides (the_view c.self.inside) c.self.invariant.0) c.self.invariant.0.believes in
-    let less : c.args.place < c.self.inside.level = rw (← c.self.view_is) at c.requires.below in
+    let less : c.args.place ≤ c.self.inside.level = rw (← c.self.view_is) at c.requires.below in
     let moved = slice_index_or c.choices-choices.result.now c.args.place (record { first = 0; sides = 0 }) in
     let few = min-le_left c.self.inside.from moved.first in
     let low = min-le_right c.self.inside.from moved.first in (

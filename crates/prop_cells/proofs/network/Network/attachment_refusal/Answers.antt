@@ -44,15 +44,15 @@ returns-then-lacks_param g c =
     c.kinds_fit.result c.kinds_fit.ensures c.if-not-kinds_fit.false c.need.result c.need.ensures c.params.result.now
     c.params.ensures c.if-lacks_param.ensures
 
-pub returns-then-instance_count-ge-MOST_INSTANCES : goal.returns-then-instance_count-ge-MOST_INSTANCES
-returns-then-instance_count-ge-MOST_INSTANCES g c =
+pub returns-then-instance_count-most : goal.returns-then-instance_count-most
+returns-then-instance_count-most g c =
     refused_16 (stored_of g.R.Rule.value_of c.args.self.now.library) c.args.procedure
     (stored_as g.R.Rule.value_of c.get-p.result.now) c.args.self.now.cells c.args.param c.args.ins.now c.args.out
     c.get-p.ensures
     c.len.result c.len.ensures.count c.if-is_cell_missing.ensures c.ins.result.now c.ins.ensures c.if-ins.false
     c.kinds_fit.result c.kinds_fit.ensures c.if-not-kinds_fit.false c.need.result c.need.ensures c.params.result.now
     c.params.ensures c.if-lacks_param.ensures
-    c.instance_count.result c.instance_count.ensures.count c.if-instance_count-ge-MOST_INSTANCES.true
+    c.instance_count.result c.instance_count.ensures.count (rw c.most.ensures at c.if-instance_count-most.true)
 
 pub returns : goal.returns
 returns g c =
@@ -62,4 +62,4 @@ returns g c =
     c.len.result c.len.ensures.count c.if-is_cell_missing.ensures c.ins.result.now c.ins.ensures c.if-ins.false
     c.kinds_fit.result c.kinds_fit.ensures c.if-not-kinds_fit.false c.need.result c.need.ensures c.params.result.now
     c.params.ensures c.if-lacks_param.ensures
-    c.instance_count.result c.instance_count.ensures.count c.if-instance_count-ge-MOST_INSTANCES.false
+    c.instance_count.result c.instance_count.ensures.count (rw c.most.ensures at c.if-instance_count-most.false)

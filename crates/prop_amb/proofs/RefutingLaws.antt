@@ -1,0 +1,103 @@
+-- The move that follows where a noted nogood refutes a list.
+use Rattle.std.proofs.Common.{◌≡◌, ◌∙◌, ◌<◌, ℕ, List, Contains, true, false, IsTrue, sym, arith, inl, inr}
+use Rattle.std.proofs.lemmas.List.Elements.{All-contains}
+use Rattle.prop_numbers.specs.Sets.{set_of, is_within}
+use Rattle.prop_numbers.proofs.WithinLemmas.{within_has, within_from}
+use Rattle.prop_cells.specs.Problems.{Problem}
+use Rattle.prop_nogoods.specs.Stores.{has_part}
+use Rattle.prop_nogoods.proofs.StoreLaws.{has_part-from}
+use Rattle.prop_amb.specs.Refuted.{IsNogood}
+use Rattle.prop_amb.specs.Search.{Stand, IsStand, IsSearch, choices_in}
+use Rattle.prop_amb.specs.Resolving.{IfAgainst, premises_of}
+use Rattle.prop_amb.specs.declared.resolving.Resolved.{Resolved}
+use Rattle.prop_amb.specs.declared.resolving.Resolved.TheVariants.{Against, RuledOut}
+use Rattle.prop_amb.specs.Culprits.{AreCulprits, IsBlamed, MayLeave, MayMove}
+use Rattle.prop_scheduler.specs.Ends.{IfClash}
+use Rattle.prop_scheduler.specs.declared.outcome.Run.{Run}
+use Rattle.prop_scheduler.specs.declared.outcome.Run.TheVariants.{Quiet, Spent, Clash}
+use Rattle.prop_amb.specs.inner.Settling.{IsMet}
+use Rattle.prop_amb.specs.inner.Refuting.{IsHere, IsNext, IsFound, IsRefuting, MayStep, IfStep, IfRuledOut}
+use Rattle.prop_amb.proofs.DecidingLaws.{may_move, goes_later, goes_past}
+use Rattle.prop_amb.proofs.SearchLaws.{both}
+
+-- a nogood that blocks a worldview is here
+pub blocking_here : (s : Stand) (copy n : List ℕ) → copy ≡ n → Contains s.listed n
+    → IsTrue (is_within (set_of s.worldview) n) → IsHere s copy
+blocking_here s copy n same noted within = rw same (record {
+  noted = noted;
+  believed = λ p t. within_has (set_of s.worldview) n p within t;
+})
+
+-- which of the two kinds it is, the worldview tells
+pub here_of : (s : Stand) (n : List ℕ) → IsFound s n → is_within (set_of s.worldview) n ≡ true → IsHere s n
+here_of s n found within = record {
+  noted = elim found [ inl h ↦ h.noted | inr x ↦ x.may.noted ];
+  believed = λ p t. within_has (set_of s.worldview) n p within t;
+}
+
+pub next_of : (s : Stand) (n : List ℕ) → IsFound s n → is_within (set_of s.worldview) n ≡ false → IsNext s n
+next_of s n (inl h) lacks = absurd (both (within_from (set_of s.worldview) n h.believed) lacks)
+next_of s n (inr x) lacks = x
+
+-- without the leave to move
+pub found_of : (s : Stand) (most : ℕ) (n : List ℕ) → IsRefuting s most n → IsFound s n
+found_of s most n (inl h) = inl h
+found_of s most n (inr x) = inr x.1
+
+-- what ends an attempt
+pub clash_refutes : (problem : Problem) (s : Stand) (most : ℕ) (r : Run) → IfClash r (IsMet problem s)
+    → IfClash r (IsRefuting s most)
+clash_refutes problem s most Quiet met = tt
+clash_refutes problem s most Spent met = tt
+clash_refutes problem s most (Clash n) met = inl (record { noted = met.noted; believed = met.believed })
+
+-- where no move is allowed, it is believed
+pub refuting_here : (s : Stand) (most : ℕ) (n : List ℕ) → IsRefuting s most n → most ≡ 0 → IsHere s n
+refuting_here s most n (inl h) none = h
+refuting_here s most n (inr x) none = absurd (let some = x.0 in omega (arith, some, none))
+
+-- ---- a nogood that is believed
+
+pub step_here : (s : Stand) (n : List ℕ) (r : Resolved) → IsStand s → IsHere s n → IfAgainst r (MayLeave s n)
+    → IfAgainst r (λ place. place < s.level) → AreCulprits s n (set_of (premises_of r)) → IfStep (MayStep s) r
+step_here s n (Against j reason) stand here leaves below culprits = record {
+  below = omega (arith, below);
+  may = leaves.may;
+  passes = λ new premises listed list level reasons.
+      goes_later s new j reason (may_move s n j stand here.noted here.believed leaves) culprits premises listed
+      list level
+      reasons;
+}
+step_here s n (RuledOut premises) stand here leaves below culprits = tt
+
+pub may_here : (s : Stand) (n : List ℕ) (r : Resolved) → IsStand s → IsHere s n → IfAgainst r (MayLeave s n)
+    → IfAgainst r (MayMove s)
+may_here s n (Against j reason) stand here leaves = may_move s n j stand here.noted here.believed leaves
+may_here s n (RuledOut premises) stand here leaves = tt
+
+pub blamed_here : (s : Stand) (n : List ℕ) (r : Resolved) → IsStand s → IsHere s n
+    → AreCulprits s n (set_of (premises_of r)) → IfRuledOut (λ m. IsBlamed s (set_of m)) r
+blamed_here s n (Against j reason) stand here culprits = tt
+blamed_here s n (RuledOut premises) stand here culprits = record {
+  nogood = n;
+  noted = here.noted;
+  believed = λ p t. sym (stand.believes p) ∙ here.believed p t;
+  culprits = culprits;
+}
+
+pub nogood_here : (problem : Problem) (s : Stand) (n : List ℕ) → IsSearch problem s → IsHere s n
+    → IsNogood problem (choices_in s) (set_of n) × IsTrue (has_part s.listed (set_of n))
+nogood_here problem s n h here = (
+  All-contains (λ line. IsNogood problem (choices_in s) (set_of line)) s.listed n h.nogoods here.noted,
+  has_part-from s.listed (set_of n) n here.noted (λ p t. t),
+)
+
+-- ---- one that would be with the side of one choice more
+
+pub step_next : (s : Stand) (n : List ℕ) → IsNext s n → MayStep s s.level n
+step_next s n next = record {
+  below = omega arith;
+  may = next.may.may;
+  passes = λ new premises listed list level reasons.
+      goes_past s new n next.may premises listed list level reasons;
+}

@@ -1,0 +1,3 @@
+pub mod Founding
+pub mod LogLaws
+pub mod PrunedLaws

@@ -1,0 +1,35 @@
+use Rattle.std.proofs.Common.{◌≡◌, ◌∙◌, length, slice_get, Some, IsTrue, refl, subst, sym}
+use Rattle.std.proofs.lemmas.Option.{slice_get_read}
+use Rattle.prop_lattice.specs.Order.{Below}
+use Rattle.prop_lattice.specs.Rank.{IsOf}
+use Rattle.prop_numbers.specs.Sets.{set_of}
+use Rattle.prop_procedures.specs.Fitting.{kind_at}
+use Rattle.prop_cells.specs.Problems.{is_member}
+use Rattle.prop_cells.proofs.Reading.{readers_are}
+use Rattle.prop_origins.specs.Parts.{made}
+use Rattle.prop_origins.specs.Founded.{AreFounded}
+use Rattle.prop_origins.specs.inner.Logs.{Logged}
+use Rattle.prop_origins.proofs.Founding.{told_founded}
+use Rattle.prop_origins.proofs.making.note.Goals as goal
+
+pub alert-requires : goal.alert-requires
+alert-requires c =
+    rw (c.readers.ensures, c.requires.line)
+    ((readers_are c.args.held.now.instances c.index-statements-number.result.cell).below)
+
+pub returns-clause-founded : goal.returns-clause-founded
+returns-clause-founded c = λ library f.
+    let d = c.args.held.now in
+    let s = set_of c.args.premises.now in
+    let x = c.index-statements-number.result in
+    let at : slice_get d.statements c.args.number ≡ Some x =
+    slice_get_read d.statements (length d.statements) c.args.number x refl c.requires.number
+    (rw c.statements.ensures at c.index-statements-number.is) in
+    let member : IsTrue (is_member s x.premise) = sym c.is_among.ensures ∙ c.if-not-is_among.false in
+    let of_kind : IsOf (kind_at d.kinds x.cell).kind (kind_at d.kinds x.cell).size x.info =
+    rw c.kind.ensures at (c.is_news.ensures.of_kind c.if-not-is_news.false) in
+    let more : ¬ (Below x.info (made c.args.log.now.parts x.cell)) =
+    rw c.made.ensures at (c.is_news.ensures.more c.if-not-is_news.false) in
+    subst (λ (q : Logged). AreFounded library d s q.parts) (sym c.in_ok-push.ensures.ok)
+    (told_founded library d s c.args.log.now.parts c.args.number x c.in_ok-part.part at member c.in_ok-part.ensures
+    of_kind more f)

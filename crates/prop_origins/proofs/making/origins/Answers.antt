@@ -1,0 +1,23 @@
+use Rattle.std.proofs.Common.{◌≡◌, ◌∙◌, ◌==◌, List, ap, subst, sym}
+use Rattle.prop_lattice.specs.Order.{Below}
+use Rattle.prop_numbers.specs.Sets.{set_of}
+use Rattle.prop_procedures.specs.Kept.{stored_of}
+use Rattle.prop_origins.specs.Parts.{Part, made}
+use Rattle.prop_origins.specs.Founded.{MakeUp}
+use Rattle.prop_origins.specs.Pruned.{pruned}
+use Rattle.prop_origins.proofs.Founding.{made_up}
+use Rattle.prop_origins.proofs.making.origins.Goals as goal
+
+pub returns : goal.returns
+returns g c =
+    let library = stored_of g.R.Rule.value_of c.args.network.now.library in
+    let d = c.args.network.now.cells in
+    let s = set_of c.args.why.now.support in
+    let cell = c.args.cell in
+    let log = c.in_ok-log.log in
+    let is : c.in_ok-parts.parts.items ≡ pruned (λ k. k == cell) log.parts = c.in_ok-parts.ensures
+    ∙ ap (λ (ps : List Part). pruned (λ k. k == cell) ps) c.into_parts.ensures.parts in
+    let enough : Below c.args.why.now.value (made log.parts cell) =
+    rw c.made.ensures at (c.implies.ensures.0 c.if-not-implies.false) in
+    subst (λ (ps : List Part). MakeUp library d s cell c.args.why.now.value ps) (sym is)
+    (made_up library d s cell c.args.why.now.value log.parts c.in_ok-log.ensures.founded enough)

@@ -1,0 +1,5 @@
+pub mod Founded
+pub mod Parts
+pub mod Pruned
+pub mod Whole
+pub mod inner

@@ -1,0 +1,42 @@
+-- What makes up a value: parts, of which each rests on those behind it alone.
+use Rattle.std.specs.Prelude.{◌==◌, ◌||◌, ℕ, Bool, false, if◌then◌else◌, IsTrue, List, [], ◌∷◌, ⊤}
+use Rattle.std.specs.List.{list_any}
+use Rattle.prop_lattice.specs.declared.info.Info.{Info}
+use Rattle.prop_lattice.specs.declared.info.Info.TheVariants.{Nothing}
+use Rattle.prop_lattice.specs.Order.{merge_of}
+use Rattle.prop_numbers.specs.Sets.{Members, set_of, union}
+use Rattle.prop_origins.specs.declared.part.Origin.{Origin}
+
+-- a statement or a call: its cell, its inputs with what is said of them, what it says of its cell,
+-- and the premises on which it rests
+pub record Part : Type 0 where
+  pub origin : Origin
+  pub cell : ℕ
+  pub inputs : List ℕ
+  pub args : List Info
+  pub value : Info
+  pub support : List ℕ
+
+-- what parts say together of each cell
+abbrev pub made : List Part → ℕ → Info
+made [] cell = Nothing
+made (p ∷ behind) cell =
+    if p.cell == cell then merge_of (made behind cell) p.value else made behind cell
+
+-- the premises on which the parts of each cell rest
+abbrev pub rests_on : List Part → ℕ → Members
+rests_on [] cell q = false
+rests_on (p ∷ behind) cell q =
+    if p.cell == cell then union (rests_on behind cell) (set_of p.support) q
+    else rests_on behind cell q
+
+-- ---- which parts are read
+
+abbrev pub reads : Part → ℕ → Bool
+reads p cell = list_any (λ input. input == cell) p.inputs
+
+-- each part is at a cell that is wanted, or that a part before it reads
+abbrev pub AreWanted : (ℕ → Bool) → List Part → Type 0
+AreWanted wanted [] = ⊤
+AreWanted wanted (p ∷ behind) =
+    IsTrue (wanted p.cell) × AreWanted (λ cell. wanted cell || reads p cell) behind

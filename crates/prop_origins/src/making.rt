@@ -1,0 +1,303 @@
+//! The parts of a value: what the statements say, and what follows from them, one call after the
+//! other.
+ghost use Rattle.std.specs.Prelude.{◌≡◌, ◌<◌, [], ℕ, List, All, length, slice_get, IsTrue, IfOk};
+ghost use Rattle.std.specs.Prelude.{IfSome, false};
+ghost use Rattle.std.specs.List.{list_any};
+ghost use Rattle.prop_lattice.specs.Order.{Below, is_contradiction};
+ghost use Rattle.prop_lattice.specs.Rank.{IsOf};
+ghost use Rattle.prop_numbers.specs.Sets.{set_of};
+ghost use Rattle.prop_procedures.specs.Kept.{AllMean, stored_of};
+ghost use Rattle.prop_procedures.specs.Rules.{IsCall};
+ghost use Rattle.prop_procedures.specs.Stored.{Stored, value_of};
+ghost use Rattle.prop_cells.specs.Data.{IsKept, problem_of, support_of};
+ghost use Rattle.prop_cells.specs.Problems.{AreOfKinds, Entails, Premises, is_member, value_on};
+ghost use Rattle.prop_origins.specs.Founded.{AreFounded, MakeUp};
+ghost use Rattle.prop_origins.specs.Parts.{made};
+ghost use Rattle.prop_origins.specs.Whole.{IfWhole};
+
+use crate::line::Line;
+use crate::log::Log;
+use crate::part::{Origin, Part};
+use crate::pruning::prune;
+use prop_cells::{Cells, Instance, Network, Statement};
+use prop_lattice::{Info, Partial};
+use prop_premises::{Premise, PremiseSet};
+use prop_procedures::{Kinded, Library, Rule};
+use prop_tms::Supported;
+use smallvec::SmallVec;
+use std::alloc::{AllocError, Global};
+
+/// What makes up a value.
+#[derive(Drop)]
+pub enum Composition {
+    /// These parts, the one that completes it first.
+    Whole(Vec<Part>),
+    /// It is not known: the budget was used before.
+    Cut,
+}
+
+/// That a cell holds so much.
+#[derive(Clone, Copy)]
+struct Claim {
+    cell: usize,
+    value: Info,
+}
+
+/// Whether a statement is made under one of the premises or under none.
+fn is_among(premises: &PremiseSet, statement: &Statement) -> bool
+    ensures { result ≡ is_member (set_of premises.now) statement.now.premise }
+{
+    match statement.premise {
+        None => true,
+        Some(premise) => premises.contains(premise),
+    }
+}
+
+/// Whether a value of the kind says more than what is known.
+fn is_news(kind: Kinded, known: Info, value: Info) -> bool
+    ensures of_kind { IsTrue result → IsOf kind.kind kind.size value }
+    ensures more { IsTrue result → ¬ (Below value known) }
+{
+    value.is_of(kind.kind, kind.size) && !known.implies(value)
+}
+
+/// The premise of a statement, or none.
+fn support_of(alloc: Global, premise: Option<Premise>) -> Result<PremiseSet, AllocError>
+    ensures { IfOk result (λ s. s ≡ support_of premise) }
+{
+    match premise {
+        None => Ok(PremiseSet::empty(alloc)),
+        Some(premise) => PremiseSet::single(alloc, premise),
+    }
+}
+
+/// What a statement says, by its number.
+fn told(alloc: Global, number: usize, statement: &Statement) -> Result<Part, AllocError>
+    ensures { IfOk result (λ p. p ≡ record {
+      origin = Origin.Told number;
+      cell = statement.now.cell;
+      inputs = [];
+      args = [];
+      value = statement.now.info;
+      support = support_of statement.now.premise;
+    }) }
+{
+    let support = support_of(alloc, statement.premise)?;
+    Ok(Part {
+        origin: Origin::Told(number),
+        cell: statement.cell,
+        inputs: SmallVec::new(alloc),
+        args: SmallVec::new(alloc),
+        value: statement.info,
+        support,
+    })
+}
+
+/// Logs what a statement says, where its premise is one of these or it has none, and where it says
+/// more than those before it. Then the readers of its cell wait.
+fn note(
+    alloc: Global,
+    held: &Cells,
+    number: usize,
+    premises: &PremiseSet,
+    line: &mut Line,
+    log: &mut Log,
+) -> Result<(), AllocError>
+    requires number { number < length held.now.statements }
+    requires within { All (λ x. x.cell < length held.now.kinds) held.now.statements }
+    requires cells { log.old.cells ≡ length held.now.kinds }
+    requires line { line.old.count ≡ length held.now.instances }
+    ensures cells { log.new.cells ≡ log.old.cells }
+    ensures line { line.new.count ≡ line.old.count }
+    ensures founded { (library : List Stored)
+        → AreFounded library held.now (set_of premises.now) log.old.parts
+        → AreFounded library held.now (set_of premises.now) log.new.parts }
+{
+    let statement = held.statements()[number];
+    let cell = statement.cell;
+    if !is_among(premises, &statement)
+        || !is_news(held.kind(cell), log.made(cell), statement.info)
+    {
+        return Ok(());
+    }
+    let part = told(alloc, number, &statement)?;
+    log.push(part)?;
+    line.alert(held.readers(cell))
+}
+
+/// Logs what the statements say under the premises or under none.
+fn tell(
+    alloc: Global,
+    held: &Cells,
+    premises: &PremiseSet,
+    line: &mut Line,
+    log: &mut Log,
+) -> Result<(), AllocError>
+    requires within { All (λ x. x.cell < length held.now.kinds) held.now.statements }
+    requires cells { log.old.cells ≡ length held.now.kinds }
+    requires line { line.old.count ≡ length held.now.instances }
+    ensures cells { log.new.cells ≡ log.old.cells }
+    ensures line { line.new.count ≡ line.old.count }
+    ensures founded { (library : List Stored)
+        → AreFounded library held.now (set_of premises.now) log.old.parts
+        → AreFounded library held.now (set_of premises.now) log.new.parts }
+{
+    for number in 0..held.statements().len() {
+        note(alloc, held, number, premises, line, log)?;
+    }
+    Ok(())
+}
+
+/// Whether one of them is a contradiction.
+fn has_contradiction(infos: &[Info]) -> bool
+    ensures { result ≡ list_any is_contradiction infos.now }
+{
+    infos.iter().any(
+        |info| -> bool
+            ensures { result ≡ is_contradiction info.now }
+        { matches!(info, Info::Contradiction) },
+    )
+}
+
+/// What an instance answers.
+fn answer<R: Rule + Drop>(library: &Library<R>, x: &Instance, args: &[Info]) -> Info
+    requires means { AllMean R.value_of library.now.procedures.items }
+    requires there { x.now.procedure < length (stored_of R.value_of library.now) }
+    requires call { list_any is_contradiction args.now ≡ false
+        → IfSome (slice_get (stored_of R.value_of library.now) x.now.procedure)
+        (λ p. IsCall p.ins p.need x.now.param args.now) }
+    ensures { result ≡ value_on
+        (value_of (stored_of R.value_of library.now) x.now.procedure x.now.param) args.now }
+{
+    if has_contradiction(args) {
+        return Info::Contradiction;
+    }
+    library.call(x.procedure(), x.param(), args)
+}
+
+/// What an instance said, by its number.
+fn called(
+    number: usize,
+    x: &Instance,
+    args: SmallVec<Info, 4>,
+    value: Info,
+    support: PremiseSet,
+) -> Result<Part, AllocError>
+    ensures { IfOk result (λ p. p ≡ record {
+      origin = Origin.Called number;
+      cell = x.now.output;
+      inputs = x.now.inputs;
+      args = args.items;
+      value = value;
+      support = support;
+    }) }
+{
+    let inputs = SmallVec::from_slice(*args.allocator(), x.inputs())?;
+    Ok(Part {
+        origin: Origin::Called(number),
+        cell: x.output(),
+        inputs,
+        args,
+        value,
+        support,
+    })
+}
+
+/// Calls an instance on what the parts say of its inputs. Where its value says more than they do,
+/// it is logged, and the readers of its output wait.
+fn call<R: Rule + Drop>(
+    alloc: Global,
+    network: &Network<R>,
+    number: usize,
+    line: &mut Line,
+    log: &mut Log,
+) -> Result<(), AllocError>
+    requires means { AllMean R.value_of network.now.library.procedures.items }
+    requires kept { IsKept (stored_of R.value_of network.now.library) network.now.cells }
+    requires number { number < length network.now.cells.instances }
+    requires cells { log.old.cells ≡ length network.now.cells.kinds }
+    requires line { line.old.count ≡ length network.now.cells.instances }
+    requires of_kinds { AreOfKinds network.now.cells.kinds (made log.old.parts) }
+    ensures cells { log.new.cells ≡ log.old.cells }
+    ensures line { line.new.count ≡ line.old.count }
+    ensures founded { (s : Premises)
+        → AreFounded (stored_of R.value_of network.now.library) network.now.cells s log.old.parts
+        → AreFounded (stored_of R.value_of network.now.library) network.now.cells s log.new.parts }
+{
+    let held = network.data();
+    let x = held.instance(number);
+    let inputs = x.inputs();
+    let output = x.output();
+    let args = log.args(alloc, inputs)?;
+    let value = answer(network.library(), x, &args);
+    if log.made(output).implies(value) {
+        drop(args);
+        return Ok(());
+    }
+    let support = log.support(alloc, inputs)?;
+    let part = called(number, x, args, value, support)?;
+    log.push(part)?;
+    line.alert(held.readers(output))
+}
+
+/// Logs what follows from the premises by themselves, until it says so much of the cell. It ends
+/// before where nothing waits or the budget of calls is used.
+fn make<R: Rule + Drop>(
+    alloc: Global,
+    network: &Network<R>,
+    premises: &PremiseSet,
+    claim: Claim,
+    budget: u64,
+) -> Result<Log, AllocError>
+    requires means { AllMean R.value_of network.now.library.procedures.items }
+    requires kept { IsKept (stored_of R.value_of network.now.library) network.now.cells }
+    requires cell { claim.cell < length network.now.cells.kinds }
+    ensures cells { IfOk result (λ log. log.cells ≡ length network.now.cells.kinds) }
+    ensures founded { IfOk result (λ log.
+        AreFounded (stored_of R.value_of network.now.library) network.now.cells
+        (set_of premises.now) log.parts) }
+{
+    let mut log = Log::new(alloc, network.cells())?;
+    let mut line = Line::new(alloc, network.instances());
+    tell(alloc, network.data(), premises, &mut line, &mut log)?;
+    for _ in 0..budget {
+        if log.made(claim.cell).implies(claim.value) {
+            break;
+        }
+        let Some(number) = line.next() else {
+            break;
+        };
+        call(alloc, network, number, &mut line, &mut log)?;
+    }
+    Ok(log)
+}
+
+/// The parts that make up so much of a cell as the premises entail: statements under these premises
+/// or under none, and calls. They are looked for in calls of instances that read what is known, up
+/// to a budget.
+pub fn origins<R: Rule + Drop>(
+    alloc: Global,
+    network: &Network<R>,
+    cell: usize,
+    why: &Supported<Info>,
+    budget: u64,
+) -> Result<Composition, AllocError>
+    requires means { AllMean R.value_of network.now.library.procedures.items }
+    requires kept { IsKept (stored_of R.value_of network.now.library) network.now.cells }
+    requires cell { cell < length network.now.cells.kinds }
+    requires entails { Entails
+        (problem_of (stored_of R.value_of network.now.library) network.now.cells)
+        (set_of why.now.support) cell why.now.value }
+    ensures { IfOk result (λ o. IfWhole o
+        (MakeUp (stored_of R.value_of network.now.library) network.now.cells
+        (set_of why.now.support) cell why.now.value)) }
+{
+    let value = why.value;
+    let log = make(alloc, network, &why.support, Claim { cell, value }, budget)?;
+    if !log.made(cell).implies(value) {
+        drop(log);
+        return Ok(Composition::Cut);
+    }
+    let parts = prune(alloc, log.into_parts(), network.cells(), cell)?;
+    Ok(Composition::Whole(parts))
+}
