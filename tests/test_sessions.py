@@ -18,7 +18,7 @@ PATH is crates/propbench/out/propbench where it is left out. What is run:
 - each procedure of the kit on small informations, against plain enumeration (tests/rules.py), and
   those beside the kit over propwide, where that is built (tests/wide_rules.py), and values that all
   differ, and Sudokus (tests/wide_puzzles.py), and random networks over both, and sums as chains
-  (tests/wide_sessions.py);
+  (tests/wide_sessions.py), and random sessions of steps that are told (tests/telling.py);
 - random sessions, each answer of which is compared with a plain and slow evaluation
   (tests/plain.py), such with choices, of which every list is tried (tests/choices.py), and such
   under small limits, of which every step is taken anew (tests/steps.py);
@@ -75,6 +75,7 @@ import searches
 import spoiled
 import stacks
 import steps
+import telling
 import versions
 import wide_puzzles
 import wide_rules
@@ -136,6 +137,8 @@ def cases() -> Iterator[Runnable]:
     yield from wide_rules.built()
     yield from wide_puzzles.built()
     yield from wide_sessions.built()
+    yield from documents.built()
+    yield from telling.built()
     yield from in_each_order(worked())
 
 
