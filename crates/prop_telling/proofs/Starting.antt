@@ -1,5 +1,5 @@
 -- How a session with a teller around it begins, and what it wrote.
-use Rattle.std.proofs.Common.{◌≡◌, ℕ, List, Result, Ok, Err, IfOk, OnErr, inr, subst}
+use Rattle.std.proofs.Common.{◌≡◌, ℕ, List, Result, Ok, Err, IfOk, OnErr, inl, inr, refl, subst}
 use Rattle.std.specs.Prelude.{Option}
 use Rattle.prop_procedures.specs.Stored.{Stored}
 use Rattle.prop_engine.specs.declared.outcome.Counts.{Counts}
@@ -7,10 +7,20 @@ use Rattle.prop_engine.specs.Endings.{WritesTranscript, WritesPrefix}
 use Rattle.prop_workbench.specs.Engine.{Standing, working, new_standing}
 use Rattle.prop_workbench.specs.Questions.{Picks}
 use Rattle.prop_workbench.specs.Loading.{Loads}
+use Rattle.prop_program.specs.Answering.{Stock}
+use Rattle.prop_program.specs.declared.chosen.Pick.{Pick}
+use Rattle.prop_program.specs.declared.chosen.Pick.TheVariants.{Fifo, Lifo, Mixed}
 use Rattle.prop_program.specs.declared.fault.Fault.{Fault}
 use Rattle.prop_telling.specs.Telling.{telling}
-use Rattle.prop_telling.specs.Answering.{IsToldBy, IsToldInPartBy}
+use Rattle.prop_telling.specs.Answering.{IsToldBy, IsToldInPartBy, IsToldInPart}
 use Rattle.prop_telling.specs.inner.Answering.{Writes}
+
+-- before anything was written
+pub nothing_told : (stock : Stock) (pick : Pick) (seed limit : ℕ) (left held : Option (List ℕ))
+    → IsToldInPart stock pick seed limit left held held
+nothing_told stock Fifo seed limit left held = inl refl
+nothing_told stock Lifo seed limit left held = inl refl
+nothing_told stock Mixed seed limit left held = inl refl
 
 module _ {O : Type 0} (picks : Picks O) (library known : List Stored) (same : library ≡ known)
     (left held held' : Option (List ℕ)) (result : Result Counts Fault) where
