@@ -17,7 +17,7 @@ from propbench.replies import Called
 from propbench.session import Session
 
 # What the lines have to have that a compound is made with.
-_DECLARES = frozenset(("domain", "relation", "define"))
+DECLARING = frozenset(("domain", "relation", "define"))
 
 
 # The cells of a compound that is looked into, by place.
@@ -30,7 +30,7 @@ class Makers:
     def __init__(self, program: str) -> None:
         """Of this program."""
         self._program = program
-        self._made: dict[tuple[object, ...], tuple[Called, ...]] = {}
+        self._made: dict[tuple[str, tuple[str, ...], str], tuple[Called, ...]] = {}
 
     def made(
         self, procedure: str, kinds: Sequence[str], given: str, declared: Sequence[str]
@@ -38,7 +38,7 @@ class Makers:
         """The instances that a use makes between cells of these kinds, as they are called: these
         are `c1`, `c2` .., and those of its own have no name. `declared` are the lines on which
         domains, relations and compounds are declared. None where the program doesn't tell."""
-        key = (procedure, tuple(kinds), given, len(declared))
+        key = (procedure, tuple(kinds), given)
         if key not in self._made:
             try:
                 self._made[key] = tuple(self._called(procedure, kinds, given, declared))
@@ -66,10 +66,10 @@ class Makers:
 class Instances:
     """The instances that lines make, in the order of their numbers."""
 
-    def __init__(self, makers: Makers, lines: Sequence[str], known: Known) -> None:
-        """Those of lines that were carried out, which declared what is known."""
-        self._makers, self._known = makers, known
-        self._declared = declared_on(lines)
+    def __init__(self, program: str, lines: Sequence[str], known: Known) -> None:
+        """Those of lines that the program carried out, which declared what is known."""
+        self._makers, self._known = Makers(program), known
+        self._declared = [line for line in lines if line.split(None, 1)[0] in DECLARING]
         self._attached = [line for line in lines if line.split(None, 1)[0] == "attach"]
         # For each line that was read so far the number of its first instance, and that of the next.
         self._firsts: list[int] = []
@@ -94,11 +94,6 @@ class Instances:
         kinds = [self._known.cells[token.text] for token in parse.of(Role.CELL)]
         given = "".join(token.text for token in parse.of(Role.GIVEN))
         return len(self._makers.made(procedure.text, kinds, given, self._declared))
-
-
-def declared_on(lines: Sequence[str]) -> list[str]:
-    """The lines that declare what compounds are made with."""
-    return [line for line in lines if line.split(None, 1)[0] in _DECLARES]
 
 
 def count_of(procedure: str, definitions: Mapping[str, Definition]) -> int | None:

@@ -5,14 +5,14 @@ stands in the kit's prelude. What others make, as the compounds of propwide, the
 it tells steps.
 """
 
-from collections.abc import Mapping, Sequence
+from collections.abc import Sequence
 from dataclasses import replace
 
 from propbench.grammar import Role, parsed
 from propbench.kit import KIT
-from propbench.known import Definition, Known
+from propbench.known import Known
 from propbench.listing import Statement, Told
-from propbench.watching.instances import PROBED, Makers, declared_on
+from propbench.watching.instances import DECLARING, PROBED, Makers
 from propbench.watching.network import Cell, Choice, Network, Premise, Said, Use
 
 
@@ -27,17 +27,21 @@ class Lines:
         self._read: list[str] = []
         self._told = Told()
         self._uses: list[Use] = []
+        # The lines so far that declare what compounds are made with.
+        self._declared: list[str] = []
 
     def take(self, lines: Sequence[str], known: Known) -> None:
         """Takes in the lines of a session, of which those that are known are not read again."""
         if self._read != lines[: len(self._read)]:
             self._begin()
+        parts: _Parts | None = None
         for line in lines[len(self._read) :]:
             self._told.learn(line)
-            if line.split(None, 1)[0] == "attach":
-                parts = _Parts(
-                    self._makers, declared_on(lines), known.definitions, dict(known.cells)
-                )
+            command = line.split(None, 1)[0]
+            if command in DECLARING:
+                self._declared.append(line)
+            elif command == "attach":
+                parts = parts or _Parts(self._makers, self._declared, known)
                 self._uses.append(parts.attached(line, str(len(self._uses) + 1)))
         self._read = list(lines)
 
@@ -72,15 +76,9 @@ def _said(stated: Sequence[Statement]) -> tuple[Said, ...]:
 class _Parts:
     """What uses are made of. The kind of each cell is kept by its name."""
 
-    def __init__(
-        self,
-        makers: Makers,
-        declared: Sequence[str],
-        definitions: Mapping[str, Definition],
-        kinds: dict[str, str],
-    ) -> None:
+    def __init__(self, makers: Makers, declared: Sequence[str], known: Known) -> None:
         self._makers, self._declared = makers, declared
-        self._definitions, self._kinds = definitions, kinds
+        self._definitions, self._kinds = known.definitions, dict(known.cells)
 
     def attached(self, line: str, name: str) -> Use:
         """The use that a line attaches."""

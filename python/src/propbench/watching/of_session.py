@@ -38,8 +38,7 @@ class SessionWatched:
         self.session = session
         self._source = list(source)
         self._since = len(session.lines)
-        self._makers = Makers(session.program)
-        self._lines = Lines(self._makers)
+        self._lines = Lines(Makers(session.program))
         # The premises under which a side of a choice is wished for.
         self._wishes: dict[tuple[str, int], str] = {}
 
@@ -105,7 +104,7 @@ class SessionWatched:
 
     def steps(self) -> Steps:
         lines, uses = self.lines(), self.network().uses
-        instances = Instances(self._makers, lines, self._known)
+        instances = Instances(self.session.program, lines, self._known)
 
         def call(did: Called) -> Call:
             place, part = instances.place(did.instance)

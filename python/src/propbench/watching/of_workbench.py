@@ -28,7 +28,7 @@ from propbench.runs import Progress
 from propbench.session import Session
 from propbench.values import Nothing
 from propbench.watching import Best
-from propbench.watching.instances import Instances, Makers
+from propbench.watching.instances import Instances
 from propbench.watching.mending import FITS, Mending
 from propbench.watching.network import (
     Cell,
@@ -174,7 +174,7 @@ class WorkbenchWatched:
         made = self.workbench.network
         names = [made.vocabulary.cells.line(cell) for cell in made.cells]
         lines, owners = made.base(), self._owners()
-        instances = Instances(Makers(made.session.program), lines, made.session.known)
+        instances = Instances(made.session.program, lines, made.session.known)
 
         def call(did: Called) -> Call:
             use, text = owners[instances.place(did.instance)[0]]
