@@ -1,9 +1,9 @@
 //! The workbench with more rules, for plans and measurements, over standard input and output.
 //!
 //! The program's session over the kit, the wider rules, the excluders and their preludes writes a
-//! transcript of the workbench, in which `step` lines are told (prop_telling), or at a fault nothing
-//! or a prefix of one, with work behind it in the order that was chosen, from the seed that was
-//! given, and the procedures' answers hold the points that belong together; those of a plan in
+//! transcript of the workbench, in which `step` lines are told (prop_telling), or at a fault
+//! nothing or a prefix of one, with work behind it in the order that was chosen, from the seed that
+//! was given, and the procedures' answers hold the points that belong together; those of a plan in
 //! points satisfy all that is attached. A fault tells which device failed, that there were too many
 //! reads, or that memory was refused before anything was read or written (`run`).
 #![tactic(auto)]
