@@ -148,8 +148,8 @@ class Nogoods:
 @dataclass(frozen=True)
 class Called:
     """A procedure was called: the instance of this number, from 0, on these inputs. `value` is what
-    is known of its output behind that, and `because` are the premises that are enough for it. A cell
-    that has no name, as a local of a compound, is `#` with its number."""
+    is known of its output behind that, and `because` are the premises that are enough for it. A
+    cell that has no name, as a local of a compound, is `#` with its number."""
 
     instance: int
     procedure: str

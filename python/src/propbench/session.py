@@ -205,8 +205,8 @@ class Session(Closing):
     def step(self) -> Step:
         """Takes one step of a run, and tells it, where the program is propwide.
 
-        What the run comes to is the same as without. Raises UnknownCommand over a program that tells
-        no steps, and ProgramEnded.
+        What the run comes to is the same as without. Raises UnknownCommand over a program that
+        tells no steps, and ProgramEnded.
         """
         reply = self.send("step")
         assert isinstance(reply, Step)

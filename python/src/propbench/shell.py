@@ -41,7 +41,7 @@ WELCOME = "propbench: lines of its language, :help for help, :quit or Ctrl-D to 
 ASIDES = {
     ":list": "[cells|premises|choices|definitions|attached]  what the session knows; all of it",
     ":undo": "takes back the last line that changed something",
-    ":step": "[N]  takes one step, or N, and shows which cells changed; with propwide what was called",
+    ":step": "[N]  takes one step, or N, and shows what changed; over propwide what was called",
     ":draw": "[X] [FILE]  draws the network, or what bears on the cell X, as SVG or .dot",
     ":limit": "[N]  shows or sets how many steps a run takes at most",
     ":save": "FILE  writes the lines that were carried out",
