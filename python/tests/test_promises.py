@@ -70,13 +70,17 @@ def test_refusals_keep_their_numbers(line: str) -> None:
     assert (refused.value.number, type(refused.value).__name__) == REFUSED[line]
 
 
-def test_statuses_of_the_desk_stay(tmp_path: Path) -> None:
+def test_statuses_of_the_desk_stay(tmp_path: Path, monkeypatch: pytest.MonkeyPatch) -> None:
     good, bad = tmp_path / "good.prop", tmp_path / "bad.prop"
     good.write_text("cell x span\nfix x 3\n")
     bad.write_text("cell x span\nask y\n")
     assert main(["run", str(good)]) == 0
     assert main(["run", str(bad)]) == 1
     assert main(["run", str(tmp_path / "none.prop")]) == 3
+    (tmp_path / "model.mzn").write_text("solve satisfy;\n")
+    with monkeypatch.context() as there:
+        there.setenv("PATH", str(tmp_path))  # where MiniZinc isn't
+        assert main(["blame", str(tmp_path / "model.mzn")]) == 3
     with pytest.raises(SystemExit) as ended:
         main(["run"])
     assert ended.value.code == 2
