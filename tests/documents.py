@@ -19,8 +19,10 @@ CODE = {"docs/HOSTING.md": "prop_host_tests", "docs/PRIMER.md": "prop_sets"}
 PYTHON = {"docs/WORKBENCH.md", "docs/QUESTIONS.md", "docs/MEASURING.md", "docs/SEEING.md"}
 COMMANDS = """
 domain relation cell attach define fix tell choose kick bring forget limit ask why core settle
-worldview nogoods step
+worldview nogoods
 """.split()
+# What propwide has more.
+TOLD = ["step"]
 # Documents whose sessions are run over propwide, where it is built.
 WIDE = {"docs/WIDE.md"}
 
@@ -28,7 +30,7 @@ WIDE = {"docs/WIDE.md"}
 def is_command(line: str) -> bool:
     """Whether it is no reply: those to `nogoods` and `step` begin with the word too, and a number."""
     word, *rest = line.split(" ")
-    return word in COMMANDS and not (word in ("nogoods", "step") and rest)
+    return word in (*COMMANDS, *TOLD) and not (word in ("nogoods", *TOLD) and rest)
 
 
 def blocks(text: str) -> Iterator[list[str]]:

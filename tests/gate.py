@@ -152,6 +152,7 @@ class PythonGate:
         """What is wrong with the run, or None."""
         with tempfile.TemporaryDirectory(prefix="gate-") as room:
             os.makedirs(f"{room}/tools")
+            os.makedirs(f"{room}/examples")
             shutil.copy(f"{TOP}/tools/python_gate", f"{room}/tools")
             files = {**GOOD, **dict(BAD[it] for it in self.bad)}
             for path, text in files.items():

@@ -1,7 +1,7 @@
 """The lessons of notebooks/: each runs, shows what is kept, and its exercises have answers that check
 themselves; handouts have no answers; the page for who teaches names them all.
 
-They are run over propwide, where that is found. `lessons.py` runs them and keeps what they show.
+They are run over both programs, as a class does. `lessons.py` runs them and keeps what they show.
 """
 
 import ast
@@ -29,10 +29,9 @@ each_lesson = pytest.mark.parametrize("path", paths(), ids=[path.stem for path i
 
 @pytest.fixture
 def wide(monkeypatch: pytest.MonkeyPatch) -> None:
-    """What a kernel is told: the program, and where to find the package."""
-    program = PROGRAMS.get("propwide", PROGRAMS["propbench"])
-    monkeypatch.setenv("PROPBENCH", program)
-    monkeypatch.setenv("PROPWIDE", program)
+    """What a kernel is told: the programs, and where to find the package."""
+    monkeypatch.setenv("PROPBENCH", PROGRAMS["propbench"])
+    monkeypatch.setenv("PROPWIDE", PROGRAMS.get("propwide", PROGRAMS["propbench"]))
     monkeypatch.setenv("PYTHONPATH", str(REPOSITORY / "python" / "src"))
     monkeypatch.setenv("PYDEVD_DISABLE_FILE_VALIDATION", "1")
 
