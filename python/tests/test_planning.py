@@ -131,6 +131,14 @@ def test_what_is_wrong(p: Project) -> None:
         p.task("talk", options={"long": {"day": 2}, "short": {"days": 1}})
     with pytest.raises(ValueError, match="can't be away"):
         p.away("ana", 5, 5)
+    for days, cost in ((2.5, 0), ("2 days", 0), (2, "9 euro")):
+        with pytest.raises(TypeError, match="talk: (days|cost)=.* is no whole number"):
+            p.task("talk", days, cost=cost)  # type: ignore[arg-type]
+    for after in (p.tasks["venue"], "venue", ["venue"]):
+        with pytest.raises(TypeError, match="talk: `after` is a list of what p.task gave"):
+            p.task("talk", 2, after=after)  # type: ignore[arg-type]
+    with pytest.raises(TypeError, match="days='30' is no whole number"):
+        p.workbench.plan(days="30")  # type: ignore[arg-type]
     assert list(p.tasks) == ["venue", "review"]
     assert p.total_cost.ask(over="all plans").low == 1510
     with pytest.raises(ValueError, match="before the end or the total cost"):

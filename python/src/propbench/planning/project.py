@@ -2,13 +2,13 @@
 
 from collections.abc import Iterable, Mapping, Sequence
 from datetime import date
-from typing import TYPE_CHECKING
+from typing import TYPE_CHECKING, SupportsIndex
 
 from propbench.model.cells import NumberCell
 from propbench.model.expressions import Truth, maximum, total
 from propbench.nearby import near_names
 from propbench.planning.calendar import Calendar
-from propbench.planning.tasks import Option, Task, Way, checked_ways, names_in
+from propbench.planning.tasks import Option, Task, Way, checked_ways, names_in, tasks_in
 from propbench.questions.model import Plan
 
 if TYPE_CHECKING:
@@ -34,6 +34,8 @@ class Project:
         calendar: Calendar | None,
     ) -> None:
         """A project of a workbench, over the days from 0 to `days`."""
+        if not isinstance(days, SupportsIndex):
+            raise TypeError(f"days={days!r} is no whole number")
         if days < 1:
             raise ValueError(f"a plan has one day or more, and not {days}")
         self.workbench, self.days, self.calendar = workbench, days, calendar
@@ -68,10 +70,13 @@ class Project:
         `who` does it, one person or all of several; `after` are tasks that have to be done before.
         What it takes, and that it comes after these, is stated under premises with names such as
         `review takes 5` and `review after venue`, or all of it `under` one. Raises ValueError where
-        there is such a task, no such person, or `end` or `total_cost` was asked for before.
+        there is such a task, no such person, or `end` or `total_cost` was asked for before, and
+        TypeError for days that are no whole number or an `after` that is no list of tasks. Then
+        the plan is as it was.
         """
         people = self._checked(name, who)
         ways = checked_ways(name, days, cost, options)
+        earlier = tasks_in(name, after)
         task = self._made(name, people, any(way.cost for way in ways.values()))
         self.tasks[name] = task
         if options is not None:
@@ -80,7 +85,7 @@ class Project:
             self._tell(under or f"{name} takes {days}", task.days, ways[""].days)
             if task.cost is not None:
                 self._tell(under or f"{name} costs {cost}", task.cost, cost)
-        for other in after:
+        for other in earlier:
             premise = under or f"{name} after {other.name}"
             self.workbench.require(other.end <= task.start, under=premise)
             self._facts[premise] = None

@@ -1,7 +1,8 @@
 """A task of a plan: when it starts and ends, how long it takes, what it costs, and who does it."""
 
-from collections.abc import Mapping, Sequence
+from collections.abc import Iterable, Mapping, Sequence
 from dataclasses import dataclass
+from typing import SupportsIndex
 
 from propbench.model.cells import NumberCell
 from propbench.model.expressions import Number
@@ -43,7 +44,8 @@ def checked_ways(
     name: str, days: int | None, cost: int, options: Mapping[str, Option] | None
 ) -> dict[str, Way]:
     """The ways in which a task may be done, by name; the only one without. Raises ValueError where
-    there are none, or what is said of one is something else than its days and its cost."""
+    there are none, or what is said of one is something else than its days and its cost, and
+    TypeError where these are no whole numbers."""
     if (days is None) == (options is None):
         raise ValueError(f"{name}: say how many days it takes, or what options there are")
     if options is None:
@@ -58,10 +60,21 @@ def _checked(name: str, said: Option) -> Way:
         raise ValueError(
             f"{name}: an option is told by its days and its cost: dict(days=2, cost=9)"
         )
+    for what, number in said.items():
+        if not isinstance(number, SupportsIndex):
+            raise TypeError(f"{name}: {what}={number!r} is no whole number")
     way = Way(said["days"], said.get("cost", 0))
     if min(way.days, way.cost) < 0:
         raise ValueError(f"{name}: neither days nor costs can be less than none")
     return way
+
+
+def tasks_in(name: str, after: Iterable[Task]) -> tuple[Task, ...]:
+    """The tasks that a task comes after. Raises TypeError for what is no list of tasks."""
+    tasks = () if isinstance(after, Task) else tuple(after)
+    if isinstance(after, Task) or not all(isinstance(task, Task) for task in tasks):
+        raise TypeError(f"{name}: `after` is a list of what p.task gave, as after=[venue]")
+    return tasks
 
 
 def names_in(given: str | Sequence[str]) -> tuple[str, ...]:
