@@ -9,7 +9,8 @@ import os
 import re
 from typing import Iterable, Iterator, Optional
 
-from case import Case, as_bytes
+from case import Case, Check, as_bytes
+from wide_rules import PROGRAM, over_propwide
 
 TOP = os.path.dirname(os.path.dirname(os.path.realpath(__file__)))
 # Documents whose indented blocks are code, with the crate in which it stands.
@@ -18,14 +19,16 @@ CODE = {"docs/HOSTING.md": "prop_host_tests", "docs/PRIMER.md": "prop_sets"}
 PYTHON = {"docs/WORKBENCH.md", "docs/QUESTIONS.md", "docs/MEASURING.md", "docs/SEEING.md"}
 COMMANDS = """
 domain relation cell attach define fix tell choose kick bring forget limit ask why core settle
-worldview nogoods
+worldview nogoods step
 """.split()
+# Documents whose sessions are run over propwide, where it is built.
+WIDE = {"docs/WIDE.md"}
 
 
 def is_command(line: str) -> bool:
-    """Whether it is no reply: those to `nogoods` begin with that word too, and a number."""
+    """Whether it is no reply: those to `nogoods` and `step` begin with the word too, and a number."""
     word, *rest = line.split(" ")
-    return word in COMMANDS and not (word == "nogoods" and rest)
+    return word in COMMANDS and not (word in ("nogoods", "step") and rest)
 
 
 def blocks(text: str) -> Iterator[list[str]]:
@@ -71,7 +74,17 @@ def code_shown() -> Optional[str]:
 
 
 def cases() -> Iterator[Case]:
-    documents = {"README.md", *glob.glob("docs/*.md", root_dir=TOP)} - PYTHON
+    yield from over({"README.md", *glob.glob("docs/*.md", root_dir=TOP)} - PYTHON - WIDE)
+
+
+def built() -> Iterator[Check]:
+    """The sessions over propwide, where it is built."""
+    if os.path.exists(PROGRAM):
+        yield from map(over_propwide, over(WIDE))
+
+
+def over(documents: set[str]) -> Iterator[Case]:
+    """The sessions of these documents."""
     for document in sorted(documents):
         sent, wanted = session(read(document))
         if sent:

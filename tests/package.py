@@ -425,7 +425,7 @@ def copy_without_program(to: str) -> None:
     """What tools/package reads, where nothing is built."""
     for folder in ("tools", "docs", "examples", "python"):
         shutil.copytree(f"{TOP}/{folder}", f"{to}/{folder}")
-    for name in ("README.md", "crates.txt"):
+    for name in ("README.md", "CHANGELOG.md", "VERSION", "crates.txt"):
         shutil.copy(f"{TOP}/{name}", to)
     for name in PROGRAMS:
         os.makedirs(f"{to}/crates/{name}/src")

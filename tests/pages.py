@@ -1,7 +1,7 @@
 """What README.md, docs/ and examples/README.md are held to as texts: length, lines, links, names.
 
-- They have MOST bytes in all, and a paragraph fewer than WORDS words. An item of a list is a
-  paragraph of its own; rows of tables and indented blocks are none.
+- README.md and docs/ have MOST bytes in all, and a paragraph fewer than WORDS words. An item of a
+  list is a paragraph of its own; rows of tables and indented blocks are none.
 - A line has COLUMNS columns at the most. Rows of tables may be longer, since they can't be broken;
   so may indented lines that stand so in a source or are commands of a session.
 - A table has a head and rows.
@@ -20,7 +20,7 @@ from typing import Callable, Iterator, Optional
 from documents import is_command
 
 TOP = os.path.dirname(os.path.dirname(os.path.realpath(__file__)))
-MOST, WORDS, COLUMNS = 147_900, 90, 100
+MOST, WORDS, COLUMNS = 156_000, 90, 100
 FOREIGN = re.compile(
     r"\b(?:issue|demand|row|paper)s? [A-Z]?\d|\bth(?:e|is) (?:paper|issue)|#\d", re.I
 )
@@ -60,7 +60,7 @@ def paragraphs(text: str) -> Iterator[str]:
 
 
 def too_large() -> Optional[str]:
-    sizes = {path: len(text.encode()) for path, text in pages().items()}
+    sizes = {path: len(text.encode()) for path, text in pages().items() if "examples" not in path}
     total = sum(sizes.values())
     return None if total <= MOST else f"{total} bytes are more than {MOST}: {sizes}"
 

@@ -45,12 +45,12 @@ def first_lines() -> Optional[str]:
 
 TYPED_TESTS = ["conftest", "documents", "driver", "first_start", "gate", "lines", "package"]
 TYPED_TESTS += ["pages", "peers", "pipe", "puzzles", "scripts", "searches", "test_sessions"]
-TYPED_TESTS += ["wide_puzzles", "wide_rules"]
+TYPED_TESTS += ["versions", "wide_puzzles", "wide_rules"]
 # Scripts and modules that are typed and laid out by black, by the folder that they are looked at in.
 TYPED = {
     "tools/start": ["*.py", "../../propbench", "../../propwide"],
     "tools/deb": ["*.py", "../package"],
-    "tools": ["pipe_speed", "python_gate"],
+    "tools": ["pipe_speed", "python_gate", "release"],
     "tests": [f"{it}.py" for it in TYPED_TESTS],
 }
 # (older modules of tests/ have no types)

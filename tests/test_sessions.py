@@ -18,7 +18,7 @@ PATH is crates/propbench/out/propbench where it is left out. What is run:
 - each procedure of the kit on small informations, against plain enumeration (tests/rules.py), and
   those beside the kit over propwide, where that is built (tests/wide_rules.py), and values that all
   differ, and Sudokus (tests/wide_puzzles.py), and random networks over both, and sums as chains
-  (tests/wide_sessions.py);
+  (tests/wide_sessions.py), and random sessions of steps that are told (tests/telling.py);
 - random sessions, each answer of which is compared with a plain and slow evaluation
   (tests/plain.py), such with choices, of which every list is tried (tests/choices.py), and such
   under small limits, of which every step is taken anew (tests/steps.py);
@@ -36,6 +36,7 @@ PATH is crates/propbench/out/propbench where it is left out. What is run:
 - ./propbench where nothing is proved yet, with a stand-in for what builds (tests/first_start.py);
 - the Debian package of the program, installed in a root of its own (tests/package.py);
 - what the gate does around the proofs (tests/gate.py);
+- that all say the same version, and what tools/release makes of the gate's log (tests/versions.py);
 - the scripts of the repository: what runs them, their types and their layout (tests/scripts.py).
 
 What is worked, written in a document or random is run in each order of calls. -k runs those whose
@@ -74,6 +75,8 @@ import searches
 import spoiled
 import stacks
 import steps
+import telling
+import versions
 import wide_puzzles
 import wide_rules
 import wide_sessions
@@ -121,7 +124,7 @@ def worked() -> Iterator[Case]:
 
 def cases() -> Iterator[Runnable]:
     """What is run, the long ones first. A large or random session is made once it is run."""
-    for module in (scripts, gate, package, first_start, spoiled, lines, pages, believed):
+    for module in (scripts, gate, versions, package, first_start, spoiled, lines, pages, believed):
         yield from module.cases()
     yield from stacks.cases(worked())
     yield from refusals.cases(list(transcribed()))
@@ -134,6 +137,8 @@ def cases() -> Iterator[Runnable]:
     yield from wide_rules.built()
     yield from wide_puzzles.built()
     yield from wide_sessions.built()
+    yield from documents.built()
+    yield from telling.built()
     yield from in_each_order(worked())
 
 

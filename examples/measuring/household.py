@@ -1,5 +1,5 @@
 #!/usr/bin/python3
-"""A household's power: what the fridge draws, which label is wrong, and what one fuse bears."""
+"""A household's power: what the meter leaves for the fridge, and what one fuse bears."""
 from itertools import combinations
 
 from propbench import Workbench, total

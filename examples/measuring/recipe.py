@@ -7,8 +7,8 @@ flour, water, salt, dough, bread = (
     w.measured(name, unit="g", low=0, high=10_000, step="0.1")
     for name in ("flour", "water", "salt", "dough", "bread")
 )
-moist = w.measured("water to flour", unit="%", low=50, high=100, step="0.1")
-loss = w.measured("loss in the oven", unit="%", low=0, high=50, step="0.1")
+moist = w.measured("water to flour", unit="%", low=50, high=100, step="0.01")
+loss = w.measured("loss in the oven", unit="%", low=0, high=50, step="0.01")
 w.law(water == flour * moist)
 w.law(salt == flour * "2 %")
 w.law(dough == flour + water + salt)
@@ -23,4 +23,7 @@ w.read("order", bread, "2250..2400 g")
 print(w.outliers())
 w.kick("bag")
 w.show(flour, water, salt)
+
+# Backward the laws tell a little less than there is to know. The ends of the flour, tried out:
+print(w.shave(flour))
 bread.picture().save("recipe.svg")

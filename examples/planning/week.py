@@ -40,7 +40,7 @@ print(repairs)
 for wish in repairs[0]:
     w.kick(wish)
 
-# One plan of those that are left, and what is the same in all of them.
+# One plan of those that are left, and who may come late on Monday in any of them.
 [plan] = w.plans(shifts, most=1)
 for day in days:
     print(f"{day}: {plan[early[day].name]} early, {plan[late[day].name]} late")

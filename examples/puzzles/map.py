@@ -24,4 +24,4 @@ for name in names:
     w.require(colour[name] != "blue", under="no blue")
 print(w.conflicts(keep=["no blue"]))
 repairs = w.repairs(keep=["no blue"])
-print(repairs.headline(), "the cheapest is", *sorted(repairs[0]), sep="\n  ")
+print(repairs.headline(), "the cheapest is", " and ".join(sorted(repairs[0])))

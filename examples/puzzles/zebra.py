@@ -31,7 +31,6 @@ for one, other in (("Chesterfield", "fox"), ("Kools", "horse"), ("Norwegian", "b
 w.require(house["green"] == house["ivory"] + 1, under="green right of ivory")
 w.require(house["milk"] == 3, under="milk in the middle")
 w.require(house["Norwegian"] == 1, under="Norwegian at the left end")
-
 house["water"].picture().save("zebra.svg")
 
 plans = w.plans(most=2)
@@ -42,6 +41,6 @@ for number in range(1, 6):
 who = {plan[name]: name for name in kinds["who"].split()}
 print(f"The {who[plan['water']]} drinks water, and the {who[plan['zebra']]} has the zebra.")
 
-# Someone swears that the zebra drinks no water but lives left of it. What speaks against that?
+# Someone swears that the zebra lives left of who drinks water. Which clues speak against that?
 w.require(house["zebra"] < house["water"], under="zebra left of water")
 print(w.conflicts(most=1))

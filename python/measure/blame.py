@@ -5,15 +5,16 @@ usage: python/measure/blame.py [--most SECONDS] [SEED ..]
 
 The models are python/tests/models/projects/project.mzn with data drawn by seeds, 30 to 80
 constraints each. Both are given what MiniZinc makes of a model; z3's part follows Liffiton's MARCO,
-with cores of z3 as seeds for shrinking. Needs Debian's minizinc and python3-z3.
+with cores of z3 as seeds for shrinking. Told are seconds of one processor, of all that is begun.
+Needs Debian's minizinc and python3-z3.
 """
 
 import argparse
 import random
 import sys
 import tempfile
-import time
 from collections.abc import Sequence
+from functools import partial
 from pathlib import Path
 
 import z3  # type: ignore[import]
@@ -27,6 +28,7 @@ from propbench.flatzinc.blame import Asked, blamed  # noqa: E402
 from propbench.flatzinc.building import BLAMED, Built  # noqa: E402
 from propbench.flatzinc.compiling import Compiled, compiled  # noqa: E402
 from propbench.flatzinc.terms import Flat, Name, Term, Text  # noqa: E402
+from spent import Spent  # noqa: E402
 
 MODEL = PYTHON / "tests/models/projects/project.mzn"
 
@@ -119,6 +121,11 @@ class Translated:
 # --- both ---
 
 
+def theirs(made: Compiled, most: float, count: int) -> tuple[Sets, Sets, bool]:
+    """All least conflicts and repairs by z3, so many conflicts at the most."""
+    return Translated(made.flat).conflicts(most, count)
+
+
 def ours(made: Compiled, most: float, count: int) -> tuple[Sets, Sets, bool]:
     """The same by the workbench, so many of each at the most."""
     with Workbench() as workbench:
@@ -144,18 +151,16 @@ def main() -> int:
             file = Path(folder, "project.dzn")
             file.write_text(data(seed))
             made = compiled(MODEL, [file])
-        began = time.monotonic()
-        found = ours(made, options.most, options.count)
-        middle = time.monotonic()
-        other = Translated(made.flat).conflicts(options.most, options.count)
-        end = time.monotonic()
+        spent = Spent.of(partial(ours, made, options.most, options.count))
+        peer = Spent.of(partial(theirs, made, options.most, options.count))
+        found, other = spent.result, peer.result
         is_same = found[:2] == other[:2] or not (found[2] and other[2])
         wrong += not is_same
         marks = sum(each.name == BLAMED for each in made.flat.constraints)
         cut = "" if found[2] and other[2] else f" (cut: {not found[2]}, {not other[2]})"
         print(
-            f"{seed:7} {marks:12} {len(found[0]):10} {len(found[1]):8} {middle - began:8.2f} s"
-            f" {end - middle:6.2f} s{cut}{'' if is_same else ' NOT THE SAME'}",
+            f"{seed:7} {marks:12} {len(found[0]):10} {len(found[1]):8} {spent.seconds:8.2f} s"
+            f" {peer.seconds:6.2f} s{cut}{'' if is_same else ' NOT THE SAME'}",
             flush=True,
         )
     return 1 if wrong else 0

@@ -6,10 +6,14 @@ usage: measure/page.py [CELLS]   (1000; there are twice as many procedures)
 A browser without a window draws by the processor alone, so moving is slower than on a screen. Beside
 each time by the clock stand the processor's milliseconds of the page's own thread, and with what the
 machine was busy, since a browser needs processors of its own.
+
+A switch goes through the page, the server and the program, one after another. The last line adds up
+what the processor did for it in each, which is what it takes by the clock on a machine at rest.
 """
 
 import os
 import sys
+import time
 from pathlib import Path
 from statistics import median
 from typing import Any
@@ -23,6 +27,9 @@ from test_page import big  # noqa: E402
 from propbench import Session  # noqa: E402
 from propbench.page import Page  # noqa: E402
 from propbench.watching.of_session import SessionWatched  # noqa: E402
+
+# So many seconds the page is left to come to rest, and so many switches are asked of the server.
+_REST, _SWITCHES = 1.0, 40
 
 SHOWN = "return performance.timing.loadEventEnd && document.querySelector('#cells tr') ? performance.now() : 0"
 LOOK = """
@@ -58,6 +65,14 @@ def spent(browser: Any) -> float:
     return 1000 * float(next(it["value"] for it in metrics if it["name"] == "TaskDuration"))
 
 
+def program_spent(session: Session) -> float:
+    """The milliseconds of a processor that the program has used."""
+    fields = (
+        Path(f"/proc/{session.pid}/stat").read_text(encoding="ascii").rpartition(")")[2].split()
+    )
+    return 1000 * (int(fields[11]) + int(fields[12])) / os.sysconf("SC_CLK_TCK")
+
+
 def shown_after(browser: Any, address: str) -> float:
     """Milliseconds from the address to the network shown."""
     browser.get(address)
@@ -76,23 +91,27 @@ def main(cells: int) -> None:
             shows = [(shown_after(browser, page.address), spent(browser)) for _ in range(5)]
             told("first picture", median(it for it, _ in shows), median(it for _, it in shows))
             run = browser.execute_async_script
+            owns: dict[str, float] = {}
             for what, script, places in (
-                ("a switch", SWITCH, range(9)),
+                ("a switch", SWITCH, range(10)),
                 ("a cell looked at", LOOK, range(150, 151)),
                 ("a frame of moving", MOVE, range(1)),
             ):
+                time.sleep(_REST)
                 before = spent(browser)
                 times = [run(script, place) for place in places]
-                frames = 30 if script == MOVE else len(times)
-                told(what, median(times), (spent(browser) - before) / frames)
-            # (what of a switch is the server's)
-            asking = page._asking
-            times = []
-            for place in range(10, 20):
-                begun = os.times()
-                asking.do({"what": "believe", "premise": f"p{place}", "believed": False})
-                times.append(1000 * (os.times().user - begun.user))
-            told("a switch, Python's part", sum(times) / len(times))
+                time.sleep(_REST)
+                owns[what] = (spent(browser) - before) / (30 if script == MOVE else len(times))
+                told(what, median(times), owns[what])
+            # (what of a switch is the server's and the program's)
+            before, begun = program_spent(session), time.thread_time()
+            for place in range(10, 10 + _SWITCHES):
+                page._asking.do({"what": "believe", "premise": f"p{place}", "believed": False})
+            server = 1000 * (time.thread_time() - begun) / _SWITCHES
+            own = (program_spent(session) - before) / _SWITCHES
+            told("a switch, the server's", server)
+            told("a switch, the program's", own)
+            told("a switch at rest", owns["a switch"] + server + own)
     browser.quit()
 
 

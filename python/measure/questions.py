@@ -15,45 +15,22 @@ beside.
 """
 
 import argparse
-import resource
 import shutil
 import sys
-from collections.abc import Callable, Iterator
-from dataclasses import dataclass
+from collections.abc import Iterator
 from functools import partial
 from importlib import import_module
 from pathlib import Path
-from typing import Any, Generic, TypeVar
+from typing import Any
 
 sys.path.insert(0, str(Path(__file__).resolve().parents[1] / "src"))
 
 import schedules  # noqa: E402
+from spent import Spent  # noqa: E402
 from wishes import bench_of, conflicts_by_z3, wishes  # noqa: E402
 
 MOST = 100
 PRODUCTS = ((3, 4, 5, 6), (10, 10, 10, 10))
-Result = TypeVar("Result")
-
-
-@dataclass
-class Spent(Generic[Result]):
-    """What something took, in seconds of one processor, and what came of it."""
-
-    seconds: float
-    result: Result
-
-    @staticmethod
-    def of(run: Callable[[], Result]) -> "Spent[Result]":
-        """That of a run, with all programs that it begins and ends."""
-        before = _used()
-        result = run()
-        return Spent(_used() - before, result)
-
-
-def _used() -> float:
-    whose = (resource.RUSAGE_SELF, resource.RUSAGE_CHILDREN)
-    found = [resource.getrusage(each) for each in whose]
-    return sum(each.ru_utime + each.ru_stime for each in found)
 
 
 def row(what: str, ours: Spent[Any], peer: Spent[Any] | None, said: str = "") -> str:

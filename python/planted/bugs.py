@@ -232,9 +232,16 @@ BUGS = [
     ),
     Bug(
         "model/seam.py",
-        "            if premise_of(event) is None or premise_of(event) in believed:\n",
-        "            if premise_of(event) in believed:\n",
+        "self._points(plan), {None, *believed}",
+        "self._points(plan), {*believed}",
         _POINTS,
+    ),
+    Bug("model/seam.py", "if self._last != points:", "if not self._last:", _BLAMED),
+    Bug(
+        "model/either.py",
+        "(holds, max(others))",
+        "(holds, min(others))",
+        "either::room_is_how_far_apart_numbers_may_be",
     ),
     Bug(
         "model/seam.py",
@@ -305,9 +312,21 @@ BUGS = [
     ),
     Bug(
         "questions/trial.py",
-        '_cover(fork, _EITHER, [["yes", "no"]])',
-        '_cover(fork, _EITHER, [["yes", "yes"]])',
+        '_cover(fork, _EITHER, [["yes", "no"] if yes >= no else ["no", "yes"]])',
+        '_cover(fork, _EITHER, [["yes", "yes"] if yes >= no else ["no", "yes"]])',
         f"{_PROJECTS} planning::facts_are_premises",
+    ),
+    Bug(
+        "questions/trial.py",
+        "key=lambda fork: sum(rooms[fork])",
+        "key=lambda fork: -sum(rooms[fork])",
+        "either::what_leaves_little_room_is_decided_first",
+    ),
+    Bug(
+        "questions/hitting.py",
+        "while self._open and not is_over():",
+        "while self._open:",
+        "hitting::nothing_is_looked_at_where_the_time_is_over",
     ),
     Bug(
         "questions/changes.py",

@@ -9,6 +9,7 @@ for whoever has changed one to look at.
 
 import os
 import re
+import resource
 import subprocess
 import sys
 import tempfile
@@ -37,10 +38,17 @@ DRAWN = [name for name in named("*/*.prop") if name not in SCRIPTS]
 
 @dataclass(frozen=True)
 class Ran:
-    """What an example printed and drew."""
+    """What an example printed and drew, and the seconds of a processor that it used."""
 
     printed: str
     drawn: str
+    seconds: float
+
+
+def used() -> float:
+    """The seconds of a processor that commands used which ended so far."""
+    spent = resource.getrusage(resource.RUSAGE_CHILDREN)
+    return spent.ru_utime + spent.ru_stime
 
 
 @cache
@@ -53,6 +61,7 @@ def ran(name: str) -> Ran:
     if "propwide" not in PROGRAMS:
         pytest.skip("the examples are run over propwide, which isn't built")
     environment = {**os.environ, "PROPWIDE": PROGRAMS["propwide"], "PYTHONPATH": source}
+    before = used()
     with tempfile.TemporaryDirectory() as folder:
         done = subprocess.run(
             [sys.executable, *words],
@@ -63,7 +72,7 @@ def ran(name: str) -> Ran:
         )
         assert not done.returncode and not done.stderr, done.stderr
         drawn = (Path(folder) / file).read_text(encoding="utf-8")
-    return Ran(without_notes(done.stdout), drawn)
+    return Ran(without_notes(done.stdout), drawn, used() - before)
 
 
 def is_row(line: str, indent: int) -> bool:

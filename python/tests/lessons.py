@@ -33,10 +33,17 @@ def read(path: Path) -> Any:
     return nbformat.read(str(path), as_version=4)
 
 
-def ran(book: Any) -> Any:
-    """The notebook, run anew from its first cell. Raises CellExecutionError where a cell fails."""
+def ran(book: Any, may_fail: bool = False) -> Any:
+    """The notebook, run anew from its first cell. Raises CellExecutionError where a cell fails, or
+    shows what it says and goes on where that `may_fail`."""
     made = nbformat.from_dict(json.loads(json.dumps(book)))
-    client = NotebookClient(made, timeout=_MOST_SECONDS, kernel_name="python3", record_timing=False)
+    client = NotebookClient(
+        made,
+        timeout=_MOST_SECONDS,
+        kernel_name="python3",
+        allow_errors=may_fail,
+        record_timing=False,
+    )
     client.execute(cwd=str(LESSONS))
     for cell in made.cells:
         if cell.cell_type == "code":

@@ -10,6 +10,8 @@ import pytest
 from examples import DRAWN, EXAMPLES, SCRIPTS, ran
 
 MOST_LINES, MOST_BYTES = 60, 40_000
+# Seconds of a processor for all.
+MOST_SECONDS = 40
 # What a picture of Graphviz says: texts, and what is joined to what. Where things are in it depends
 # on the fonts that are there.
 SAID = re.compile(r"<(text|title)[^>]*>([^<]*)</")
@@ -33,6 +35,10 @@ def test_how_it_is_written(name: str) -> None:
     first, second, *_ = lines = (EXAMPLES / f"{name}.py").read_text().split("\n")
     assert len(lines) <= MOST_LINES + 1 and first == "#!/usr/bin/python3"
     assert re.fullmatch(r'""".+[.?!:]"""', second)
+
+
+def test_how_long_they_take() -> None:
+    assert sum(ran(name).seconds for name in (*SCRIPTS, *DRAWN)) < MOST_SECONDS
 
 
 def test_each_is_in_the_table() -> None:

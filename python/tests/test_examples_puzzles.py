@@ -208,8 +208,8 @@ def test_a_map() -> None:
     assert conflicts_in(printed) == [conflicts]
     cheapest = min(repairs, key=len)
     assert sum(len(each) == len(cheapest) for each in repairs) == 1
-    said = "\n  ".join(["the cheapest is", *sorted(cheapest)])
-    assert f"\n{len(repairs)} repairs, no others:\n  {said}\n" in printed
+    said = f"the cheapest is {' and '.join(sorted(cheapest))}"
+    assert f"\n{len(repairs)} repairs, no others: {said}\n" in printed
 
 
 def test_a_map_by_choices() -> None:

@@ -56,3 +56,14 @@ def test_sets_that_overlap_are_hit_at_once() -> None:
         found.append(hit)
         hits.finish(hit)
     assert found[:2] == [p | a, q]
+
+
+def test_nothing_is_looked_at_where_the_time_is_over() -> None:
+    hits = Hitting([1, 2])
+    hits.learn(3)
+    assert hits.next(lambda: True) is None and not hits.is_done
+    assert hits.next(lambda: False) == 1
+    hits.finish(1)
+    assert hits.next() == 2
+    hits.finish(2)
+    assert hits.next() is None and hits.is_done

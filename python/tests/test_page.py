@@ -524,8 +524,10 @@ def test_a_thousand_cells(program: str, browser: Any) -> None:
             opened_in = page.spent()
             assert len(page.table) == 200 and "and 800 more" in page.text("more")
             assert page.marked("cells") == 1000 and page.marked("uses") == 2000
+            time.sleep(1)
             used = page.spent()
             page.browser.execute_async_script(SWITCH, 0)
+            time.sleep(1)
             switched_in = page.spent() - used
             assert page.values["x0"] == "nothing"
             page.one("#filter").send_keys("x999")
@@ -533,4 +535,4 @@ def test_a_thousand_cells(program: str, browser: Any) -> None:
             page.all("#cells button")[0].click()
             page.until(lambda: page.text("cell-name") == "x999")
             page.keep("thousand")
-            assert opened_in < 2 and switched_in < 0.3
+            assert opened_in < 2 and switched_in < 0.1

@@ -61,7 +61,7 @@ def test_a_compound_is_taken_apart(program: str) -> None:
         "divider c a 1.2.k5",
     ]
     assert [(cell.name, cell.text, cell.kind) for cell in both.inner_cells()] == [
-        ("1.1.y", "y", ""),
+        ("1.1.y", "y", "span"),
         ("1.2.k", "k", "span"),
     ]
     assert [part.text for part in both.parts] == ["triple", "scaled"]

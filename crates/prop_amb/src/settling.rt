@@ -1,5 +1,5 @@
 //! Settling: the first list of choices that isn't refuted, and the least solution with it.
-ghost use Rattle.std.specs.Prelude.{◌≡◌, ◌⊎◌, ℕ, ◌+◌, ◌-◌, ◌<◌, ◌≤◌, [], false, IsTrue, length};
+ghost use Rattle.std.specs.Prelude.{◌≡◌, ◌⊎◌, ℕ, ◌+◌, ◌<◌, ◌≤◌, [], false, IsTrue, length};
 ghost use Rattle.std.specs.Prelude.{Ok, Some, None, IfOk, IfSome, OnOk, OnErr};
 ghost use Rattle.prop_numbers.specs.Sets.{Members, set_of};
 ghost use Rattle.prop_procedures.specs.Kept.{AllMean};

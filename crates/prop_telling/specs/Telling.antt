@@ -1,6 +1,6 @@
 -- What a layer tells of a run, as a machine.
 use Rattle.std.specs.Prelude.{◌≡◌, ◌⊎◌, ℕ, List, [], ◌++◌, codes, Some, slice_get}
-use Rattle.std.specs.Prelude.{if◌then◌else◌}
+use Rattle.std.specs.Prelude.{Bool, true, false}
 use Rattle.prop_numbers.specs.Sets.{Members, set_of}
 use Rattle.prop_refusals.specs.declared.refusal.Refusal.TheVariants.{Memory}
 use Rattle.prop_procedures.specs.Stored.{Stored}
@@ -68,8 +68,13 @@ pub record TellsStep {O : Type 0} (picks : Picks O) (library : List Stored) (old
       new.work × (text : List ℕ) × SaysStep library old.shown.state new.work step text
       × (answer ≡ Text text))
 
+-- what is the layer's own, or what the session does
+abbrev pub Own : Bool → Type 0 → Type 0 → Type 0
+Own true own other = own
+Own false own other = other
+
 -- a line is the layer's own, or does what the session does
 abbrev pub telling : {O : Type 0} → Picks O → List Stored → Machine (Standing O)
 telling picks library old line answer new =
-    if is_step line then TellsStep picks library old answer new
-    else Works picks library old line answer new
+    Own (is_step line) (TellsStep picks library old answer new)
+    (Works picks library old line answer new)

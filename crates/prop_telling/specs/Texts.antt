@@ -1,10 +1,10 @@
 -- The texts of what is told.
-use Rattle.std.specs.Prelude.{ℕ, ◌+◌, Bool, ◌&&◌, List, [], ◌∷◌, ◌++◌, length, flat_map, filter}
-use Rattle.std.specs.Prelude.{slice_get, codes, decimal, unwrap_or, is_some}
+use Rattle.std.specs.Prelude.{ℕ, ◌+◌, ◌&&◌, List, [], ◌∷◌, ◌++◌, length, flat_map, filter, codes}
+use Rattle.std.specs.Prelude.{slice_get, decimal, unwrap_or, is_some}
 use Rattle.std.specs.List.{range_with_len}
 use Rattle.std.specs.Option.{option_map_or}
 use Rattle.prop_numbers.specs.Sets.{Members}
-use Rattle.prop_premises.specs.Origins.{Origin, side_at}
+use Rattle.prop_premises.specs.Origins.{Origin, User, Side, side_at}
 use Rattle.prop_vocabulary.specs.Cells.{CellNames, name_at}
 use Rattle.prop_procedures.specs.Stored.{Stored}
 use Rattle.prop_cells.specs.Instances.{Instance}
@@ -34,9 +34,16 @@ sides_text premises w =
     premises_text premises
     (filter (λ p. w p && is_some (side_at premises p)) (range_with_len 0 (length premises)))
 
+-- a side of a choice, and its next one, each with one space before it
+abbrev pub sides_of : Origin → List ℕ
+sides_of (User name believed) = []
+sides_of (Side choice side sides) =
+    codes " " ++ (choice ++ (codes "=" ++ (decimal side ++ (codes " " ++ (choice ++ (codes "="
+    ++ decimal (side + 1)))))))
+
 -- the side that a choice left, and its next one
 abbrev pub moved_text : List Origin → ℕ → List ℕ
-moved_text premises side = premises_text premises (side ∷ side + 1 ∷ [])
+moved_text premises side = option_map_or sides_of (slice_get premises side) []
 
 -- lines of a reply, the first of which says how many follow
 abbrev pub two_lines : List ℕ → List ℕ → List ℕ

@@ -104,7 +104,8 @@ fn tell<R: Rule + Drop, O: Order + Drop, Rd: Read, W: Write>(
         (standing_of teller.session)
         (Rd.remaining (device (reader devices.old))) (W.contents (device (writer devices.old)))
         (W.contents (device (writer devices.new)))) }
-    ensures err { OnErr result (WritesPrefix (telling O.picks (library_of R.value_of teller.session))
+    ensures err { OnErr result (WritesPrefix
+        (telling O.picks (library_of R.value_of teller.session))
         (Rd.remaining (device (reader devices.old))) (W.contents (device (writer devices.old)))
         (W.contents (device (writer devices.new))) (standing_of teller.session)) }
     ensures devices { TellsDevices result devices.old devices.new }

@@ -8,6 +8,7 @@ ghost use Rattle.prop_cells.specs.Data.{IsKept};
 ghost use Rattle.prop_cells.specs.Instances.{Instance as InstanceOf};
 ghost use Rattle.prop_texts.specs.Texts.{label_at};
 ghost use Rattle.prop_telling.specs.Texts.{cell_text, cells_text, call_text, sides_text};
+ghost use Rattle.prop_telling.specs.Texts.{moved_text};
 
 use prop_cells::Network;
 use prop_premises::{Premise, Premises, Worldview};
@@ -70,11 +71,7 @@ pub(crate) fn call_text<R: Rule + Drop>(
 
 /// Writes a space and the label of a premise behind the text: a user's premise by its name, a side
 /// of a choice by the choice's name, `=` and the side's number.
-pub(crate) fn push_label(
-    text: &mut String,
-    premises: &Premises,
-    premise: Premise,
-) -> Result<(), AllocError>
+fn push_label(text: &mut String, premises: &Premises, premise: Premise) -> Result<(), AllocError>
     requires { premise < length premises.now }
     ensures { OnOk result (string_bytes text.new ≡ string_bytes
         text.old ++ (32 ∷ label_at premises.now premise)) }
@@ -83,6 +80,25 @@ pub(crate) fn push_label(
     match premises.side(premise) {
         Some(side) => write!(text, " {name}={side}"),
         None => write!(text, " {name}"),
+    }
+}
+
+/// A side of a choice, and its next one, each with one space before it.
+pub(crate) fn moved_text(
+    alloc: Global,
+    premises: &Premises,
+    side: Premise,
+) -> Result<String, AllocError>
+    requires { side < length premises.now }
+    ensures { IfOk result (λ text. string_bytes text ≡ moved_text premises.now side) }
+{
+    let name = premises.name(side);
+    match premises.side(side) {
+        Some(left) => {
+            let next = u16::from(left) + 1;
+            format!(in alloc; " {name}={left} {name}={next}")
+        }
+        None => Ok(String::new(alloc)),
     }
 }
 

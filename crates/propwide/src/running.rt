@@ -2,8 +2,7 @@
 ghost use Rattle.std.specs.Prelude.{◌≡◌, IfOk, OnErr};
 ghost use Rattle.prop_engine.specs.Watched.{reader, writer, device, IsFresh, IsPassedOn};
 ghost use Rattle.prop_program.specs.Faults.{TellsDevices};
-ghost use Rattle.prop_program.specs.Answering.{IsAnswered, IsAnsweredInPart, IsWorked};
-ghost use Rattle.prop_program.specs.Answering.{IsWorkedInPart};
+ghost use Rattle.prop_telling.specs.Answering.{IsTold, IsToldInPart};
 ghost use Rattle.propwide.specs.Kits.{answer_of, wide, wide_related, wide_tells};
 ghost use Rattle.prop_cells.specs.Points.{AreSoundBy};
 ghost use Rattle.prop_points.specs.Networks.{SinglesSolve};
@@ -25,18 +24,12 @@ pub fn run<Rd: Read, W: Write>(
 ) -> Result<Counts, Fault>
     requires reader { IsFresh (reader devices.old) }
     requires writer { IsPassedOn devices.old }
-    ensures ok { IfOk result (IsAnswered wide (Rd.remaining (device (reader devices.old)))
-        (W.contents (device (writer devices.old)))
-        (W.contents (device (writer devices.new))) options.limit) }
-    ensures err { OnErr result (IsAnsweredInPart wide (Rd.remaining (device (reader devices.old)))
-        (W.contents (device (writer devices.old)))
-        (W.contents (device (writer devices.new))) options.limit) }
-    // Each text is earned by steps that were taken, in the order that was chosen.
-    ensures earned { IfOk result (IsWorked wide options.order options.seed options.limit
+    // Each reply is the session's, earned by steps that were taken in the order that was chosen, or
+    // tells a step.
+    ensures told { IfOk result (IsTold wide options.order options.seed options.limit
         (Rd.remaining (device (reader devices.old))) (W.contents (device (writer devices.old)))
         (W.contents (device (writer devices.new)))) }
-    ensures earned_in_part { OnErr result (IsWorkedInPart wide options.order options.seed
-        options.limit
+    ensures told_in_part { OnErr result (IsToldInPart wide options.order options.seed options.limit
         (Rd.remaining (device (reader devices.old))) (W.contents (device (writer devices.old)))
         (W.contents (device (writer devices.new)))) }
     ensures devices { TellsDevices result devices.old devices.new }

@@ -48,12 +48,15 @@ from propbench.refusals import (
     WrongParameter,
 )
 from propbench.replies import (
+    Called,
     Contradiction,
     Done,
+    Moved,
     Nogoods,
     Reply,
     Settled,
     Silent,
+    Step,
     Unsettled,
     Value,
     Worldview,
@@ -64,6 +67,7 @@ from propbench.workbench import Workbench
 
 __all__ = [
     "Answer",
+    "Called",
     "Certificate",
     "CertificateError",
     "Conflict",
@@ -77,6 +81,7 @@ __all__ = [
     "LimitReached",
     "LineTooLong",
     "MixedUnits",
+    "Moved",
     "NameTaken",
     "NoBound",
     "NoProgram",
@@ -102,6 +107,7 @@ __all__ = [
     "Settled",
     "Silent",
     "Span",
+    "Step",
     "Symbol",
     "TooCoarse",
     "UnknownCommand",

@@ -10,7 +10,7 @@ from itertools import islice
 
 from propbench.commands import usages_of
 from propbench.fitting import Fitting, Misfit
-from propbench.grammar import FORMS, KINDS, Expected, Parse, Place, Role, parsed
+from propbench.grammar import FORMS, KINDS, TELLING, Expected, Parse, Place, Role, parsed
 from propbench.kit import KIT
 from propbench.known import Known, steps_of
 from propbench.showing import quoted
@@ -43,6 +43,9 @@ _NAMES = (
     Role.TOLD,
     Role.PREMISE,
 )
+
+_NEEDS = "`step` needs propwide: this program doesn't tell what its runs do."
+_ALONE = "`step` stands alone on its line, and needs propwide."
 
 
 @dataclass(frozen=True)
@@ -120,7 +123,9 @@ def _not_utf8(case: _Case) -> Blame:
 
 
 def _unknown_command(case: _Case) -> Blame:
-    first = tokens_of(case.line)[0]
+    first, *more = tokens_of(case.line)
+    if first.text in TELLING:
+        return _at(more[0], _ALONE) if more else _at(first, _NEEDS)
     return _at(first, f"No command is called {quoted(first.text)}.", FORMS)
 
 

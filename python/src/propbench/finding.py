@@ -18,7 +18,7 @@ _CHECKSUMS = Path("../share/propbench/proved.sha256")
 
 
 class NoProgram(Exception):
-    """No program `propbench` was found."""
+    """A program that is needed was not found."""
 
 
 @dataclass(frozen=True)

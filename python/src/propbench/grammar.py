@@ -225,8 +225,10 @@ FORMS: dict[str, Callable[[], Form]] = {
 
 # The commands that run the network.
 RUNNING = frozenset(("ask", "why", "core", "settle", "worldview"))
+# Those that tell what a run does, which propwide has and propbench has not.
+TELLING = frozenset(("step",))
 # Those that ask: they are answered by more than `ok`, and change nothing that was said.
-ASKING = RUNNING | {"nogoods"}
+ASKING = RUNNING | TELLING | {"nogoods"}
 
 
 def parsed(line: str) -> Parse:

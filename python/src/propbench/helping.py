@@ -7,6 +7,7 @@ from pathlib import Path
 
 from propbench.commands import USAGES, usages_of
 from propbench.finding import repository
+from propbench.grammar import TELLING
 from propbench.kit import KIT
 from propbench.known import Known
 from propbench.refusals import CLASSES
@@ -48,6 +49,8 @@ def help_on(word: str, known: Known) -> str:
     """What there is to say of a command, a procedure or definition, or the number of a refusal."""
     if usages_of(word):
         return "\n".join(_on_command(word))
+    if word in TELLING:
+        return f"{word}  takes one step of a run, and tells it; propwide alone has this command"
     if known.is_procedure(word):
         return "\n".join(_on_procedure(word, known))
     if word.isdigit() and int(word) in CLASSES:

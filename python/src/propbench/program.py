@@ -17,8 +17,10 @@ from dataclasses import dataclass
 
 from propbench.words import encoded
 
-# How much is read at once, and how large a pipe is asked for, in bytes.
+# How much is read at once, of a single reply at first, and how large a pipe is asked for, in bytes.
+# (For so little Python has room at hand, and most replies have fewer.)
 _PIECE = 1 << 16
+_REPLY = 400
 _PIPE = 1 << 20
 # How long replies are left to gather, and the program is given to end by itself, in seconds.
 _GATHER = 0.001
@@ -125,7 +127,7 @@ class Program:
 
     def hear(self) -> str:
         """The first line of a reply, where no other is under way. Raises ProgramEnded."""
-        said = os.read(self._out, _PIECE)
+        said = os.read(self._out, _REPLY)
         first, _, more = said.partition(b"\n")
         if more or self._part or self._lines or len(first) == len(said):
             self._come_in(said)

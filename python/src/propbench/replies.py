@@ -9,6 +9,7 @@ from dataclasses import dataclass
 from typing import TYPE_CHECKING
 
 from propbench.values import Held, value_of
+from propbench.words import looks_like_number
 
 
 @dataclass(frozen=True)
@@ -71,8 +72,15 @@ class Value:
         unread = self.__dict__.get("_unread")
         if unread:
             # (all at once, since another thread may do the same)
-            object.__setattr__(self, "__dict__", _fields(*unread))
+            object.__setattr__(self, "__dict__", dict(zip(_FIELDS, _said(*unread))))
         return self
+
+    def all(self) -> "Said":
+        """All fields in order, for who looks at each of them once."""
+        unread = self.__dict__.get("_unread")
+        if unread:
+            return _said(*unread)
+        return self.cell, self.value, self.settled, self.because, self.reduced
 
     def __str__(self) -> str:
         text = f"{self.cell} = {self.value}"
@@ -81,6 +89,11 @@ class Value:
         elif self.reduced is False:
             text += " not reduced"
         return text if self.because is None else f"{text} because {_named(self.because)}"
+
+
+# The fields of a Value: their names in order, and what they are.
+_FIELDS = ("cell", "value", "settled", "because", "reduced")
+Said = tuple[str, Held, bool, tuple[str, ...] | None, bool | None]
 
 
 @dataclass(frozen=True)
@@ -132,7 +145,56 @@ class Nogoods:
         )
 
 
-Reply = Silent | Done | Value | Settled | Unsettled | Contradiction | Worldview | Nogoods
+@dataclass(frozen=True)
+class Called:
+    """A procedure was called: the instance of this number, from 0, on these inputs. `value` is what
+    is known of its output behind that, and `because` are the premises that are enough for it. A
+    cell that has no name, as a local of a compound, is `#` with its number."""
+
+    instance: int
+    procedure: str
+    inputs: tuple[str, ...]
+    output: str
+    value: Held
+    because: tuple[str, ...]
+
+    @property
+    def says(self) -> str:
+        """What is known of the output, as a `why` says it."""
+        return f"{self.output} = {self.value} because {_named(self.because)}"
+
+    def __str__(self) -> str:
+        words = (str(self.instance), self.procedure, *self.inputs, self.output)
+        return f"called: {' '.join(words)}\n{self.says}"
+
+
+@dataclass(frozen=True)
+class Moved:
+    """A choice went on from a side (`choice=1`) to the next, since the premises and sides of
+    `nogood` are impossible together."""
+
+    left: str
+    taken: str
+    nogood: tuple[str, ...]
+
+    def __str__(self) -> str:
+        return f"moved: {self.left} {self.taken}\nnogood: {_named(self.nogood)}"
+
+
+@dataclass(frozen=True)
+class Step:
+    """One step of a run, as propwide tells it: what was done, or how the run has ended. `sides` are
+    those of choices that were believed before it."""
+
+    sides: tuple[str, ...]
+    did: Called | Moved | Settled | Contradiction
+
+    def __str__(self) -> str:
+        lines = [" ".join(("sides:", *self.sides)), *str(self.did).split("\n")]
+        return "\n".join([f"step {len(lines)}", *lines])
+
+
+Reply = Silent | Done | Value | Settled | Unsettled | Contradiction | Worldview | Nogoods | Step
 
 SILENT = Silent()
 DONE = Done()
@@ -142,7 +204,7 @@ UNSETTLED = Unsettled()
 # What is said in place of premises where there are none.
 NO_PREMISE = "no premise"
 # The commands whose reply may have more than one line.
-SEVERAL = frozenset(("worldview", "nogoods"))
+SEVERAL = frozenset(("worldview", "nogoods", "step"))
 _WORDS: tuple[Reply, ...] = (DONE, SETTLED, UNSETTLED)
 _PLAIN = {str(reply): reply for reply in _WORDS}
 _VALUED = frozenset(("ask", "why", "core"))
@@ -170,6 +232,8 @@ def lines_behind(command: str, first: str) -> int:
         return 1
     if command == "nogoods" and first.startswith("nogoods "):
         return int(first[8:])
+    if command == "step" and first.startswith("step "):
+        return int(first[5:])
     return 0
 
 
@@ -177,6 +241,8 @@ def reply_of(words: list[str], text: str, kinds: Mapping[str, str]) -> Reply:
     """The reply that a text is to a line of these words, which is neither silent nor refused;
     `kinds` are those of the cells."""
     command = words[0]
+    if command == "step":
+        return _step(text.split("\n")[1:], kinds)
     # (no name has the mark `=`)
     if command in _VALUED and " = " in text:
         made = object.__new__(Value)
@@ -193,17 +259,39 @@ def reply_of(words: list[str], text: str, kinds: Mapping[str, str]) -> Reply:
     return _PLAIN[text]
 
 
-def _fields(text: str, command: str, kind: str) -> dict[str, object]:
+def _said(text: str, command: str, kind: str) -> Said:
     """The fields of the value that a text says in reply to a command, of a cell of this kind."""
+    cell, held, behind = _cut(text)
+    mark, _, names = behind.partition("because ")
+    because = None if command == "ask" else _names(names)
+    reduced = (mark == "") if command == "core" else None
+    return cell, value_of(held, kind), mark[:9] != "unsettled", because, reduced
+
+
+def _step(lines: list[str], kinds: Mapping[str, str]) -> Step:
+    """The step that these lines tell, those behind the first."""
+    sides = tuple(lines[0].split(" ")[1:])
+    word, *said = lines[1].split(" ")
+    if word == "called:":
+        number, procedure, *inputs, output = said
+        _, held, behind = _cut(lines[2])
+        # (of a cell without a name the value tells whether it is of numbers: no name begins so)
+        kind = kinds.get(output, "span" if looks_like_number(held) else "")
+        because = _names(behind.removeprefix("because "))
+        value = value_of(held, kind)
+        return Step(sides, Called(int(number), procedure, tuple(inputs), output, value, because))
+    if word == "moved:":
+        left, taken = said
+        return Step(sides, Moved(left, taken, _names(lines[2][8:])))
+    return Step(sides, SETTLED if word == "settled" else Contradiction(_names(lines[1][15:])))
+
+
+def _cut(text: str) -> tuple[str, str, str]:
+    """The cell of which a text says a value, that value, and what stands behind it."""
     cell, _, said = text.partition(" = ")
     # (a value has no space but within its braces)
-    end = said.find("}") + 1 if said[0] == "{" else said.find(" ")
-    held, behind = (said, "") if end < 0 else (said[:end], said[end:])
-    mark, _, names = behind.partition(" because ")
-    return {
-        "cell": cell,
-        "value": value_of(held, kind),
-        "settled": mark != " unsettled",
-        "because": None if command == "ask" else _names(names),
-        "reduced": (mark == "") if command == "core" else None,
-    }
+    if said[0] == "{":
+        end = said.find("}") + 1
+        return cell, said[:end], said[end + 1 :]
+    held, _, behind = said.partition(" ")
+    return cell, held, behind

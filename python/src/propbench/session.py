@@ -17,7 +17,7 @@ from propbench.finding import find_program
 from propbench.grammar import FORMS, RUNNING
 from propbench.known import Known
 from propbench.refusals import Refused
-from propbench.replies import DONE, SILENT, Reply, reply_of
+from propbench.replies import DONE, SILENT, Reply, Step, reply_of
 from propbench.runs import Progress, Question, Runner, Watch, is_settled
 from propbench.words import MOST_STEPS, as_line, is_silent
 
@@ -133,10 +133,10 @@ class Session(Closing):
         if not self._talk.in_step:
             self._be_ready()
         self._sent += 1
+        if seconds is None and progress is None and text[:4] in _QUESTIONS:
+            return self._runner.ask(text, self._sent)
         if seconds is not None or progress is not None or "core" in text:
             return self._send_watched(text, seconds, progress)
-        if text[:4] in _QUESTIONS:
-            return self._runner.ask(text, self._sent)
         self._runner.tell(text)
         # What the line asks is looked at while the program is at work.
         words = text.split()
@@ -201,6 +201,16 @@ class Session(Closing):
             talk.lines.insert(before, "limit 0")
             talk.lines.append(f"limit {talk.limit}")
         return batch.replies
+
+    def step(self) -> Step:
+        """Takes one step of a run, and tells it, where the program is propwide.
+
+        What the run comes to is the same as without. Raises UnknownCommand over a program that
+        tells no steps, and ProgramEnded.
+        """
+        reply = self.send("step")
+        assert isinstance(reply, Step)
+        return reply
 
     def replay(self, lines: Iterable[str] | None = None) -> list[Reply | Refused]:
         """Begins the program anew with the lines that were carried out, or with these in their

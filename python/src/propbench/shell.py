@@ -15,8 +15,18 @@ from propbench.listing import Told, told_by
 from propbench.overview import UNPROVED, overview
 from propbench.pictures import NoGraphviz, picture_of
 from propbench.program import ProgramEnded
-from propbench.refusals import Refused
-from propbench.replies import Contradiction, Done, Reply, Silent, Value
+from propbench.refusals import Refused, UnknownCommand
+from propbench.replies import (
+    Called,
+    Contradiction,
+    Done,
+    Moved,
+    Reply,
+    Silent,
+    Step,
+    Unsettled,
+    Value,
+)
 from propbench.running import lines_of, told_of
 from propbench.runs import is_settled
 from propbench.session import Session
@@ -31,7 +41,7 @@ WELCOME = "propbench: lines of its language, :help for help, :quit or Ctrl-D to 
 ASIDES = {
     ":list": "[cells|premises|choices|definitions|attached]  what the session knows; all of it",
     ":undo": "takes back the last line that changed something",
-    ":step": "[N]  takes one step, or N, and shows which cells changed",
+    ":step": "[N]  takes one step, or N, and shows what changed; over propwide what was called",
     ":draw": "[X] [FILE]  draws the network, or what bears on the cell X, as SVG or .dot",
     ":limit": "[N]  shows or sets how many steps a run takes at most",
     ":save": "FILE  writes the lines that were carried out",
@@ -196,17 +206,29 @@ class Shell:
         steps = int(words[0]) if words else 1
         cells = list(self.session.known.cells)
         before = self._looked(cells)
-        limit = self.session.limit
-        self.session.send_all([f"limit {steps}"])
-        try:
-            end = self.session.send("settle")
-        finally:
-            self.session.send_all([f"limit {limit}"])
+        self._take(steps)
         after = self._looked(cells)
         rows = [(cell, before[cell], after[cell]) for cell in after if before[cell] != after[cell]]
         if rows:
             self._write(table(("cell", "before", "now"), rows))
-        self._write(str(end) if is_settled(end) else "There is more to do.")
+        [end] = self.session.look(["settle"])
+        self._write(str(end) if not isinstance(end, Unsettled) else "There is more to do.")
+
+    def _take(self, steps: int) -> None:
+        """Takes so many steps, or as many as there are, and tells each where the program does."""
+        try:
+            for _ in range(steps):
+                step = self.session.step()
+                if not isinstance(step.did, Called | Moved):
+                    return
+                self._write("\n".join(map(printable, lines_on(step))))
+        except UnknownCommand:
+            limit = self.session.limit
+            self.session.send_all([f"limit {steps}"])
+            try:
+                self.session.send("settle")
+            finally:
+                self.session.send_all([f"limit {limit}"])
 
     def _looked(self, cells: list[str]) -> dict[str, str]:
         """What is known of cells now, as text."""
@@ -269,6 +291,17 @@ class Shell:
 
     def _quit(self, words: list[str]) -> None:
         raise Quit
+
+
+def lines_on(step: Step) -> list[str]:
+    """What a step did, in lines for a user: none where it is the end."""
+    did = step.did
+    if isinstance(did, Called):
+        words = (did.procedure, *did.inputs, did.output)
+        return [f"called {' '.join(words)}: {did.says}"]
+    if isinstance(did, Moved):
+        return [f"moved {did.left} to {did.taken}: impossible together: {' '.join(did.nogood)}"]
+    return []
 
 
 def printable_lines(reply: Reply) -> str:

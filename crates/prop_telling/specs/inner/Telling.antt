@@ -1,5 +1,5 @@
 -- What is known of a step that is told.
-use Rattle.std.specs.Prelude.{ℕ, ◌+◌, ◌<◌, All, length, ⊤}
+use Rattle.std.specs.Prelude.{◌<◌, All, length, ⊤}
 use Rattle.prop_amb.specs.Going.{Work}
 use Rattle.prop_amb.specs.declared.stepping.Step.{Step}
 use Rattle.prop_amb.specs.declared.stepping.Step.TheVariants.{Called, Moved, Settled, Contradiction}
@@ -7,7 +7,7 @@ use Rattle.prop_amb.specs.declared.stepping.Step.TheVariants.{Called, Moved, Set
 -- what it names is there
 abbrev pub IsNamed : {O : Type 0} → Work O → Step → Type 0
 IsNamed w (Called i) = i < length w.cells.instances
-IsNamed w (Moved m) = (m.side + 1 < length w.search.premises)
+IsNamed w (Moved m) = (m.side < length w.search.premises)
     × All (λ p. p < length w.search.premises) m.nogood
 IsNamed w Settled = ⊤
 IsNamed w (Contradiction n) = All (λ p. p < length w.search.premises) n

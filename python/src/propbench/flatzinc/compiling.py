@@ -7,6 +7,7 @@ from collections.abc import Sequence
 from dataclasses import dataclass, replace
 from pathlib import Path
 
+from propbench.finding import NoProgram
 from propbench.flatzinc.building import BLAMED
 from propbench.flatzinc.grammar import read
 from propbench.flatzinc.marking import label_of, marked
@@ -16,7 +17,7 @@ CONFIGURATION = Path(__file__).parent / "propbench.msc"
 
 
 class NoMiniZinc(ValueError):
-    """MiniZinc isn't there, or refuses the model."""
+    """MiniZinc refuses the model."""
 
 
 @dataclass(frozen=True)
@@ -29,7 +30,7 @@ class Compiled:
 
 def compiled(model: Path, data: Sequence[Path]) -> Compiled:
     """The model made into FlatZinc; a file `.fzn` is taken as it is. Raises NoMiniZinc,
-    NotSupported and OSError."""
+    NotSupported, OSError, and NoProgram where MiniZinc isn't there."""
     text = model.read_text(encoding="utf-8")
     if model.suffix == ".fzn":
         return Compiled(read(text), {})
@@ -48,7 +49,9 @@ def _flattened(model: Path, text: str, data: Sequence[Path]) -> str:
     """What MiniZinc makes of a model of this text, which lies where the model does."""
     program = shutil.which("minizinc")
     if program is None:
-        raise NoMiniZinc("MiniZinc is needed for models, and `minizinc` is not on the path")
+        raise NoProgram(
+            "models need MiniZinc (apt-get install minizinc): `minizinc` is not on the path"
+        )
     with tempfile.TemporaryDirectory() as folder:
         made, flat = Path(folder, model.name), Path(folder, "model.fzn")
         made.write_text(text, encoding="utf-8")

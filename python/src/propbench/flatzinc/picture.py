@@ -39,7 +39,9 @@ def draw(path: Path, dot: str) -> None:
         return
     program = shutil.which("dot")
     if program is None:
-        raise ValueError("a picture needs Graphviz, whose `dot` is not on the path: ask for a .dot")
+        raise ValueError(
+            "a picture needs Graphviz (apt-get install graphviz): without it ask for a .dot"
+        )
     words: Sequence[str] = [program, f"-T{path.suffix[1:]}", "-o", str(path)]
     ran = subprocess.run(words, input=dot, text=True, capture_output=True)
     if ran.returncode:

@@ -106,9 +106,9 @@ class Weeding:
 
     def step(self) -> bool:
         """Finds one conflict or repair more; whether there may be others."""
-        hit = self._hitting.next()
+        hit = self._hitting.next(self.trial.clock.is_over)
         if hit is None:
-            self.complete = True
+            self.complete = self._hitting.is_done
             return False
         rest = (1 << len(self.names)) - 1 & ~hit
         found = self._refuted(rest)

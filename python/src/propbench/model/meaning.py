@@ -27,7 +27,8 @@ Points = Mapping[Declared, Point]
 
 def value_of(node: Node, points: Points) -> Point:
     """The value of an expression where each cell has its point. Raises Undefined and Beyond."""
-    return _Reading(points).value(node)
+    reading = points.reading if isinstance(points, Plan) else _Reading(points)
+    return reading.value(node)
 
 
 def holds(node: Node, points: Points) -> bool:
@@ -43,9 +44,10 @@ class _Reading:
         self.found: dict[Node, Point] = {}
 
     def value(self, node: Node) -> Point:
-        if node not in self.found:
-            self.found[node] = self._value(node)
-        return self.found[node]
+        found = self.found.get(node)
+        if found is None:
+            found = self.found[node] = self._value(node)
+        return found
 
     def number(self, node: Node) -> int:
         return int(self.value(node))
@@ -81,6 +83,14 @@ class _Reading:
             except Undefined:
                 pass
         return values if len(values) == len(node.args) else None
+
+
+class Plan(dict[Declared, Point]):
+    """The points of a plan, at which many expressions are looked at. It is not to be changed."""
+
+    def __init__(self, points: Points) -> None:
+        super().__init__(points)
+        self.reading = _Reading(self)
 
 
 def _sum(node: Node, numbers: list[int]) -> int:

@@ -26,10 +26,11 @@ class Names:
 
     def line(self, text: str) -> str:
         """The name on a line for a text, the same each time."""
-        if text not in self._lines:
+        name = self._lines.get(text)
+        if name is None:
             name = self._fresh(text)
             self._lines[text], self._texts[name] = name, text
-        return self._lines[text]
+        return name
 
     def text(self, line: str) -> str:
         """What a user calls what has this name on a line."""

@@ -54,6 +54,9 @@ class Op(Enum):
     # a comparison alone, without what it needs to have a value
     RAW = auto()
 
+    # (that of an Enum takes a while, and is asked for often)
+    __hash__ = object.__hash__
+
 
 NUMBERS = frozenset(
     (Op.SUM, Op.DIFFERENCE, Op.NEGATIVE, Op.PRODUCT, Op.QUOTIENT, Op.REMAINDER, Op.ABSOLUTE)

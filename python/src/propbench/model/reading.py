@@ -24,8 +24,8 @@ class Reader:
 
     def answer(self, cell: Declared, reply: Value, plan: Mapping[str, int]) -> Answer:
         """A reply about a cell, under the plan on which the choices stand."""
-        read = reply.read()
-        names = read.because or ()
+        _, held, settled, named, reduced = reply.all()
+        names = named or ()
         if self._premises.choices:
             # (two sides may stand for one alternative)
             because = tuple(dict.fromkeys(self.premise(each, plan) for each in names))
@@ -33,14 +33,13 @@ class Reader:
             because = self._vocabulary.premises.texts(names)
         choices = self.choices(plan) if plan else {}
         if cell.measure is not None:
-            return self._measured(cell, cell.measure, read, because, choices)
-        held = read.value
+            return self._measured(cell, cell.measure, reply.read(), because, choices)
         value: Left
         if isinstance(held, Span):
             value, low, high = numbers_left(held)
         else:
             value, low, high = self._value(cell, held), None, None
-        return Answer(cell.name, value, low, high, read.settled, because, choices, read.reduced)
+        return Answer(cell.name, value, low, high, settled, because, choices, reduced)
 
     def _measured(
         self,

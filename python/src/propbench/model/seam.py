@@ -5,10 +5,10 @@ This is all that `propbench.questions` uses of a workbench beside what a user do
 
 from collections.abc import Mapping, Sequence
 
-from propbench.model.events import CellMade, DomainMade, Event
+from propbench.model.events import CellMade, DomainMade, Event, Statement
 from propbench.model.given import values_of
 from propbench.model.kinds import Domain, Plain, Point
-from propbench.model.meaning import Beyond
+from propbench.model.meaning import Beyond, Plan
 from propbench.model.nodes import Declared
 from propbench.model.network import Network, premise_of
 from propbench.model.writer import span_text
@@ -22,6 +22,7 @@ class BenchModel:
 
     def __init__(self, network: Network) -> None:
         self._network = network
+        self._last = Plan({})
 
     @property
     def session(self) -> Session:
@@ -102,9 +103,9 @@ class BenchModel:
         """The text of what is stated, always or under one of these premises, and does not hold at
         these points in exact whole numbers; None where all holds. Of a choice one alternative has
         to hold."""
-        points = self._points(plan)
+        points, holding = self._points(plan), {None, *believed}
         for event in self._network.events:
-            if premise_of(event) is None or premise_of(event) in believed:
+            if premise_of(event) in holding:
                 said = _against(event, points)
                 if said is not None:
                     return said
@@ -116,7 +117,7 @@ class BenchModel:
         return [
             premise
             for premise, stated in self._network.premises.statements.items()
-            if all(_against(each, points) is None for each in stated)
+            if all(_is_met(each, points) for each in stated)
         ]
 
     def first(self) -> Sequence[First]:
@@ -137,9 +138,21 @@ class BenchModel:
         """What the premise states, for people."""
         return self._network.premises.text(premise)
 
-    def _points(self, plan: Mapping[str, Point]) -> dict[Declared, Point]:
+    def _points(self, plan: Mapping[str, Point]) -> Plan:
+        """The points of a plan; of the one that was looked at last, with what was worked out."""
         cells = self._network.cells
-        return {cells[name]: _point(cells[name], value) for name, value in plan.items()}
+        points = {cells[name]: _point(cells[name], value) for name, value in plan.items()}
+        if self._last != points:
+            self._last = Plan(points)
+        return self._last
+
+
+def _is_met(event: Statement, points: Plan) -> bool:
+    """Whether what is stated holds at these points."""
+    try:
+        return event.is_met(points)
+    except Beyond:
+        return False
 
 
 def _against(event: Event, points: dict[Declared, Point]) -> str | None:

@@ -37,11 +37,13 @@ _HEAD = (
 
 @dataclass(frozen=True)
 class Look:
-    """How a picture is drawn: what is `lit` (what bears on a cell), which cells are `changed`,
-    whether all that isn't lit is left out, and how wide cells are at least, in letters."""
+    """How a picture is drawn: what is `lit` (what bears on a cell), which cells are `changed`, which
+    use is `called`, whether all that isn't lit is left out, and how wide cells are at least, in
+    letters."""
 
     lit: Bearing | None = None
     changed: frozenset[str] = frozenset()
+    called: str = ""
     only_lit: bool = False
     widths: Mapping[str, int] = field(default_factory=dict)
     is_open: bool | None = None
@@ -150,8 +152,10 @@ class _Drawn:
         yield from edges
 
     def _box(self, own: str, use: Use, is_out: bool) -> str:
-        is_lit = self._look.lit is not None and use.name in self._look.lit.uses
-        colour = _GREY if is_out else _LIT if is_lit and not self._look.only_lit else _INK
+        lit = self._look.lit
+        is_lit = lit is not None and use.name in lit.uses and not self._look.only_lit
+        is_lit = is_lit or use.name == self._look.called
+        colour = _GREY if is_out else _LIT if is_lit else _INK
         return (
             f'{own} [{_label(_told(use))}, shape=box, style=filled, fillcolor="{_USE}",'
             f' color="{colour}", fontcolor="{_GREY if is_out else _INK}"]'

@@ -20,13 +20,19 @@ class Film:
     def __init__(self, network: Network, frames: Sequence[Frame]) -> None:
         self.network, self.frames = network, list(frames)
         self._texts = {cell.name: cell.text for cell in network.cells}
+        self._tells = any(frame.does for frame in frames)
 
-    def rows(self) -> list[tuple[str, str, str]]:
-        """For each step, which cells changed, and what else came of it."""
+    def rows(self) -> list[tuple[str, ...]]:
+        """For each step what was called or moved, where the program told; which cells changed, and
+        what else came of it."""
         return [(str(each.number), *self._says(each)) for each in self.frames]
 
+    @property
+    def _heads(self) -> tuple[str, ...]:
+        return ("step", "called", "changed", "") if self._tells else ("step", "changed", "")
+
     def __str__(self) -> str:
-        return table(("step", "changed", ""), self.rows())
+        return table(self._heads, self.rows())
 
     def __repr__(self) -> str:
         return str(self)
@@ -55,18 +61,20 @@ class Film:
         return f'<div style="display:flex;overflow-x:auto">{"".join(parts)}</div>'
 
     def _table(self) -> str:
-        head = "<tr><th>step</th><th>changed</th><th></th></tr>"
+        head = f"<tr>{''.join(f'<th>{name}</th>' for name in self._heads)}</tr>"
         rows = "".join(
             f"<tr>{''.join(f'<td>{escape(text)}</td>' for text in row)}</tr>" for row in self.rows()
         )
         return f"<table>{head}{rows}</table>"
 
-    def _says(self, frame: Frame) -> tuple[str, str]:
+    def _says(self, frame: Frame) -> tuple[str, ...]:
         changed = ", ".join(
-            printable(f"{self._texts[each.cell]} = {each.after}") for each in frame.changes
+            printable(f"{self._texts.get(each.cell, each.cell)} = {each.after}")
+            for each in frame.changes
         )
         nogoods = [f"impossible together: {', '.join(each)}" for each in frame.nogoods]
-        return changed, printable("; ".join([*nogoods, *([frame.end] if frame.end else [])]))
+        told = (changed, printable("; ".join([*nogoods, *([frame.end] if frame.end else [])])))
+        return (printable(frame.does), *told) if self._tells else told
 
     def _dots(self) -> list[str]:
         """The pictures in DOT, with cells as wide as what they hold in any step."""
@@ -74,12 +82,12 @@ class Film:
         widths = {name: len(text) for name, text in self._texts.items()}
         for frame in self.frames:
             for each in frame.changes:
-                widths[each.cell] = max(widths[each.cell], len(each.after))
+                widths[each.cell] = max(widths.get(each.cell, 0), len(each.after))
         texts = []
         for frame in self.frames:
             for each in frame.changes:
                 values[each.cell] = Shown(each.cell, each.after, each.because)
             changed = frozenset(each.cell for each in frame.changes)
-            look = Look(changed=changed, widths=widths, is_open=False)
+            look = Look(changed=changed, called=frame.use, widths=widths, is_open=False)
             texts.append(dot_of(self.network, Seen(dict(values)), look))
         return texts

@@ -67,9 +67,10 @@ class Exploring:
 
     def step(self) -> bool:
         """Finds one conflict or repair more; whether there may be others."""
-        hit = self._hitting.next()
+        hit = self._hitting.next(self.trial.clock.is_over)
         if hit is None:
-            self.complete = not self.unknown and all(each.least for each in self.conflicts)
+            is_sure = not self.unknown and all(each.least for each in self.conflicts)
+            self.complete = self._hitting.is_done and is_sure
             return False
         rest = self.all & ~hit
         outcome = self.try_out(rest)

@@ -5,7 +5,7 @@ be hit; the cheapest way to do so is tried next, and either repairs all or bring
 """
 
 import heapq
-from collections.abc import Sequence
+from collections.abc import Callable, Sequence
 from itertools import count
 
 # What a set costs: its weight, and how many it has.
@@ -28,14 +28,17 @@ class Hitting:
     def __init__(self, weights: Sequence[float]) -> None:
         """Sets of the bits with these weights, which are not negative."""
         self._weight = {1 << place: weight for place, weight in enumerate(weights)}
+        # What each bit weighs, where all weigh the same.
+        self._each = weights[0] if len(set(weights)) == 1 else None
         self._conflicts: list[int] = []
         # The sets that are finished, all and by a bit that they have.
         self._done: list[int] = []
         self._done_with: dict[int, list[int]] = {bit: [] for bit in self._weight}
         self._order = count()
-        # What is to be looked at: the least cost, the set so far, what it does not take, and how
-        # many of the finished sets it is known to have none of.
-        self._open: list[tuple[Cost, int, int, int, int]] = [((0, 0), next(self._order), 0, 0, 0)]
+        # What is to be looked at: the least cost, the set so far with what that costs, what it does
+        # not take, and how many of the finished sets it is known to have none of.
+        self._open: list[tuple[Cost, int, int, Cost, int, int]]
+        self._open = [((0, 0), next(self._order), 0, (0, 0), 0, 0)]
 
     def learn(self, conflict: int) -> None:
         """Takes in a set that has to be hit."""
@@ -47,53 +50,69 @@ class Hitting:
         for bit in bits_of(hit):
             self._done_with[bit].append(hit)
 
-    def next(self) -> int | None:
+    @property
+    def is_done(self) -> bool:
+        """Whether there is no more to look at."""
+        return not self._open
+
+    def next(self, is_over: Callable[[], bool] = lambda: False) -> int | None:
         """The cheapest set that hits all, and has none of those that are finished; None where there
-        is no more. It comes again until it is finished or another conflict is learned."""
-        while self._open:
-            cost, order, hit, out, known = heapq.heappop(self._open)
-            if any(done & hit == done for done in self._done[known:]):
+        is no more, or the time is over. It comes again until it is finished or another conflict is
+        learned."""
+        while self._open and not is_over():
+            cost, order, hit, spent, out, known = heapq.heappop(self._open)
+            if _has_one(hit, self._done[known:]):
                 continue
             known = len(self._done)
             missed = [conflict & ~out for conflict in self._conflicts if not conflict & hit]
             if not missed:
-                heapq.heappush(self._open, (cost, order, hit, out, known))
+                heapq.heappush(self._open, (cost, order, hit, spent, out, known))
                 return hit
-            least = self._least(hit, missed)
+            missed.sort(key=int.bit_count)
+            least = self._least(spent, missed)
             if least is None:
                 continue
             if least > cost:
-                heapq.heappush(self._open, (least, next(self._order), hit, out, known))
+                heapq.heappush(self._open, (least, next(self._order), hit, spent, out, known))
                 continue
-            self._fork(hit, out, min(missed, key=int.bit_count))
+            self._fork(hit, spent, out, missed[0])
         return None
 
-    def _fork(self, hit: int, out: int, conflict: int) -> None:
+    def _fork(self, hit: int, spent: Cost, out: int, conflict: int) -> None:
         """The ways to hit one more conflict: by its first bit, by the next and not the first, .."""
-        known, (weight, number) = len(self._done), self.cost(hit)
+        known, (weight, number) = len(self._done), spent
         for bit in bits_of(conflict):
             more = hit | bit
             # (what is finished and not within the set has the bit, where it is within both)
-            if not any(done & more == done for done in self._done_with[bit]):
+            if not _has_one(more, self._done_with[bit]):
                 cost = weight + self._weight[bit], number + 1
-                heapq.heappush(self._open, (cost, next(self._order), more, out, known))
+                heapq.heappush(self._open, (cost, next(self._order), more, cost, out, known))
             out |= bit
 
-    def cost(self, hit: int) -> Cost:
-        """What a set costs."""
-        bits = bits_of(hit)
-        return sum(self._weight[bit] for bit in bits), len(bits)
-
-    def _least(self, hit: int, missed: Sequence[int]) -> Cost | None:
-        """A cost below which these conflicts can't be hit in addition: that of some which have
-        nothing in common. None where one of them can't be hit."""
-        weight, number = self.cost(hit)
+    def _least(self, spent: Cost, missed: Sequence[int]) -> Cost | None:
+        """A cost below which these conflicts, the smallest first, can't be hit beside what is spent:
+        that of some which have nothing in common. None where one of them can't be hit."""
+        if not missed[0]:
+            return None
+        weight, number = spent
         seen = 0
-        for conflict in sorted(missed, key=int.bit_count):
-            if not conflict:
-                return None
+        for conflict in missed:
             if not conflict & seen:
                 seen |= conflict
-                weight += min(self._weight[bit] for bit in bits_of(conflict))
+                weight += self._cheapest(conflict)
                 number += 1
         return weight, number
+
+    def _cheapest(self, conflict: int) -> float:
+        """What the cheapest bit of a set weighs."""
+        if self._each is not None:
+            return self._each
+        return min(self._weight[bit] for bit in bits_of(conflict))
+
+
+def _has_one(hit: int, sets: Sequence[int]) -> bool:
+    """Whether all of one of the sets is in this one."""
+    for each in sets:
+        if each & hit == each:
+            return True
+    return False

@@ -10,16 +10,17 @@ from propbench.questions.asking import so_far
 from propbench.questions.bounding import Optimum, find_optimum
 from propbench.questions.clock import Clock
 from propbench.questions.clock import Progress as Telling
-from propbench.replies import Contradiction, Value, Worldview
+from propbench.replies import Called, Contradiction, Value, Worldview
 from propbench.runs import Progress
 from propbench.session import Session
 from propbench.values import Nothing
 from propbench.watching import Best
+from propbench.watching.instances import Instances, Makers
 from propbench.watching.lines import Lines
 from propbench.watching.mending import Mending, mended
 from propbench.watching.network import Clash, Network, Reason, Seen, Shown
 from propbench.watching.session_model import SessionModel
-from propbench.watching.steps import Steps
+from propbench.watching.steps import Call, Reading, Steps
 
 # What is said of a plan: the program finds nothing against its values.
 SETTLES = "With one value for each cell the program settles."
@@ -37,7 +38,7 @@ class SessionWatched:
         self.session = session
         self._source = list(source)
         self._since = len(session.lines)
-        self._lines = Lines()
+        self._lines = Lines(Makers(session.program))
         # The premises under which a side of a choice is wished for.
         self._wishes: dict[tuple[str, int], str] = {}
 
@@ -102,9 +103,21 @@ class SessionWatched:
         )
 
     def steps(self) -> Steps:
-        return Steps(
-            self.session.fresh(), self.lines(), list(self._known.cells), self._shown, self._named
-        )
+        lines, uses = self.lines(), self.network().uses
+        instances = Instances(self.session.program, lines, self._known)
+
+        def call(did: Called) -> Call:
+            place, part = instances.place(did.instance)
+            use = uses[place]
+            cells = list(use.leaves())[part].cells
+            own = " ".join((did.procedure, *cells))
+            text = (
+                own if use.text == did.procedure else f"{own}, of {use.text} {' '.join(use.cells)}"
+            )
+            return Call(text, use.name, "" if cells[-1] == did.output else cells[-1])
+
+        reading = Reading(self._shown, self._named, call)
+        return Steps(self.session.fresh(), lines, list(self._known.cells), reading)
 
     def lines(self) -> list[str]:
         return [line for line in self.session.lines if not _is_aside(line)]

@@ -6,7 +6,9 @@ from propbench.model.answers import value_text
 from propbench.model.blaming import always
 from propbench.model.choosing import first_name
 from propbench.model.events import (
+    CellMade,
     ConstraintChoice,
+    DomainMade,
     Event,
     Required,
     Told,
@@ -21,11 +23,12 @@ from propbench.questions.asking import so_far
 from propbench.questions.bounding import Optimum
 from propbench.questions.clock import Progress as Telling
 from propbench.questions.conflicts import Conflicts, Repairs, find_conflicts, find_repairs
-from propbench.replies import Contradiction, Value, Worldview
+from propbench.replies import Called, Contradiction, Value, Worldview
 from propbench.runs import Progress
 from propbench.session import Session
 from propbench.values import Nothing
 from propbench.watching import Best
+from propbench.watching.instances import Instances
 from propbench.watching.mending import FITS, Mending
 from propbench.watching.network import (
     Cell,
@@ -39,7 +42,7 @@ from propbench.watching.network import (
     Shown,
     Use,
 )
-from propbench.watching.steps import Steps
+from propbench.watching.steps import Call, Reading, Steps
 from propbench.workbench import Workbench
 
 # What is said of a plan.
@@ -170,13 +173,31 @@ class WorkbenchWatched:
     def steps(self) -> Steps:
         made = self.workbench.network
         names = [made.vocabulary.cells.line(cell) for cell in made.cells]
-        return Steps(
-            made.session.fresh(),
-            made.base(),
-            names,
-            lambda reply: self._shown(reply, {}),
-            self._named,
-        )
+        lines, owners = made.base(), self._owners()
+        instances = Instances(made.session.program, lines, made.session.known)
+
+        def call(did: Called) -> Call:
+            use, text = owners[instances.place(did.instance)[0]]
+            return Call(f"{did.procedure}, of {text}", use)
+
+        reading = Reading(lambda reply: self._shown(reply, {}), self._named, call)
+        return Steps(made.session.fresh(), lines, names, reading)
+
+    def _owners(self) -> list[tuple[str, str]]:
+        """For each line of the base that attaches, the name of the use that it is for, "" where it
+        is for none, and the text of what was stated."""
+        made = self.workbench.network
+        script = made.new_script()
+        found: list[tuple[str, str]] = []
+        count = 0
+        for event in made.events:
+            lines = script.lines_of(event)
+            if isinstance(event, DomainMade | CellMade):
+                continue
+            count += _is_use(event)
+            owner = (str(count) if _is_use(event) else "", event.text)
+            found += [owner for line in lines if line.startswith("attach ")]
+        return found
 
     def lines(self) -> list[str]:
         return self.workbench.network.base()
@@ -242,13 +263,18 @@ def _stated(events: Sequence[Event]) -> _Stated:
         if isinstance(event, Required):
             cells = tuple(cell.name for cell in cells_in(event.constraint))
             said = Said(event.text, cells[0] if len(cells) == 1 else "")
-            if len(cells) > 1:
+            if _is_use(event):
                 uses.append(Use(str(len(uses) + 1), event.text, cells, "", event.premise or ""))
             if len(cells) < 2 or event.premise:
                 says.setdefault(event.premise or "", []).append(said)
         elif isinstance(event, Told):
             says.setdefault(event.premise or "", []).append(Said(event.text, event.cell.name))
     return tuple(uses), {name: tuple(said) for name, said in says.items()}
+
+
+def _is_use(event: Event) -> bool:
+    """Whether it is shown as a use: a constraint on several cells."""
+    return isinstance(event, Required) and len(cells_in(event.constraint)) > 1
 
 
 def _choice(event: ValueChoice | ConstraintChoice) -> Choice:

@@ -1,15 +1,15 @@
-"""A run told step by step: what is known after each step, and what changed.
+"""A run told step by step: what is done in each step, what is known after it, and what changed.
 
 The run is that of a session of its own, which is told the same lines and begins from nothing. Each
-step is a `settle` under `limit 1`, after which each cell is asked. Which procedure was called is not
-told by the program, so no frame says so.
+step is a `step` of propwide, which tells what was called or which choice moved. Of another program
+it is a `settle` under `limit 1`, and nothing says what it called. After it each cell is asked.
 """
 
 from collections.abc import Callable, Sequence
-from dataclasses import dataclass
+from dataclasses import dataclass, replace
 
-from propbench.refusals import Refused
-from propbench.replies import Contradiction, Nogoods, Reply, Settled, Value
+from propbench.refusals import Refused, UnknownCommand
+from propbench.replies import Called, Contradiction, Moved, Nogoods, Reply, Settled, Value
 from propbench.session import Session
 from propbench.watching.network import Reason, Shown
 
@@ -26,30 +26,52 @@ class Change:
 
 @dataclass(frozen=True)
 class Frame:
-    """What a step changed: frame 0 has what is known before the first. `nogoods` are the sets that
-    were found to be impossible in it, as texts, and `end` how the run ended, "" where it goes on.
+    """What a step did and changed: frame 0 has what is known before the first.
+
+    `nogoods` are the sets that were found to be impossible in it, as texts, and `end` how the run
+    ended, "" where it goes on. `does` says what was called or moved, and `use` names the use that
+    the procedure belongs to; both are "" where the program doesn't tell.
     """
 
     number: int
     changes: tuple[Change, ...]
     nogoods: tuple[tuple[str, ...], ...] = ()
     end: str = ""
+    does: str = ""
+    use: str = ""
 
 
-# How a reply about a cell is shown, given the reply, and what a premise of a line is called.
-Read = Callable[[Value], Shown]
-Named = Callable[[str], str]
+@dataclass(frozen=True)
+class Call:
+    """A call in a user's words, the name of the use that it is of, "" where it is of none, and that
+    of its output where this is a cell within a compound, else ""."""
+
+    text: str
+    use: str
+    inner: str = ""
+
+
+@dataclass(frozen=True)
+class Reading:
+    """How a run is read: how the reply about a cell is shown, what a premise of a line is called,
+    and whose call it is that a step tells."""
+
+    shown: Callable[[Value], Shown]
+    named: Callable[[str], str]
+    call: Callable[[Called], Call]
 
 
 class Steps:
     """The frames of a run, taken as far as they are looked at."""
 
     def __init__(
-        self, session: Session, lines: Sequence[str], cells: Sequence[str], read: Read, named: Named
+        self, session: Session, lines: Sequence[str], cells: Sequence[str], reading: Reading
     ) -> None:
         """The run of a fresh session, which is told these lines, over cells by their names on
         lines. The session is closed by `close`."""
-        self._session, self._read, self._named = session, read, named
+        self._session, self._reading = session, reading
+        self._read, self._named = reading.shown, reading.named
+        self._tells = True
         self._asks = [f"why {cell}" for cell in cells]
         self._known: dict[str, Shown] = {}
         self._nogoods: set[frozenset[str]] = set()
@@ -74,11 +96,30 @@ class Steps:
         return self.frames[: number + 1]
 
     def _step(self) -> Frame:
+        did = self._taken()
+        [end] = self._looked(["settle"])
+        frame = Frame(len(self.frames), self._changes(), self._new_nogoods(), self._end(end))
+        if isinstance(did, Called):
+            call = self._reading.call(did)
+            inner = [Value(call.inner, did.value, True, did.because)] if call.inner else []
+            changes = (*self._among(inner), *frame.changes)
+            return replace(frame, changes=changes, does=call.text, use=call.use)
+        if isinstance(did, Moved):
+            does = f"{self._named(did.left)} is left for {self._named(did.taken)}"
+            return replace(frame, does=does)
+        return frame
+
+    def _taken(self) -> Called | Moved | None:
+        """What is done in the step that is taken here, None where the program doesn't tell."""
+        if self._tells:
+            try:
+                did = self._session.step().did
+                return did if isinstance(did, Called | Moved) else None
+            except UnknownCommand:
+                self._tells = False
         self._session.send("limit 1")
-        end = self._session.send("settle")
-        self._session.drop_lines()
-        nogoods = self._new_nogoods()
-        return Frame(len(self.frames), self._changes(), nogoods, self._end(end))
+        self._session.send("settle")
+        return None
 
     def _end(self, reply: Reply | Refused) -> str:
         if isinstance(reply, Contradiction):
@@ -87,8 +128,12 @@ class Steps:
 
     def _changes(self) -> tuple[Change, ...]:
         """The cells of which something else is known than before."""
+        return self._among(self._looked(self._asks))
+
+    def _among(self, replies: Sequence[Reply | Refused]) -> tuple[Change, ...]:
+        """Those among the cells that are told of."""
         found: list[Change] = []
-        for reply in self._looked(self._asks):
+        for reply in replies:
             if not isinstance(reply, Value):
                 continue
             shown = self._read(reply)

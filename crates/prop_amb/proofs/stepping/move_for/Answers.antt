@@ -60,8 +60,7 @@ returns-in_ok-before-in-Against-clause-told g c =
     rw c.in-Against.is at c.in_ok-premises.ensures.step in
     let there = step.may in
     let reason : IsReason problem s c.in-Against.place (set_of c.in-Against.reason) =
-    rw c.in-Against.is at (c.in_ok-premises.ensures.resolved problem c.requires.search) in
-    (
+    rw c.in-Against.is at (c.in_ok-premises.ensures.resolved problem c.requires.search) in (
       has_passed s c.advance.new.self _ c.in-Against.reason step.why c.side_at-side.ensures.side
           c.in_ok-nogood-in-Against.ensures
           (reason_known problem s c.in-Against.place there.choice there.side c.in-Against.reason c.requires.stand

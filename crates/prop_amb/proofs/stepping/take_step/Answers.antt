@@ -33,8 +33,7 @@ returns-in_ok-call_next-in-None-clause-told g c =
     let as_was : c.worldview.result.now ≡ s.worldview =
     c.worldview.ensures.same ∙ ap (λ (x : Stand). x.worldview) c.found.ensures.same in
     let believed : set_of c.worldview.result.now ≡ believed_with s =
-    ap set_of as_was ∙ believes_worldview s c.found.ensures.stand in
-    (
+    ap set_of as_was ∙ believes_worldview s c.found.ensures.stand in (
       may_call (work s d c.args.live.now.agenda.line c.args.order.now)
           (c.in_ok-nogood.ensures.none (ap Ok c.in-None.is)) c.requires.may,
       c.found.ensures.same,

@@ -2,10 +2,10 @@ use Rattle.std.proofs.Common.{◌∙◌, [], ap, arith, get_or, map, sym, subst}
 use Rattle.std.proofs.lemmas.Result.{err_from_is_err_and}
 use Rattle.std.specs.Prelude.{IfOk, OnErr}
 use Rattle.prop_language.specs.Said.{words}
-use Rattle.prop_program.specs.Answering.{IsAnswered, IsAnsweredInPart, IsWorked, IsWorkedInPart}
+use Rattle.prop_telling.specs.Answering.{IsTold, IsToldInPart}
+use Rattle.prop_telling.proofs.Starting.{nothing_told}
 use Rattle.prop_program.specs.Faults.{TellsDevices}
 use Rattle.prop_program.proofs.Devices.{told_first}
-use Rattle.prop_program.proofs.Starts.{nothing_yet, nothing_worked}
 use Rattle.prop_engine.proofs.Io.{on_err}
 use Rattle.prop_procedures.specs.inner.Kept.{AllMean-push}
 use Rattle.prop_procedures.specs.Kept.{stored_as}
@@ -15,15 +15,9 @@ use Rattle.propwide.proofs.Making.{stored_made, stored_is, more, all_stored, ent
 use Rattle.propwide.proofs.Making.{with_stock}
 use Rattle.propwide.proofs.running.run.Goals as goal
 
-pub returns-in_err-prelude-clause-err : goal.returns-in_err-prelude-clause-err
-returns-in_err-prelude-clause-err g c =
-    on_err _ _ (nothing_yet wide (g.Rd.Read.remaining (device (reader c.args.devices.now)))
-    (g.W.Write.contents (device (writer c.args.devices.now)))
-    c.args.options.limit)
-
-pub returns-in_err-prelude-clause-earned_in_part : goal.returns-in_err-prelude-clause-earned_in_part
-returns-in_err-prelude-clause-earned_in_part g c =
-    on_err _ _ (nothing_worked wide c.args.options.order c.args.options.seed c.args.options.limit
+pub returns-in_err-prelude-clause-told_in_part : goal.returns-in_err-prelude-clause-told_in_part
+returns-in_err-prelude-clause-told_in_part g c =
+    on_err _ _ (nothing_told wide c.args.options.order c.args.options.seed c.args.options.limit
     (g.Rd.Read.remaining (device (reader c.args.devices.now)))
     (g.W.Write.contents (device (writer c.args.devices.now))))
 
@@ -39,15 +33,9 @@ returns-in_err-prelude-clause-devices g c =
     subst (λ r. TellsDevices r c.args.devices.now c.args.devices.now) (sym p.1)
     (told_first p.0 c.args.devices.now p.2 c.requires.reader c.requires.writer)
 
-pub returns-in_err-made-clause-err : goal.returns-in_err-made-clause-err
-returns-in_err-made-clause-err g c =
-    on_err _ _ (nothing_yet wide (g.Rd.Read.remaining (device (reader c.args.devices.now)))
-    (g.W.Write.contents (device (writer c.args.devices.now)))
-    c.args.options.limit)
-
-pub returns-in_err-made-clause-earned_in_part : goal.returns-in_err-made-clause-earned_in_part
-returns-in_err-made-clause-earned_in_part g c =
-    on_err _ _ (nothing_worked wide c.args.options.order c.args.options.seed c.args.options.limit
+pub returns-in_err-made-clause-told_in_part : goal.returns-in_err-made-clause-told_in_part
+returns-in_err-made-clause-told_in_part g c =
+    on_err _ _ (nothing_told wide c.args.options.order c.args.options.seed c.args.options.limit
     (g.Rd.Read.remaining (device (reader c.args.devices.now)))
     (g.W.Write.contents (device (writer c.args.devices.now))))
 
@@ -63,15 +51,9 @@ returns-in_err-made-clause-devices g c =
     subst (λ r. TellsDevices r c.args.devices.now c.args.devices.now) (sym p.1)
     (told_first p.0 c.args.devices.now p.2 c.requires.reader c.requires.writer)
 
-pub returns-in_err-ins-clause-err : goal.returns-in_err-ins-clause-err
-returns-in_err-ins-clause-err g c =
-    on_err _ _ (nothing_yet wide (g.Rd.Read.remaining (device (reader c.args.devices.now)))
-    (g.W.Write.contents (device (writer c.args.devices.now)))
-    c.args.options.limit)
-
-pub returns-in_err-ins-clause-earned_in_part : goal.returns-in_err-ins-clause-earned_in_part
-returns-in_err-ins-clause-earned_in_part g c =
-    on_err _ _ (nothing_worked wide c.args.options.order c.args.options.seed c.args.options.limit
+pub returns-in_err-ins-clause-told_in_part : goal.returns-in_err-ins-clause-told_in_part
+returns-in_err-ins-clause-told_in_part g c =
+    on_err _ _ (nothing_told wide c.args.options.order c.args.options.seed c.args.options.limit
     (g.Rd.Read.remaining (device (reader c.args.devices.now)))
     (g.W.Write.contents (device (writer c.args.devices.now))))
 
@@ -87,15 +69,9 @@ returns-in_err-ins-clause-devices g c =
     subst (λ r. TellsDevices r c.args.devices.now c.args.devices.now) (sym p.1)
     (told_first p.0 c.args.devices.now p.2 c.requires.reader c.requires.writer)
 
-pub returns-in_err-call-clause-err : goal.returns-in_err-call-clause-err
-returns-in_err-call-clause-err g c =
-    on_err _ _ (nothing_yet wide (g.Rd.Read.remaining (device (reader c.args.devices.now)))
-    (g.W.Write.contents (device (writer c.args.devices.now)))
-    c.args.options.limit)
-
-pub returns-in_err-call-clause-earned_in_part : goal.returns-in_err-call-clause-earned_in_part
-returns-in_err-call-clause-earned_in_part g c =
-    on_err _ _ (nothing_worked wide c.args.options.order c.args.options.seed c.args.options.limit
+pub returns-in_err-call-clause-told_in_part : goal.returns-in_err-call-clause-told_in_part
+returns-in_err-call-clause-told_in_part g c =
+    on_err _ _ (nothing_told wide c.args.options.order c.args.options.seed c.args.options.limit
     (g.Rd.Read.remaining (device (reader c.args.devices.now)))
     (g.W.Write.contents (device (writer c.args.devices.now))))
 
@@ -111,15 +87,9 @@ returns-in_err-call-clause-devices g c =
     subst (λ r. TellsDevices r c.args.devices.now c.args.devices.now) (sym p.1)
     (told_first p.0 c.args.devices.now p.2 c.requires.reader c.requires.writer)
 
-pub returns-in_err-push-clause-err : goal.returns-in_err-push-clause-err
-returns-in_err-push-clause-err g c =
-    on_err _ _ (nothing_yet wide (g.Rd.Read.remaining (device (reader c.args.devices.now)))
-    (g.W.Write.contents (device (writer c.args.devices.now)))
-    c.args.options.limit)
-
-pub returns-in_err-push-clause-earned_in_part : goal.returns-in_err-push-clause-earned_in_part
-returns-in_err-push-clause-earned_in_part g c =
-    on_err _ _ (nothing_worked wide c.args.options.order c.args.options.seed c.args.options.limit
+pub returns-in_err-push-clause-told_in_part : goal.returns-in_err-push-clause-told_in_part
+returns-in_err-push-clause-told_in_part g c =
+    on_err _ _ (nothing_told wide c.args.options.order c.args.options.seed c.args.options.limit
     (g.Rd.Read.remaining (device (reader c.args.devices.now)))
     (g.W.Write.contents (device (writer c.args.devices.now))))
 
@@ -165,47 +135,27 @@ loop-entry-preserved g c =
 pub run-requires-clause-means : goal.run-requires-clause-means
 run-requires-clause-means g c = c.loop-entry.invariant.means
 
-pub returns-clause-ok : goal.returns-clause-ok
-returns-clause-ok g c =
+pub returns-clause-told : goal.returns-clause-told
+returns-clause-told g c =
     let past = c.loop-entry-test.false in
     let listed = c.loop-entry.invariant.listed ∙ all_stored _ c.loop-entry.entry-index (omega (arith, past))
     (ap (map shown) c.deref-entry-items.ensures.value ∙ c.in_ok-made.ensures) in
-    with_stock (λ s. IfOk c.run.result (IsAnswered s (g.Rd.Read.remaining (device (reader c.args.devices.now)))
-    (g.W.Write.contents (device (writer c.args.devices.now)))
-    (g.W.Write.contents (device (writer c.run.new.devices))) c.args.options.limit)) _ _ _ _ listed
-    (ap words c.deref.ensures.value ∙ c.in_ok-prelude.ensures) c.run.ensures.ok
-
-pub returns-clause-err : goal.returns-clause-err
-returns-clause-err g c =
-    let past = c.loop-entry-test.false in
-    let listed = c.loop-entry.invariant.listed ∙ all_stored _ c.loop-entry.entry-index (omega (arith, past))
-    (ap (map shown) c.deref-entry-items.ensures.value ∙ c.in_ok-made.ensures) in
-    with_stock (λ s. OnErr c.run.result (IsAnsweredInPart s (g.Rd.Read.remaining (device (reader c.args.devices.now)))
-    (g.W.Write.contents (device (writer c.args.devices.now)))
-    (g.W.Write.contents (device (writer c.run.new.devices))) c.args.options.limit)) _ _ _ _ listed
-    (ap words c.deref.ensures.value ∙ c.in_ok-prelude.ensures) c.run.ensures.err
-
-pub returns-clause-earned : goal.returns-clause-earned
-returns-clause-earned g c =
-    let past = c.loop-entry-test.false in
-    let listed = c.loop-entry.invariant.listed ∙ all_stored _ c.loop-entry.entry-index (omega (arith, past))
-    (ap (map shown) c.deref-entry-items.ensures.value ∙ c.in_ok-made.ensures) in
-    with_stock (λ s. IfOk c.run.result (IsWorked s c.args.options.order c.args.options.seed c.args.options.limit
+    with_stock (λ s. IfOk c.run.result (IsTold s c.args.options.order c.args.options.seed c.args.options.limit
     (g.Rd.Read.remaining (device (reader c.args.devices.now)))
     (g.W.Write.contents (device (writer c.args.devices.now)))
     (g.W.Write.contents (device (writer c.run.new.devices))))) _ _ _ _ listed
-    (ap words c.deref.ensures.value ∙ c.in_ok-prelude.ensures) c.run.ensures.earned
+    (ap words c.deref.ensures.value ∙ c.in_ok-prelude.ensures) c.run.ensures.told
 
-pub returns-clause-earned_in_part : goal.returns-clause-earned_in_part
-returns-clause-earned_in_part g c =
+pub returns-clause-told_in_part : goal.returns-clause-told_in_part
+returns-clause-told_in_part g c =
     let past = c.loop-entry-test.false in
     let listed = c.loop-entry.invariant.listed ∙ all_stored _ c.loop-entry.entry-index (omega (arith, past))
     (ap (map shown) c.deref-entry-items.ensures.value ∙ c.in_ok-made.ensures) in
-    with_stock (λ s. OnErr c.run.result (IsWorkedInPart s c.args.options.order c.args.options.seed c.args.options.limit
+    with_stock (λ s. OnErr c.run.result (IsToldInPart s c.args.options.order c.args.options.seed c.args.options.limit
     (g.Rd.Read.remaining (device (reader c.args.devices.now)))
     (g.W.Write.contents (device (writer c.args.devices.now)))
     (g.W.Write.contents (device (writer c.run.new.devices))))) _ _ _ _ listed
-    (ap words c.deref.ensures.value ∙ c.in_ok-prelude.ensures) c.run.ensures.earned_in_part
+    (ap words c.deref.ensures.value ∙ c.in_ok-prelude.ensures) c.run.ensures.told_in_part
 
 pub returns-clause-points : goal.returns-clause-points
 returns-clause-points g c = wide_is_sound

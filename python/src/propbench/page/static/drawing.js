@@ -12,8 +12,9 @@ const LETTERS = { cell: 17, value: 15, small: 20, use: 14 };
 const READABLE = 0.42;
 // More nodes than this are drawn in the quickest way: with straight wires.
 const MANY = 600;
-// The paths, from the lowest to the highest.
+// The paths, from the lowest to the highest, and those of what is marked.
 const PATHS = ["wires", "wires lit", "uses", "out", "cells", "changed", "bears", "picked", "here"];
+const MARKS = PATHS.filter((name) => name !== "wires" && name !== "cells");
 
 function made(tag, attributes, text = "") {
   const node = document.createElementNS(SVG, tag);
@@ -60,15 +61,17 @@ export class Drawing {
     this.boxes = network.cells.map((_, at) => this._box(at, CELL));
     this.boxes.push(...network.uses.map((_, at) => this._box(network.cells.length + at, USE)));
     this._set("wires", this.wires.flatMap((wires) => wires.map(([, path]) => path)));
+    this._set("cells", this.boxes.slice(0, network.cells.length));
     this.here = null;
     this.fit();
     this._paint();
   }
 
-  // Shows what is known of each cell, marks those that changed, and what doesn't count.
-  show(values, changed, believed) {
+  // Shows what is known of each cell, marks those that changed, what doesn't count, and the use that
+  // was called, if any.
+  show(values, changed, believed, called) {
     this.values = values;
-    Object.assign(this.marks, { changed, believed });
+    Object.assign(this.marks, { changed, believed, called });
     this._paint();
     this._write();
   }
@@ -142,27 +145,29 @@ export class Drawing {
     return `M${x.toFixed(1)} ${y.toFixed(1)}h${width}v${height}h${-width}z`;
   }
 
-  // Has each box in the path of what it is.
+  // Has each box in the path of what it is. What is marked of the cells lies over all of them, whose
+  // path stays: to measure so long a path anew takes as long as all else.
   _paint() {
-    const { changed, cells, uses, believed } = this.marks;
+    const { changed, cells, uses, believed, called } = this.marks;
     const parts = Object.fromEntries(PATHS.map((name) => [name, []]));
     this.network.cells.forEach((cell, at) => {
-      const sort = cells.has(cell.name) ? "bears" : changed.has(cell.name) ? "changed" : "cells";
+      const sort = cells.has(cell.name) ? "bears" : changed.has(cell.name) ? "changed" : "";
       const box = this.boxes[at];
-      parts[sort].push(box);
+      if (sort) parts[sort].push(box);
       if (cell.name === this.last) parts.picked.push(box);
       if (cell.name === this.here) parts.here.push(box);
     });
     this.network.uses.forEach((use, at) => {
       const isOut = use.premise && !believed.has(use.premise);
-      const sort = isOut ? "out" : uses.has(use.name) ? "bears" : "uses";
+      const isLit = uses.has(use.name) || use.name === called;
+      const sort = isOut ? "out" : isLit ? "bears" : "uses";
       parts[sort].push(this.boxes[this.network.cells.length + at]);
       if (uses.has(use.name)) {
         const lit = this.wires[at].filter(([cell]) => cells.has(cell));
         parts["wires lit"].push(...lit.map(([, path]) => path));
       }
     });
-    for (const name of PATHS) if (name !== "wires") this._set(name, parts[name]);
+    for (const name of MARKS) this._set(name, parts[name]);
   }
 
   _look() {

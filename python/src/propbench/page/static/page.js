@@ -201,7 +201,7 @@ function showRows() {
 function show(changed) {
   const texts = new Map();
   for (const [name, shown] of values()) texts.set(name, shown.known ? shown.text : "");
-  drawing.show(texts, changed, new Set(state.believed));
+  drawing.show(texts, changed, new Set(state.believed), frames[frame]?.use);
   showValues(changed);
   at("unsettled").hidden = state.seen.settled || frame >= 0;
   showSwitches();
@@ -430,7 +430,9 @@ function showStep() {
     (each) => made("li", { class: "wrong" }, `impossible together: ${each.join(", ")}`));
   const what = changes.length || nogoods.length ? "changed" : "changed nothing";
   const head = frame === 0 ? "Before the first step" : `Step ${frame} ${what}`;
-  at("changes").replaceChildren(made("strong", {}, head), made("ul", {}, ...changes, ...nogoods));
+  const does = shown.does ? [made("p", { class: "does" }, shown.does)] : [];
+  at("changes").replaceChildren(
+    made("strong", {}, head), ...does, made("ul", {}, ...changes, ...nogoods));
 }
 
 // --- what is pressed ---

@@ -1,0 +1,92 @@
+"""What docs/PROMISES.md promises of Python: names that are there, and the desk's statuses."""
+
+import subprocess
+import sys
+from pathlib import Path
+
+import pytest
+
+import propbench
+from propbench.desk import main
+
+# What 1.0 had: more may come, none may go.
+NAMES = """
+Answer Certificate CertificateError Conflict Contradiction Done Elements EmptyValue Impossible
+Interrupted IsAChoice LimitReached LineTooLong MixedUnits NameTaken NoBound NoProgram NoReading
+NoSuchCell NoSuchDomain NoSuchPremise NoSuchProcedure NoSuchRelation Nogoods NotANumberInRange
+NotAName NotAWorkbench NotInTheDomain NotSettled NotUtf8 Nothing OutOfMemory ProgramEnded Refused
+Reply Session Settled Silent Span Symbol TooCoarse UnknownCommand UnknownUnit Unsettled Value
+Workbench Worldview WrongCountOfCells WrongForm WrongKind WrongParameter all_different count element
+find_program find_wide if_else implies maximum mean minimum pairs total
+"""
+MEMBERS = {
+    "Workbench": """
+        answer believed bring cell cells choose close compare conflicts critical diff domain element
+        fix forget greatest kick lacks law least lines load measured number outliers picture plan
+        plans predict proved read repairs require room save scenarios sensitivity session settle
+        shave show slack snapshot sweep symbol table tell truth what_if
+    """,
+    "Session": "close fresh lines proved replay send send_all",
+    "Certificate": "check save",
+}
+COMMANDS = "run check blame shell draw page"
+
+
+def test_names_stay() -> None:
+    assert set(NAMES.split()) <= set(propbench.__all__)
+    assert all(hasattr(propbench, name) for name in propbench.__all__)
+
+
+@pytest.mark.parametrize("name", MEMBERS)
+def test_members_stay(name: str) -> None:
+    assert [it for it in MEMBERS[name].split() if not hasattr(getattr(propbench, name), it)] == []
+
+
+# A line that is refused behind `cell x span`, its number and its class.
+REFUSED = {
+    "say x": (3, "UnknownCommand"),
+    "ask": (4, "WrongForm"),
+    "cell 3 span": (5, "NotAName"),
+    "limit many": (6, "NotANumberInRange"),
+    "cell x span": (7, "NameTaken"),
+    "cell y nowhere": (8, "NoSuchDomain"),
+    "ask zz": (9, "NoSuchCell"),
+    "kick ana": (10, "NoSuchPremise"),
+    "attach unknown x": (11, "NoSuchProcedure"),
+    "attach adder x x": (12, "WrongCountOfCells"),
+    "fix x {}": (13, "WrongKind"),
+    "attach adder x x x by 3": (14, "WrongParameter"),
+    "fix x 5..3": (18, "EmptyValue"),
+    "attach imager x x by unknown": (19, "NoSuchRelation"),
+}
+
+
+@pytest.mark.parametrize("line", REFUSED)
+def test_refusals_keep_their_numbers(line: str) -> None:
+    with propbench.Session() as session:
+        session.send("cell x span")
+        with pytest.raises(propbench.Refused) as refused:
+            session.send(line)
+    assert (refused.value.number, type(refused.value).__name__) == REFUSED[line]
+
+
+def test_statuses_of_the_desk_stay(tmp_path: Path, monkeypatch: pytest.MonkeyPatch) -> None:
+    good, bad = tmp_path / "good.prop", tmp_path / "bad.prop"
+    good.write_text("cell x span\nfix x 3\n")
+    bad.write_text("cell x span\nask y\n")
+    assert main(["run", str(good)]) == 0
+    assert main(["run", str(bad)]) == 1
+    assert main(["run", str(tmp_path / "none.prop")]) == 3
+    (tmp_path / "model.mzn").write_text("solve satisfy;\n")
+    with monkeypatch.context() as there:
+        there.setenv("PATH", str(tmp_path))  # where MiniZinc isn't
+        assert main(["blame", str(tmp_path / "model.mzn")]) == 3
+    with pytest.raises(SystemExit) as ended:
+        main(["run"])
+    assert ended.value.code == 2
+
+
+@pytest.mark.parametrize("command", COMMANDS.split())
+def test_commands_of_the_desk_stay(command: str) -> None:
+    words = [sys.executable, "-m", "propbench", command, "--help"]
+    assert subprocess.run(words, capture_output=True).returncode == 0
