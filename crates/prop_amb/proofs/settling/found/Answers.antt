@@ -1,4 +1,4 @@
-use Rattle.std.proofs.Common.{inl}
+use Rattle.std.proofs.Common.{inl, refl}
 use Rattle.prop_amb.proofs.RefutingLaws.{blocking_here, none_passes}
 use Rattle.prop_amb.proofs.settling.found.Goals as goal
 
@@ -9,5 +9,5 @@ returns-clause-found c =
 
 pub returns-in_default-clause-none : goal.returns-in_default-clause-none
 returns-in_default-clause-none c = λ same.
-    none_passes c.args.search.now c.in_default.ensures.stand (c.in_default.ensures.none c.in_default.is)
+    none_passes c.args.search.now c.in_default.ensures.stand (c.in_default.ensures.none refl)
     (c.refuted_next.ensures.none same)

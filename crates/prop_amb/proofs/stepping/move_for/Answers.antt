@@ -12,8 +12,8 @@ use Rattle.prop_amb.proofs.PlaceLemmas.{get_below_length}
 use Rattle.prop_amb.proofs.SteppingLaws.{reason_known, has_passed}
 use Rattle.prop_amb.proofs.stepping.move_for.Goals as goal
 
-pub side_at-requires : goal.side_at-requires
-side_at-requires g c =
+pub side_at-side-requires : goal.side_at-side-requires
+side_at-side-requires g c =
     let s = c.args.search.now in
     let step : MayStep s c.in-Against.place c.in-Against.reason =
     rw c.in-Against.is at c.in_ok-premises.ensures.step in
