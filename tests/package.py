@@ -358,7 +358,9 @@ def vim_colours(program: str) -> Optional[str]:
     files = f"{unpacked(program)}/usr/share/vim/vimfiles"
     with open(f"{files}/syntax/propbench.vim", encoding="utf-8") as it:
         listed = re.search(r"Command /\^\\s\*\\%\(([\w\\|]+)\\\)", it.read())
-    if not listed or sorted(listed[1].split("\\|")) != sorted([*documents.COMMANDS, *documents.TOLD]):
+    if not listed or sorted(listed[1].split("\\|")) != sorted(
+        [*documents.COMMANDS, *documents.TOLD]
+    ):
         return "the file does not name the commands"
     if "+syntax" not in ran(["sh", "-c", "vim --version"]).stdout.decode():
         return None
