@@ -10,6 +10,9 @@
 
 mod asking;
 mod interpreting;
+mod listing;
+mod naming;
+mod notes;
 mod running;
 mod telling;
 mod texts;

@@ -64,7 +64,7 @@ pub fn run<R: Rule + Drop, Rd: Read, W: Write>(
 
 /// Loads the prelude into a session, runs it with a teller around it and drops it.
 fn serve<R: Rule + Drop, O: Order + Drop, Rd: Read, W: Write>(
-    mut session: Session<R, O>,
+    session: Session<R, O>,
     prelude: &[&str],
     devices: &mut Devices<Rd, W>,
 ) -> Result<Counts, Fault>
@@ -82,10 +82,11 @@ fn serve<R: Rule + Drop, O: Order + Drop, Rd: Read, W: Write>(
         (W.contents (device (writer devices.new)))) }
     ensures devices { TellsDevices result devices.old devices.new }
 {
-    match session.load_prelude(prelude) {
-        Ok(()) => tell(Teller::new(session), devices),
+    let mut teller = Teller::new(session);
+    match teller.load_prelude(prelude) {
+        Ok(()) => tell(teller, devices),
         Err(_) => {
-            drop(session);
+            drop(teller);
             Err(Fault::Memory(AllocError))
         }
     }

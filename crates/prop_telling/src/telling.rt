@@ -1,10 +1,12 @@
 //! A session that tells what it does.
 ghost use Rattle.std.specs.Prelude.{◌≡◌};
 
-use crate::asking::is_step;
+use crate::asking::{is_list, is_step, may_declare};
+use crate::notes::{Note, Notes};
 use crate::texts::{call_text, cell_text, moved_text, sides_text};
 use prop_amb::{Move, Step};
 use prop_engine::Reply;
+use prop_language::read_line;
 use prop_premises::{PremiseSet, Worldview};
 use prop_procedures::Rule;
 use prop_refusals::Refusal;
@@ -13,10 +15,11 @@ use prop_texts::{because, print_set};
 use prop_workbench::Session;
 use std::alloc::{AllocError, Global};
 
-/// A session that tells what it does.
+/// A session that tells what it does, and what its lines declared.
 #[derive(Drop)]
 pub struct Teller<R, O> {
-    session: Session<R, O>,
+    pub(crate) session: Session<R, O>,
+    pub(crate) notes: Notes,
 }
 
 impl<R: Rule + Drop, O: Order + Drop> Teller<R, O> {
@@ -36,7 +39,8 @@ impl<R: Rule + Drop, O: Order + Drop> Teller<R, O> {
     pub fn new(session: Session<R, O>) -> Teller<R, O>
         ensures { result.session ≡ session }
     {
-        Teller { session }
+        let notes = Notes::new(session.alloc());
+        Teller { session, notes }
     }
 
     /// Carries out a line: one of its own, or as its session does.
@@ -53,7 +57,63 @@ impl<R: Rule + Drop, O: Order + Drop> Teller<R, O> {
         if is_step(line) {
             return self.step();
         }
+        if is_list(line) {
+            return self.list();
+        }
+        if may_declare(line) {
+            return self.declare(line);
+        }
         self.session.command(line)
+    }
+
+    /// What a line declares, if it is carried out.
+    fn note(&self, line: &[u8]) -> Result<Option<Note>, AllocError> {
+        let alloc = self.session.alloc();
+        let network = self.session.live().network();
+        match read_line(alloc, line) {
+            Ok(command) => {
+                let (cells, instances) = (network.cells(), network.instances());
+                self.notes.note_of(alloc, &command, cells, instances)
+            }
+            Err(Refusal::Memory) => Err(AllocError),
+            Err(_) => Ok(None),
+        }
+    }
+
+    /// Carries out a line as its session does, and notes what it declares.
+    fn declare(&mut self, line: &[u8]) -> Reply {
+        match self.note(line) {
+            Ok(Some(note)) => self.declare_noted(line, note),
+            Ok(None) => self.session.command(line),
+            Err(AllocError) => Reply::Refused(Refusal::Memory),
+        }
+    }
+
+    /// Carries out a line as its session does, which declares this.
+    fn declare_noted(&mut self, line: &[u8], note: Note) -> Reply {
+        let (domains, definitions, uses) = self.notes.counts();
+        if self.notes.add(note).is_err() {
+            return Reply::Refused(Refusal::Memory);
+        }
+        let reply = self.session.command(line);
+        match reply {
+            Reply::Done => reply,
+            _ => {
+                self.notes.back(domains, definitions, uses);
+                reply
+            }
+        }
+    }
+
+    /// Carries out the lines of a prelude, in order. The first that is refused ends it with its
+    /// refusal, and those before it stand.
+    pub(crate) fn load_prelude(&mut self, lines: &[&str]) -> Result<(), Refusal> {
+        for line in lines {
+            if let Reply::Refused(refusal) = self.command(line.as_bytes()) {
+                return Err(refusal);
+            }
+        }
+        Ok(())
     }
 
     /// Takes one step of a run and tells it.
