@@ -34,7 +34,7 @@ def replies_of(output: bytes) -> Iterator[str]:
     """The replies in an output, each with all its lines."""
     lines = iter(output.decode(errors="replace").splitlines())
     for line in lines:
-        counted = re.fullmatch(r"step (\d+)", line)
+        counted = re.fullmatch(r"(?:step|list) (\d+)", line)
         yield "\n".join([line, *(next(lines, "") for _ in range(int(counted[1]) if counted else 0))])
 
 

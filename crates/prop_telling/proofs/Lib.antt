@@ -1,3 +1,5 @@
 pub mod Starting
 pub mod TextLemmas
 pub mod TellingLemmas
+pub mod NoteLemmas
+pub mod ListingLemmas

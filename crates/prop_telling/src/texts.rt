@@ -88,7 +88,10 @@ pub(crate) fn label_text(
     alloc: Global,
     premises: &Premises,
     premise: Premise,
-) -> Result<String, AllocError> {
+) -> Result<String, AllocError>
+    requires { premise < length premises.now }
+    ensures { IfOk result (λ text. string_bytes text ≡ label_at premises.now premise) }
+{
     let name = premises.name(premise);
     match premises.side(premise) {
         Some(side) => format!(in alloc; "{name}={side}"),
@@ -97,7 +100,9 @@ pub(crate) fn label_text(
 }
 
 /// Writes a line feed and a line behind the text.
-pub(crate) fn push_text(text: &mut String, line: &str) -> Result<(), AllocError> {
+pub(crate) fn push_text(text: &mut String, line: &str) -> Result<(), AllocError>
+    ensures { OnOk result (string_bytes text.new ≡ string_bytes text.old ++ (10 ∷ line.now)) }
+{
     write!(text, "\n{line}")
 }
 
