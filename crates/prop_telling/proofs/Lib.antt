@@ -1,3 +1,4 @@
 pub mod Starting
 pub mod TextLemmas
 pub mod TellingLemmas
+pub mod HowLemmas

@@ -1,25 +1,25 @@
 -- What a layer tells of a run, as a machine.
-use Rattle.std.specs.Prelude.{◌≡◌, ◌⊎◌, ℕ, List, [], ◌++◌, codes, Some, slice_get}
+use Rattle.std.specs.Prelude.{◌≡◌, ◌⊎◌, ℕ, List, ◌++◌, codes, Some, slice_get}
 use Rattle.std.specs.Prelude.{Bool, true, false}
-use Rattle.prop_numbers.specs.Sets.{Members, set_of}
+use Rattle.prop_numbers.specs.Sets.{set_of}
 use Rattle.prop_refusals.specs.declared.refusal.Refusal.TheVariants.{Memory}
 use Rattle.prop_procedures.specs.Stored.{Stored}
 use Rattle.prop_cells.specs.Data.{beliefs, IsLeanAt}
 use Rattle.prop_cells.specs.Instances.{Instance}
-use Rattle.prop_amb.specs.Search.{believed_with}
 use Rattle.prop_amb.specs.Going.{Work}
 use Rattle.prop_amb.specs.Stepping.{Steps}
 use Rattle.prop_amb.specs.declared.stepping.Step.{Step}
 use Rattle.prop_amb.specs.declared.stepping.Step.TheVariants.{Called, Moved, Settled, Contradiction}
 use Rattle.prop_engine.specs.Answers.{Answer, Text, Refused}
 use Rattle.prop_engine.specs.Transcripts.{Machine}
-use Rattle.prop_texts.specs.Texts.{equation, because, contradiction_text, support_text}
-use Rattle.prop_workbench.specs.Machine.{State, text_at, problem_in}
+use Rattle.prop_texts.specs.Texts.{contradiction_text, support_text}
+use Rattle.prop_workbench.specs.Machine.{State, problem_in}
 use Rattle.prop_workbench.specs.Steps.{Covers}
 use Rattle.prop_workbench.specs.Questions.{Picks}
 use Rattle.prop_workbench.specs.Engine.{Standing, WorkFits, Works}
-use Rattle.prop_telling.specs.Asking.{is_step}
-use Rattle.prop_telling.specs.Texts.{cell_text, call_text, sides_text, moved_text}
+use Rattle.prop_telling.specs.Asking.{is_step, is_how}
+use Rattle.prop_telling.specs.How.{TellsHow}
+use Rattle.prop_telling.specs.Texts.{call_text, says_text, sides_text, moved_text}
 use Rattle.prop_telling.specs.Texts.{two_lines, three_lines}
 
 -- The text says what is believed of the cell, with the premises of believed entries that say so,
@@ -27,9 +27,8 @@ use Rattle.prop_telling.specs.Texts.{two_lines, three_lines}
 pub record SaysValue {O : Type 0} (s : State) (w : Work O) (cell : ℕ) (text : List ℕ) : Type 0 where
   pub premises : List ℕ
   pub lean : IsLeanAt (set_of w.search.worldview) w.cells.contents cell premises
-  pub text_is : text ≡ equation (cell_text s.names cell)
-      (text_at s cell (beliefs (set_of w.search.worldview) w.cells.contents cell))
-      (because s.premises [] premises)
+  pub text_is : text ≡ says_text s cell
+      (beliefs (set_of w.search.worldview) w.cells.contents cell) premises
 
 -- The text names the sides that are believed, the instance that was called, with its cells, and
 -- says what is believed of its output.
@@ -77,4 +76,5 @@ Own false own other = other
 abbrev pub telling : {O : Type 0} → Picks O → List Stored → Machine (Standing O)
 telling picks library old line answer new =
     Own (is_step line) (TellsStep picks library old answer new)
-    (Works picks library old line answer new)
+    (Own (is_how line) (TellsHow library old line answer new)
+    (Works picks library old line answer new))

@@ -30,7 +30,8 @@ impl<R: Rule + Drop, O: Order + Drop> Teller<R, O> {
     ghost use Rattle.prop_workbench.specs.Sessions.{library_of, state_of, work_of};
     ghost use Rattle.prop_workbench.specs.Sessions.{IsSound, IsMeant};
     ghost use Rattle.prop_telling.specs.Telling.{telling, TellsStep, SaysStep, SaysCall, SaysValue};
-    ghost use Rattle.prop_telling.specs.Texts.{moved_text, sides_text, two_lines, three_lines};
+    ghost use Rattle.prop_telling.specs.Texts.{moved_text, sides_text, says_text};
+    ghost use Rattle.prop_telling.specs.Texts.{two_lines, three_lines};
     ghost use Rattle.prop_telling.specs.inner.Telling.{IsNamed};
 
     /// A teller of a session.
