@@ -3,6 +3,7 @@ pub mod Texts
 pub mod Notes
 pub mod Naming
 pub mod Listing
+pub mod How
 pub mod Telling
 pub mod Answering
 pub mod inner

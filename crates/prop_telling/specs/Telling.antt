@@ -1,28 +1,28 @@
 -- What a layer tells of a run, as a machine.
-use Rattle.std.specs.Prelude.{◌≡◌, ◌⊎◌, ℕ, List, [], ◌++◌, codes, Some, slice_get}
+use Rattle.std.specs.Prelude.{◌≡◌, ◌⊎◌, ℕ, List, ◌++◌, codes, Some, slice_get}
 use Rattle.std.specs.Prelude.{Bool, true, false, length}
-use Rattle.prop_numbers.specs.Sets.{Members, set_of}
+use Rattle.prop_numbers.specs.Sets.{set_of}
 use Rattle.prop_refusals.specs.declared.refusal.Refusal.TheVariants.{Memory}
 use Rattle.prop_procedures.specs.Stored.{Stored}
 use Rattle.prop_cells.specs.Data.{beliefs, IsLeanAt}
 use Rattle.prop_cells.specs.Instances.{Instance}
-use Rattle.prop_amb.specs.Search.{believed_with}
 use Rattle.prop_amb.specs.Going.{Work}
 use Rattle.prop_amb.specs.Stepping.{Steps}
 use Rattle.prop_amb.specs.declared.stepping.Step.{Step}
 use Rattle.prop_amb.specs.declared.stepping.Step.TheVariants.{Called, Moved, Settled, Contradiction}
 use Rattle.prop_engine.specs.Answers.{Answer, Text, Refused}
 use Rattle.prop_engine.specs.Transcripts.{Machine}
-use Rattle.prop_texts.specs.Texts.{equation, because, contradiction_text, support_text}
-use Rattle.prop_workbench.specs.Machine.{State, text_at, problem_in}
+use Rattle.prop_texts.specs.Texts.{contradiction_text, support_text}
+use Rattle.prop_workbench.specs.Machine.{State, problem_in}
 use Rattle.prop_workbench.specs.Steps.{Covers}
 use Rattle.prop_workbench.specs.Questions.{Picks}
 use Rattle.prop_workbench.specs.Engine.{Standing, WorkFits, Works, new_standing}
 use Rattle.prop_language.specs.Reading.{AsRead}
-use Rattle.prop_telling.specs.Asking.{is_step, is_list, may_declare}
+use Rattle.prop_telling.specs.Asking.{is_step, is_how, is_list, may_declare}
 use Rattle.prop_telling.specs.Notes.{Notes, no_notes, note_read, noted}
 use Rattle.prop_telling.specs.Listing.{SaysList}
-use Rattle.prop_telling.specs.Texts.{cell_text, call_text, sides_text, moved_text}
+use Rattle.prop_telling.specs.How.{TellsHow}
+use Rattle.prop_telling.specs.Texts.{call_text, says_text, sides_text, moved_text}
 use Rattle.prop_telling.specs.Texts.{two_lines, three_lines}
 
 -- The text says what is believed of the cell, with the premises of believed entries that say so,
@@ -30,9 +30,8 @@ use Rattle.prop_telling.specs.Texts.{two_lines, three_lines}
 pub record SaysValue {O : Type 0} (s : State) (w : Work O) (cell : ℕ) (text : List ℕ) : Type 0 where
   pub premises : List ℕ
   pub lean : IsLeanAt (set_of w.search.worldview) w.cells.contents cell premises
-  pub text_is : text ≡ equation (cell_text s.names cell)
-      (text_at s cell (beliefs (set_of w.search.worldview) w.cells.contents cell))
-      (because s.premises [] premises)
+  pub text_is : text ≡ says_text s cell
+      (beliefs (set_of w.search.worldview) w.cells.contents cell) premises
 
 -- The text names the sides that are believed, the instance that was called, with its cells, and
 -- says what is believed of its output.
@@ -103,5 +102,7 @@ abbrev pub telling : {O : Type 0} → Picks O → List Stored → Machine (Told 
 telling picks library old line answer new =
     Own (is_step line) ((new.notes ≡ old.notes)
     × TellsStep picks library old.standing answer new.standing)
+    (Own (is_how line) ((new.notes ≡ old.notes)
+    × TellsHow library old.standing line answer new.standing)
     (Own (is_list line) ((new ≡ old) × SaysList library old.notes old.standing answer)
-    (DoesAsSession picks library old line answer new))
+    (DoesAsSession picks library old line answer new)))

@@ -8,7 +8,9 @@ use Rattle.prop_premises.specs.Origins.{Origin, User, Side, side_at}
 use Rattle.prop_vocabulary.specs.Cells.{CellNames, name_at}
 use Rattle.prop_procedures.specs.Stored.{Stored}
 use Rattle.prop_cells.specs.Instances.{Instance}
-use Rattle.prop_texts.specs.Texts.{premises_text}
+use Rattle.prop_lattice.specs.declared.info.Info.{Info}
+use Rattle.prop_texts.specs.Texts.{premises_text, equation, because}
+use Rattle.prop_workbench.specs.Machine.{State, text_at}
 
 -- a cell by its name, or by `#` and its number where it has none
 abbrev pub cell_text : CellNames → ℕ → List ℕ
@@ -27,6 +29,11 @@ abbrev pub call_text : CellNames → List Stored → ℕ → Instance → List �
 call_text names library i x =
     codes "called: " ++ (decimal i ++ (codes " " ++ (procedure_text library x.procedure
     ++ (cells_text names x.inputs ++ (codes " " ++ cell_text names x.output)))))
+
+-- what is said of a cell, and the premises on which it rests
+abbrev pub says_text : State → ℕ → Info → List ℕ → List ℕ
+says_text s cell v premises =
+    equation (cell_text s.names cell) (text_at s cell v) (because s.premises [] premises)
 
 -- the sides of choices among these premises, each with one space before it
 abbrev pub sides_text : List Origin → Members → List ℕ

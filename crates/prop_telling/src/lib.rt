@@ -9,6 +9,7 @@
 #![tactic(auto)]
 
 mod asking;
+mod how;
 mod interpreting;
 mod listing;
 mod naming;

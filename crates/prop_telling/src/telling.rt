@@ -3,12 +3,13 @@ ghost use Rattle.std.specs.Prelude.{◌≡◌};
 ghost use Rattle.prop_engine.specs.Answers.{answer_of};
 ghost use Rattle.prop_telling.specs.Notes.{is_done};
 
-use crate::asking::{is_list, is_step, may_declare};
+use crate::asking::{is_how, is_list, is_step, may_declare};
 use crate::notes::{Note, Notes};
 use crate::texts::{call_text, cell_text, moved_text, sides_text};
 use prop_amb::{Move, Step};
 use prop_engine::Reply;
 use prop_language::read_line;
+use prop_lattice::Info;
 use prop_premises::{PremiseSet, Worldview};
 use prop_procedures::Rule;
 use prop_refusals::Refusal;
@@ -43,7 +44,8 @@ impl<R: Rule + Drop, O: Order + Drop> Teller<R, O> {
     ghost use Rattle.prop_workbench.specs.Sessions.{IsSound, IsMeant};
     ghost use Rattle.prop_telling.specs.Telling.{telling, DoesAsSession, IsNoted, TellsStep};
     ghost use Rattle.prop_telling.specs.Telling.{SaysStep, SaysCall, SaysValue};
-    ghost use Rattle.prop_telling.specs.Texts.{moved_text, sides_text, two_lines, three_lines};
+    ghost use Rattle.prop_telling.specs.Texts.{moved_text, sides_text, says_text};
+    ghost use Rattle.prop_telling.specs.Texts.{two_lines, three_lines};
     ghost use Rattle.prop_telling.specs.inner.Telling.{IsNamed, told_of};
     ghost use Rattle.prop_telling.specs.inner.Notes.{note_value, LacksMemory};
     ghost use Rattle.prop_telling.specs.Notes.{no_notes, note_read};
@@ -74,6 +76,9 @@ impl<R: Rule + Drop, O: Order + Drop> Teller<R, O> {
     {
         if is_step(line) {
             return self.step();
+        }
+        if is_how(line) {
+            return self.how(line);
         }
         if is_list(line) {
             return self.list();
@@ -244,18 +249,33 @@ impl<R: Rule + Drop, O: Order + Drop> Teller<R, O> {
         ensures { IfOk result (λ text. SaysValue (state_of self.now.session)
             (work_of self.now.session) cell (string_bytes text)) }
     {
-        let alloc = self.session.alloc();
         let network = self.session.live().network();
         let why = network.explanation(cell, self.session.search().worldview())?;
+        self.said(cell, why.value, &why.support)
+    }
+
+    /// What is said of a cell, and on which premises.
+    pub(crate) fn said(
+        &self,
+        cell: usize,
+        value: Info,
+        support: &PremiseSet,
+    ) -> Result<String, AllocError>
+        requires cell { cell < length self.now.session.live.network.cells.kinds }
+        requires known { All (λ p. p < length self.now.session.search.premises) support.now }
+        ensures { IfOk result (λ text. string_bytes text ≡ says_text (state_of self.now.session)
+            cell value support.now) }
+    {
+        let alloc = self.session.alloc();
         let name = cell_text(alloc, self.session.names(), cell)?;
-        let kind = network.data().kind(cell).kind;
-        let value = self.session.words().print_value(alloc, kind, why.value)?;
-        let because = because(alloc, self.session.search().premises(), "", &why.support)?;
+        let kind = self.session.live().network().data().kind(cell).kind;
+        let value = self.session.words().print_value(alloc, kind, value)?;
+        let because = because(alloc, self.session.search().premises(), "", support)?;
         format!(in alloc; "{name} = {value}{because}")
     }
 
     /// The sides that are believed in a worldview.
-    fn sides(&self, worldview: &Worldview) -> Result<String, AllocError>
+    pub(crate) fn sides(&self, worldview: &Worldview) -> Result<String, AllocError>
         ensures { IfOk result (λ text. string_bytes text ≡ sides_text
             self.now.session.search.premises (set_of worldview.now)) }
     {

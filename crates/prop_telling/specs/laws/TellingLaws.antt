@@ -3,9 +3,8 @@ use Rattle.std.proofs.Common.{◌≡◌, ℕ, ◌≤◌, ◌<◌, List, [], ◌�
 use Rattle.std.proofs.Common.{inl, inr, length, take, arith}
 use Rattle.std.specs.Prelude.{Option, Some, None, Result, Ok, Err}
 use Rattle.std.proofs.lemmas.List.{length-take, take_all}
-use Rattle.std.proofs.lemmas.Bool.{cases_lt}
 use Rattle.prop_refusals.specs.declared.refusal.Refusal.{Refusal}
-use Rattle.prop_refusals.specs.declared.refusal.Refusal.TheVariants.{LineTooLong, Memory}
+use Rattle.prop_refusals.specs.declared.refusal.Refusal.TheVariants.{Memory}
 use Rattle.prop_procedures.specs.Stored.{Stored}
 use Rattle.prop_language.specs.Commands.{Command}
 use Rattle.prop_language.specs.Reading.{IsReading, AsRead}
@@ -19,7 +18,8 @@ use Rattle.prop_workbench.specs.Questions.{Picks}
 use Rattle.prop_workbench.specs.Engine.{Standing, Works}
 use Rattle.prop_workbench.specs.laws.MachineLaws.{working_asks_by_prefix}
 use Rattle.prop_workbench.specs.laws.RefusalLaws.{lean_refused, earns_refused, wakes_refused}
-use Rattle.prop_telling.specs.Asking.{is_step, is_list, may_declare}
+use Rattle.prop_telling.specs.Asking.{is_step, is_how, as_why, is_list, may_declare}
+use Rattle.prop_telling.specs.How.{TellsHow}
 use Rattle.prop_telling.specs.Notes.{Notes, Note, note_read, noted}
 use Rattle.prop_telling.specs.Telling.{Told, telling, Own, TellsStep, IsNoted, DoesAsSession}
 use Rattle.prop_telling.specs.Listing.{SaysList}
@@ -54,28 +54,36 @@ kept_may [] = refl
 kept_may (a ∷ []) = refl
 kept_may (a ∷ b ∷ line) = refl
 
--- a line that is too long asks for nothing else
-too_long : (line : List ℕ) (read : Result (Option Command) Refusal) → 4096 < length line
-    → IsReading line read → read ≡ Err LineTooLong
-too_long line read h (inl (l, e)) = e
-too_long line read h (inr (l, r)) = absurd (omega arith)
+kept_is_how : (line : List ℕ) → is_how (kept_of line) ≡ is_how line
+unfolding kept_of
+kept_is_how [] = refl
+kept_is_how (a ∷ []) = refl
+kept_is_how (a ∷ b ∷ []) = refl
+kept_is_how (a ∷ b ∷ c ∷ []) = refl
+kept_is_how (a ∷ b ∷ c ∷ d ∷ line) = refl
 
--- what is kept of a line asks for what the line asks for
-kept_is_read : (line : List ℕ) (read : Result (Option Command) Refusal)
+kept_as_why : (line : List ℕ) → as_why (kept_of line) ≡ kept_of (as_why line)
+unfolding kept_of
+kept_as_why [] = refl
+kept_as_why (a ∷ []) = refl
+kept_as_why (a ∷ b ∷ []) = refl
+kept_as_why (a ∷ b ∷ c ∷ line) = refl
+
+-- what is kept of a line asks what the line asks
+kept_reading : (line : List ℕ) (read : Result (Option Command) Refusal)
     → IsReading (kept_of line) read → IsReading line read
 unfolding kept_of
-kept_is_read line read r = elim (cases_lt 4097 (length line)) [
-  | inl h ↦ inl (omega (arith, h), too_long (take 4097 line) read
-      (omega (arith, length-take 4097 line, h)) r)
-  | inr h ↦ subst (λ l. IsReading l read) (take_all 4097 line h) r
-]
+kept_reading line read (inl (l, e)) = inl (omega (arith, l, length-take 4097 line), e)
+kept_reading line read (inr (l, r)) =
+    let short : length line ≤ 4097 = omega (arith, l, length-take 4097 line) in
+    subst (λ (bytes : List ℕ). IsReading bytes read) (take_all 4097 line short) (inr (l, r))
 
 -- ---- lines by what is kept of them
 
 noted_by_kept : {O : Type 0} (old : Told O) (line : List ℕ) (answer : Answer) (new : Notes)
     (b : Bool) → Own b (IsNoted old (kept_of line) answer new) (new ≡ old.notes)
     → Own b (IsNoted old line answer new) (new ≡ old.notes)
-noted_by_kept old line answer new true (read, is, e) = (read, kept_is_read line read is, e)
+noted_by_kept old line answer new true (read, is, e) = (read, kept_reading line read is, e)
 noted_by_kept old line answer new false e = e
 
 does_by_kept : {O : Type 0} (picks : Picks O) (library : List Stored) (old : Told O)
@@ -89,24 +97,37 @@ does_by_kept picks library old line answer new does = record {
       (new.notes ≡ old.notes)) (kept_may line) does.noted);
 }
 
-by_kind : {O : Type 0} (picks : Picks O) (library : List Stored) (old : Told O)
-    (line : List ℕ) (answer : Answer) (new : Told O) (Steps Lists : Type 0) (b c : Bool)
-    → Own b Steps (Own c Lists (DoesAsSession picks library old (kept_of line) answer new))
-    → Own b Steps (Own c Lists (DoesAsSession picks library old line answer new))
-by_kind picks library old line answer new Steps Lists true c tells = tells
-by_kind picks library old line answer new Steps Lists false true tells = tells
-by_kind picks library old line answer new Steps Lists false false does =
-    does_by_kept picks library old line answer new does
+kept_tells_how : {O : Type 0} (library : List Stored) (old : Standing O) (line : List ℕ)
+    (answer : Answer) (new : Standing O) → TellsHow library old (kept_of line) answer new
+    → TellsHow library old line answer new
+kept_tells_how library old line answer new h = record {
+  same = h.same;
+  told = elim h.told [
+    | inl memory ↦ inl memory
+    | inr (read, is, answers) ↦ inr (
+      read,
+      kept_reading (as_why line) read
+          (subst (λ (bytes : List ℕ). IsReading bytes read) (kept_as_why line) is),
+      answers,
+    )
+  ];
+}
+
+-- the one or the other, each from what is another's own
+own_from : {A B C D : Type 0} (b c : Bool) → b ≡ c → (A → C) → (B → D) → Own b A B → Own c C D
+own_from true true e f g x = f x
+own_from false false e f g x = g x
+own_from true false e f g x = cc
+own_from false true e f g x = cc
 
 pub telling_asks_by_prefix : {O : Type 0} (picks : Picks O) (library : List Stored)
     → AsksByPrefix (telling picks library)
 telling_asks_by_prefix picks library old line answer new tells =
-    let Steps : Type 0 = (new.notes ≡ old.notes)
-    × TellsStep picks library old.standing answer new.standing in
-    let Lists : Type 0 = (new ≡ old) × SaysList library old.notes old.standing answer in
-    by_kind picks library old line answer new Steps Lists (is_step line) (is_list line)
-    (subst (λ (P : Type 0). P) (λ i. Own (kept_is_step line i) Steps (Own (kept_is_list line i)
-    Lists (DoesAsSession picks library old (kept_of line) answer new))) tells)
+    own_from (is_step (kept_of line)) (is_step line) (kept_is_step line) (λ step. step)
+    (own_from (is_how (kept_of line)) (is_how line) (kept_is_how line)
+    (λ how. (how.0, kept_tells_how library old.standing line answer new.standing how.1))
+    (own_from (is_list (kept_of line)) (is_list line) (kept_is_list line) (λ list. list)
+    (does_by_kept picks library old line answer new))) tells
 
 -- ---- some answer
 
@@ -209,19 +230,24 @@ rests picks library old line (Err refusal) is = (
 )
 
 somehow : {O : Type 0} (picks : Picks O) (library : List Stored) (old : Told O)
-    (line : List ℕ) (b c : Bool) → (answer : Answer)
+    (line : List ℕ) (b c d : Bool) → (answer : Answer)
     × Own b ((old.notes ≡ old.notes) × TellsStep picks library old.standing answer old.standing)
-    (Own c ((old ≡ old) × SaysList library old.notes old.standing answer)
-    (DoesAsSession picks library old line answer old))
-somehow picks library old line true c = (
+    (Own c ((old.notes ≡ old.notes) × TellsHow library old.standing line answer old.standing)
+    (Own d ((old ≡ old) × SaysList library old.notes old.standing answer)
+    (DoesAsSession picks library old line answer old)))
+somehow picks library old line true c d = (
   Refused Memory,
   (refl, record { state = refl; covers = λ named c. c; fits = λ fits. fits; told = inl refl }),
 )
-somehow picks library old line false true = (Refused Memory, (refl, inr refl))
-somehow picks library old line false false =
+somehow picks library old line false true d = (
+  Refused Memory,
+  (refl, record { same = refl; told = inl refl }),
+)
+somehow picks library old line false false true = (Refused Memory, (refl, inr refl))
+somehow picks library old line false false false =
     let read = have_one_reading line in rests picks library old line read.0 read.1
 
 pub telling_is_total : {O : Type 0} (picks : Picks O) (library : List Stored)
     → IsTotal (telling picks library)
 telling_is_total picks library old line =
-    somehow picks library old line (is_step line) (is_list line)
+    somehow picks library old line (is_step line) (is_how line) (is_list line)
