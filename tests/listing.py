@@ -116,6 +116,10 @@ class Told(choices.Told):
         self.made.attach(line)
         self.say(line)
 
+    def attach(self, name: str, cells: list[str]) -> None:
+        super().attach(name, cells)
+        self.made.attach(self.lines[-1])
+
     def list(self, settled: bool) -> None:
         made = replace(self.made, cells=[*self.made.cells], instances=[*self.made.instances])
         if settled:
@@ -130,17 +134,16 @@ class Told(choices.Told):
 
 
 class Draw(choices.Draw):
-    """Draws lines, and lists between them: at first with compounds, and then, once something is stated, without them."""
+    """Draws lines with compounds and procedures among them, and lists between them before anything runs."""
 
     TOLD = Told
-    COMMANDS = [*["tell"] * 4, "fix", *["kick", "bring", "forget"], *["choose"] * 3, *["list"] * 3]
+    COMMANDS = [*["compound", "tell"] * 3, "attach", "fix", "kick", "bring", "forget", *["choose"] * 3, *["list"] * 3]
+    SETTLED = False
 
     def draw(self) -> None:
         for line in [*plain.DECLARED, *DEFINED]:
             self.act("declare", line)
-        for _ in range(self.chance.randrange(8)):
-            self.compound()
-        for _ in range(self.chance.randrange(30)):
+        for _ in range(self.chance.randrange(40)):
             getattr(self, self.chance.choice(self.COMMANDS))()
         self.list()
 
@@ -150,8 +153,16 @@ class Draw(choices.Draw):
         self.act("compound", name, cells, given, self.chance.choice(["", "", " ", "\t"]))
 
     def list(self) -> None:
-        self.act("list", False)
+        self.act("list", self.SETTLED)
+
+
+class Settled(Draw):
+    """Draws lines with procedures alone, so that the plain evaluation knows where the choices stand, and lists between them where all is settled."""
+
+    COMMANDS = [*["tell", "attach"] * 3, "kick", "bring", "forget", *["choose"] * 4, *["list"] * 3]
+    SETTLED = True
 
 
 def cases(count: int) -> Iterator[drawn.Drawn]:
     yield from drawn.drawn(Draw, "lists", count)
+    yield from drawn.drawn(Settled, "lists where all is settled", count)

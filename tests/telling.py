@@ -20,6 +20,7 @@ from typing import Any, Iterator, Optional
 import choices
 import drawn
 import formulas
+import listing
 import plain
 import steps
 from case import ORDERS, Check
@@ -214,6 +215,7 @@ class DrawChoices(choices.Draw):
 def cases(count: int = DRAWN) -> Iterator[drawn.Drawn]:
     yield from drawn.drawn(Draw, "telling", count)
     yield from drawn.drawn(DrawChoices, "telling with choices", count)
+    yield from listing.cases(count)
 
 
 def over_propwide(case: drawn.Drawn, options: list[str]) -> Check:

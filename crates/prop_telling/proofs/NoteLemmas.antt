@@ -1,6 +1,6 @@
 -- How paths are added, and what is noted.
 use Rattle.std.proofs.Common.{◌≡◌, ◌∙◌, ◌+◌, ◌<◌, ◌≤◌, ℕ, zero, suc, List, [], ◌∷◌, ◌++◌, length, take, drop, map, sym, ap, refl}
-use Rattle.std.proofs.Common.{append_assoc, append-nil, length-append, arith, subst, get_or, inr, Bool, true, false, cond}
+use Rattle.std.proofs.Common.{append_assoc, append-nil, length-append, arith, subst, get_or, ◌⊎◌, inl, inr, Bool, true, false, cond}
 use Rattle.std.specs.Prelude.{Option, Some, None, Result, Ok, Err, IsSome, OnErr}
 use Rattle.std.proofs.lemmas.List.{take-append-le, take_all, at_drop_more}
 use Rattle.prop_refusals.specs.declared.refusal.Refusal.{Refusal}
@@ -53,7 +53,7 @@ adds_all all new h =
 pub before_first : {A : Type 0} (all : List A) → AddsBefore all all []
 before_first all = record { more = []; adds = record { few = omega arith; adds = λ rest. refl }; split = refl }
 
-pub before_then : {A : Type 0} (xs left all new new' : List A) → AddsBefore (xs ++ left) all new
+before_then : {A : Type 0} (xs left all new new' : List A) → AddsBefore (xs ++ left) all new
     → AddsPaths new xs new' → AddsBefore left all new'
 before_then xs left all new new' before more = record {
   more = before.more ++ xs;
@@ -68,7 +68,7 @@ before_last all new before =
 -- ---- steps
 
 -- a local, by its name
-pub locals_local : (notes : Notes) (n : ℕ) (steps : List Step) (i : ℕ) (d step : Step) (name : List ℕ)
+locals_local : (notes : Notes) (n : ℕ) (steps : List Step) (i : ℕ) (d step : Step) (name : List ℕ)
     → i < length steps → get_or steps i d ≡ step
     → ((rest : List Step) → locals_from notes n (step ∷ rest) ≡ name ∷ locals_from notes n rest)
     → locals_from notes n (drop i steps) ≡ (name ∷ []) ++ locals_from notes n (drop (i + 1) steps)
@@ -76,7 +76,7 @@ locals_local notes n steps i d step name l is local =
     at_drop_more (locals_from notes n) steps i d l ∙ ap (λ s. locals_from notes n (s ∷ drop (i + 1) steps)) is
     ∙ local (drop (i + 1) steps)
 
-pub parts_local : (notes : Notes) (n : ℕ) (steps : List Step) (i : ℕ) (d step : Step)
+parts_local : (notes : Notes) (n : ℕ) (steps : List Step) (i : ℕ) (d step : Step)
     → i < length steps → get_or steps i d ≡ step
     → ((rest : List Step) → parts_from notes n (step ∷ rest) ≡ parts_from notes n rest)
     → parts_from notes n (drop i steps) ≡ parts_from notes n (drop (i + 1) steps)
@@ -85,7 +85,7 @@ parts_local notes n steps i d step l is local =
     ∙ local (drop (i + 1) steps)
 
 -- a use, which has the next number
-pub locals_use : (notes : Notes) (n : ℕ) (steps : List Step) (i : ℕ) (d : Step) (name : List ℕ)
+locals_use : (notes : Notes) (n : ℕ) (steps : List Step) (i : ℕ) (d : Step) (name : List ℕ)
     (cells : List (List ℕ)) (passed : Passed) → i < length steps → get_or steps i d ≡ Step.Use name cells passed
     → locals_from notes n (drop i steps) ≡ locals_within (n + 1) (inner_at notes (definition_named notes name))
     ++ locals_from notes (n + 1) (drop (i + 1) steps)
@@ -94,7 +94,7 @@ locals_use notes n steps i d name cells passed l is =
     ∙ ap (λ m. locals_within m (inner_at notes (definition_named notes name))
     ++ locals_from notes m (drop (i + 1) steps)) (omega arith)
 
-pub parts_use : (notes : Notes) (n : ℕ) (steps : List Step) (i : ℕ) (d : Step) (name : List ℕ)
+parts_use : (notes : Notes) (n : ℕ) (steps : List Step) (i : ℕ) (d : Step) (name : List ℕ)
     (cells : List (List ℕ)) (passed : Passed) → i < length steps → get_or steps i d ≡ Step.Use name cells passed
     → parts_from notes n (drop i steps) ≡ parts_within (n + 1) passed (inner_at notes (definition_named notes name))
     ++ parts_from notes (n + 1) (drop (i + 1) steps)
@@ -102,6 +102,52 @@ parts_use notes n steps i d name cells passed l is =
     at_drop_more (parts_from notes n) steps i d l ∙ ap (λ s. parts_from notes n (s ∷ drop (i + 1) steps)) is
     ∙ ap (λ m. parts_within m passed (inner_at notes (definition_named notes name))
     ++ parts_from notes m (drop (i + 1) steps)) (omega arith)
+
+-- a step that makes a local was taken
+pub local_taken : (notes : Notes) (n m : ℕ) (steps : List Step) (i : ℕ) (d step : Step) (name : List ℕ)
+    (old new : Inner) → i < length steps → get_or steps i d ≡ step
+    → ((rest : List Step) → locals_from notes n (step ∷ rest) ≡ name ∷ locals_from notes n rest)
+    → ((rest : List Step) → parts_from notes n (step ∷ rest) ≡ parts_from notes n rest) → m ≡ n
+    → AddsBefore (locals_from notes n (drop i steps)) (locals_from notes 0 steps) old.locals
+    → AddsBefore (parts_from notes n (drop i steps)) (parts_from notes 0 steps) old.parts
+    → AddsPaths old.locals (name ∷ []) new.locals → new.parts ≡ old.parts
+    → AddsBefore (locals_from notes m (drop (i + 1) steps)) (locals_from notes 0 steps) new.locals
+    × AddsBefore (parts_from notes m (drop (i + 1) steps)) (parts_from notes 0 steps) new.parts
+local_taken notes n m steps i d step name old new l at local part same locals parts more kept =
+    let all = locals_from notes 0 steps in
+    let begun = subst (λ xs. AddsBefore xs all old.locals)
+    (locals_local notes n steps i d step name l at local) locals in
+    let left = subst (λ xs. AddsBefore xs (parts_from notes 0 steps) old.parts)
+    (parts_local notes n steps i d step l at part) parts in (
+      subst (λ k. AddsBefore (locals_from notes k (drop (i + 1) steps)) all new.locals) (sym same)
+          (before_then (name ∷ []) (locals_from notes n (drop (i + 1) steps)) all old.locals new.locals begun more),
+      subst (λ (P : Type 0). P) (λ k. AddsBefore (parts_from notes (sym same k) (drop (i + 1) steps))
+          (parts_from notes 0 steps) (sym kept k)) left,
+    )
+
+-- a step that uses something was taken
+pub use_taken : (notes : Notes) (n m : ℕ) (steps : List Step) (i : ℕ) (d : Step) (name : List ℕ)
+    (cells : List (List ℕ)) (passed : Passed) (old new : Inner) → i < length steps
+    → get_or steps i d ≡ Step.Use name cells passed → m ≡ n + 1
+    → AddsBefore (locals_from notes n (drop i steps)) (locals_from notes 0 steps) old.locals
+    → AddsBefore (parts_from notes n (drop i steps)) (parts_from notes 0 steps) old.parts
+    → AddsPaths old.locals (locals_within (n + 1) (inner_at notes (definition_named notes name))) new.locals
+    → AddsPaths old.parts (parts_within (n + 1) passed (inner_at notes (definition_named notes name))) new.parts
+    → AddsBefore (locals_from notes m (drop (i + 1) steps)) (locals_from notes 0 steps) new.locals
+    × AddsBefore (parts_from notes m (drop (i + 1) steps)) (parts_from notes 0 steps) new.parts
+use_taken notes n m steps i d name cells passed old new l at same locals parts more made =
+    let used = inner_at notes (definition_named notes name) in
+    let begun = subst (λ xs. AddsBefore xs (locals_from notes 0 steps) old.locals)
+    (locals_use notes n steps i d name cells passed l at) locals in
+    let left = subst (λ xs. AddsBefore xs (parts_from notes 0 steps) old.parts)
+    (parts_use notes n steps i d name cells passed l at) parts in (
+      subst (λ k. AddsBefore (locals_from notes k (drop (i + 1) steps)) (locals_from notes 0 steps) new.locals)
+          (sym same) (before_then (locals_within (n + 1) used) (locals_from notes (n + 1) (drop (i + 1) steps))
+          (locals_from notes 0 steps) old.locals new.locals begun more),
+      subst (λ k. AddsBefore (parts_from notes k (drop (i + 1) steps)) (parts_from notes 0 steps) new.parts)
+          (sym same) (before_then (parts_within (n + 1) passed used) (parts_from notes (n + 1) (drop (i + 1) steps))
+          (parts_from notes 0 steps) old.parts new.parts left made),
+    )
 
 -- ---- what is noted
 
@@ -151,7 +197,15 @@ declares_lacks n cells instances line note (read, is, e) = by read is e
 pub some_lacks : (line : List ℕ) (x : Option Command) → IsReading line (Ok x) → IsSome x → LacksMemory line
 some_lacks line (Some command) is s =
     (Ok (Some command), is, λ library old. inr record { answer_is = refl; same = refl })
-some_lacks line None is s = absurd s
+some_lacks line None is s = absurd (nothing s)
+  where
+    nothing : IsSome {T = Command} None → ⊥
+    nothing s = cc
+
+-- the one of two that is left
+pub other_one : {P Q : Type 0} → P ⊎ Q → (P → ⊥) → Q
+other_one (inl p) h = absurd (h p)
+other_one (inr q) h = q
 
 pub on_err : {T E P Q : Type 0} (r : Result T E) → (P → Q) → OnErr r P → OnErr r Q
 on_err (Ok t) f h = tt

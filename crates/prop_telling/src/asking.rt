@@ -38,6 +38,7 @@ pub(crate) fn as_why(alloc: Global, line: &[u8]) -> Result<Vec<u8>, AllocError>
         bytes.extend_from_slice(rest)?;
     }
     Ok(bytes)
+}
 
 /// Whether the line asks what is there: it is that word, and maybe a carriage return.
 pub(crate) fn is_list(line: &[u8]) -> bool

@@ -9,6 +9,12 @@ use Rattle.prop_telling.specs.inner.Telling.{told_of}
 use Rattle.prop_telling.proofs.Starting.{told_after, told_part_after}
 use Rattle.prop_telling.proofs.running.serve.Goals as goal
 
+pub load_prelude-requires-clause-means : goal.load_prelude-requires-clause-means
+load_prelude-requires-clause-means g c = rw c.new-teller.ensures.session c.requires.means
+
+pub load_prelude-requires-clause-sound : goal.load_prelude-requires-clause-sound
+load_prelude-requires-clause-sound g c = rw c.new-teller.ensures.session c.requires.sound
+
 pub tell-requires-clause-means : goal.tell-requires-clause-means
 tell-requires-clause-means g c = rw (c.load_prelude.ensures.same, c.new-teller.ensures.session) c.requires.means
 

@@ -18,8 +18,8 @@ returns-then-not-is_done-clause-does g c =
     let same : c.back.new.self ≡ t.notes = c.back.ensures
     ∙ (λ i. record {
       domains = take (counts i).0 (noted i).domains;
-      definitions = take (counts i).1.0 (noted i).definitions;
-      uses = take (counts i).1.1 (noted i).uses;
+      definitions = take (counts i).1 (noted i).definitions;
+      uses = take (counts i).2 (noted i).uses;
     })
     ∙ taken_back t.notes (note_value c.args.note) in
     does_noted g.O.Order.picks library (told_of t) c.args.line.now (answer_of c.pass-reply.result)

@@ -4,7 +4,7 @@ use Rattle.prop_refusals.specs.declared.refusal.Refusal.TheVariants.{Memory}
 use Rattle.prop_language.specs.Said.{said}
 use Rattle.prop_workbench.proofs.HeardLemmas.{follows_refused}
 use Rattle.prop_telling.specs.Notes.{note_read}
-use Rattle.prop_telling.proofs.NoteLemmas.{some_lacks, on_err}
+use Rattle.prop_telling.proofs.NoteLemmas.{some_lacks, on_err, other_one}
 use Rattle.prop_telling.proofs.telling.Teller.note.Goals as goal
 
 pub returns-in-Ok-clause-ok : goal.returns-in-Ok-clause-ok
@@ -26,3 +26,13 @@ pub returns-in-Ok-clause-err : goal.returns-in-Ok-clause-err
 returns-in-Ok-clause-err g c =
     on_err c.note_of.result (some_lacks c.args.line.now (said c.in-Ok.command) c.in-Ok.ensures.read)
     c.note_of.ensures.err
+
+pub returns-in-Memory-clause-err : goal.returns-in-Memory-clause-err
+returns-in-Memory-clause-err g c =
+    follows_refused c.args.line.now Memory (inl refl) (λ m. c.in-Err.ensures.memory (ap Err c.in-Memory.is))
+
+pub returns-in_default : goal.returns-in_default
+returns-in_default g c = record {
+  ok = (Err c.in-Err.refusal, other_one c.in-Err.ensures.read c.in_default.not-Memory, refl);
+  err = tt;
+}
