@@ -1,14 +1,13 @@
 -- Lines, one more at a time.
 use Rattle.std.proofs.Common.{◌≡◌, ◌∙◌, ◌+◌, ◌<◌, ℕ, zero, suc, List, [], ◌∷◌, ◌++◌, length, take, map, sym, ap, refl}
-use Rattle.std.proofs.Common.{append_assoc, append-nil, arith, Bool, get_or, Some, None, slice_get, IsTrue}
+use Rattle.std.proofs.Common.{append_assoc, append-nil, arith, Bool, get_or, Some, None, slice_get}
 use Rattle.std.specs.List.{range_with_len}
 use Rattle.std.specs.Option.{option_map, option_map_or}
-use Rattle.std.specs.Prelude.{flat_map, Option, is_some, true, false, codes, decimal, unwrap_or, ◌≤◌}
+use Rattle.std.specs.Prelude.{flat_map, Option, is_some, true, false, codes, decimal, unwrap_or}
 use Rattle.std.proofs.lemmas.List.{take_more, map-append}
 use Rattle.std.proofs.lemmas.List.FromFn.{map-range_with_len_more}
 use Rattle.std.proofs.lemmas.List.Concat.{flat_map-append}
-use Rattle.std.proofs.lemmas.Option.{slice_get-get_or}
-use Rattle.prop_premises.specs.Origins.{Origin, User, Side, name_of, side_at, believed_in}
+use Rattle.prop_premises.specs.Origins.{Origin, User, Side, name_of, side_at}
 use Rattle.prop_premises.specs.Origins.{choices_of}
 use Rattle.prop_premises.specs.declared.choice.Choice.{Choice}
 use Rattle.prop_premises.specs.ChoiceLists.{hypothetical, IsSide}

@@ -1,5 +1,5 @@
 -- How paths are added, and what is noted.
-use Rattle.std.proofs.Common.{◌≡◌, ◌∙◌, ◌+◌, ◌<◌, ◌≤◌, ℕ, zero, suc, List, [], ◌∷◌, ◌++◌, length, take, drop, map, sym, ap, refl}
+use Rattle.std.proofs.Common.{◌≡◌, ◌∙◌, ◌+◌, ◌<◌, ◌≤◌, ℕ, List, [], ◌∷◌, ◌++◌, length, take, drop, sym, ap, refl}
 use Rattle.std.proofs.Common.{append_assoc, append-nil, length-append, arith, subst, get_or, ◌⊎◌, inl, inr, Bool, true, false, cond}
 use Rattle.std.specs.Prelude.{Option, Some, None, Result, Ok, Err, IsSome, OnErr}
 use Rattle.std.proofs.lemmas.List.{take-append-le, take_all, at_drop_more}
@@ -10,7 +10,7 @@ use Rattle.prop_workbench.specs.Questions.{Picks}
 use Rattle.prop_workbench.specs.Engine.{Works}
 use Rattle.prop_language.specs.Commands.{Step, Command, Passed}
 use Rattle.prop_language.specs.Reading.{IsReading, AsRead}
-use Rattle.prop_telling.specs.Notes.{Notes, Note, Inner, Domain, Definition, Attached, Part, most_paths, with_note}
+use Rattle.prop_telling.specs.Notes.{Notes, Note, Inner, Domain, Definition, Attached, most_paths, with_note}
 use Rattle.prop_telling.specs.Notes.{note_read, locals_from, parts_from, locals_within, parts_within, inner_at}
 use Rattle.prop_telling.specs.Notes.{definition_named}
 use Rattle.prop_telling.specs.inner.Notes.{AddsPaths, AddsBefore, LacksMemory}

@@ -1,5 +1,5 @@
 -- What is there, line by line.
-use Rattle.std.specs.Prelude.{◌≡◌, ◌⊎◌, ℕ, ◌+◌, ◌-◌, List, [], ◌∷◌, ◌++◌, Bool, true, false, codes}
+use Rattle.std.specs.Prelude.{◌≡◌, ◌⊎◌, ℕ, ◌-◌, List, [], ◌∷◌, ◌++◌, Bool, true, false, codes}
 use Rattle.std.specs.Prelude.{decimal, Option, Some, None, flat_map, length, map, slice_get}
 use Rattle.std.specs.Prelude.{unwrap_or, cond, ◌==◌}
 use Rattle.std.specs.List.{range_with_len}
@@ -24,7 +24,7 @@ use Rattle.prop_workbench.specs.Machine.{State, text_at}
 use Rattle.prop_workbench.specs.Engine.{Standing}
 use Rattle.prop_telling.specs.Texts.{procedure_text}
 use Rattle.prop_telling.specs.Notes.{Notes}
-use Rattle.prop_telling.specs.Naming.{Made, cell_name, cell_names, made_at}
+use Rattle.prop_telling.specs.Naming.{cell_name, cell_names, made_at}
 
 -- the name of the domain with this number, of which the first has 1
 abbrev pub domain_text : Notes → ℕ → List ℕ

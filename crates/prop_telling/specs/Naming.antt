@@ -1,5 +1,5 @@
 -- The names of cells that have none of their own, and of instances, by the uses that made them.
-use Rattle.std.specs.Prelude.{ℕ, zero, suc, ◌-◌, List, [], ◌∷◌, ◌++◌, Bool, cond, nat_le, codes}
+use Rattle.std.specs.Prelude.{ℕ, zero, suc, ◌-◌, List, [], ◌∷◌, ◌++◌, cond, nat_le, codes}
 use Rattle.std.specs.Prelude.{decimal, Option, Some, None, filter, flat_map, length, slice_get}
 use Rattle.std.specs.Prelude.{unwrap_or}
 use Rattle.std.specs.Option.{option_and_then, option_map_or}

@@ -1,12 +1,11 @@
 -- What lines declared, as far as the session keeps no names of it.
 use Rattle.std.specs.Prelude.{ℕ, suc, List, [], ◌∷◌, ◌++◌, Bool, true, false, cond, bytes_eq, codes}
-use Rattle.std.specs.Prelude.{decimal, Option, Some, None, Result, Ok, Err, map, position, slice_get}
+use Rattle.std.specs.Prelude.{decimal, Option, Some, None, Result, Ok, map, position, slice_get}
 use Rattle.std.specs.Prelude.{take, cond}
 use Rattle.std.specs.Fmt.{signed_decimal}
 use Rattle.std.specs.Option.{option_map_or, option_and_then}
 use Rattle.prop_refusals.specs.declared.refusal.Refusal.{Refusal}
 use Rattle.prop_language.specs.Commands.{By, Passed, Step, Command}
-use Rattle.prop_language.specs.Reading.{AsRead}
 use Rattle.prop_engine.specs.Answers.{Answer, Done}
 
 -- an instance that a use makes: which of the uses within it, and within that, and so on; and what

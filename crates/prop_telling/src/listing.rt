@@ -164,7 +164,10 @@ impl<R: Rule + Drop, O: Order + Drop> Teller<R, O> {
     {
         let alloc = self.session.alloc();
         let name = self.notes.cell_name(alloc, self.session.names(), cell)?;
-        let kind = kind_text(&self.notes, self.session.live().network().data().kind(cell).kind);
+        let kind = kind_text(
+            &self.notes,
+            self.session.live().network().data().kind(cell).kind,
+        );
         format!(in alloc; "cell {name} {kind}")
     }
 
@@ -210,9 +213,14 @@ impl<R: Rule + Drop, O: Order + Drop> Teller<R, O> {
         let data = self.session.live().network().data();
         let statement = data.statements()[number];
         let begin = begin_text(alloc, self.session.search().premises(), statement.premise)?;
-        let name = self.notes.cell_name(alloc, self.session.names(), statement.cell)?;
+        let name = self
+            .notes
+            .cell_name(alloc, self.session.names(), statement.cell)?;
         let kind = data.kind(statement.cell).kind;
-        let value = self.session.words().print_value(alloc, kind, statement.info)?;
+        let value = self
+            .session
+            .words()
+            .print_value(alloc, kind, statement.info)?;
         format!(in alloc; "{begin} {name} {value}")
     }
 

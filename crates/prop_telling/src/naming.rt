@@ -62,12 +62,7 @@ fn given<'a>(part: &'a Part, by: &'a str) -> &'a str
 }
 
 /// A part of a use of this number that is given this.
-fn made_by(
-    alloc: Global,
-    number: usize,
-    by: &str,
-    part: Option<&Part>,
-) -> Result<Made, AllocError>
+fn made_by(alloc: Global, number: usize, by: &str, part: Option<&Part>) -> Result<Made, AllocError>
     ensures { IfOk result (λ made. made ≡ made_by number by.now (option_copied part.entry)) }
 {
     match part {

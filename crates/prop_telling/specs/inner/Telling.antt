@@ -1,5 +1,5 @@
 -- What is known of a step that is told.
-use Rattle.std.specs.Prelude.{◌≡◌, ◌<◌, All, length, ⊤}
+use Rattle.std.specs.Prelude.{◌<◌, All, length, ⊤}
 use Rattle.prop_amb.specs.Going.{Work}
 use Rattle.prop_amb.specs.declared.stepping.Step.{Step}
 use Rattle.prop_amb.specs.declared.stepping.Step.TheVariants.{Called, Moved, Settled, Contradiction}

@@ -1,19 +1,18 @@
 -- A teller has what the engine asks of a machine.
-use Rattle.std.proofs.Common.{◌≡◌, ℕ, ◌≤◌, ◌<◌, List, [], ◌∷◌, Bool, true, false, refl, sym, subst}
-use Rattle.std.proofs.Common.{inl, inr, length, take, arith}
+use Rattle.std.proofs.Common.{◌≡◌, ℕ, ◌≤◌, List, [], ◌∷◌, Bool, true, false, refl, sym, subst}
+use Rattle.std.proofs.Common.{inl, inr, length, arith}
 use Rattle.std.specs.Prelude.{Option, Some, None, Result, Ok, Err}
 use Rattle.std.proofs.lemmas.List.{length-take, take_all}
 use Rattle.prop_refusals.specs.declared.refusal.Refusal.{Refusal}
 use Rattle.prop_refusals.specs.declared.refusal.Refusal.TheVariants.{Memory}
 use Rattle.prop_procedures.specs.Stored.{Stored}
 use Rattle.prop_language.specs.Commands.{Command}
-use Rattle.prop_language.specs.Reading.{IsReading, AsRead}
+use Rattle.prop_language.specs.Reading.{IsReading}
 use Rattle.prop_language.proofs.ReadingLaws.{have_one_reading}
 use Rattle.prop_engine.specs.Lines.{kept_of}
 use Rattle.prop_engine.specs.Answers.{Answer, Silent, Refused}
 use Rattle.prop_engine.specs.Machines.{AsksByPrefix, IsTotal}
-use Rattle.prop_workbench.specs.Machine.{State, naming, worldview_at}
-use Rattle.prop_workbench.specs.Steps.{Follows}
+use Rattle.prop_workbench.specs.Machine.{naming, worldview_at}
 use Rattle.prop_workbench.specs.Questions.{Picks}
 use Rattle.prop_workbench.specs.Engine.{Standing, Works}
 use Rattle.prop_workbench.specs.laws.MachineLaws.{working_asks_by_prefix}

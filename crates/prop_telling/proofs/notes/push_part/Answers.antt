@@ -1,4 +1,4 @@
-use Rattle.std.proofs.Common.{arith, map, string_bytes, [], ◌∷◌}
+use Rattle.std.proofs.Common.{arith, [], ◌∷◌}
 use Rattle.prop_telling.proofs.NoteLemmas.{adds_full}
 use Rattle.prop_telling.proofs.notes.push_part.Goals as goal
 

@@ -1,6 +1,5 @@
 use Rattle.std.proofs.Common.{◌≡◌, ◌∙◌, map, take, string_bytes, sym, ap}
 use Rattle.std.proofs.lemmas.List.{take-map}
-use Rattle.prop_telling.specs.Notes.{Notes}
 use Rattle.prop_telling.proofs.notes.Notes.back.Goals as goal
 
 pub returns : goal.returns

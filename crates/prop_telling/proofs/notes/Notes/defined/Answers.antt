@@ -1,7 +1,6 @@
-use Rattle.std.proofs.Common.{◌≡◌, ◌∙◌, ◌≤◌, ◌<◌, ◌+◌, ap, sym, refl, subst, arith, map, length, take, drop, [], ◌∷◌, ◌++◌, slice_index_or, get_or}
+use Rattle.std.proofs.Common.{◌≡◌, ◌∙◌, ◌≤◌, ◌<◌, ◌+◌, ap, sym, refl, subst, arith, map, length, drop, [], ◌∷◌, get_or}
 use Rattle.std.proofs.lemmas.List.{length-map, get_or-map, drop_all}
-use Rattle.std.specs.String.{string_bytes}
-use Rattle.prop_language.specs.Said.{step_of, words, passed_of}
+use Rattle.prop_language.specs.Said.{step_of, passed_of}
 use Rattle.prop_telling.specs.Notes.{locals_from, parts_from, locals_within, parts_within, inner_at}
 use Rattle.prop_telling.specs.Notes.{definition_named}
 use Rattle.prop_telling.specs.inner.Notes.{AddsPaths, AddsBefore}
@@ -67,7 +66,7 @@ loop-step-preserved c =
             locals = taken.0;
             parts = taken.1;
           }
-      | in-Use+in_ok-push_use-in-Use w ↦ 
+      | in-Use+in_ok-push_use-in-Use w ↦
           let at : get_or steps i (step_of c.step-item.result) ≡ step_of c.step-item.result =
           get_or-map step_of c.args.steps.now i c.step-item.result (step_of c.step-item.result) c.loop-step-test.true
           ∙ ap step_of (sym c.step-item.is) in

@@ -1,4 +1,4 @@
-use Rattle.std.proofs.Common.{◌≡◌, ◌≤◌, drop, map, string_bytes}
+use Rattle.std.proofs.Common.{◌≡◌, ◌≤◌, drop, map}
 use Rattle.prop_language.specs.Said.{step_of}
 use Rattle.prop_telling.specs.Notes.{locals_from, parts_from}
 use Rattle.prop_telling.specs.inner.Notes.{AddsBefore}

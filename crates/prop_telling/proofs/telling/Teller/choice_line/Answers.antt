@@ -23,8 +23,13 @@ pub name-name-requires : goal.name-name-requires
 name-name-requires g c =
     let s = c.args.self.now.session.search in
     let p = place_there s c.args.place c.requires.sound.in_order.at_work.well_made c.requires.place in
-    rw (c.choices.ensures, c.premises.ensures, c.premises-2.ensures, c.search-search.ensures,
-    index_at (choices_of s.premises) c.args.place p.choice _ p.choice_at) p.first
+    rw (
+      c.choices.ensures,
+      c.premises.ensures,
+      c.premises-2.ensures,
+      c.search-search.ensures,
+      index_at (choices_of s.premises) c.args.place p.choice _ p.choice_at,
+    ) p.first
 
 pub overflow_sub-side : goal.overflow_sub-side
 overflow_sub-side g c =

@@ -1,4 +1,4 @@
-use Rattle.std.proofs.Common.{◌≡◌, ◌∙◌, sym, refl, take, length}
+use Rattle.std.proofs.Common.{◌≡◌, ◌∙◌, sym, refl, take}
 use Rattle.prop_procedures.specs.Kept.{stored_of}
 use Rattle.prop_refusals.specs.declared.refusal.Refusal.TheVariants.{Memory}
 use Rattle.prop_engine.specs.Answers.{Refused, answer_of}

@@ -1,4 +1,4 @@
-use Rattle.std.proofs.Common.{◌∙◌, sym, subst, arith, [], List, ℕ}
+use Rattle.std.proofs.Common.{◌∙◌, sym, arith, [], List, ℕ}
 use Rattle.std.specs.Borrow.{Bor}
 use Rattle.std.proofs.lemmas.List.{length-map, get_or-map}
 use Rattle.prop_procedures.specs.Kept.{stored_of}

@@ -1,7 +1,6 @@
 use Rattle.std.proofs.Common.{◌≡◌, ◌++◌, map, string_bytes}
 use Rattle.std.specs.List.{range_with_len}
-use Rattle.prop_numbers.specs.Sets.{set_of}
-use Rattle.prop_workbench.specs.Sessions.{state_of, library_of}
+use Rattle.prop_workbench.specs.Sessions.{state_of}
 use Rattle.prop_telling.specs.Listing.{cell_line}
 use Rattle.prop_telling.proofs.telling.Teller.push_cells.Given as goal
 

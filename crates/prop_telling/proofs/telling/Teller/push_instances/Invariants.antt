@@ -1,6 +1,5 @@
 use Rattle.std.proofs.Common.{◌≡◌, ◌++◌, map, string_bytes}
 use Rattle.std.specs.List.{range_with_len}
-use Rattle.prop_numbers.specs.Sets.{set_of}
 use Rattle.prop_workbench.specs.Sessions.{state_of, library_of}
 use Rattle.prop_telling.specs.Listing.{instance_line}
 use Rattle.prop_telling.proofs.telling.Teller.push_instances.Given as goal
