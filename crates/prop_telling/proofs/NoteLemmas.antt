@@ -1,6 +1,7 @@
 -- How paths are added, and what is noted.
 use Rattle.std.proofs.Common.{◌≡◌, ◌∙◌, ◌+◌, ◌<◌, ◌≤◌, ℕ, List, [], ◌∷◌, ◌++◌, length, take, drop, sym, ap, refl}
-use Rattle.std.proofs.Common.{append_assoc, append-nil, length-append, arith, subst, get_or, ◌⊎◌, inl, inr, Bool, true, false, cond}
+use Rattle.std.proofs.Common.{append_assoc, append-nil, length-append, arith, subst, get_or}
+use Rattle.std.proofs.Common.{◌⊎◌, inl, inr, Bool, true, false, cond}
 use Rattle.std.specs.Prelude.{Option, Some, None, Result, Ok, Err, IsSome, OnErr}
 use Rattle.std.proofs.lemmas.List.{take-append-le, take_all, at_drop_more}
 use Rattle.prop_refusals.specs.declared.refusal.Refusal.{Refusal}

@@ -134,7 +134,8 @@ impl Notes {
         names: &CellNames,
         cells: &[usize],
     ) -> Result<String, AllocError>
-        ensures { IfOk result (λ text. string_bytes text ≡ cell_names self.now names.now cells.now) }
+        ensures { IfOk result (λ text.
+            string_bytes text ≡ cell_names self.now names.now cells.now) }
     {
         let mut text = String::new(alloc);
         for cell in cells {

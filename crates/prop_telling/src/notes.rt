@@ -6,7 +6,8 @@ ghost use Rattle.std.specs.Option.{option_map};
 ghost use Rattle.prop_language.specs.Said.{by_of, passed_of, step_of, said};
 ghost use Rattle.prop_telling.specs.Notes.{by_text, is_own, passed_text, most_paths, path_within};
 ghost use Rattle.prop_telling.specs.Notes.{part_within, locals_within, parts_within, inner_at};
-ghost use Rattle.prop_telling.specs.Notes.{definition_named, inner_of, no_notes, note_read, with_note};
+ghost use Rattle.prop_telling.specs.Notes.{definition_named, inner_of, no_notes, note_read};
+ghost use Rattle.prop_telling.specs.Notes.{with_note};
 ghost use Rattle.prop_telling.specs.inner.Notes.{AddsPaths, note_value};
 
 use prop_language::{By, Command, Passed, Step};

@@ -5,4 +5,6 @@ use Rattle.prop_telling.proofs.notes.push_local.Goals as goal
 
 pub returns-else-len-lt-MOST_PATHS : goal.returns-else-len-lt-MOST_PATHS
 returns-else-len-lt-MOST_PATHS c =
-    adds_full (map string_bytes c.args.locals.now.items) (string_bytes c.args.path ∷ []) (omega (arith, c.requires.few, length-map c.args.locals.now.items string_bytes)) (omega (arith, c.if-len-lt-MOST_PATHS.false, c.len.ensures, length-map c.args.locals.now.items string_bytes))
+    let many = length-map c.args.locals.now.items string_bytes in
+    adds_full (map string_bytes c.args.locals.now.items) (string_bytes c.args.path ∷ [])
+    (omega (arith, c.requires.few, many)) (omega (arith, c.if-len-lt-MOST_PATHS.false, c.len.ensures, many))
