@@ -23,7 +23,8 @@ use Rattle.prop_telling.proofs.TellingLemmas.{there}
 
 -- one more cell
 pub names_more : (notes : Notes) (names : CellNames) (cells : List ℕ) (i d : ℕ) (before name : List ℕ)
-    → i < length cells → before ≡ cell_names notes names (take i cells) → name ≡ cell_name notes names (get_or cells i d)
+    → i < length cells → before ≡ cell_names notes names (take i cells)
+    → name ≡ cell_name notes names (get_or cells i d)
     → before ++ (32 ∷ name) ≡ cell_names notes names (take (i + 1) cells)
 names_more notes names cells i d before name l is named =
     let f : ℕ → List ℕ = λ cell. 32 ∷ cell_name notes names cell in

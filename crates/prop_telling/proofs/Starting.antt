@@ -73,11 +73,13 @@ module _ {O : Type 0} (picks : Picks O) (library known : List Stored) (same : li
           (λ i. IsToldBy picks (same i) (noting (new i)) prelude left held held' counts) w
 
   pub told_in_part_by : (order : O) (begun : Standing O) (prelude : List (List ℕ)) (limit : ℕ)
-      → begun ≡ new_standing limit order → OnErr result (IsToldInPartBy picks library (noting begun) prelude left held held')
+      → begun ≡ new_standing limit order
+      → OnErr result (IsToldInPartBy picks library (noting begun) prelude left held held')
       → OnErr result (IsToldInPartBy picks known (new_told limit order) prelude left held held')
   told_in_part_by order begun prelude limit new h = by result h
     where
       by : (r : Result Counts Fault) → OnErr r (IsToldInPartBy picks library (noting begun) prelude left held held')
           → OnErr r (IsToldInPartBy picks known (new_told limit order) prelude left held held')
       by (Ok counts) w = tt
-      by (Err e) w = subst (λ (P : Type 0). P) (λ i. IsToldInPartBy picks (same i) (noting (new i)) prelude left held held') w
+      by (Err e) w = subst (λ (P : Type 0). P)
+          (λ i. IsToldInPartBy picks (same i) (noting (new i)) prelude left held held') w

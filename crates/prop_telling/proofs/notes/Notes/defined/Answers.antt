@@ -42,7 +42,8 @@ loop-step-preserved c =
           let more = subst (λ (P : Type 0). P) (λ k. AddsPaths (w.inner.view_is k).locals (name ∷ [])
           (sym w.inner-is k).locals) w.in_ok-push_named-in-Local.ensures in
           let taken = local_taken notes n c.match-step.number steps i (step_of c.step-item.result) _ name
-          c.loop-step.inner c.match-step.inner few (at ∙ ap step_of w.in-Local.is) (λ rest. refl) (λ rest. refl) w.number-is
+          c.loop-step.inner c.match-step.inner few (at ∙ ap step_of w.in-Local.is) (λ rest. refl)
+          (λ rest. refl) w.number-is
           v.locals v.parts more (ap (λ u. u.parts) w.inner-is ∙ ap (λ u. u.parts) w.inner.view_is) in
           record {
             name = ap (λ u. u.name) w.inner-is ∙ ap (λ u. u.name) w.inner.view_is ∙ v.name;
@@ -58,7 +59,8 @@ loop-step-preserved c =
           let more = subst (λ (P : Type 0). P) (λ k. AddsPaths (w.inner-in-Like.view_is k).locals (name ∷ [])
           (sym w.inner-is k).locals) w.in_ok-push_named-in-Like.ensures in
           let taken = local_taken notes n c.match-step.number steps i (step_of c.step-item.result) _ name
-          c.loop-step.inner c.match-step.inner few (at ∙ ap step_of w.in-Like.is) (λ rest. refl) (λ rest. refl) w.number-is
+          c.loop-step.inner c.match-step.inner few (at ∙ ap step_of w.in-Like.is) (λ rest. refl)
+          (λ rest. refl) w.number-is
           v.locals v.parts more (ap (λ u. u.parts) w.inner-is ∙ ap (λ u. u.parts) w.inner-in-Like.view_is) in
           record {
             name = ap (λ u. u.name) w.inner-is ∙ ap (λ u. u.name) w.inner-in-Like.view_is ∙ v.name;
@@ -75,7 +77,8 @@ loop-step-preserved c =
           let more = subst (λ (P : Type 0). P) (λ k. AddsPaths c.loop-step.inner.locals (locals_within (n + 1)
           (inner_at notes (definition_named notes name))) (sym w.inner-is k).locals) e.locals in
           let made = subst (λ (P : Type 0). P) (λ k. AddsPaths c.loop-step.inner.parts (parts_within (n + 1)
-          (passed_of w.in-Use.passed) (inner_at notes (definition_named notes name))) (sym w.inner-is k).parts) e.parts in
+          (passed_of w.in-Use.passed) (inner_at notes (definition_named notes name))) (sym w.inner-is k).parts)
+          e.parts in
           let taken = use_taken notes n c.match-step.number steps i (step_of c.step-item.result) name _
           (passed_of w.in-Use.passed) c.loop-step.inner c.match-step.inner few (at ∙ ap step_of w.in-Use.is) w.number-is
           v.locals v.parts more made in
@@ -93,7 +96,8 @@ returns c =
     let steps = map step_of c.args.steps.now in
     let v = c.loop-step.invariant in
     let done : drop c.loop-step.step-index steps ≡ [] =
-    drop_all c.loop-step.step-index steps (omega (arith, c.loop-step-test.false, length-map c.args.steps.now step_of)) in
+    drop_all c.loop-step.step-index steps
+    (omega (arith, c.loop-step-test.false, length-map c.args.steps.now step_of)) in
     let locals = before_last (locals_from notes 0 steps) c.loop-step.inner.locals (subst (λ ss. AddsBefore
     (locals_from notes c.loop-step.number ss) (locals_from notes 0 steps) c.loop-step.inner.locals) done v.locals) in
     let parts = before_last (parts_from notes 0 steps) c.loop-step.inner.parts (subst (λ ss. AddsBefore

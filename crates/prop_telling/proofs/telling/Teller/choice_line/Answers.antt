@@ -46,7 +46,8 @@ pub returns : goal.returns
 returns g c =
     let s = c.args.self.now.session.search in
     let p = place_there s c.args.place c.requires.sound.in_order.at_work.well_made c.requires.place in
-    let choices = c.choices.ensures ∙ ap choices_of (c.premises.ensures ∙ ap (λ u. u.premises) c.search-search.ensures) in
+    let choices = c.choices.ensures
+    ∙ ap choices_of (c.premises.ensures ∙ ap (λ u. u.premises) c.search-search.ensures) in
     let choice : slice_index_or c.choices.result.now c.args.place (record { first = 0; sides = 0 }) ≡ p.choice =
     ap (λ cs. slice_index_or cs c.args.place (record { first = 0; sides = 0 })) choices
     ∙ index_at (choices_of s.premises) c.args.place p.choice _ p.choice_at in
@@ -64,7 +65,8 @@ returns g c =
     ++ (decimal (slice_index_or c.choices.result.now c.args.place (record { first = 0; sides = 0 })).sides
     ++ (codes " " ++ c.belief_text-belief.result.now))))))) = c.format.ensures.ok in
     IfOk-weaker c.format.result _ _
-    (λ text is. is ∙ (λ i. codes "choice " ++ (c.name-name.result.now ++ (codes " " ++ (decimal (side i) ++ (codes " of "
+    (λ text is. is ∙ (λ i. codes "choice " ++ (c.name-name.result.now ++ (codes " " ++ (decimal (side i)
+    ++ (codes " of "
     ++ (decimal (choice i).sides ++ (codes " " ++ (c.belief_text-belief.ensures ∙ ap belief_text believed) i)))))))
     ∙ sym (choice_said s.premises (set_of s.worldview) s.list c.args.place p.choice p.side c.name-name.result.now
     p.choice_at p.side_at named)) written

@@ -6,5 +6,6 @@ use Rattle.prop_telling.proofs.telling.Teller.push_choices.Given as goal
 
 abbrev pub invariant-loop-place : goal.invariant-loop-place
 invariant-loop-place g l = map string_bytes l.lines.items ≡ map string_bytes l.initial.lines.items
-    ++ map (choice_line l.self.session.search.premises (set_of l.self.session.search.worldview) l.self.session.search.list)
+    ++ map (choice_line l.self.session.search.premises (set_of l.self.session.search.worldview)
+    l.self.session.search.list)
     (range_with_len 0 l.place)

@@ -6,7 +6,8 @@ use Rattle.prop_premises.specs.Origins.{side_at}
 use Rattle.prop_telling.specs.Listing.{premise_lines}
 use Rattle.prop_telling.proofs.ListingLemmas.{user_more, side_more}
 use Rattle.prop_telling.proofs.telling.Teller.push_premises.Goals as goal
-use Rattle.prop_telling.proofs.telling.Teller.push_premises.Goals.{then-is_none+in_ok-premise_line+in_ok-push, else-is_none}
+use Rattle.prop_telling.proofs.telling.Teller.push_premises.Goals.{else-is_none}
+use Rattle.prop_telling.proofs.telling.Teller.push_premises.Goals.{then-is_none+in_ok-premise_line+in_ok-push}
 
 pub loop-number-preserved : goal.loop-number-preserved
 loop-number-preserved g c =
