@@ -1,4 +1,4 @@
-use Rattle.std.proofs.Common.{◌≡◌, ◌∙◌, ◌<◌, ◌≤◌, List, [], None, All, arith, get_or, length, take, refl, subst}
+use Rattle.std.proofs.Common.{◌≡◌, ◌∙◌, ◌<◌, ◌≤◌, List, [], None, All, ap, arith, get_or, length, take, refl, subst}
 use Rattle.std.proofs.lemmas.List.{take_all}
 use Rattle.std.proofs.lemmas.List.Elements.{All-nil, All-more}
 use Rattle.std.proofs.lemmas.Option.{slice_get-get_or}
@@ -36,7 +36,8 @@ loop-number-preserved c =
     let now = made c.note.new.log.parts in
     let n = c.loop-number.number in
     let nobody : Statement = record { premise = None; cell = 0; info = Nothing } in
-    let within : n < length d.statements = omega (arith, c.loop-number-test.true, c.statements-number-end.ensures) in
+    let end = ap (λ (xs : List Statement). length xs) c.statements-number-end.ensures in
+    let within : n < length d.statements = omega (arith, c.loop-number-test.true, end) in
     let step = c.in_ok-note.ensures.proceeds in
     let heard = c.in_ok-note.ensures.heard (get_or d.statements n nobody)
     (slice_get-get_or d.statements n nobody within) in
@@ -57,7 +58,7 @@ returns-clause-proceeds c = c.loop-number.invariant.proceeds
 pub returns-clause-heard : goal.returns-clause-heard
 returns-clause-heard c =
     let d = c.args.held.now in
-    let all : length d.statements ≤ c.loop-number.number =
-    omega (arith, c.loop-number-test.false, c.statements-number-end.ensures) in
+    let end = ap (λ (xs : List Statement). length xs) c.statements-number-end.ensures in
+    let all : length d.statements ≤ c.loop-number.number = omega (arith, c.loop-number-test.false, end) in
     subst (λ (xs : List Statement). All (Hears d.kinds (set_of c.args.premises.now) (made c.loop-number.log.parts)) xs)
     (take_all c.loop-number.number d.statements all) c.loop-number.invariant.heard
