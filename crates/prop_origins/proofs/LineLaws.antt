@@ -1,5 +1,5 @@
 -- Who waits, and who is called next.
-use Rattle.std.proofs.Common.{◌≡◌, ◌+◌, ◌-◌, ◌<◌, ◌++◌, ◌⊎◌, ℕ, suc, List, [], ◌∷◌, All, Contains, length}
+use Rattle.std.proofs.Common.{◌≡◌, ◌+◌, ◌-◌, ◌<◌, ◌++◌, ◌⊎◌, ℕ, suc, List, [], ◌∷◌, Contains, length}
 use Rattle.std.proofs.Common.{ap, arith, inl, inr}
 use Rattle.std.specs.List.{range_with_len}
 use Rattle.std.proofs.lemmas.List.{length-append}

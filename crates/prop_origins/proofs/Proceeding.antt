@@ -1,16 +1,15 @@
 -- How what is known goes on, and where it ends.
-use Rattle.std.proofs.Common.{◌≡◌, ◌≢◌, ◌∙◌, ◌+◌, ◌-◌, ◌<◌, ◌≤◌, ◌++◌, ◌⊎◌, ◌==◌, ℕ, zero, suc, Bool, true, false}
-use Rattle.std.proofs.Common.{List, [], ◌∷◌, if◌then◌else◌, All, Contains, Some, map, length, slice_get, sum_by, take}
+use Rattle.std.proofs.Common.{◌≡◌, ◌≢◌, ◌∙◌, ◌+◌, ◌<◌, ◌≤◌, ◌⊎◌, ◌==◌, ℕ, zero, suc, Bool, true, false}
+use Rattle.std.proofs.Common.{List, [], ◌∷◌, if◌then◌else◌, All, Contains, Some, length, slice_get}
 use Rattle.std.proofs.Common.{refl, sym, ap, subst, arith, inl, inr, zero-add}
 use Rattle.std.specs.List.{range_with_len}
 use Rattle.std.proofs.lemmas.Bool.Decides.{eqb_tells}
-use Rattle.std.proofs.lemmas.List.{length-append, length-map}
-use Rattle.std.proofs.lemmas.List.Elements.{All-cons, All-nil, All-contains, All-weaker, Contains-append_left}
-use Rattle.std.proofs.lemmas.List.Elements.{Contains-append_right, Contains-append_cases}
+use Rattle.std.proofs.lemmas.List.{length-map}
+use Rattle.std.proofs.lemmas.List.Elements.{All-contains, All-weaker}
+use Rattle.std.proofs.lemmas.List.Elements.{Contains-append_cases}
 use Rattle.std.proofs.lemmas.List.FromFn.{length-range_with_len, get_or-range_with_len}
 use Rattle.std.proofs.lemmas.Option.{get_or_from_slice_get, slice_get-get_or, slice_get_within}
 use Rattle.prop_lattice.specs.declared.info.Info.{Info}
-use Rattle.prop_lattice.specs.declared.info.Info.TheVariants.{Nothing}
 use Rattle.prop_lattice.specs.Order.{Below, merge_of}
 use Rattle.prop_lattice.specs.Rank.{IsOf}
 use Rattle.prop_lattice.specs.laws.OrderLaws.{info_laws}
@@ -19,14 +18,14 @@ use Rattle.prop_procedures.specs.Stored.{Stored, span_kind}
 use Rattle.prop_procedures.specs.Fitting.{kind_at}
 use Rattle.prop_cells.specs.declared.instance.Statement.{Statement}
 use Rattle.prop_cells.specs.Problems.{Problem, Premises, Assignment, AreOfKinds, Constraint, Entails, Meets, MergesAt}
-use Rattle.prop_cells.specs.Problems.{OthersMeet, Satisfies, value_at}
+use Rattle.prop_cells.specs.Problems.{OthersMeet, value_at}
 use Rattle.prop_cells.specs.Instances.{Instance, constraint_of, readers_of}
 use Rattle.prop_cells.specs.Data.{Data, problem_of}
 use Rattle.prop_cells.proofs.Fitted.{merge_of_kind}
-use Rattle.prop_cells.proofs.Fixpoint.{Alerts, others_meet-step, merges_grow, All-from_contains}
+use Rattle.prop_cells.proofs.Fixpoint.{others_meet-step, merges_grow}
 use Rattle.prop_cells.proofs.Reading.{readers_are, few_readers}
 use Rattle.prop_scheduler.specs.Agendas.{AllAlerted}
-use Rattle.prop_scheduler.specs.Potential.{rank_in, input_places, potential, most_steps}
+use Rattle.prop_scheduler.specs.Potential.{input_places, potential, most_steps}
 use Rattle.prop_scheduler.proofs.Falls.{ranks_fall}
 use Rattle.prop_scheduler.proofs.Steps.{from_map}
 use Rattle.prop_origins.specs.Parts.{Part, made}
@@ -154,8 +153,7 @@ module _ (library : List Stored) (d : Data) (line after : List ℕ) (p : Part) (
     met = met_by i (i ∷ line)
         (λ c e. let y = from_map (constraint_of library) d.instances i c e in
         let same : y.0 ≡ x = (let a = y.1 in cc) in
-        let is : c ≡ constraint_of library x = y.2 ∙ ap (constraint_of library) same in
-        (
+        let is : c ≡ constraint_of library x = y.2 ∙ ap (constraint_of library) same in (
           cell ∙ sym (ap (λ (z : Constraint). z.output) is),
           value ∙ sym (ap (λ (z : Constraint). value_at z (made ps)) is),
         ))
@@ -256,7 +254,7 @@ known_at_rest library d s cell v a start line n entails theirs heard b waited we
 -- the budget is used up, and was as much as there can be
 pub rests_at_most : (library : List Stored) (d : Data) (count n budget : ℕ) (line : List ℕ) (a : Assignment)
     → count ≡ length d.instances → Proceeds (problem_of library d) n (range_with_len 0 count) line (made []) a
-    → n ≡ budget → most_steps (problem_of library d) ≤ budget → line ≡ []
+    → budget ≤ n → most_steps (problem_of library d) ≤ budget → line ≡ []
 rests_at_most library d count n budget line a is went used most =
     let f = went.falls in
     let m = most_at_start library d count is in

@@ -1,4 +1,4 @@
-use Rattle.std.proofs.Common.{◌≡◌, ◌∙◌, ◌<◌, ◌≤◌, List, [], None, All, ap, arith, get_or, length, take, refl, subst}
+use Rattle.std.proofs.Common.{◌∙◌, ◌<◌, ◌≤◌, List, [], None, All, ap, arith, get_or, length, take, refl, subst}
 use Rattle.std.proofs.lemmas.List.{take_all}
 use Rattle.std.proofs.lemmas.List.Elements.{All-nil, All-more}
 use Rattle.std.proofs.lemmas.Option.{slice_get-get_or}

@@ -1,4 +1,4 @@
-use Rattle.std.proofs.Common.{◌≡◌, ◌∙◌, ◌<◌, ap, arith, length, sym}
+use Rattle.std.proofs.Common.{◌∙◌, ◌<◌, ap, arith, sym}
 use Rattle.prop_origins.specs.inner.Lines.{Lined}
 use Rattle.prop_origins.proofs.LineLaws.{next_fresh}
 use Rattle.prop_origins.proofs.line.Line.next.Goals as goal
