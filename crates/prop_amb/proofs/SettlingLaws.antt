@@ -17,7 +17,7 @@ use Rattle.prop_amb.specs.Search.{Stand, IsStand, IsSearch, users_of, choices_in
 use Rattle.prop_amb.specs.Settling.{IfContradiction}
 use Rattle.prop_amb.specs.Moving.{advanced}
 use Rattle.prop_amb.specs.Resolving.{MayAdvance}
-use Rattle.prop_amb.specs.Culprits.{IsBlamed, MayMove}
+use Rattle.prop_amb.specs.Culprits.{IsBlamed}
 use Rattle.prop_amb.specs.Going.{work, Passes}
 use Rattle.prop_amb.specs.Going.Passes.{none, next as one_more, skipped as past}
 use Rattle.prop_amb.specs.Going.Goes.{none as not_gone, moved}
@@ -303,10 +303,10 @@ module _ {O : Type 0} (picks : O → ℕ → ℕ → O → Type 0) (library : Li
         (budget + 1) (t.earned q) (omega (arith, below_all, t.place)))
 
     -- the same where a choice may go on to a list that could be tried
-    pub held_earned : budget ≤ steps → (j : ℕ) → MayMove s j
+    pub held_earned : budget ≤ steps → (j : ℕ) → MayAdvance s j
         → budget + 1 < lists_count (choices_in s) * (most_steps (problem_of library start) + 1)
     held_earned used j may =
-        let next = later_of s choices j same_choices (in_old s t.premises t.stand) may.leaves.may in
+        let next = later_of s choices j same_choices (in_old s t.premises t.stand) may in
         let less = next.1 in
         let last : place_of choices (advanced s.list j) < lists_count choices =
         place_below choices (advanced s.list j) next.0 in

@@ -1,6 +1,7 @@
 -- A choice of which no side is believed, where a noted nogood would be with the one on which it stands.
 use Rattle.std.proofs.Common.{◌≡◌, ◌∙◌, ◌+◌, ◌<◌, ◌==◌, ℕ, Bool, true, false, List, [], ◌∷◌, length, refl, sym, subst}
-use Rattle.std.proofs.Common.{inl, inr, Contains, Some, slice_get}
+use Rattle.std.proofs.Common.{inl, inr, Contains, Some, slice_get, ◌≤◌, ap, arith}
+use Rattle.std.proofs.lemmas.Option.{slice_get_within}
 use Rattle.std.proofs.lemmas.Bool.{eqb-true, or_cases}
 use Rattle.std.proofs.lemmas.List.Elements.{All-contains}
 use Rattle.prop_numbers.specs.Sets.{set_of, union, is_within, IsSame}
@@ -20,7 +21,42 @@ use Rattle.prop_amb.proofs.LeavingLaws.{TakenAt}
 use Rattle.prop_amb.proofs.LevelLaws.{or_no}
 use Rattle.prop_amb.proofs.LookingLaws.{StandsAt, looked_reason}
 use Rattle.prop_amb.proofs.ResolvingLaws.{nogood_shown, believed_within}
+use Rattle.prop_amb.proofs.SearchLaws.{both}
 use Rattle.prop_amb.proofs.Shown.{IsWithin}
+
+some_one : {A : Type 0} {x y : A} → Some x ≡ Some y → x ≡ y
+some_one e = cc e
+
+-- ---- where a choice isn't passed over
+
+-- there is none left
+pub not_whole : (s : Stand) → s.level ≡ length s.list → (n : List ℕ) → MaySkip s n → ⊥
+not_whole s whole n skip =
+    let below = slice_get_within s.list s.level skip.may.side skip.may.side_at in omega (arith, whole, below)
+
+-- it stands on its last side
+pub not_last : (s : Stand) (cs : List Choice) (c : Choice) (side : ℕ) → cs ≡ choices_in s
+    → TakenAt cs s.list s.level c side → c.sides ≤ side → (n : List ℕ) → MaySkip s n → ⊥
+not_last s cs c side same taken last n skip =
+    let choice_at : slice_get (choices_in s) s.level ≡ Some c =
+    subst (λ ds. slice_get ds s.level ≡ Some c) same taken.choice_at in
+    let choice : c ≡ skip.may.choice = some_one (sym choice_at ∙ skip.may.choice_at) in
+    let its : side ≡ skip.may.side = some_one (sym taken.side_at ∙ skip.may.side_at) in
+    let sides : c.sides ≡ skip.may.choice.sides = ap (λ (d : Choice). d.sides) choice in
+    let more = skip.may.more in
+    omega (arith, last, more, its, sides)
+
+-- no noted nogood is believed with its side
+pub not_refuted : (s : Stand) (cs : List Choice) (c : Choice) (side q : ℕ) (deeper : List ℕ) → IsStand s
+    → cs ≡ choices_in s → s.level < length s.list → TakenAt cs s.list s.level c side → q ≡ hypothetical c side
+    → IsSame (set_of deeper) (union (set_of s.worldview) (set_of (q ∷ [])))
+    → has_part s.listed (set_of deeper) ≡ false → (n : List ℕ) → MaySkip s n → ⊥
+not_refuted s cs c side q deeper stand same below taken is more none n skip =
+    let stands : IsStand (record s { level = s.level + 1; worldview = deeper }) =
+    stand_deeper s cs c side q deeper stand same below taken is more in
+    both (has_part-from s.listed (set_of deeper) n skip.noted (λ p t. stands.believes p ∙ skip.believed p t)) none
+
+-- ---- where it is
 
 module _ (s : Stand) (cs : List Choice) (c : Choice) (side q : ℕ) (deeper n : List ℕ) (stand : IsStand s)
     (same : cs ≡ choices_in s) (below : s.level < length s.list) (taken : TakenAt cs s.list s.level c side)

@@ -38,10 +38,6 @@ pub record MayCall {O : Type 0} (w : Work O) : Type 0 where
   pub unblocked : has_part w.search.listed (believed_with w.search) ≡ false
   pub free : IsFree (believed_with w.search) w.cells
 
--- one more step may be taken: a call, or a move of a choice
-abbrev pub MayGoOn : {O : Type 0} → Work O → Type 0
-MayGoOn w = MayCall w ⊎ ((j : ℕ) × MayMove w.search j)
-
 -- nothing waits, no noted nogood is believed, no cell is believed to hold a contradiction, and
 -- there is a choice of which no side is believed
 pub record MayDeepen {O : Type 0} (w : Work O) : Type 0 where
@@ -55,6 +51,14 @@ pub record MaySkip (s : Stand) (nogood : List ℕ) : Type 0 where
   pub noted : Contains s.listed nogood
   pub believed : IsPart (set_of nogood) (believed_with (deepened s))
   pub may : MayAdvance s s.level
+
+-- a choice may go on: for a noted nogood that is believed, or for one that would be
+abbrev pub MayPass : Stand → Type 0
+MayPass s = ((j : ℕ) × MayMove s j) ⊎ ((nogood : List ℕ) × MaySkip s nogood)
+
+-- one more step may be taken: a call, a move of a choice, or a skip
+abbrev pub MayGoOn : {O : Type 0} → Work O → Type 0
+MayGoOn w = MayCall w ⊎ MayPass w.search
 
 -- The choices went on by so many moves: by each, one that may goes to its next side, for a reason
 -- all of whose premises are culprits, and the later ones to their first. Of these none is believed.

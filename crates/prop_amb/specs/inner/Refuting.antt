@@ -7,6 +7,7 @@ use Rattle.prop_amb.specs.Moving.{advanced, reasons_advanced}
 use Rattle.prop_amb.specs.Resolving.{MayAdvance, IsReason}
 use Rattle.prop_amb.specs.declared.resolving.Resolved.{Resolved}
 use Rattle.prop_amb.specs.declared.resolving.Resolved.TheVariants.{Against, RuledOut}
+use Rattle.prop_amb.specs.Culprits.{MayMove, AreCulprits}
 use Rattle.prop_amb.specs.Going.{MaySkip, Passes}
 
 -- a noted nogood that would be believed with the side of one choice more, against which it speaks
@@ -23,14 +24,17 @@ pub record IsHere (s : Stand) (n : List ℕ) : Type 0 where
 abbrev pub IsFound : Stand → List ℕ → Type 0
 IsFound s n = IsHere s n ⊎ IsNext s n
 
--- the same, where of the second kind a move has to be allowed
-abbrev pub IsRefuting : Stand → ℕ → List ℕ → Type 0
-IsRefuting s most n = IsHere s n ⊎ ((1 ≤ most) × IsNext s n)
+-- by which of the two the choice at place j goes on, for this reason
+abbrev pub IsWhy : Stand → ℕ → List ℕ → Type 0
+IsWhy s j reason =
+    ((may : MayMove s j) × AreCulprits s may.nogood (set_of reason))
+    ⊎ ((j ≡ s.level) × MaySkip s reason)
 
 -- the choice at place j may go on for this reason, and that is a move
 pub record MayStep (s : Stand) (j : ℕ) (reason : List ℕ) : Type 0 where
   pub below : j ≤ s.level
   pub may : MayAdvance s j
+  pub why : IsWhy s j reason
   pub passes : (new : Stand) → new.premises ≡ s.premises → new.listed ≡ s.listed
       → new.list ≡ advanced s.list j → new.level ≡ j + 1
       → new.reasons ≡ reasons_advanced s.reasons j reason → Passes s 1 new

@@ -4,16 +4,13 @@ use Rattle.prop_cells.specs.Data.{problem_of}
 use Rattle.prop_numbers.specs.Sets.{set_of}
 use Rattle.prop_amb.specs.Going.{Passes}
 use Rattle.prop_amb.specs.Resolving.{IsReason}
-use Rattle.prop_amb.specs.inner.Refuting.{IsRefuting, MayStep}
+use Rattle.prop_amb.specs.inner.Refuting.{MayStep}
 use Rattle.prop_amb.proofs.DecidingLaws.{passes_on, are_shifted}
-use Rattle.prop_amb.proofs.RefutingLaws.{found_of, refuting_here}
+use Rattle.prop_amb.proofs.RefutingLaws.{why_pass}
 use Rattle.prop_amb.proofs.settling.decide.Goals as goal
 
 pub shown-requires : goal.shown-requires
-shown-requires g c =
-    let refuting : IsRefuting c.args.search.now c.args.most c.in-Clash.nogood =
-    rw c.in-Clash.is at c.requires.refuted in
-    found_of c.args.search.now c.args.most c.in-Clash.nogood refuting
+shown-requires g c = rw c.in-Clash.is at c.requires.refuted
 
 pub advance-requires-clause-may : goal.advance-requires-clause-may
 advance-requires-clause-may g c =
@@ -30,13 +27,9 @@ advance-requires-clause-below g c =
 pub returns-then-most-eq0-clause-unsettled : goal.returns-then-most-eq0-clause-unsettled
 returns-then-most-eq0-clause-unsettled g c =
     λ e.
-    let refuting : IsRefuting c.args.search.now c.args.most c.in-Clash.nogood =
-    rw c.in-Clash.is at c.requires.refuted in
-    let here = refuting_here c.args.search.now c.args.most c.in-Clash.nogood refuting c.if-most-eq0.true in
-    inr (
-      c.if-most-eq0.true,
-      (c.in-Against.place, rw c.in-Against.is at (c.in_ok-premises.ensures.met here.believed)),
-    )
+    let step : MayStep c.args.search.now c.in-Against.place c.in-Against.reason =
+    rw c.in-Against.is at c.in_ok-premises.ensures.step in
+    inr (c.if-most-eq0.true, why_pass c.args.search.now c.in-Against.place c.in-Against.reason step.why)
 
 pub returns-in-RuledOut-clause-contradiction : goal.returns-in-RuledOut-clause-contradiction
 returns-in-RuledOut-clause-contradiction g c =

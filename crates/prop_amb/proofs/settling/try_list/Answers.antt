@@ -26,8 +26,8 @@ attempt-requires-clause-search g c =
     c.args.live.now.network.cells c.loop-tried.live.network.cells c.loop-tried.search c.loop-tried.invariant.same
     c.loop-tried.invariant.way.rest c.loop-tried.invariant.way.search
 
-pub ahead-requires : goal.ahead-requires
-ahead-requires g c =
+pub refuted_next-requires : goal.refuted_next-requires
+refuted_next-requires g c =
     let met = c.in_ok-tried.ensures in
     rw (ap (λ (s : Stand). s.worldview) met.only) (met.unblocked c.in-Quiet.is)
 
@@ -224,7 +224,7 @@ returns-then-is_whole-clause-tried g c =
 pub returns-in_default-clause-refuted : goal.returns-in_default-clause-refuted
 returns-in_default-clause-refuted g c =
     clash_refutes (problem_of (stored_of g.R.Rule.value_of c.loop-tried.live.network.library)
-    c.loop-tried.live.network.cells) c.attempt.new.search _ c.in_ok-tried.tried.end c.in_ok-tried.ensures.refuted
+    c.loop-tried.live.network.cells) c.attempt.new.search c.in_ok-tried.tried.end c.in_ok-tried.ensures.refuted
 
 pub returns-in-Some-clause-refuted : goal.returns-in-Some-clause-refuted
-returns-in-Some-clause-refuted g c = inr (rw c.in-Some.is at c.in_ok-nogood-in-Quiet.ensures)
+returns-in-Some-clause-refuted g c = inr (rw c.in-Some.is at c.in_ok-nogood-in-Quiet.ensures.next)
