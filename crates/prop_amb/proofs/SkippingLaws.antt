@@ -1,6 +1,7 @@
 -- A choice of which no side is believed, where a noted nogood would be with the one on which it stands.
 use Rattle.std.proofs.Common.{◌≡◌, ◌∙◌, ◌+◌, ◌<◌, ◌==◌, ℕ, Bool, true, false, List, [], ◌∷◌, length, refl, sym, subst}
-use Rattle.std.proofs.Common.{inl, inr, Contains, Some, slice_get, ◌≤◌, ap, arith}
+use Rattle.std.proofs.Common.{inl, inr, Contains, Option, Some, None, slice_get, ◌≤◌, ap, arith}
+use Rattle.std.specs.Prelude.{is_some}
 use Rattle.std.proofs.lemmas.Option.{slice_get_within}
 use Rattle.std.proofs.lemmas.Bool.{eqb-true, or_cases}
 use Rattle.std.proofs.lemmas.List.Elements.{All-contains}
@@ -14,8 +15,9 @@ use Rattle.prop_nogoods.proofs.StoreLaws.{has_part-from}
 use Rattle.prop_amb.specs.Refuted.{IsNogood}
 use Rattle.prop_amb.specs.Search.{Stand, IsStand, IsSearch, choices_in}
 use Rattle.prop_amb.specs.Resolving.{IsReason}
-use Rattle.prop_amb.specs.Going.{MaySkip}
-use Rattle.prop_amb.specs.inner.Refuting.{IsNext}
+use Rattle.prop_amb.specs.Moving.{deepened, passed_over}
+use Rattle.prop_amb.specs.Going.{MaySkip, MayBelieve}
+use Rattle.prop_amb.specs.inner.Refuting.{IsNext, MayStep}
 use Rattle.prop_amb.proofs.BelievingLaws.{stand_deeper, search_deeper}
 use Rattle.prop_amb.proofs.LeavingLaws.{TakenAt}
 use Rattle.prop_amb.proofs.LevelLaws.{or_no}
@@ -127,4 +129,19 @@ module _ (s : Stand) (cs : List Choice) (c : Choice) (side q : ℕ) (deeper n : 
       }
 
   pub is_next : side < c.sides → has_part s.listed (set_of s.worldview) ≡ false → IsNext s n
-  is_next left none = record { may = may_skip left; reason = skip_reason none }
+  is_next left none = record { may = may_skip left; unblocked = none; reason = skip_reason none }
+
+pub no_some : {A : Type 0} (o : Option A) → is_some o ≡ false → o ≡ None
+no_some None e = refl
+no_some (Some x) e = cc e
+
+-- the side is believed where the choice may not be passed over
+pub believes_on : (s mid later : Stand) (n : List ℕ) → mid ≡ passed_over s n → ((m : List ℕ) → MaySkip mid m → ⊥)
+    → later ≡ record (deepened mid) { worldview = later.worldview } → MayBelieve (passed_over s n) later
+believes_on s mid later n same none is = subst (λ (t : Stand). MayBelieve t later) same (inr (none, is))
+
+-- a choice of which no side is believed goes on by a skip
+pub skips_at : (s : Stand) (j : ℕ) (reason : List ℕ) → MayStep s j reason → s.level ≤ j
+    → (j ≡ s.level) × (has_part s.listed (set_of s.worldview) ≡ false) × MaySkip s reason
+skips_at s j reason (inl (below, may)) high = absurd (omega (arith, below, high))
+skips_at s j reason (inr skip) high = skip

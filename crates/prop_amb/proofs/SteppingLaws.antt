@@ -12,11 +12,9 @@ use Rattle.prop_cells.specs.Problems.{Problem}
 use Rattle.prop_amb.specs.Search.{Stand, IsStand, users_of, choices_in, IsKept}
 use Rattle.prop_procedures.specs.Stored.{Stored}
 use Rattle.prop_cells.specs.Data.{Data, problem_of}
-use Rattle.prop_amb.specs.Going.{Work, work, MayCall, MayGoOn, MayPass, MaySkip, Goes}
-use Rattle.prop_amb.specs.Culprits.{MayMove, AreCulprits}
-use Rattle.prop_amb.specs.Moving.{advanced, reasons_advanced}
-use Rattle.prop_amb.specs.Stepping.{IsStepTo, HasMoved, HasSkipped, HasPassed, Steps}
-use Rattle.prop_amb.specs.inner.Refuting.{IsWhy}
+use Rattle.prop_amb.specs.Going.{Work, work, MayCall, MayGoOn, MayPass, Goes}
+use Rattle.prop_amb.specs.Stepping.{IsStepTo, HasPassed, Steps}
+use Rattle.prop_amb.specs.inner.Refuting.{HasStepped}
 use Rattle.prop_amb.specs.declared.stepping.Move.{Move}
 use Rattle.prop_amb.specs.inner.Stepping.{IsMove}
 use Rattle.prop_amb.specs.declared.stepping.Step.{Step}
@@ -95,76 +93,33 @@ move_to picks library problem s new d line after order Settled h = absurd h
 pub same_side : (c d : Choice) (a b n : ℕ) → n ≡ a - 1 → c ≡ d → a ≡ b → c.first + n ≡ hypothetical d b
 same_side c d a b n one same side = ap (λ m. c.first + m) one ∙ (λ i. hypothetical (same i) (side i))
 
--- a choice moved, and what is told of that
-pub has_moved : (s new : Stand) (m : Move) (reason : List ℕ) → (may : MayMove s m.place)
-    → m.side ≡ hypothetical may.leaves.may.choice may.leaves.may.side
-    → AreCulprits s may.nogood (set_of reason) → m.nogood ≡ reason
-    → All (λ p. p < length s.premises) reason
-    → new.premises ≡ s.premises → new.listed ≡ s.listed → new.list ≡ advanced s.list m.place
-    → new.level ≡ m.place + 1 → new.reasons ≡ reasons_advanced s.reasons m.place reason
-    → m.before ≡ s.worldview → HasMoved s new m
-has_moved s new m reason may side culprits same known premises listed list level reasons before =
-    let kept : new.reasons ≡ reasons_advanced s.reasons m.place m.nogood =
-    reasons ∙ ap (λ n. reasons_advanced s.reasons m.place n) (sym same) in
-    record {
-      may = may;
-      side_is = side;
-      culprits = subst (λ (n : List ℕ). AreCulprits s may.nogood (set_of n)) (sym same) culprits;
-      known = subst (λ (n : List ℕ). All (λ p. p < length s.premises) n) (sym same) known;
-      later_is = λ i. record {
-        premises = premises i;
-        list = list i;
-        level = level i;
-        reasons = kept i;
-        listed = listed i;
-        worldview = new.worldview;
-      };
-      before_is = before;
-    }
-
--- a choice was skipped, and what is told of that
-has_skipped : (s new : Stand) (m : Move) (may : MaySkip s m.nogood) → m.place ≡ s.level
-    → m.side ≡ hypothetical may.may.choice may.may.side → All (λ p. p < length s.premises) m.nogood
-    → new.premises ≡ s.premises → new.listed ≡ s.listed → new.list ≡ advanced s.list m.place
-    → new.level ≡ m.place + 1 → new.reasons ≡ reasons_advanced s.reasons m.place m.nogood
-    → m.before ≡ s.worldview → HasSkipped s new m
-has_skipped s new m may at side known premises listed list level reasons before = record {
-  may = may;
-  place_is = at;
-  side_is = side;
-  known = known;
-  later_is = λ i. record {
-    premises = premises i;
-    list = list i;
-    level = level i;
-    reasons = reasons i;
-    listed = listed i;
-    worldview = new.worldview;
-  };
-  before_is = before;
-}
-
 -- a choice went on, and what is told of that
-pub has_passed : (s new : Stand) (m : Move) (reason : List ℕ) → IsWhy s m.place reason
+pub has_passed : (s new : Stand) (m : Move) → HasStepped s m.place m.nogood new
     → ((choice : Choice) (side : ℕ) → slice_get (choices_in s) m.place ≡ Some choice
-    → slice_get s.list m.place ≡ Some side → m.side ≡ hypothetical choice side) → m.nogood ≡ reason
-    → All (λ p. p < length s.premises) reason
-    → new.premises ≡ s.premises → new.listed ≡ s.listed → new.list ≡ advanced s.list m.place
-    → new.level ≡ m.place + 1 → new.reasons ≡ reasons_advanced s.reasons m.place reason
-    → m.before ≡ s.worldview → HasPassed s new m
-has_passed s new m reason (inl (may, culprits)) side same known premises listed list level reasons before =
+    → slice_get s.list m.place ≡ Some side → m.side ≡ hypothetical choice side)
+    → All (λ p. p < length s.premises) m.nogood → m.before ≡ s.worldview → HasPassed s new m
+has_passed s new m (inl ((may, culprits), is)) side known before =
     let there = may.leaves.may in
-    inl (has_moved s new m reason may (side there.choice there.side there.choice_at there.side_at) culprits same known
-    premises listed list level reasons before)
-has_passed s new m reason (inr (at, skip)) side same known premises listed list level reasons before =
+    inl (record {
+      may = may;
+      side_is = side there.choice there.side there.choice_at there.side_at;
+      culprits = culprits;
+      known = known;
+      later_is = is;
+      before_is = before;
+    })
+has_passed s new m (inr (at, skip, believes)) side known before =
     let there = skip.may in
-    let is : m.side ≡ hypothetical there.choice there.side =
-    side there.choice there.side (subst (λ k. slice_get (choices_in s) k ≡ Some there.choice) (sym at) there.choice_at)
-    (subst (λ k. slice_get s.list k ≡ Some there.side) (sym at) there.side_at) in
-    inr (has_skipped s new m
-    (record { noted = rw same skip.noted; believed = rw same skip.believed; may = there }) at is
-    (subst (λ (n : List ℕ). All (λ p. p < length s.premises) n) (sym same) known) premises listed list level
-    (reasons ∙ ap (λ n. reasons_advanced s.reasons m.place n) (sym same)) before)
+    inr (record {
+      may = skip;
+      place_is = at;
+      side_is = side there.choice there.side
+          (subst (λ k. slice_get (choices_in s) k ≡ Some there.choice) (sym at) there.choice_at)
+          (subst (λ k. slice_get s.list k ≡ Some there.side) (sym at) there.side_at);
+      known = known;
+      later_is = believes;
+      before_is = before;
+    })
 
 -- what took no step
 pub no_steps : {O : Type 0} {picks : O → ℕ → ℕ → O → Type 0} {library : List Stored} {start w : Work O} {n : ℕ}

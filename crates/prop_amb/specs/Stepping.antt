@@ -7,11 +7,11 @@ use Rattle.prop_cells.specs.Problems.{Problem}
 use Rattle.prop_scheduler.specs.Shifts.{AreShifted}
 use Rattle.prop_scheduler.specs.Turns.{CallsNext}
 use Rattle.prop_amb.specs.Search.{Stand, users_of, choices_in, believed_with}
-use Rattle.prop_amb.specs.Moving.{advanced, reasons_advanced}
+use Rattle.prop_amb.specs.Moving.{advanced, reasons_advanced, passed_over}
 use Rattle.prop_amb.specs.Culprits.{MayMove, AreCulprits, IsBlamed}
 use Rattle.prop_amb.specs.Refuted.{IsRuledOut}
 use Rattle.prop_amb.specs.Settling.{HasSettled}
-use Rattle.prop_amb.specs.Going.{Work, MayCall, MaySkip, Goes}
+use Rattle.prop_amb.specs.Going.{Work, MayCall, MaySkip, MayBelieve, Goes}
 use Rattle.prop_amb.specs.declared.stepping.Move.{Move}
 use Rattle.prop_amb.specs.declared.stepping.Step.{Step}
 use Rattle.prop_amb.specs.declared.stepping.Step.TheVariants.{Called, Moved, Settled, Contradiction}
@@ -33,18 +33,14 @@ pub record HasMoved (s later : Stand) (m : Move) : Type 0 where
   pub before_is : m.before ≡ s.worldview
 
 -- The first choice of which no side is believed went to its next side, for the noted nogood that is
--- told, which would be believed with the one that it left.
+-- told, which would be believed with the one that it left. The next is believed unless it may be
+-- passed over too.
 pub record HasSkipped (s later : Stand) (m : Move) : Type 0 where
   pub may : MaySkip s m.nogood
   pub place_is : m.place ≡ s.level
   pub side_is : m.side ≡ hypothetical may.may.choice may.may.side
   pub known : All (λ p. p < length s.premises) m.nogood
-  pub later_is : later ≡ record s {
-    list = advanced s.list m.place;
-    level = m.place + 1;
-    reasons = reasons_advanced s.reasons m.place m.nogood;
-    worldview = later.worldview;
-  }
+  pub later_is : MayBelieve (passed_over s m.nogood) later
   pub before_is : m.before ≡ s.worldview
 
 -- a choice went on, by a move or a skip

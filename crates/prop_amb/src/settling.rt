@@ -20,8 +20,7 @@ ghost use Rattle.prop_amb.specs.Going.{work_on, MayCall, MayPass, Passes, Goes};
 ghost use Rattle.prop_amb.specs.Settling.{IfContradiction, IsResting, Learns, HasSettled, HasUsed};
 ghost use Rattle.prop_amb.specs.Moving.{deepened};
 ghost use Rattle.prop_amb.specs.Resolving.{IsResolved};
-ghost use Rattle.prop_amb.specs.inner.Settling.{IsMet};
-ghost use Rattle.prop_amb.specs.inner.Refuting.{IsFound, MayStep, IfStep, IfRuledOut};
+ghost use Rattle.prop_amb.specs.inner.Refuting.{IsNext, IsFound, MayStep, IfStep, IfRuledOut};
 ghost use Rattle.prop_amb.specs.inner.Trying.{Attempted};
 
 use crate::outcome::Outcome;
@@ -32,13 +31,27 @@ use prop_procedures::Rule;
 use prop_scheduler::{Ended, Live, Order, Run, alert_grown, alert_shifted, run};
 use std::alloc::AllocError;
 
-/// Looks whether a noted nogood is believed, and else runs the network with the sides that are
-/// believed; a clash is noted. Where the list is refuted, the clash is a noted nogood.
+/// A noted nogood that would be believed with the side of one choice more, where it wasn't looked for
+/// already.
+fn ahead(search: &Search, looked: bool) -> Result<Option<PremiseSet>, AllocError>
+    requires { has_part search.now.listed (set_of search.now.worldview) ≡ false }
+    ensures { IfOk result (λ found. IfSome found (IsNext search.now)) }
+{
+    if looked {
+        return Ok(None);
+    }
+    search.refuted_next()
+}
+
+/// Looks whether a noted nogood is believed, or would be with the side of one choice more, and else
+/// runs the network with the sides that are believed; a clash is noted. Where the list is refuted,
+/// the clash is a noted nogood.
 fn attempt<R: Rule + Drop, O: Order>(
     live: &mut Live<R>,
     search: &mut Search,
     order: &mut O,
     budget: u64,
+    looked: bool,
 ) -> Result<Ended<Run>, AllocError>
     requires means { AllMean R.value_of live.old.network.library.procedures.items }
     requires alive { IsLiveIn R.value_of (set_of search.old.worldview) live.old }
@@ -58,8 +71,7 @@ fn attempt<R: Rule + Drop, O: Order>(
     ensures rests { IfOk result (λ r. r.end ≡ Run.Quiet → line_of live.new ≡ []) }
     ensures unblocked { IfOk result (λ r. r.end ≡ Run.Quiet
         → has_part search.new.listed (set_of search.old.worldview) ≡ false) }
-    ensures refuted { IfOk result (λ r.
-        IfClash r.end (IsMet (problem_in R.value_of live.old) search.new)) }
+    ensures refuted { IfOk result (λ r. IfClash r.end (IsFound search.new)) }
     ensures spent { IfOk result (λ r. r.end ≡ Run.Spent → r.steps ≡ budget) }
     ensures left { IfOk result (λ r. r.end ≡ Run.Spent
         → MayCall (work_on search.new live.new order.new)) }
@@ -67,6 +79,7 @@ fn attempt<R: Rule + Drop, O: Order>(
         → r.steps < most_steps (problem_in R.value_of live.old)) }
     ensures steps { IfOk result (λ r. r.steps ≤ budget) }
     ensures at_rest { IfOk result (λ r. line_of live.old ≡ []
+        → search.old.level ≡ length search.old.list
         → IsFree (set_of search.old.worldview) (cells_of live.old)
         → has_part search.old.listed (set_of search.old.worldview) ≡ false
         → (r.end ≡ Run.Quiet) × (r.steps ≡ 0)) }
@@ -81,6 +94,10 @@ fn attempt<R: Rule + Drop, O: Order>(
 {
     if let Some(nogood) = search.blocked() {
         let end = Run::Clash(nogood.copy()?);
+        return Ok(Ended { end, steps: 0 });
+    }
+    if let Some(nogood) = ahead(search, looked)? {
+        let end = Run::Clash(nogood);
         return Ok(Ended { end, steps: 0 });
     }
     let Ended { end, steps } = run(live, search.worldview(), order, budget)?;
@@ -129,13 +146,14 @@ fn believe_more<R: Rule + Drop>(live: &mut Live<R>, search: &mut Search) -> Resu
 }
 
 /// Tries the list on which the choices stand: with the sides that are believed, and where nothing
-/// waits then, with that of one choice more, until the list is refuted or the side of each choice
-/// is believed.
+/// waits then, with that of one choice more, until the list is refuted, a choice may be passed over
+/// or the side of each choice is believed.
 fn try_list<R: Rule + Drop, O: Order>(
     live: &mut Live<R>,
     search: &mut Search,
     order: &mut O,
     budget: u64,
+    looked: bool,
 ) -> Result<Ended<Run>, AllocError>
     requires means { AllMean R.value_of live.old.network.library.procedures.items }
     requires alive { IsLiveIn R.value_of (set_of search.old.worldview) live.old }
@@ -157,8 +175,9 @@ fn try_list<R: Rule + Drop, O: Order>(
         (cells_of live.new) (line_of live.new) order.new) }
 {
     let mut steps: u64 = 0;
+    let mut looked = looked;
     loop {
-        let tried = attempt(live, search, order, budget - steps)?;
+        let tried = attempt(live, search, order, budget - steps, looked)?;
         steps += tried.steps;
         match tried.end {
             Run::Quiet => {
@@ -166,11 +185,8 @@ fn try_list<R: Rule + Drop, O: Order>(
                     let end = Run::Quiet;
                     return Ok(Ended { end, steps });
                 }
-                if let Some(nogood) = search.refuted_next()? {
-                    let end = Run::Clash(nogood);
-                    return Ok(Ended { end, steps });
-                }
                 believe_more(live, search)?;
+                looked = false;
             }
             end => return Ok(Ended { end, steps }),
         }
@@ -226,7 +242,7 @@ fn go_on(search: &mut Search) -> Result<bool, AllocError>
     match shown(search, refuting)? {
         Resolved::RuledOut(_) => Ok(false),
         Resolved::Against(place, reason) => {
-            drop(search.advance(place, reason)?);
+            drop(search.step(place, reason)?);
             Ok(true)
         }
     }
@@ -317,7 +333,7 @@ fn decide<R: Rule + Drop>(
                 let end = Some(Outcome::Unsettled);
                 return Ok(Ended { end, steps: 0 });
             }
-            let before = search.advance(place, reason)?;
+            let before = search.step(place, reason)?;
             let passed = pass(search, most - 1);
             alert_shifted(live, &before, search.worldview());
             drop(before);
@@ -374,7 +390,7 @@ pub fn settle<R: Rule + Drop, O: Order>(
         let Ended {
             end: tried,
             steps: calls,
-        } = try_list(live, search, order, budget - steps)?;
+        } = try_list(live, search, order, budget - steps, steps > 0)?;
         steps += calls;
         let Ended { end, steps: moves } = decide(live, search, tried, budget - steps)?;
         match end {

@@ -146,7 +146,7 @@ fn move_for<R: Rule + Drop>(
         Resolved::Against(place, reason) => {
             let nogood = reason.copy()?;
             let side = search.side_at(place);
-            let before = search.advance(place, reason)?;
+            let before = search.step(place, reason)?;
             alert_shifted(live, &before, search.worldview());
             Ok(Step::Moved(Move {
                 place,
