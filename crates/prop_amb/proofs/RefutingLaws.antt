@@ -48,11 +48,11 @@ pass_may s (inr (n, skip)) = (s.level, skip.may)
 
 pub why_pass : (s : Stand) (j : ℕ) (reason : List ℕ) → MayStep s j reason → MayPass s
 why_pass s j reason (inl (below, (may, culprits))) = inl (j, may)
-why_pass s j reason (inr (at, (free, skip))) = inr (reason, skip)
+why_pass s j reason (inr (at, free, skip)) = inr (reason, skip)
 
 pub step_may : (s : Stand) (j : ℕ) (reason : List ℕ) → MayStep s j reason → MayAdvance s j
 step_may s j reason (inl (below, (may, culprits))) = may.leaves.may
-step_may s j reason (inr (at, (free, skip))) = subst (λ k. MayAdvance s k) (sym at) skip.may
+step_may s j reason (inr (at, free, skip)) = subst (λ k. MayAdvance s k) (sym at) skip.may
 
 -- where nothing is found, no choice may go on
 pub none_passes : (s : Stand) → IsStand s → has_part s.listed (set_of s.worldview) ≡ false
@@ -90,4 +90,4 @@ nogood_here problem s n h here = (
 -- ---- one that would be with the side of one choice more
 
 pub step_next : (s : Stand) (n : List ℕ) → IsNext s n → MayStep s s.level n
-step_next s n next = inr (refl, (next.unblocked, next.may))
+step_next s n next = inr (refl, next.unblocked, next.may)

@@ -49,6 +49,9 @@ invariant_of-self-2 c =
       c.self.invariant.1,
     )
 
+pub returns-clause-stand : goal.returns-clause-stand
+returns-clause-stand c = (invariant_of-self-2 c).0
+
 pub returns-clause-search : goal.returns-clause-search
 returns-clause-search c problem reason h =
     let may : MayAdvance (the_view c.self.inside) c.self.inside.level = rw (← c.self.view_is) at c.requires.may in
