@@ -1,5 +1,6 @@
 //! What a nogood shows of the choices, and the move that follows.
-ghost use Rattle.std.specs.Prelude.{◌≡◌, ◌+◌, ◌<◌, ◌≤◌, ℕ, length, false, IsTrue, IfOk, OnOk, OnErr};
+ghost use Rattle.std.specs.Prelude.{◌≡◌, ◌+◌, ◌<◌, ◌≤◌, ℕ, length, false, IsTrue, IfOk, OnOk};
+ghost use Rattle.std.specs.Prelude.{OnErr};
 ghost use Rattle.prop_numbers.specs.Sets.{set_of, IsPart};
 ghost use Rattle.prop_cells.specs.Problems.{Problem};
 ghost use Rattle.prop_nogoods.specs.Stores.{has_part};
