@@ -137,7 +137,8 @@ left_known s later j side n may stand same side_is known =
     let below = stand.numbered.below in
     let small : hypothetical may.choice may.side < length later.premises =
     below (hypothetical may.choice may.side)
-    (subst (λ (os : List Origin). IsTrue (is_hypothetical (choices_of os) (hypothetical may.choice may.side))) (sym same)
+    (subst (λ (os : List Origin). IsTrue (is_hypothetical (choices_of os) (hypothetical may.choice may.side)))
+    (sym same)
     (side_there (choices_in s) j may.choice may.side may.choice_at may.more)) in (
       omega (arith, small, side_is),
       subst (λ (os : List Origin). All (λ p. p < length os) n) (sym same) known,
