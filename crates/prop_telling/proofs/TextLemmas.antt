@@ -1,5 +1,6 @@
 -- The texts of cells, one more at a time.
-use Rattle.std.proofs.Common.{◌≡◌, ◌∙◌, ◌+◌, ◌<◌, ℕ, zero, suc, List, [], ◌∷◌, ◌++◌, length, take, get_or, sym, ap, refl}
+use Rattle.std.proofs.Common.{◌≡◌, ◌∙◌, ◌+◌, ◌<◌, ℕ, zero, suc, List, [], ◌∷◌, ◌++◌, length, take, sym, ap, refl}
+use Rattle.std.proofs.Common.{get_or}
 use Rattle.std.proofs.Common.{append-nil, slice_get, Some, None}
 use Rattle.std.specs.Option.{option_map}
 use Rattle.prop_premises.specs.Origins.{Origin, User, Side, name_of, side_at}

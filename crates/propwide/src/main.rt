@@ -1,11 +1,11 @@
 //! The workbench with more rules, for plans and measurements, over standard input and output.
 //!
 //! The program's session over the kit, the wider rules, the excluders and their preludes writes a
-//! transcript of the workbench, in which `step` lines are told (prop_telling), or at a fault
-//! nothing or a prefix of one, with work behind it in the order that was chosen, from the seed that
-//! was given, and the procedures' answers hold the points that belong together; those of a plan in
-//! points satisfy all that is attached. A fault tells which device failed, that there were too many
-//! reads, or that memory was refused before anything was read or written (`run`).
+//! transcript of the workbench, in which `step`, `how` and `list` lines are told (prop_telling), or
+//! at a fault nothing or a prefix of one, with work behind it in the order that was chosen, from
+//! the seed that was given, and the procedures' answers hold the points that belong together; those
+//! of a plan in points satisfy all that is attached. A fault tells which device failed, that there
+//! were too many reads, or that memory was refused before anything was read or written (`run`).
 #![tactic(auto)]
 
 mod entries;
@@ -30,6 +30,7 @@ Reads commands from standard input, one on each line, and writes a reply or a re
   premises    kick, bring, worldview, nogoods
   questions   ask, why, core, settle
   steps       limit, step
+  told        how, list
 
 WIDE.md lists what there is beside the kit, and LANGUAGE.md describes each command: in docs/ of the
 sources, and in /usr/share/doc/propbench of the Debian package.",

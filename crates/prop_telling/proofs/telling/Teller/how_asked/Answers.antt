@@ -15,8 +15,8 @@ returns-in-Some-find g c =
     let s = c.args.self.now.session in
     let library = stored_of g.R.Rule.value_of s.live.network.library in
     let answer = answer_of c.saying.result in
-    let said = said_by string_bytes c.how_of.result answer (SaysHow library (state_of s) (work_of s) c.in-Some-find.cell)
-    c.saying.ensures c.how_of.ensures in
+    let said = said_by string_bytes c.how_of.result answer
+    (SaysHow library (state_of s) (work_of s) c.in-Some-find.cell) c.saying.ensures c.how_of.ensures in
     elim said [
       | inl m ↦ inl m
       | inr x ↦ inr (

@@ -25,8 +25,8 @@ how_text-text-requires-clause-there g c =
     let library = stored_of g.R.Rule.value_of s.live.network.library in
     let why = c.in_ok-why.why in
     let at_work = c.requires.sound.in_order.at_work in
-    let told : IfWhole c.in_ok-made.made (MakeUp library s.live.network.cells (set_of why.support) c.args.cell why.value)
-    = rw (c.network-network.ensures, c.live.ensures) at c.in_ok-made.ensures in
+    let told : IfWhole c.in_ok-made.made
+    (MakeUp library s.live.network.cells (set_of why.support) c.args.cell why.value) = rw (c.network-network.ensures, c.live.ensures) at c.in_ok-made.ensures in
     made_there library s.live.network.cells (set_of why.support) (length s.search.premises) c.args.cell why.value
     c.in_ok-made.made at_work.under_way.kept at_work.known told
 
