@@ -1,7 +1,7 @@
 //! The workbench with more rules, for plans and measurements, over standard input and output.
 //!
 //! The program's session over the kit, the wider rules, the excluders and their preludes writes a
-//! transcript of the workbench, in which `step` lines are told (prop_telling), or at a fault
+//! transcript of the workbench, in which `step` and `how` are told (prop_telling), or at a fault
 //! nothing or a prefix of one, with work behind it in the order that was chosen, from the seed that
 //! was given, and the procedures' answers hold the points that belong together; those of a plan in
 //! points satisfy all that is attached. A fault tells which device failed, that there were too many
@@ -28,7 +28,7 @@ Reads commands from standard input, one on each line, and writes a reply or a re
   networks    domain, relation, define, cell, attach
   statements  fix, tell, choose, forget
   premises    kick, bring, worldview, nogoods
-  questions   ask, why, core, settle
+  questions   ask, why, core, settle, how
   steps       limit, step
 
 WIDE.md lists what there is beside the kit, and LANGUAGE.md describes each command: in docs/ of the
