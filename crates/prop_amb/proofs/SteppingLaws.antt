@@ -1,15 +1,15 @@
 -- One step of settling.
-use Rattle.std.proofs.Common.{◌≡◌, ◌∙◌, ℕ, zero, suc, ◌<◌, ◌≤◌, ◌||◌, ◌==◌, IsTrue, false, List, [], ◌∷◌, All, length}
+use Rattle.std.proofs.Common.{◌≡◌, ◌∙◌, ℕ, zero, suc, ◌<◌, ◌≤◌, ◌==◌, IsTrue, List, [], ◌∷◌, All, length}
 use Rattle.std.proofs.Common.{take, get_or, slice_get, Some, true, refl, sym, ap, subst, inl, inr}
 use Rattle.std.proofs.Common.{◌+◌, ◌-◌, arith}
 use Rattle.std.proofs.lemmas.Bool.{cases_eq, or_cases, eqb-true, eq-eqb}
 use Rattle.std.proofs.lemmas.List.Folds.{list_any_at}
-use Rattle.prop_numbers.specs.Sets.{Members, set_of}
+use Rattle.prop_numbers.specs.Sets.{set_of}
 use Rattle.prop_premises.specs.declared.choice.Choice.{Choice}
 use Rattle.prop_premises.specs.ChoiceLists.{hypothetical, hypotheticals_of, is_hypothetical, is_side_of, IsChoiceList}
 use Rattle.prop_premises.proofs.OriginLemmas.{in_range}
 use Rattle.prop_cells.specs.Problems.{Problem}
-use Rattle.prop_amb.specs.Search.{Stand, IsStand, users_of, choices_in, IsKept}
+use Rattle.prop_amb.specs.Search.{Stand, IsStand, choices_in, IsKept}
 use Rattle.prop_procedures.specs.Stored.{Stored}
 use Rattle.prop_cells.specs.Data.{Data, problem_of}
 use Rattle.prop_amb.specs.Going.{Work, work, MayCall, MayGoOn, MayPass, Goes}

@@ -1,4 +1,4 @@
-use Rattle.std.proofs.Common.{◌≡◌, ◌∙◌, Ok, ap}
+use Rattle.std.proofs.Common.{◌∙◌, Ok, ap}
 use Rattle.prop_amb.proofs.AdvancingLaws.{passed_left}
 use Rattle.prop_amb.proofs.SkippingLaws.{no_some, believes_on}
 use Rattle.prop_amb.proofs.search.Search.skip.Goals as goal
