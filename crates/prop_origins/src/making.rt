@@ -1,7 +1,7 @@
 //! The parts of a value: what the statements say, and what follows from them, one call after the
 //! other.
-ghost use Rattle.std.specs.Prelude.{◌≡◌, ◌<◌, ◌≤◌, ◌∷◌, [], ℕ, List, All, length, slice_get};
-ghost use Rattle.std.specs.Prelude.{Some, IsTrue, IfOk, OnOk, IfSome, false};
+ghost use Rattle.std.specs.Prelude.{◌≡◌, ◌<◌, ◌≤◌, ◌∷◌, [], List, All, length, slice_get};
+ghost use Rattle.std.specs.Prelude.{Some, IfOk, OnOk, IfSome, false};
 ghost use Rattle.std.specs.List.{list_any};
 ghost use Rattle.prop_lattice.specs.Order.{Below, is_contradiction};
 ghost use Rattle.prop_numbers.specs.Sets.{set_of};
