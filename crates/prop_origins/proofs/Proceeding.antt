@@ -218,7 +218,11 @@ all_wait library d count a is = record {
       let l = slice_get_within (problem_of library d).constraints j c at in
       let n = length-map d.instances (constraint_of library) in
       let m = length-range_with_len 0 count in
-      absurd (idle (j, omega (arith, l, n, m, is), get_or-range_with_len 0 count j j (omega (arith, l, n, is)) ∙ zero-add j));
+      absurd (idle (
+        j,
+        omega (arith, l, n, m, is),
+        get_or-range_with_len 0 count j j (omega (arith, l, n, is)) ∙ zero-add j,
+      ));
 }
 
 pub most_at_start : (library : List Stored) (d : Data) (count : ℕ) → count ≡ length d.instances

@@ -31,7 +31,8 @@ returns-clause-founded c = λ library f.
     slice_get_read d.statements (length d.statements) c.args.number x refl c.requires.number
     (rw c.statements.ensures at c.index-statements-number.is) in
     let member : IsTrue (is_member s x.premise) = sym c.is_among.ensures ∙ c.if-not-is_among.false in
-    let of_kind = (All-at (IsStated d.kinds d.contents) d.statements c.args.number x c.requires.made.stated at).of_kind in
+    let stated = All-at (IsStated d.kinds d.contents) d.statements c.args.number x c.requires.made.stated at in
+    let of_kind = stated.of_kind in
     let more : ¬ (Below x.info (made c.args.log.now.parts x.cell)) =
     unless_true (rw c.made.ensures at c.implies.ensures.1) c.if-implies.false in
     subst (λ (q : Logged). AreFounded library d s q.parts) (sym c.in_ok-push.ensures.ok)
@@ -46,7 +47,8 @@ returns-clause-proceeds c = λ library.
     let at : slice_get d.statements c.args.number ≡ Some x =
     slice_get_read d.statements (length d.statements) c.args.number x refl c.requires.number
     (rw c.statements.ensures at c.index-statements-number.is) in
-    let of_kind = (All-at (IsStated d.kinds d.contents) d.statements c.args.number x c.requires.made.stated at).of_kind in
+    let stated = All-at (IsStated d.kinds d.contents) d.statements c.args.number x c.requires.made.stated at in
+    let of_kind = stated.of_kind in
     let more : ¬ (Below x.info (made parts x.cell)) =
     unless_true (rw c.made.ensures at c.implies.ensures.1) c.if-implies.false in
     let alerted : AllAlerted c.args.line.now.line c.alert.new.self.line (readers_of d.instances x.cell) =

@@ -10,9 +10,9 @@ loop-premise-preserved c =
     rw c.in-Some.ensures.steps at kept.so_far in
     let so_far : (done ++ c.in-Some.premise ∷ []) ++ c.next.new.self ≡ c.args.self.now =
     append_assoc done (c.in-Some.premise ∷ []) c.next.new.self ∙ whole in
+    let ordered = rw c.premises.ensures at c.iter-premise-items.ensures.ordered in
     record {
       so_far = so_far;
       last = rw (← whole) (has_middle done c.next.new.self c.in-Some.premise);
-      below = passed_below c.args.self.now done c.next.new.self c.in-Some.premise (rw c.premises.ensures at c.iter-premise-items.ensures.ordered)
-          so_far;
+      below = passed_below c.args.self.now done c.next.new.self c.in-Some.premise ordered so_far;
     }
