@@ -22,15 +22,16 @@ domain relation cell attach define fix tell choose kick bring forget limit ask w
 worldview nogoods
 """.split()
 # What propwide has more.
-TOLD = ["step"]
+TOLD = ["step", "how"]
 # Documents whose sessions are run over propwide, where it is built.
 WIDE = {"docs/WIDE.md"}
 
 
 def is_command(line: str) -> bool:
-    """Whether it is no reply: those to `nogoods` and `step` begin with the word too, and a number."""
+    """Whether it is no reply: those to `nogoods`, `step` and `how` begin with the word too, and a
+    number."""
     word, *rest = line.split(" ")
-    return word in (*COMMANDS, *TOLD) and not (word in ("nogoods", *TOLD) and rest)
+    return word in (*COMMANDS, *TOLD) and not (word in ("nogoods", *TOLD) and "".join(rest).isdigit())
 
 
 def blocks(text: str) -> Iterator[list[str]]:

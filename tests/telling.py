@@ -1,5 +1,6 @@
-"""Random sessions of `step`, each reply of which is compared with the step that a plain model takes,
-in each order of calls.
+"""Random sessions of `step` and `how`, each reply of which is compared with the step that a plain
+model takes, or with what the rules answer on what the parts behind a part say, in each order of
+calls.
 
 The model (tests/steps.py) knows which instances wait and what is believed of each cell, and calls
 one at the place that the order picks: its number, cells and output are what `step` has to name. The
@@ -7,9 +8,13 @@ premises that are said to be why are looked at by the plain evaluation (tests/pl
 be enough. With choices the model is that evaluation alone: a move goes to the next side, for a set
 that is refuted and holds the side that was left, and the end is the one that `settle` tells.
 
+Of `how` each part has to be a statement that was made under one of the premises of the value, or
+what its procedure answers on what the parts behind it say; it says more of its cell than they do,
+and rests on what they rest on. Together they say the value, and each is read from the cell on.
+
 usage: tests/telling.py PROGRAM [COUNT]
 
-PROGRAM is a workbench that tells steps, as propwide; of each kind COUNT are tried.
+PROGRAM is a workbench that tells these, as propwide; of each kind COUNT are tried.
 """
 import os
 import re
@@ -35,7 +40,7 @@ def replies_of(output: bytes) -> Iterator[str]:
     """The replies in an output, each with all its lines."""
     lines = iter(output.decode(errors="replace").splitlines())
     for line in lines:
-        counted = re.fullmatch(r"(?:step|list) (\d+)", line)
+        counted = re.fullmatch(r"(?:step|how|list) (\d+)", line)
         yield "\n".join([line, *(next(lines, "") for _ in range(int(counted[1]) if counted else 0))])
 
 
@@ -55,6 +60,92 @@ def is_enough(session: plain.Plain, premises: set[str], cell: str, value: object
     """Whether these premises are believed or sides, and say so much of the cell by themselves."""
     found = session.values(premises)
     return CLASH in found.values() or formulas.merged(found[cell], value) == found[cell]
+
+
+def are_first(session: plain.Plain, sides: list[str]) -> bool:
+    """Whether these are sides of the first choices, one of each, in order."""
+    named = [it for choice in session.choices for it in choice if it in sides]
+    return named == sides and all(it in choice for it, choice in zip(sides, session.choices))
+
+
+def said_in(line: str) -> tuple[str, str, set[str]]:
+    """The cell, the value and the premises of a line that says these."""
+    said, _, names = line.partition(" because ")
+    cell, _, value = said.partition(" = ")
+    return cell, value, plain.premises_in(names)
+
+
+# What is said of a cell, and on which premises.
+Says = tuple[Any, set[str]]
+REFUSED = {"how": "error 4: wrong form", "how c0 c1": "error 4: wrong form", "how 1x": "error 5: not a name", "how nope": "error 9: no such cell"}
+
+
+@dataclass
+class Made:
+    """What a `how` may tell, by what was stated and by the rules alone."""
+
+    session: plain.Plain
+    cell: str
+    # What is believed of it, where that is known.
+    value: Optional[str] = None
+
+    def is_right(self, reply: str, _seen: object) -> bool:
+        lines = reply.split("\n")
+        if lines[0] != f"how {len(lines) - 1}" or not lines[1].startswith("sides:") or len(lines) % 2 == 0:
+            return False
+        sides, (cell, value, premises) = lines[1].split()[1:], said_in(lines[2])
+        parts = [*zip(lines[3::2], map(said_in, lines[4::2]))]
+        return (
+            are_first(self.session, sides)
+            and cell == self.cell
+            and value == (self.value or value)
+            and premises <= self.session.believed | set(sides)
+            and self.is_said(parts, premises, formulas.info_of(value))
+            and self.are_read(parts)
+        )
+
+    def is_said(self, parts: list[tuple[str, tuple[str, str, set[str]]]], premises: set[str], value: object) -> bool:
+        """Whether each part is founded on those behind it, and they say the value."""
+        made: dict[str, Says] = {}
+        for origin, (cell, said, support) in reversed(parts):
+            info, (before, on) = formulas.info_of(said), made.get(cell, (formulas.NOTHING, set()))
+            both = formulas.merged(before, info)
+            if not self.is_founded(origin, made, (cell, said, support)) or not support <= premises or both == before:
+                return False
+            made[cell] = both, on | support
+        found, _ = made.get(self.cell, (formulas.NOTHING, set()))
+        return bool(formulas.merged(found, value) == found)
+
+    def is_founded(self, origin: str, made: dict[str, Says], part: tuple[str, str, set[str]]) -> bool:
+        """Whether it is a statement, or what a procedure answers on what was made."""
+        cell, said, support = part
+        word, *names = origin.split()
+        if word == "told:":
+            premise = names[0] if names else None
+            told = {(under, at, text_of(info)) for under, at, info in self.session.stated}
+            return (premise, cell, said) in told and len(names) < 2 and support == set(names)
+        number, name, *cells = names
+        procedure, inputs, output = self.session.attached[int(number)]
+        args = [made.get(it, (formulas.NOTHING, set())) for it in inputs]
+        return (
+            [procedure.split()[0], *inputs, output] == [name, *cells]
+            and (word, cell) == ("called:", output)
+            and said == text_of(plain.answered(procedure, [info for info, _ in args]))
+            and support == set().union(*(on for _, on in args))
+        )
+
+    def are_read(self, parts: list[tuple[str, tuple[str, str, set[str]]]]) -> bool:
+        """Whether each part is at the cell, or at one that a part before it reads."""
+        wanted = {self.cell}
+        for origin, (cell, _, _) in parts:
+            if cell not in wanted:
+                return False
+            word, *names = origin.split()
+            wanted |= set(names[2:-1]) if word == "called:" else set()
+        return True
+
+    def wanted(self, _seen: object) -> str:
+        return f"what makes up {self.cell}{f' = {self.value}' if self.value else ''}, by statements and rules that bear it out"
 
 
 @dataclass
@@ -101,6 +192,12 @@ class Told(steps.Told):
         call = f"called: {called} {' '.join([name.split()[0], *inputs, output])}"
         self.say("step", Stepped(plainly, [call, f"{output} = {text_of(value)}"], output, value))
 
+    def how(self, cell: str) -> None:
+        self.say(f"how {cell}", Made(self.plain.copy(), cell, text_of(self.machine.values[cell])))
+
+    def refused(self, line: str) -> None:
+        self.say(line, drawn.Exactly(REFUSED[line]))
+
     def wrong_in(self, output: bytes) -> Optional[drawn.Wrong]:
         return first_wrong(self, output)
 
@@ -109,7 +206,7 @@ class Draw(steps.Draw):
     """Draws lines that take away no belief, and steps between them."""
 
     TOLD = Told
-    COMMANDS = [*["tell"] * 4, "fix", *["attach"] * 5, *["step"] * 9]
+    COMMANDS = [*["tell"] * 4, "fix", *["attach"] * 5, *["step"] * 9, *["how"] * 5]
 
     def draw(self) -> None:
         for line in plain.DECLARED:
@@ -118,9 +215,15 @@ class Draw(steps.Draw):
             getattr(self, self.chance.choice(self.COMMANDS))()
         for _ in range(self.chance.randrange(30)):
             self.step()
+        for cell in sum(self.PLACES.values(), []):
+            self.act("how", cell)
+        self.act("refused", self.chance.choice([*REFUSED]))
 
     def step(self) -> None:
         self.act("step")
+
+    def how(self) -> None:
+        self.act("how", self.chance.choice(sum(self.PLACES.values(), [])))
 
 
 @dataclass
@@ -134,10 +237,7 @@ class Looked:
         if lines[0] != f"step {len(lines) - 1}" or not lines[1].startswith("sides:"):
             return False
         sides = lines[1].split()[1:]
-        named = [it for choice in self.session.choices for it in choice if it in sides]
-        # (sides are those of the first choices, one of each, in order)
-        firsts = all(it in choice for it, choice in zip(sides, self.session.choices))
-        if named != sides or not firsts:
+        if not are_first(self.session, sides):
             return False
         kind = lines[2].partition(":")[0]
         return {"settled": self.settled, "contradiction": self.ends, "moved": self.moved, "called": self.called}[kind](lines, sides)
@@ -189,6 +289,9 @@ class ToldOfChoices(choices.Told):
     def step(self) -> None:
         self.say("step", Looked(self.plain.copy()))
 
+    def how(self, cell: str) -> None:
+        self.say(f"how {cell}", Made(self.plain.copy(), cell))
+
     def wrong_in(self, output: bytes) -> Optional[drawn.Wrong]:
         return first_wrong(self, output)
 
@@ -197,7 +300,7 @@ class DrawChoices(choices.Draw):
     """Draws lines with choices, and steps between them up to an end."""
 
     TOLD = ToldOfChoices
-    COMMANDS = [*["tell"] * 3, *["kick", "bring"] * 2, *["attach"] * 4, *["choose"] * 4, *["step"] * 15]
+    COMMANDS = [*["tell"] * 3, *["kick", "bring"] * 2, *["attach"] * 4, *["choose"] * 4, *["step"] * 15, *["how"] * 5]
     LINES = 60
 
     def draw(self) -> None:
@@ -206,10 +309,13 @@ class DrawChoices(choices.Draw):
         for _ in range(self.chance.randrange(self.LINES)):
             getattr(self, self.chance.choice(self.COMMANDS))()
         for _ in range(self.chance.randrange(60)):
-            self.step()
+            self.chance.choice([self.step, self.step, self.step, self.how])()
 
     def step(self) -> None:
         self.act("step")
+
+    def how(self) -> None:
+        self.act("how", self.chance.choice(sum(self.PLACES.values(), [])))
 
 
 def cases(count: int = DRAWN) -> Iterator[drawn.Drawn]:

@@ -13,20 +13,21 @@ use Rattle.prop_numbers.specs.Sets.{set_of}
 use Rattle.prop_procedures.specs.Stored.{Stored}
 use Rattle.prop_cells.specs.Problems.{Premises}
 use Rattle.prop_cells.specs.Instances.{IsWithin}
-use Rattle.prop_cells.specs.Data.{Data, IsKept, IsStated, IsLeanAt, beliefs, support_of}
+use Rattle.prop_cells.specs.Data.{Data, IsKept, IsStated, IsLeanAt, beliefs, problem_of, support_of}
 use Rattle.prop_cells.proofs.Keeping.{All-at}
 use Rattle.prop_origins.specs.declared.part.Origin.{Origin}
 use Rattle.prop_origins.specs.declared.part.Origin.TheVariants.{Told, Called}
 use Rattle.prop_origins.specs.Parts.{Part, rests_on}
 use Rattle.prop_origins.specs.Founded.{IsFrom, AreFounded, MakeUp}
-use Rattle.prop_origins.specs.Whole.{IfWhole}
+use Rattle.prop_origins.specs.Whole.{IfWhole, IfCut}
+use Rattle.prop_scheduler.specs.Potential.{most_steps}
 use Rattle.prop_origins.specs.declared.making.Composition.{Composition}
 use Rattle.prop_origins.specs.declared.making.Composition.TheVariants.{Whole, Cut}
 use Rattle.prop_amb.specs.Going.{Work}
 use Rattle.prop_workbench.specs.Machine.{State}
 use Rattle.prop_workbench.specs.Sessions.{AreKnown}
 use Rattle.prop_workbench.proofs.PremiseLemmas.{set_has}
-use Rattle.prop_telling.specs.How.{part_text, parts_text, parts_of, made_text, how_text, lines_for, AreTold}
+use Rattle.prop_telling.specs.How.{part_text, parts_text, parts_of, made_text, how_text, lines_for, most_calls, AreTold}
 use Rattle.prop_telling.specs.How.{SaysHow}
 use Rattle.prop_telling.specs.Texts.{says_text, sides_text}
 use Rattle.prop_telling.specs.inner.How.{IsThere}
@@ -83,7 +84,7 @@ module _ (library : List Stored) (d : Data) (s : Premises) (n : ℕ) (kept : IsK
       → (p.cell < length d.kinds) × ((i : ℕ) → o ≡ Called i → i < length d.instances)
   from_there behind p (Told k) from = (
     subst (λ (q : Part). q.cell < length d.kinds) (sym from.is)
-        (All-at (IsStated (length d.kinds) d.contents) d.statements k from.statement kept.made.stated from.at).within,
+        (All-at (IsStated d.kinds d.contents) d.statements k from.statement kept.made.stated from.at).within,
     λ i e. cc,
   )
   from_there behind p (Called k) from = (
@@ -114,11 +115,12 @@ parts_text_more library s parts i d before l is =
     ap (λ t. t ++ f p) is ∙ ap (λ t. parts_text library s (take i parts) ++ t) (sym (append-nil (f p)))
     ∙ sym (flat_map-append f (take i parts) (p ∷ [])) ∙ ap (parts_text library s) (sym (take_more parts i d l))
 
--- what is whole is told
+-- what is whole or cut is told
 pub made_told : (library : List Stored) (d : Data) (s : Premises) (cell : ℕ) (v : Info) (made : Composition)
-    → IfWhole made (MakeUp library d s cell v) → AreTold library d s cell v (parts_of made)
-made_told library d s cell v (Whole parts) m = m
-made_told library d s cell v Cut m = tt
+    → IfWhole made (MakeUp library d s cell v) → IfCut made (most_calls < most_steps (problem_of library d))
+    → AreTold library d s cell v (parts_of made)
+made_told library d s cell v (Whole parts) whole cut = whole
+made_told library d s cell v Cut whole cut = cut
 
 pub made_there : (library : List Stored) (d : Data) (s : Premises) (n cell : ℕ) (v : Info) (made : Composition)
     → IsKept library d → AreKnown n d.statements → IfWhole made (MakeUp library d s cell v)
@@ -131,14 +133,15 @@ pub how_said : {O : Type 0} (library : List Stored) (s : State) (w : Work O) (ce
     (made : Composition) (text : List ℕ) → v ≡ beliefs (set_of w.search.worldview) w.cells.contents cell
     → IsLeanAt (set_of w.search.worldview) w.cells.contents cell premises
     → IfWhole made (MakeUp library w.cells (set_of premises) cell v)
+    → IfCut made (most_calls < most_steps (problem_of library w.cells))
     → text ≡ how_text (lines_for (parts_of made)) (sides_text s.premises (set_of w.search.worldview))
     (says_text s cell v premises) (made_text library s (parts_of made)) → SaysHow library s w cell text
-how_said library s w cell premises v made text is lean told e = record {
+how_said library s w cell premises v made text is lean told cut e = record {
   premises = premises;
   lean = lean;
   made = parts_of made;
   told = subst (λ (x : Info). AreTold library w.cells (set_of premises) cell x (parts_of made)) is
-      (made_told library w.cells (set_of premises) cell v made told);
+      (made_told library w.cells (set_of premises) cell v made told cut);
   text_is = e ∙ ap (λ (x : Info). how_text (lines_for (parts_of made))
       (sides_text s.premises (set_of w.search.worldview)) (says_text s cell x premises)
       (made_text library s (parts_of made))) is;

@@ -1,15 +1,16 @@
 -- What is told, from what was done.
-use Rattle.std.proofs.Common.{◌≡◌, ◌∙◌, ◌⊎◌, ℕ, zero, suc, ◌<◌, IsTrue, List, [], ◌∷◌, All, length, slice_get}
+use Rattle.std.proofs.Common.{◌≡◌, ◌∙◌, ◌⊎◌, ℕ, zero, suc, ◌<◌, ◌+◌, ◌-◌, IsTrue, List, [], ◌∷◌, All, length, slice_get}
 use Rattle.std.proofs.Common.{Some, Result, Ok, Err, IfOk, ap, refl, subst, sym, inl, inr, arith}
 use Rattle.std.proofs.lemmas.Option.{slice_get_within}
 use Rattle.prop_refusals.specs.declared.refusal.Refusal.TheVariants.{Memory}
+use Rattle.prop_numbers.specs.Sets.{set_of}
 use Rattle.prop_premises.specs.Origins.{Origin, choices_of}
 use Rattle.prop_premises.specs.declared.choice.Choice.{Choice}
 use Rattle.prop_premises.specs.ChoiceLists.{hypothetical, is_hypothetical}
 use Rattle.prop_procedures.specs.Stored.{Stored}
 use Rattle.prop_cells.specs.Problems.{Problem}
 use Rattle.prop_engine.specs.Answers.{Answer, Text, Refused, Says}
-use Rattle.prop_amb.specs.Search.{IsStand}
+use Rattle.prop_amb.specs.Search.{Stand, IsStand}
 use Rattle.prop_amb.specs.Going.{Work}
 use Rattle.prop_amb.specs.Stepping.{Steps, IsStepTo}
 use Rattle.prop_amb.specs.declared.stepping.Step.{Step}

@@ -1,6 +1,6 @@
 -- What is told of how a value came about.
 use Rattle.std.specs.Prelude.{◌≡◌, ◌⊎◌, ℕ, ◌+◌, ◌*◌, List, [], ◌++◌, flat_map, length, codes}
-use Rattle.std.specs.Prelude.{decimal, slice_get, Option, Some, None, Result, Ok, Err, ⊤}
+use Rattle.std.specs.Prelude.{decimal, slice_get, Option, Some, None, Result, Ok, Err, ◌<◌}
 use Rattle.std.specs.Option.{option_map_or}
 use Rattle.prop_lattice.specs.declared.info.Info.{Info}
 use Rattle.prop_numbers.specs.Sets.{set_of}
@@ -11,7 +11,8 @@ use Rattle.prop_language.specs.Commands.{Command}
 use Rattle.prop_language.specs.Reading.{AsRead}
 use Rattle.prop_vocabulary.specs.Cells.{cell_named}
 use Rattle.prop_cells.specs.Problems.{Premises}
-use Rattle.prop_cells.specs.Data.{Data, beliefs, IsLeanAt}
+use Rattle.prop_cells.specs.Data.{Data, beliefs, problem_of, IsLeanAt}
+use Rattle.prop_scheduler.specs.Potential.{most_steps}
 use Rattle.prop_origins.specs.declared.part.Origin.{Origin}
 use Rattle.prop_origins.specs.declared.part.Origin.TheVariants.{Told, Called}
 use Rattle.prop_origins.specs.declared.making.Composition.{Composition}
@@ -47,9 +48,14 @@ abbrev pub parts_of : Composition → Option (List Part)
 parts_of (Whole parts) = Some parts.items
 parts_of Cut = None
 
+-- how often procedures are called at most to find them
+abbrev pub most_calls : ℕ
+most_calls = 1000000
+
+-- they make up the value under the premises, or a run may take more steps than that
 abbrev pub AreTold : List Stored → Data → Premises → ℕ → Info → Option (List Part) → Type 0
 AreTold library d premises cell v (Some parts) = MakeUp library d premises cell v parts
-AreTold library d premises cell v None = ⊤
+AreTold library d premises cell v None = most_calls < most_steps (problem_of library d)
 
 abbrev pub lines_for : Option (List Part) → ℕ
 lines_for (Some parts) = 2 + 2 * length parts

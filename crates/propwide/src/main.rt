@@ -28,7 +28,7 @@ Reads commands from standard input, one on each line, and writes a reply or a re
   networks    domain, relation, define, cell, attach
   statements  fix, tell, choose, forget
   premises    kick, bring, worldview, nogoods
-  questions   ask, why, core, settle
+  questions   ask, why, core, settle, how
   steps       limit, step
   told        how, list
 

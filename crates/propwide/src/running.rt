@@ -25,7 +25,7 @@ pub fn run<Rd: Read, W: Write>(
     requires reader { IsFresh (reader devices.old) }
     requires writer { IsPassedOn devices.old }
     // Each reply is the session's, earned by steps that were taken in the order that was chosen, or
-    // tells a step.
+    // tells a step or what makes up a value.
     ensures told { IfOk result (IsTold wide options.order options.seed options.limit
         (Rd.remaining (device (reader devices.old))) (W.contents (device (writer devices.old)))
         (W.contents (device (writer devices.new)))) }
