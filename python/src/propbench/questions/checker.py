@@ -63,13 +63,14 @@ def digits(cell: str, room: Room, mark: str) -> list[str]:
     return [*made, f"attach same {total} {cell}"]
 
 
-def hitting(sets: Sequence[Any], out: frozenset[str] = frozenset()) -> list[set[str]]:
-    """Sets that have a name of each of these sets, none that is out; each least one among them."""
-    found: list[set[str]] = []
-    for name in sorted({*sets[0]} - out) if sets else ():
-        found += [{name, *more} for more in hitting([s for s in sets if name not in s], out)]
-        out |= {name}
-    return found if sets else [set()]
+def hitting(sets: Iterable[Iterable[str]]) -> list[set[str]]:
+    """The least sets that have a name of each of these sets."""
+    found: list[set[str]] = [set()]
+    for names in [{*each} for each in sets]:
+        hits = [hit for hit in found if hit & names]
+        more = [hit | {name} for hit in found if not hit & names for name in names]
+        found = hits + [each for each in more if not any(hit <= each for hit in hits)]
+    return found
 
 
 class Checker:
@@ -171,9 +172,8 @@ class Checker:
 
         self.believe(given)
         self.cases(tree, [], leaf)
-        demand(
-            sorted(found) == sorted(plans) and len(found) == len({*map(str, found)}), "wrong plans"
-        )
+        is_each_once = len(found) == len({*map(str, found)})
+        demand(is_each_once and sorted(found) == sorted(plans), "wrong plans")
 
     def answer(self, given: Iterable[str], told: Any, ask: str, said: str) -> None:
         self.believe(given)
