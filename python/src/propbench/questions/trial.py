@@ -10,7 +10,7 @@ from collections.abc import Collection, Iterable, Sequence
 from propbench.closing import Closing
 from propbench.questions.checker import MOST, digits
 from propbench.questions.clock import Clock
-from propbench.questions.model import Model
+from propbench.questions.model import Model, Plan
 from propbench.questions.rooms import (
     Names,
     Numbers,
@@ -317,6 +317,10 @@ class Trial(Closing):
                 made.append(f"choose {name} {line} {self.choices[-1][1]}")
         self._new += made
         self._chosen += made
+
+    def shown(self, plan: Plan) -> Plan:
+        """A plan as it is shown: without quantities, of which no plan has the real number."""
+        return {cell: value for cell, value in plan.items() if not self.model.is_measured(cell)}
 
     def known(self, told: Iterable[Case]) -> dict[str, Room]:
         """What is left for cells by what is supposed; symbols are left out."""
