@@ -87,7 +87,9 @@ class Value:
         to be read, and says that in reply to a `why` that is settled. (To read no more than that is
         twice as fast.)"""
         unread = self.__dict__.get("_unread")
-        return _ends(unread[0]) if unread and unread[1:] == _NUMBER_WHY else None
+        if unread and unread[1] == "why" and unread[2] == "span":
+            return _ends(unread[0])
+        return None
 
     def __str__(self) -> str:
         text = f"{self.cell} = {self.value}"
@@ -217,7 +219,6 @@ SEVERAL = frozenset(("worldview", "nogoods", "step"))
 _WORDS: tuple[Reply, ...] = (DONE, SETTLED, UNSETTLED)
 _PLAIN = {str(reply): reply for reply in _WORDS}
 _VALUED = frozenset(("ask", "why", "core"))
-_NUMBER_WHY = ("why", "span")
 _new, _put = object.__new__, object.__setattr__
 
 

@@ -187,12 +187,13 @@ def _conflicts(explored: Exploring, texts: Mapping[str, str], most: int) -> Conf
 
 
 def _repairs(explored: Exploring, weight: Mapping[str, float], most: int) -> Repairs:
-    """The repairs that are known, so many at the most and the cheapest first."""
+    """The repairs that are known, so many at the most and the cheapest first, those of the same
+    cost in the order of their premises."""
     costs = {
         mask: sum(weight.get(premise, 1) for premise in explored.names(mask))
         for mask in explored.repairs
     }
-    shown = sorted(explored.repairs, key=costs.__getitem__)[:most]
+    shown = sorted(explored.repairs, key=lambda mask: (costs[mask], bits_of(mask)))[:most]
     found = []
     for mask in shown:
         found.append(Repair(explored.names(mask)))

@@ -99,16 +99,18 @@ class Hitting:
         return _Node(hit, node.spent, node.out, len(self._done), missed, known)
 
     def _fork(self, node: "_Node", least: Cost) -> None:
-        """The ways to hit one more conflict: by its first bit, by the next and not the first, .."""
-        out, (weight, number) = node.out, node.spent
+        """The ways to hit one more conflict: by its first bit, by the next and not the first, ..
+        The first comes next, of those that cost as much."""
+        children, out, (weight, number) = [], node.out, node.spent
         for bit in bits_of(node.missed[0]):
             more = node.hit | bit
             # (what is finished and not within the set has the bit, where it is within both)
             if not _has_one(more, self._done_with[bit]):
                 cost = weight + self._weight[bit], number + 1
-                child = _Node(more, cost, out, node.done, node.missed, node.known)
-                heapq.heappush(self._open, (max(cost, least), next(self._order), child))
+                children.append(_Node(more, cost, out, node.done, node.missed, node.known))
             out |= bit
+        for child in reversed(children):
+            heapq.heappush(self._open, (max(child.spent, least), next(self._order), child))
 
     def _least(self, spent: Cost, missed: Sequence[int]) -> Cost | None:
         """A cost below which these conflicts, the smallest first, can't be hit beside what is spent:
