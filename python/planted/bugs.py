@@ -380,8 +380,8 @@ BUGS = [
     # What checks certificates.
     Bug(
         "questions/checker.py",
-        "if not any(hit <= each for hit in hits)",
-        "if not any(hit < each for hit in hits)",
+        "[hit - {name} for hit in hits if hit & names == {name}]",
+        "[hit for hit in hits if hit & names == names]",
         "hitting::each_least_set_comes_once_cheapest_first",
     ),
     Bug(
