@@ -351,7 +351,7 @@ BUGS = [
         "questions/conflicts.py",
         "found.complete or found.weights == dict(weight)",
         "found.complete or found.weights",
-        _GOES_ON,
+        "questions::other_weights_give_another_order",
     ),
     Bug(
         "questions/exploring.py",

@@ -89,6 +89,15 @@ def test_a_question_goes_on_from_the_one_before(lines: list[str], data: st.DataO
         assert mended.certificate.check() and found.certificate.check()
 
 
+def test_other_weights_give_another_order() -> None:
+    """What the question before found out counts, and not in which order."""
+    with Session() as session:
+        model = LineModel(session, ["cell x span", *(f"tell p{n} x {n}" for n in range(4))])
+        for dear in ("p0", "p3", "p1"):
+            [cheapest] = model.repairs({dear: 9}, most=1)
+            assert cheapest == set(model.premises()) - {dear} and cheapest.cost == 3
+
+
 def test_what_is_known_is_not_asked_again(monkeypatch: pytest.MonkeyPatch) -> None:
     """Of the same network no program is begun for what is known, and one for what is not."""
     lines = ["cell x span", *(f"tell p{n} x {n}" for n in range(4))]
