@@ -82,6 +82,15 @@ class Value:
             return _said(*unread)
         return self.cell, self.value, self.settled, self.because, self.reduced
 
+    def ends(self) -> "Ends | None":
+        """The ends of a number with the premises that are enough for them, where the text is still
+        to be read, and says that in reply to a `why` that is settled. (To read no more than that is
+        twice as fast.)"""
+        unread = self.__dict__.get("_unread")
+        if unread and unread[1] == "why" and unread[2] == "span":
+            return _ends(unread[0])
+        return None
+
     def __str__(self) -> str:
         text = f"{self.cell} = {self.value}"
         if not self.settled:
@@ -94,6 +103,8 @@ class Value:
 # The fields of a Value: their names in order, and what they are.
 _FIELDS = ("cell", "value", "settled", "because", "reduced")
 Said = tuple[str, Held, bool, tuple[str, ...] | None, bool | None]
+# A number from one to another, and the premises that are enough for it.
+Ends = tuple[int, int, list[str]]
 
 
 @dataclass(frozen=True)
@@ -208,6 +219,7 @@ SEVERAL = frozenset(("worldview", "nogoods", "step"))
 _WORDS: tuple[Reply, ...] = (DONE, SETTLED, UNSETTLED)
 _PLAIN = {str(reply): reply for reply in _WORDS}
 _VALUED = frozenset(("ask", "why", "core"))
+_new, _put = object.__new__, object.__setattr__
 
 
 def _named(premises: tuple[str, ...]) -> str:
@@ -245,10 +257,7 @@ def reply_of(words: list[str], text: str, kinds: Mapping[str, str]) -> Reply:
         return _step(text.split("\n")[1:], kinds)
     # (no name has the mark `=`)
     if command in _VALUED and " = " in text:
-        made = object.__new__(Value)
-        # (past the freeze; by `vars` it would take twice the time and memory)
-        object.__setattr__(made, "_unread", (text, command, kinds[words[1]]))
-        return made
+        return unread(text, command, kinds[words[1]])
     if text.startswith("contradiction:"):
         return Contradiction(_names(text[15:]))
     if command == "worldview" and text != "unsettled":
@@ -257,6 +266,27 @@ def reply_of(words: list[str], text: str, kinds: Mapping[str, str]) -> Reply:
     if command == "nogoods":
         return Nogoods(tuple(_names(line[8:]) for line in text.split("\n")[1:]))
     return _PLAIN[text]
+
+
+def unread(text: str, command: str, kind: str) -> Value:
+    """The value that a text says in reply to a command, of a cell of this kind."""
+    made = _new(Value)
+    # (past the freeze; by `vars` it would take twice the time and memory)
+    _put(made, "_unread", (text, command, kind))
+    return made
+
+
+def _ends(text: str) -> Ends | None:
+    """What the text of a reply to a `why` says of a number, where it is settled."""
+    words = text.split(" ")
+    if words[3] != "because":
+        return None
+    low, dots, high = words[2].partition("..")
+    if not low[-1].isdigit():
+        return None
+    least = int(low)
+    names = words[4:]
+    return least, int(high) if dots else least, names if names[0] != "no" else []
 
 
 def _said(text: str, command: str, kind: str) -> Said:

@@ -58,6 +58,8 @@ class Session(Closing):
         self._first_limit = STEPS if limit is None else limit
         self._sent = 0
         self._closed = False
+        # What those who ask a session much keep of it, by their names; it goes with the session.
+        self.kept: dict[str, object] = {}
         self._begin()
 
     def fresh(self) -> "Session":

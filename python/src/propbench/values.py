@@ -2,6 +2,8 @@
 
 from dataclasses import dataclass
 
+_put = object.__setattr__
+
 
 @dataclass(frozen=True)
 class Span:
@@ -9,6 +11,10 @@ class Span:
 
     low: int
     high: int
+
+    def __init__(self, low: int, high: int) -> None:
+        # (past the freeze, both at once: one by one it would take longer)
+        _put(self, "__dict__", {"low": low, "high": high})
 
     def __str__(self) -> str:
         return str(self.low) if self.low == self.high else f"{self.low}..{self.high}"

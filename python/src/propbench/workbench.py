@@ -321,9 +321,9 @@ class Workbench(Measuring, Closing):
         reply = network.session.send(
             f"{command} {network.vocabulary.cells.line(cell.name)}", seconds=seconds
         )
-        if isinstance(reply, Contradiction):
+        if not isinstance(reply, Value):
+            assert isinstance(reply, Contradiction)
             raise self._conflict(reply)
-        assert isinstance(reply, Value)
         if not network.premises.choices:
             return self._reader.answer(cell, reply, {})
         if command == "core" and reply.settled:
