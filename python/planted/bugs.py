@@ -412,7 +412,7 @@ BUGS = [
     Bug(
         "planning/project.py",
         "if not self._has(task.end):",
-        "if not task.end:",
+        "if not self.workbench:",
         "planning::what_is_wrong",
     ),
     Bug(
