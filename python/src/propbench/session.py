@@ -295,8 +295,6 @@ class Session(Closing):
             talk.in_step = True
             return SILENT
         text = talk.hear(words[0] if words else "")
-        if words and words[0] == "how" and text.endswith("\ncut"):
-            text = self._not_cut(line, text)
         refused = talk.refused(line, text, self._sent) if text != "ok" else None
         if refused is None:
             talk.carried(line, words)
@@ -304,12 +302,3 @@ class Session(Closing):
         if refused:
             raise refused
         return DONE if text == "ok" else reply_of(words, text, talk.kinds)
-
-    def _not_cut(self, line: str, text: str) -> str:
-        """The text of the reply to a `how` that was cut with this one by a slice of the limit: that
-        under the whole of it."""
-        talk = self._talk
-        if talk.program_limit == talk.limit:
-            return text
-        talk.tell(line, talk.limit)
-        return talk.hear("how")

@@ -21,7 +21,6 @@ from propbench.watching import (
     Steps,
     Use,
     Watched,
-    bearing,
 )
 
 # A page is told of so many steps at once at the most.
@@ -126,12 +125,12 @@ class Asking:
 
     def _cell(self, asked: Mapping[str, object]) -> dict[str, object]:
         cell = self._cell_named(asked)
-        seen, network = self._look(), self._watched.network()
+        seen = self._look()
         shown = seen.values.get(cell)
         if shown is None:
             return {"shown": None, "bears": None}
-        bears = bearing(network, seen, shown)
-        names = {key: sorted(value) for key, value in vars(bears).items()}
+        bears = self._watched.bears(seen, shown)
+        names = {key: sorted(value) for key, value in vars(bears).items() if key != "says"}
         return {"shown": _shown(shown), "bears": names}
 
     def _core(self, asked: Mapping[str, object]) -> dict[str, object]:

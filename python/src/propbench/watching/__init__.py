@@ -1,8 +1,8 @@
 """What views see of a session or a workbench, behind one interface.
 
 Pictures, the page and the notebook know `Watched` and no more. It rests on what the program answers
-today (`settle`, `why`, `core`, `worldview`, `nogoods`) and on the lines that were carried out; where
-the program tells more by itself, that takes its place behind the same methods.
+(`settle`, `why`, `core`, `worldview`, `nogoods`) and on the lines that were carried out; where the
+program tells more by itself (`step`, `how`, `list`), that takes its place behind the same methods.
 """
 
 from collections.abc import Sequence
@@ -12,7 +12,8 @@ from typing import Protocol
 from propbench.questions.clock import Progress as Told
 from propbench.runs import Progress
 from propbench.session import Session
-from propbench.watching.bearing import Bearing, bearing
+from propbench.watching.bearing import Bearing
+from propbench.watching.claims import Claim, Source, Way
 from propbench.watching.mending import Mending
 from propbench.watching.network import (
     NOTHING_SEEN,
@@ -64,6 +65,15 @@ class Watched(Protocol):
 
     def known(self) -> Seen:
         """What is known now, without a step."""
+        ...
+
+    def how(self, cell: str) -> Claim:
+        """What makes up what is known of a cell, without a step. Raises UnknownCommand where the
+        program doesn't tell."""
+        ...
+
+    def bears(self, seen: Seen, shown: Shown) -> Bearing:
+        """What bears on what is seen of a cell: as the program tells it, or else worked out."""
         ...
 
     def core(self, cell: str, progress: Progress | None = None) -> Shown | None:
@@ -122,6 +132,7 @@ __all__ = [
     "Cell",
     "Change",
     "Choice",
+    "Claim",
     "Clash",
     "Frame",
     "Mending",
@@ -131,8 +142,9 @@ __all__ = [
     "Said",
     "Seen",
     "Shown",
+    "Source",
     "Steps",
     "Use",
     "Watched",
-    "bearing",
+    "Way",
 ]

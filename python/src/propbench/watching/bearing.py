@@ -1,13 +1,15 @@
-"""What may bear on a cell: the cells and uses that lead from its reasons to it.
+"""What bears on a cell: the cells and uses that lead from its reasons to it.
 
-This is worked out here, from the directions of the procedures and from the reasons that the program
-names for each value; nothing is concluded from it. A value can rest on another only where its
-reasons have all reasons of the other.
+A program that tells what makes up a value tells this too (`resting`). For another it is worked out
+here, from the directions of the procedures and from the reasons that the program names for each
+value; nothing is concluded from it. A value can rest on another only where its reasons have all
+reasons of the other.
 """
 
-from collections.abc import Iterable, Iterator, Sequence
-from dataclasses import dataclass
+from collections.abc import Iterable, Iterator, Mapping, Sequence
+from dataclasses import dataclass, field
 
+from propbench.watching.claims import Claim
 from propbench.watching.network import Network, Said, Seen, Shown, Use
 
 # For so many cells it is looked what is reached without them; for others that of the last serves.
@@ -17,12 +19,13 @@ _MOST_EXACT = 150
 @dataclass(frozen=True)
 class Bearing:
     """Names of the cells and uses that bear on a cell, itself included, and of premises and
-    choices."""
+    choices. `says` has what is known of those cells on the way of which it is told."""
 
     cells: frozenset[str]
     uses: frozenset[str]
     premises: frozenset[str]
     choices: frozenset[str]
+    says: Mapping[str, str] = field(default_factory=dict)
 
 
 @dataclass(frozen=True, eq=False)
@@ -32,6 +35,20 @@ class _Arrow:
     inputs: tuple[str, ...]
     output: str
     use: str
+
+
+def resting(claim: Claim) -> Bearing:
+    """What a value is made up of, as the program told it."""
+    claims = list(claim.claims())
+    sources = [source for each in claims for way in each.ways for source in way.sources]
+    claims.sort(key=lambda each: -each.place)
+    return Bearing(
+        frozenset(each.cell for each in claims),
+        frozenset(source.use for source in sources if source.use),
+        frozenset(source.premise for source in sources if source.premise),
+        frozenset(source.choice for source in sources if source.choice),
+        {each.cell: each.says for each in claims},
+    )
 
 
 def bearing(network: Network, seen: Seen, shown: Shown) -> Bearing:
