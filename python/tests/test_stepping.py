@@ -14,7 +14,7 @@ from typing import Any
 
 import pytest
 from browsing import new_browser, shown
-from conftest import PROGRAMS, REPOSITORY, TIMES
+from conftest import REPOSITORY, TIMES
 from test_desk import Talk
 from test_watching import random_lines
 
@@ -119,20 +119,6 @@ def test_a_program_that_tells_no_steps_says_so(program: str) -> None:
 
 
 # --- over propwide ---
-
-
-@pytest.fixture(scope="module")
-def wide() -> str:
-    """A propwide that tells steps."""
-    path = PROGRAMS.get("propwide", "")
-    if not path:
-        pytest.skip("no propwide is named by $PROPWIDE, built or installed")
-    with Session(path) as session:
-        try:
-            session.step()
-        except UnknownCommand:
-            pytest.skip("this propwide tells no steps")
-    return path
 
 
 def bare_lines(program: str, lines: list[str], options: list[str]) -> list[str]:

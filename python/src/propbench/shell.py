@@ -152,9 +152,6 @@ class Shell:
             self._write("  (the limit is used up; asked again it goes on from there)")
 
     def _list(self, words: list[str]) -> None:
-        told, listing = told_by(self.session.lines), listing_of(self.session)
-        if listing:
-            told.take(listing)
         lists: dict[str, Callable[[Told], None]] = {
             "cells": self._list_cells,
             "premises": self._list_premises,
@@ -168,7 +165,14 @@ class Shell:
         for name in wanted:
             if len(wanted) > 1:
                 self._write(f"{name}:")
-            lists[name](told)
+            lists[name](self._stated())
+
+    def _stated(self) -> Told:
+        """What was told, as the program lists it where it does."""
+        told, listing = told_by(self.session.lines), listing_of(self.session)
+        if listing:
+            told.take(listing)
+        return told
 
     def _list_cells(self, told: Told) -> None:
         shown = self._watched(partial(overview, self.session, progress=self._progress))

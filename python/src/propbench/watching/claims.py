@@ -18,7 +18,7 @@ from propbench.values import Held, Nothing, both
 
 # A tree is so deep at the most, and says of what lies deeper that it is there.
 _DEEPEST = 12
-_DEEPER = "(..)"
+_DEEPER = "(and more behind)"
 _CUT = "What makes it up was not found within the limit."
 
 
