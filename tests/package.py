@@ -292,6 +292,9 @@ def pages_are_clean(program: str) -> Optional[str]:
     for wanted in [".SH EXAMPLE", r"\fBmax\fR (x S, y S, z S)", r"\fBremainderer\fR (y S, r S)"]:
         if wanted not in page(program, "propwide") or wanted[0] != "." and wanted in text:
             return f"{wanted} is not where it belongs"
+    lacks = [it for it in documents.TOLD if rf"\fB{it}" not in page(program, "propwide")]
+    if lacks:
+        return f"propwide.1 lacks {lacks}"
     wanted = [".SH SYNOPSIS", ".SH PROPDESK RUN", ".SH PROPDESK SHELL", r"\-\-program"]
     lacks = [it for it in wanted if it not in page(program, "propdesk")]
     return f"propdesk.1 lacks {lacks}" if lacks else None

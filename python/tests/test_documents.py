@@ -74,7 +74,7 @@ def test_every_line_of_the_document_has_its_form() -> None:
     commands = [
         line for line in lines if line.split()[0] in FORMS and not line.startswith("nogoods 2")
     ]
-    assert len(commands) > 60
+    assert len(commands) > 40
     for line in commands:
         assert parsed(line).complete, line
 

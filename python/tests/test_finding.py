@@ -184,3 +184,13 @@ def test_a_dropped_session_ends_its_program(program: str) -> None:
     del session
     with pytest.raises(ProcessLookupError):
         os.kill(number, 0)
+
+
+def test_of_many_sessions_the_first_alone_says_that_it_is_unproved(
+    repository: Path, capfd: pytest.CaptureFixture[str]
+) -> None:
+    script(repository / "propbench", 'echo "${PROPBENCH_TOLD:-unproved}" >&2')
+    for _ in range(3):
+        with pytest.raises(ProgramEnded):
+            Session().send("cell x span")
+    assert capfd.readouterr().err.split() == ["unproved", "1", "1"]

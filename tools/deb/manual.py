@@ -16,6 +16,9 @@ where nothing else is said, and by
 .BI error " N" :
 and a text where it is refused.
 """
+KINDS = """
+S is a number, T a truth, A any kind, the same at each A in a line.
+"""
 SEE_ALSO = """
 The documents and examples lie in
 .IR /usr/share/doc/propbench :
@@ -88,21 +91,33 @@ def more_rules() -> str:
     """The rules and compounds that propwide has beside the kit's, as entries."""
     wide = document("docs/WIDE.md")
     listed = [*rows(section(wide, "Compounds")), *rows(section(wide, "Procedures"))]
-    # (of the rows of one compound the first tells what it means)
-    first = {name: (cells, meaning) for name, cells, meaning, *_ in reversed(listed)}
-    found = {name: first[name] for name, *_ in listed}
-    return "\n".join(entry(f"{name} ({cells})", said) for name, (cells, said) in found.items())
+    # (of the rows of one rule or compound the first tells what it means)
+    first = {row[0].split()[0]: row for row in reversed(listed)}
+    found = (first[name] for name in dict.fromkeys(row[0].split()[0] for row in listed))
+    return "\n".join(entry(f"{name} ({cells})", said) for name, cells, said, *_ in found)
+
+
+def more_of(wide: str) -> dict[str, str]:
+    """What WIDE has beside its tables, as the lines that propwide alone knows, by title."""
+    titles = re.findall(r"^## (.*)$", wide, flags=re.M)
+    texts = {title: section(wide, title) for title in titles}
+    return {it.upper(): paragraphs(text) for it, text in texts.items() if "\n| " not in text}
 
 
 def sections(name: str) -> dict[str, str]:
     """What stands in the page of a program behind what --help prints."""
     language, pipe = document("docs/LANGUAGE.md"), document("docs/PIPE.md")
-    begins = language.split("\n\n")[1].replace("propbench", name)
+    begins = language.split("\n\n")[1]
+    more = {}
+    if name == "propwide":
+        begins = re.sub(r" `propwide` reads.*", "", begins, flags=re.S).replace("propbench", name)
+        more["MORE RULES"] = f"{KINDS.strip()}\n{more_rules()}"
+        more |= more_of(document("docs/WIDE.md"))
     ends = [row for row in rows(section(pipe, "How it ends")) if "./propbench" not in row[1]]
     return {
         "DESCRIPTION": paragraphs(f"{begins}\n\n{section(language, 'Lines')}"),
         "COMMANDS": f"{COMMANDS.strip()}\n{commands(language)}",
-        **({"MORE RULES": more_rules()} if name == "propwide" else {}),
+        **more,
         "EXIT STATUS": "\n".join(entry(status, why) for status, why in ends),
         "EXAMPLE": paragraphs(first_session()),
         "SEE ALSO": SEE_ALSO.strip(),

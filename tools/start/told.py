@@ -31,7 +31,9 @@ class Progress:
         if now < self.last + (0.5 if self.is_moving else BETWEEN):
             return
         self.last = now
-        text = f"{at}, {self.seconds():.0f} seconds so far, of about {self.expected}"
+        seconds, expected = self.seconds(), self.expected
+        of = f"of about {expected}" if seconds < expected else f"where {expected} are usual"
+        text = f"{at}, {seconds:.0f} seconds so far, {of}"
         if self.is_moving:
             print(f"\r\x1b[K{self.of}: {text}", end="", file=sys.stderr, flush=True)
         else:

@@ -27,6 +27,8 @@ no program is built here for these sources yet: an unproved one is built now, on
 SLOWLY = """\
 this session runs unproved, and slowly: later ones, from about half a minute on, are fast;
 {of}: tools/build proves and builds the program"""
+# The variable by which a program that starts many has that said by the first alone.
+TOLD = "PROPBENCH_TOLD"
 # What it is at, by the word that it tells.
 AT = {"waiting": "waiting", "building": "reading the sources"}
 WAITING = "another start builds the program already; waiting for it"
@@ -143,5 +145,8 @@ def run_unproved(of: str, become: Callable[[str, list[str]], int], words: list[s
         say(of, f"{ELSEWHERE}, {AT_TERMINAL.format(of=of)}" if is_terminal else ELSEWHERE)
         if is_terminal:
             return NONE
-    say(of, SLOWLY.format(of=of) if word == "soon" else UNPROVED)
+    if word == "soon":
+        say(of, SLOWLY.format(of=of))
+    elif not os.environ.get(TOLD):
+        say(of, UNPROVED)
     return tried.run(of, words) if word == "elsewhere" else become(program, words)

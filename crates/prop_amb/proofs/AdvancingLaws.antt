@@ -9,10 +9,11 @@ use Rattle.prop_premises.specs.declared.choice.Choice.{Choice}
 use Rattle.prop_premises.specs.ChoiceLists.{hypothetical, IsSide, IsChoiceList, AreOfSides, worldview}
 use Rattle.prop_cells.specs.Problems.{Problem}
 use Rattle.prop_amb.specs.Search.{Stand, IsStand, users_of, choices_in, IsKept, IsSearch}
-use Rattle.prop_amb.specs.Moving.{first_sides, advanced, reasons_advanced, no_reasons}
+use Rattle.prop_amb.specs.Moving.{first_sides, advanced, reasons_advanced, no_reasons, passed_over}
 use Rattle.prop_amb.specs.Resolving.{MayAdvance, IsReason}
 use Rattle.prop_amb.proofs.ZipLemmas.{some_same, none_some, zip_at, zip_both, index_at}
 use Rattle.prop_amb.proofs.PlaceLemmas.{at_pushed, get_below_length}
+use Rattle.prop_amb.proofs.BelievingLaws.{search_deeper}
 use Rattle.prop_amb.proofs.KeepingLaws.{nothing_kept}
 use Rattle.prop_amb.proofs.LevelLaws.{or_no, deeper_believes}
 use Rattle.prop_amb.proofs.LookingLaws.{its_side}
@@ -231,3 +232,42 @@ module _ (s : Stand) (j : ℕ) (n w list : List ℕ) (reasons : List (List (List
   pub search_moved_to : (problem : Problem) → IsReason problem s j (set_of n) → IsSearch problem s
       → IsSearch problem (moved_to s j list reasons count w)
   search_moved_to problem reason h = rw moved_is (search_moved problem s j n w stand may reason h)
+
+-- the same, where no side of it was believed
+abbrev pub passed_to : Stand → List ℕ → List (List (List ℕ)) → ℕ → Stand
+passed_to s list reasons count =
+    record s { list = list; reasons = take count (reasons ++ drop (length reasons) s.reasons) }
+
+module _ (s : Stand) (n list : List ℕ) (reasons : List (List (List ℕ))) (count : ℕ) (stand : IsStand s)
+    (may : MayAdvance s s.level) (list_is : list ≡ advanced s.list s.level)
+    (reasons_are : reasons ≡ reasons_advanced s.reasons s.level n) (counted : length reasons ≡ count) where
+  passed_is : passed_to s list reasons count ≡ passed_over s n
+  passed_is = rw (written s.reasons reasons count counted, list_is, reasons_are) refl
+
+  pub stand_passed : IsStand (passed_to s list reasons count)
+  stand_passed = rw passed_is (record {
+    numbered = stand.numbered;
+    few = stand.few;
+    is_list = advanced_is_list s s.level stand.is_list may;
+    reasoned = advanced_reasoned s.list s.reasons s.level n stand.reasoned;
+    level = (let within = stand.level in let same = length-advanced s.list s.level in omega (arith, within, same));
+    believes = rw (advanced_front s.list s.level s.level (omega arith)) stand.believes;
+    minimal = stand.minimal;
+  })
+
+  pub search_passed : (problem : Problem) → IsReason problem s s.level (set_of n) → IsSearch problem s
+      → IsSearch problem (passed_to s list reasons count)
+  search_passed problem reason h =
+      rw passed_is (search_deeper problem (record s {
+        list = advanced s.list s.level;
+        level = s.level + 1;
+        reasons = reasons_advanced s.reasons s.level n;
+      }) s.level s.worldview (search_moved problem s s.level n s.worldview stand may reason h))
+
+-- there is a choice left
+pub passed_left : (s : Stand) (n : List ℕ) → MayAdvance s s.level
+    → (passed_over s n).level < length (passed_over s n).list
+passed_left s n may =
+    let within = get_below_length s.list s.level may.side may.side_at in
+    let same = length-advanced s.list s.level in
+    omega (arith, within, same)

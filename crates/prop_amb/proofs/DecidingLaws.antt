@@ -1,13 +1,13 @@
 -- What is known where a list is refuted: that a choice may go on, or that it went on.
-use Rattle.std.proofs.Common.{◌≡◌, ◌∙◌, ◌+◌, ℕ, List, Contains, length, sym, subst, arith}
+use Rattle.std.proofs.Common.{◌≡◌, ◌∙◌, ◌+◌, ℕ, List, Contains, length, sym, subst, inl, inr, arith}
 use Rattle.prop_numbers.specs.Sets.{Members, IsPart, set_of}
 use Rattle.prop_cells.specs.Data.{Data}
 use Rattle.prop_scheduler.specs.Shifts.{AreShifted}
 use Rattle.prop_amb.specs.Search.{Stand, IsStand, believed_with}
-use Rattle.prop_amb.specs.Moving.{advanced, reasons_advanced}
-use Rattle.prop_amb.specs.Culprits.{AreCulprits, MayLeave, MayMove}
-use Rattle.prop_amb.specs.Going.{Passes, MaySkip}
+use Rattle.prop_amb.specs.Culprits.{MayLeave, MayMove}
+use Rattle.prop_amb.specs.Going.{Passes}
 use Rattle.prop_amb.specs.Going.Passes.{none, next, skipped}
+use Rattle.prop_amb.specs.inner.Refuting.{HasStepped}
 use Rattle.prop_amb.proofs.MetLaws.{believes_worldview}
 
 -- a choice may go on for a noted nogood that is believed
@@ -21,20 +21,9 @@ may_move s n j stand noted believed leaves = record {
 }
 
 -- a choice went on
-pub goes_later : (s new : Stand) (j : ℕ) (reason : List ℕ) → (may : MayMove s j)
-    → AreCulprits s may.nogood (set_of reason) → new.premises ≡ s.premises → new.listed ≡ s.listed
-    → new.list ≡ advanced s.list j → new.level ≡ j + 1 → new.reasons ≡ reasons_advanced s.reasons j reason
-    → Passes s 1 new
-goes_later s new j reason may culprits premises listed list level reasons =
-    next 0 j s new reason none may culprits
-    (λ i. record {
-      premises = premises i;
-      list = list i;
-      level = level i;
-      reasons = reasons i;
-      listed = listed i;
-      worldview = new.worldview;
-    })
+pub goes_by : (s new : Stand) (j : ℕ) (reason : List ℕ) → HasStepped s j reason new → Passes s 1 new
+goes_by s new j reason (inl ((may, culprits), is)) = next 0 j s new reason none may culprits is
+goes_by s new j reason (inr (at, may, believes)) = skipped 0 s new reason none may believes
 
 -- moves after moves
 pub passes_on : {old mid new : Stand} {n k : ℕ} → Passes old n mid → Passes mid k new → Passes old (n + k) new
@@ -42,24 +31,9 @@ passes_on {old} {mid} {n = n} first none = let e : n ≡ n + 0 = omega arith in 
 passes_on {old} {new = new} {n = n} first (next k j s later reason rest may culprits same) =
     let e : (n + k) + 1 ≡ n + (k + 1) = omega arith in
     subst (λ m. Passes old m later) e (next (n + k) j s later reason (passes_on first rest) may culprits same)
-passes_on {old} {new = new} {n = n} first (skipped k s later nogood rest may same) =
+passes_on {old} {new = new} {n = n} first (skipped k s later nogood rest may believes) =
     let e : (n + k) + 1 ≡ n + (k + 1) = omega arith in
-    subst (λ m. Passes old m later) e (skipped (n + k) s later nogood (passes_on first rest) may same)
-
--- the choice at the level was skipped
-pub goes_past : (s new : Stand) (nogood : List ℕ) → MaySkip s nogood → new.premises ≡ s.premises
-    → new.listed ≡ s.listed → new.list ≡ advanced s.list s.level → new.level ≡ s.level + 1
-    → new.reasons ≡ reasons_advanced s.reasons s.level nogood → Passes s 1 new
-goes_past s new nogood may premises listed list level reasons =
-    skipped 0 s new nogood none may
-    (λ i. record {
-      premises = premises i;
-      list = list i;
-      level = level i;
-      reasons = reasons i;
-      listed = listed i;
-      worldview = new.worldview;
-    })
+    subst (λ m. Passes old m later) e (skipped (n + k) s later nogood (passes_on first rest) may believes)
 
 -- of the cells that a move shifted the readers and writers wait
 pub are_shifted : (d : Data) (s new : Stand) (waiting line : List ℕ) → IsStand s → IsStand new

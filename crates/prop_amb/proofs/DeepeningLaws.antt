@@ -14,7 +14,7 @@ use Rattle.prop_amb.specs.Moving.{deepened}
 use Rattle.prop_amb.specs.Going.{work, MayDeepen}
 use Rattle.prop_amb.specs.Going.Goes.{none, deeper}
 use Rattle.prop_scheduler.specs.declared.outcome.Run.{Run}
-use Rattle.prop_scheduler.specs.declared.outcome.Run.TheVariants.{Quiet, Spent, Clash}
+use Rattle.prop_scheduler.specs.declared.outcome.Run.TheVariants.{Quiet, Spent}
 use Rattle.prop_amb.proofs.GoingLaws.{goes_then}
 use Rattle.prop_amb.proofs.MetLaws.{believes_worldview}
 use Rattle.prop_amb.specs.Settling.{IsResting}
@@ -38,12 +38,6 @@ pub at_level : {V O : Type 0} (mean : V → List Stored) (was now : V) (picks : 
     → AtLevel picks (mean was) s d waiting order budget tried calls new cells after next
 at_level mean was now picks s d waiting order budget tried calls new cells after next same a =
     subst (λ v. AtLevel picks (mean v) s d waiting order budget tried calls new cells after next) same a
-
-not_quiet : (n : List ℕ) → Clash n ≡ Quiet → ⊥
-not_quiet n q = cc
-
-not_spent : (n : List ℕ) → Clash n ≡ Spent → ⊥
-not_spent n q = cc
 
 module _ {O : Type 0} (picks : O → ℕ → ℕ → O → Type 0) (library : List Stored) (s : Stand) (d : Data) (waiting : List ℕ)
     (order : O) where
@@ -159,7 +153,8 @@ module _ {O : Type 0} (picks : O → ℕ → ℕ → O → Type 0) (library : Li
             let idle : line ≡ [] = x.waits ∙ r.idle in
             let free : IsFree (set_of t.worldview) mid = rw (x.stand, x.cells) r.free in
             let unblocked : has_part t.listed (set_of t.worldview) ≡ false = rw x.stand r.unblocked in
-            let y : (tried ≡ Quiet) × (calls ≡ 0) = a.at_rest idle free unblocked in
+            let full : t.level ≡ length t.list = rw x.stand r.full in
+            let y : (tried ≡ Quiet) × (calls ≡ 0) = a.at_rest idle full free unblocked in
             (y.0, omega (arith, y.1, x.none))
         stays r (inr low) = absurd (let full = r.full in omega (arith, low, full))
 
@@ -171,29 +166,6 @@ module _ {O : Type 0} (picks : O → ℕ → ℕ → O → Type 0) (library : Li
         let level : new.level ≡ s.level = ap (λ (y : Stand). y.level) a.only ∙ ap (λ (y : Stand). y.level) x.stand in
         let sides : length new.list ≡ length s.list = ap (λ (y : Stand). length y.list) only_now in
         omega (arith, left, level, sides)
-
-    -- with the side of one choice more a noted nogood would be believed
-    pub ahead_tried : (n : List ℕ) → new.level < length new.list
-        → Attempted picks library s d waiting order budget (Clash n) (steps + calls) new cells after next
-    ahead_tried n left = record {
-      only = only_now;
-      kept = λ m x. a.kept m (w.kept m x);
-      search = subst (λ p. IsSearch p new) same a.search;
-      stand = a.stand;
-      rest = rest_on d mid cells w.rest a.rest;
-      under_way = subst (λ v. IsUnderWay library (set_of v) cells after) (sym worldview_same) a.under_way;
-      gone = goes_then w.gone a.gone;
-      quiet = λ q. absurd (not_quiet n q);
-      full = λ q. absurd (not_quiet n q);
-      rests = λ q. absurd (not_quiet n q);
-      spent = λ q. absurd (not_spent n q);
-      leaves = λ q. absurd (not_spent n q);
-      earned = λ q. absurd (not_spent n q);
-      steps = (let x = a.steps in omega (arith, x, within));
-      at_rest = λ r. absurd (let full = r.full in let below = low left w.since in omega (arith, below, full));
-      falls = (let before = w.falls in omega (arith, before, fell));
-      few = elim in_all [ inl nothing ↦ omega (arith, nothing) | inr bound ↦ omega (arith, bound) ];
-    }
 
     -- the side of one choice more is believed
     pub deepened_on : (later : Stand) (later_line : List ℕ) → tried ≡ Quiet → new.level < length new.list

@@ -52,8 +52,8 @@ pub record AtLevel {O : Type 0} (picks : O → ℕ → ℕ → O → Type 0) (li
   pub leaves : tried ≡ Spent → MayCall (work new cells after next)
   pub earned : tried ≡ Spent → calls < most_steps (problem_of library d)
   pub steps : calls ≤ budget
-  pub at_rest : waiting ≡ [] → IsFree (set_of s.worldview) d → has_part s.listed (set_of s.worldview) ≡ false
-      → (tried ≡ Quiet) × (calls ≡ 0)
+  pub at_rest : waiting ≡ [] → s.level ≡ length s.list → IsFree (set_of s.worldview) d
+      → has_part s.listed (set_of s.worldview) ≡ false → (tried ≡ Quiet) × (calls ≡ 0)
   pub falls : potential (problem_of library d) (beliefs (set_of s.worldview) cells.contents) after + calls ≤ potential
       (problem_of library d) (beliefs (set_of s.worldview) d.contents) waiting
   pub few : calls ≤ most_steps (problem_of library d)

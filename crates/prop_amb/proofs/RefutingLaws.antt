@@ -1,5 +1,5 @@
 -- The move that follows where a noted nogood refutes a list.
-use Rattle.std.proofs.Common.{◌≡◌, ◌∙◌, ◌<◌, ℕ, List, Contains, true, false, IsTrue, sym, arith, inl, inr}
+use Rattle.std.proofs.Common.{◌≡◌, ◌∙◌, ◌<◌, ℕ, List, Contains, true, false, IsTrue, refl, sym, subst, inl, inr}
 use Rattle.std.proofs.lemmas.List.Elements.{All-contains}
 use Rattle.prop_numbers.specs.Sets.{set_of, is_within}
 use Rattle.prop_numbers.proofs.WithinLemmas.{within_has, within_from}
@@ -8,16 +8,14 @@ use Rattle.prop_nogoods.specs.Stores.{has_part}
 use Rattle.prop_nogoods.proofs.StoreLaws.{has_part-from}
 use Rattle.prop_amb.specs.Refuted.{IsNogood}
 use Rattle.prop_amb.specs.Search.{Stand, IsStand, IsSearch, choices_in}
-use Rattle.prop_amb.specs.Resolving.{IfAgainst, premises_of}
+use Rattle.prop_amb.specs.Resolving.{IfAgainst, MayAdvance, premises_of}
 use Rattle.prop_amb.specs.declared.resolving.Resolved.{Resolved}
 use Rattle.prop_amb.specs.declared.resolving.Resolved.TheVariants.{Against, RuledOut}
-use Rattle.prop_amb.specs.Culprits.{AreCulprits, IsBlamed, MayLeave, MayMove}
-use Rattle.prop_scheduler.specs.Ends.{IfClash}
-use Rattle.prop_scheduler.specs.declared.outcome.Run.{Run}
-use Rattle.prop_scheduler.specs.declared.outcome.Run.TheVariants.{Quiet, Spent, Clash}
+use Rattle.prop_amb.specs.Culprits.{AreCulprits, IsBlamed, MayLeave}
 use Rattle.prop_amb.specs.inner.Settling.{IsMet}
-use Rattle.prop_amb.specs.inner.Refuting.{IsHere, IsNext, IsFound, IsRefuting, MayStep, IfStep, IfRuledOut}
-use Rattle.prop_amb.proofs.DecidingLaws.{may_move, goes_later, goes_past}
+use Rattle.prop_amb.specs.inner.Refuting.{IsHere, IsNext, IsFound, MayStep, IfStep, IfRuledOut}
+use Rattle.prop_amb.specs.Going.{MayPass, MaySkip}
+use Rattle.prop_amb.proofs.DecidingLaws.{may_move}
 use Rattle.prop_amb.proofs.SearchLaws.{both}
 
 -- a nogood that blocks a worldview is here
@@ -39,41 +37,38 @@ pub next_of : (s : Stand) (n : List ℕ) → IsFound s n → is_within (set_of s
 next_of s n (inl h) lacks = absurd (both (within_from (set_of s.worldview) n h.believed) lacks)
 next_of s n (inr x) lacks = x
 
--- without the leave to move
-pub found_of : (s : Stand) (most : ℕ) (n : List ℕ) → IsRefuting s most n → IsFound s n
-found_of s most n (inl h) = inl h
-found_of s most n (inr x) = inr x.1
-
 -- what ends an attempt
-pub clash_refutes : (problem : Problem) (s : Stand) (most : ℕ) (r : Run) → IfClash r (IsMet problem s)
-    → IfClash r (IsRefuting s most)
-clash_refutes problem s most Quiet met = tt
-clash_refutes problem s most Spent met = tt
-clash_refutes problem s most (Clash n) met = inl (record { noted = met.noted; believed = met.believed })
+pub met_found : (problem : Problem) (s : Stand) (n : List ℕ) → IsMet problem s n → IsFound s n
+met_found problem s n met = inl (record { noted = met.noted; believed = met.believed })
 
--- where no move is allowed, it is believed
-pub refuting_here : (s : Stand) (most : ℕ) (n : List ℕ) → IsRefuting s most n → most ≡ 0 → IsHere s n
-refuting_here s most n (inl h) none = h
-refuting_here s most n (inr x) none = absurd (let some = x.0 in omega (arith, some, none))
+-- a choice that may go on has a side left
+pub pass_may : (s : Stand) → MayPass s → (j : ℕ) × MayAdvance s j
+pass_may s (inl (j, may)) = (j, may.leaves.may)
+pass_may s (inr (n, skip)) = (s.level, skip.may)
+
+pub why_pass : (s : Stand) (j : ℕ) (reason : List ℕ) → MayStep s j reason → MayPass s
+why_pass s j reason (inl (below, (may, culprits))) = inl (j, may)
+why_pass s j reason (inr (at, free, skip)) = inr (reason, skip)
+
+pub step_may : (s : Stand) (j : ℕ) (reason : List ℕ) → MayStep s j reason → MayAdvance s j
+step_may s j reason (inl (below, (may, culprits))) = may.leaves.may
+step_may s j reason (inr (at, free, skip)) = subst (λ k. MayAdvance s k) (sym at) skip.may
+
+-- where nothing is found, no choice may go on
+pub none_passes : (s : Stand) → IsStand s → has_part s.listed (set_of s.worldview) ≡ false
+    → ((n : List ℕ) → MaySkip s n → ⊥) → MayPass s → ⊥
+none_passes s stand unblocked none (inl (j, may)) =
+    both (has_part-from s.listed (set_of s.worldview) may.nogood may.noted
+    (λ p t. stand.believes p ∙ may.believed p t)) unblocked
+none_passes s stand unblocked none (inr (n, skip)) = none n skip
 
 -- ---- a nogood that is believed
 
 pub step_here : (s : Stand) (n : List ℕ) (r : Resolved) → IsStand s → IsHere s n → IfAgainst r (MayLeave s n)
     → IfAgainst r (λ place. place < s.level) → AreCulprits s n (set_of (premises_of r)) → IfStep (MayStep s) r
-step_here s n (Against j reason) stand here leaves below culprits = record {
-  below = omega (arith, below);
-  may = leaves.may;
-  passes = λ new premises listed list level reasons.
-      goes_later s new j reason (may_move s n j stand here.noted here.believed leaves) culprits premises listed
-      list level
-      reasons;
-}
+step_here s n (Against j reason) stand here leaves below culprits =
+    inl (below, (may_move s n j stand here.noted here.believed leaves, culprits))
 step_here s n (RuledOut premises) stand here leaves below culprits = tt
-
-pub may_here : (s : Stand) (n : List ℕ) (r : Resolved) → IsStand s → IsHere s n → IfAgainst r (MayLeave s n)
-    → IfAgainst r (MayMove s)
-may_here s n (Against j reason) stand here leaves = may_move s n j stand here.noted here.believed leaves
-may_here s n (RuledOut premises) stand here leaves = tt
 
 pub blamed_here : (s : Stand) (n : List ℕ) (r : Resolved) → IsStand s → IsHere s n
     → AreCulprits s n (set_of (premises_of r)) → IfRuledOut (λ m. IsBlamed s (set_of m)) r
@@ -95,9 +90,4 @@ nogood_here problem s n h here = (
 -- ---- one that would be with the side of one choice more
 
 pub step_next : (s : Stand) (n : List ℕ) → IsNext s n → MayStep s s.level n
-step_next s n next = record {
-  below = omega arith;
-  may = next.may.may;
-  passes = λ new premises listed list level reasons.
-      goes_past s new n next.may premises listed list level reasons;
-}
+step_next s n next = inr (refl, next.unblocked, next.may)

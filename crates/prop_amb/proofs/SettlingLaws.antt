@@ -15,10 +15,10 @@ use Rattle.prop_scheduler.specs.Shifts.{AreShifted}
 use Rattle.prop_amb.specs.Refuted.{IsFirstConsistent, IsRuledOut}
 use Rattle.prop_amb.specs.Search.{Stand, IsStand, IsSearch, users_of, choices_in, believed_with, Moves}
 use Rattle.prop_amb.specs.Settling.{IfContradiction}
-use Rattle.prop_amb.specs.Moving.{advanced}
+use Rattle.prop_amb.specs.Moving.{advanced, passed_over}
 use Rattle.prop_amb.specs.Resolving.{MayAdvance}
-use Rattle.prop_amb.specs.Culprits.{IsBlamed, MayMove}
-use Rattle.prop_amb.specs.Going.{work, Passes}
+use Rattle.prop_amb.specs.Culprits.{IsBlamed}
+use Rattle.prop_amb.specs.Going.{work, MayBelieve, Passes}
 use Rattle.prop_amb.specs.Going.Passes.{none, next as one_more, skipped as past}
 use Rattle.prop_amb.specs.Going.Goes.{none as not_gone, moved}
 use Rattle.prop_amb.specs.declared.outcome.Outcome.{Outcome}
@@ -73,6 +73,11 @@ later_of s choices j same is_list may =
           (advanced_later s.list j may.side may.side_at),
     )
 
+-- whether a side is believed is no matter of the list
+list_stays : (s later : Stand) → MayBelieve s later → (choices_in later ≡ choices_in s) × (later.list ≡ s.list)
+list_stays s later (inl (some, same)) = (ap (λ (x : Stand). choices_in x) same, ap (λ (x : Stand). x.list) same)
+list_stays s later (inr (unless, same)) = (ap (λ (x : Stand). choices_in x) same, ap (λ (x : Stand). x.list) same)
+
 -- moves go on in the order of the lists
 pub passed_place : (old new : Stand) (n : ℕ) → IsChoiceList (choices_in old) old.list → Passes old n new
     → (choices_in new ≡ choices_in old) × IsChoiceList (choices_in old) new.list
@@ -86,10 +91,11 @@ passed_place old _ _ is_list (one_more n j s later reason rest may culprits same
     let is_list' : IsChoiceList (choices_in old) later.list = rw list next.0 in
     let less : place_of (choices_in old) s.list < place_of (choices_in old) later.list = rw list next.1 in
     (choices, is_list', omega (arith, before.2, less))
-passed_place old _ _ is_list (past n s later nogood rest may same) =
+passed_place old _ _ is_list (past n s later nogood rest may believes) =
     let before = passed_place old s n is_list rest in
-    let choices : choices_in later ≡ choices_in old = ap (λ (x : Stand). choices_in x) same ∙ before.0 in
-    let list : later.list ≡ advanced s.list s.level = ap (λ (x : Stand). x.list) same in
+    let same = list_stays (passed_over s nogood) later believes in
+    let choices : choices_in later ≡ choices_in old = same.0 ∙ before.0 in
+    let list : later.list ≡ advanced s.list s.level = same.1 in
     let next = later_of s (choices_in old) s.level before.0 before.1 may.may in
     let is_list' : IsChoiceList (choices_in old) later.list = rw list next.0 in
     let less : place_of (choices_in old) s.list < place_of (choices_in old) later.list = rw list next.1 in
@@ -303,10 +309,10 @@ module _ {O : Type 0} (picks : O → ℕ → ℕ → O → Type 0) (library : Li
         (budget + 1) (t.earned q) (omega (arith, below_all, t.place)))
 
     -- the same where a choice may go on to a list that could be tried
-    pub held_earned : budget ≤ steps → (j : ℕ) → MayMove s j
+    pub held_earned : budget ≤ steps → (j : ℕ) → MayAdvance s j
         → budget + 1 < lists_count (choices_in s) * (most_steps (problem_of library start) + 1)
     held_earned used j may =
-        let next = later_of s choices j same_choices (in_old s t.premises t.stand) may.leaves.may in
+        let next = later_of s choices j same_choices (in_old s t.premises t.stand) may in
         let less = next.1 in
         let last : place_of choices (advanced s.list j) < lists_count choices =
         place_below choices (advanced s.list j) next.0 in

@@ -9,49 +9,24 @@ use Rattle.prop_premises.specs.declared.choice.Choice.{Choice}
 use Rattle.prop_premises.specs.ChoiceLists.{hypothetical, hypotheticals_of, is_hypothetical, is_side_of, IsChoiceList}
 use Rattle.prop_premises.proofs.OriginLemmas.{in_range}
 use Rattle.prop_cells.specs.Problems.{Problem}
-use Rattle.prop_nogoods.specs.Stores.{has_part}
-use Rattle.prop_nogoods.proofs.StoreLaws.{has_part-from}
 use Rattle.prop_amb.specs.Search.{Stand, IsStand, users_of, choices_in, IsKept}
 use Rattle.prop_procedures.specs.Stored.{Stored}
 use Rattle.prop_cells.specs.Data.{Data, problem_of}
-use Rattle.prop_amb.specs.Going.{Work, work, MayCall, MayGoOn, Goes}
-use Rattle.prop_amb.specs.Culprits.{MayMove, MayLeave, AreCulprits, IsBlamed}
-use Rattle.prop_amb.specs.Moving.{advanced, reasons_advanced}
-use Rattle.prop_amb.specs.Stepping.{IsStepTo, HasMoved, Steps}
+use Rattle.prop_amb.specs.Going.{Work, work, MayCall, MayGoOn, MayPass, Goes}
+use Rattle.prop_amb.specs.Stepping.{IsStepTo, HasPassed, Steps}
+use Rattle.prop_amb.specs.inner.Refuting.{HasStepped}
 use Rattle.prop_amb.specs.declared.stepping.Move.{Move}
-use Rattle.prop_amb.specs.inner.Settling.{IsMet}
 use Rattle.prop_amb.specs.inner.Stepping.{IsMove}
 use Rattle.prop_amb.specs.declared.stepping.Step.{Step}
 use Rattle.prop_amb.specs.declared.stepping.Step.TheVariants.{Called, Moved, Settled, Contradiction}
-use Rattle.prop_amb.proofs.DecidingLaws.{may_move}
 use Rattle.prop_amb.proofs.SearchLaws.{both, or_true_left, or_true_right}
 use Rattle.prop_amb.proofs.LookingLaws.{its_side, is_its_side}
 use Rattle.prop_amb.proofs.StandLaws.{believed_user}
 
--- where a step may be taken and no noted nogood is believed, it is a call
-pub may_call : {O : Type 0} (w : Work O) → IsStand w.search
-    → has_part w.search.listed (set_of w.search.worldview) ≡ false → MayGoOn w → MayCall w
-may_call w stand unblocked (inl call) = call
-may_call w stand unblocked (inr (j, may)) =
-    absurd (both (has_part-from w.search.listed (set_of w.search.worldview) may.nogood may.noted
-    (λ p t. stand.believes p ∙ may.believed p t)) unblocked)
-
--- a nogood that is met has a listed part, lets a choice leave its side, and its culprits are blamed
-pub met_part : (problem : Problem) (s : Stand) (n : List ℕ) → IsMet problem s n → IsTrue (has_part s.listed (set_of n))
-met_part problem s n met = has_part-from s.listed (set_of n) n met.noted (λ p t. t)
-
-abbrev pub met_moves : {problem : Problem} (s : Stand) (n : List ℕ) (j : ℕ) → IsStand s → IsMet problem s n
-    → MayLeave s n j → MayMove s j
-met_moves s n j stand met leaves = may_move s n j stand met.noted met.believed leaves
-
-pub met_blames : {problem : Problem} (s : Stand) (n : List ℕ) (set : Members) → IsStand s → IsMet problem s n
-    → AreCulprits s n set → IsBlamed s set
-met_blames s n set stand met culprits = record {
-  nogood = n;
-  noted = met.noted;
-  believed = λ p t. sym (stand.believes p) ∙ met.believed p t;
-  culprits = culprits;
-}
+-- where a step may be taken and no choice may go on, it is a call
+pub may_call : {O : Type 0} (w : Work O) → (MayPass w.search → ⊥) → MayGoOn w → MayCall w
+may_call w none (inl call) = call
+may_call w none (inr pass) = absurd (none pass)
 
 -- what the first choices take, all do
 first_taken : (cs : List Choice) (l : List ℕ) (n p : ℕ) → IsTrue (hypotheticals_of (take n cs) (take n l) p)
@@ -118,32 +93,33 @@ move_to picks library problem s new d line after order Settled h = absurd h
 pub same_side : (c d : Choice) (a b n : ℕ) → n ≡ a - 1 → c ≡ d → a ≡ b → c.first + n ≡ hypothetical d b
 same_side c d a b n one same side = ap (λ m. c.first + m) one ∙ (λ i. hypothetical (same i) (side i))
 
--- a choice moved, and what is told of that
-pub has_moved : (s new : Stand) (m : Move) (reason : List ℕ) → (may : MayMove s m.place)
-    → m.side ≡ hypothetical may.leaves.may.choice may.leaves.may.side
-    → AreCulprits s may.nogood (set_of reason) → m.nogood ≡ reason
-    → All (λ p. p < length s.premises) reason
-    → new.premises ≡ s.premises → new.listed ≡ s.listed → new.list ≡ advanced s.list m.place
-    → new.level ≡ m.place + 1 → new.reasons ≡ reasons_advanced s.reasons m.place reason
-    → m.before ≡ s.worldview → HasMoved s new m
-has_moved s new m reason may side culprits same known premises listed list level reasons before =
-    let kept : new.reasons ≡ reasons_advanced s.reasons m.place m.nogood =
-    reasons ∙ ap (λ n. reasons_advanced s.reasons m.place n) (sym same) in
-    record {
+-- a choice went on, and what is told of that
+pub has_passed : (s new : Stand) (m : Move) → HasStepped s m.place m.nogood new
+    → ((choice : Choice) (side : ℕ) → slice_get (choices_in s) m.place ≡ Some choice
+    → slice_get s.list m.place ≡ Some side → m.side ≡ hypothetical choice side)
+    → All (λ p. p < length s.premises) m.nogood → m.before ≡ s.worldview → HasPassed s new m
+has_passed s new m (inl ((may, culprits), is)) side known before =
+    let there = may.leaves.may in
+    inl (record {
       may = may;
-      side_is = side;
-      culprits = subst (λ (n : List ℕ). AreCulprits s may.nogood (set_of n)) (sym same) culprits;
-      known = subst (λ (n : List ℕ). All (λ p. p < length s.premises) n) (sym same) known;
-      later_is = λ i. record {
-        premises = premises i;
-        list = list i;
-        level = level i;
-        reasons = kept i;
-        listed = listed i;
-        worldview = new.worldview;
-      };
+      side_is = side there.choice there.side there.choice_at there.side_at;
+      culprits = culprits;
+      known = known;
+      later_is = is;
       before_is = before;
-    }
+    })
+has_passed s new m (inr (at, skip, believes)) side known before =
+    let there = skip.may in
+    inr (record {
+      may = skip;
+      place_is = at;
+      side_is = side there.choice there.side
+          (subst (λ k. slice_get (choices_in s) k ≡ Some there.choice) (sym at) there.choice_at)
+          (subst (λ k. slice_get s.list k ≡ Some there.side) (sym at) there.side_at);
+      known = known;
+      later_is = believes;
+      before_is = before;
+    })
 
 -- what took no step
 pub no_steps : {O : Type 0} {picks : O → ℕ → ℕ → O → Type 0} {library : List Stored} {start w : Work O} {n : ℕ}

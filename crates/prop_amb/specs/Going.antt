@@ -9,7 +9,7 @@ use Rattle.prop_scheduler.specs.declared.live.Live.{Live}
 use Rattle.prop_scheduler.specs.Turns.{Turn}
 use Rattle.prop_scheduler.specs.Shifts.{AreShifted, AreGrown}
 use Rattle.prop_amb.specs.Search.{Stand, believed_with}
-use Rattle.prop_amb.specs.Moving.{advanced, reasons_advanced, deepened}
+use Rattle.prop_amb.specs.Moving.{advanced, reasons_advanced, deepened, passed_over}
 use Rattle.prop_amb.specs.Resolving.{MayAdvance}
 use Rattle.prop_amb.specs.Culprits.{MayMove, AreCulprits}
 
@@ -38,10 +38,6 @@ pub record MayCall {O : Type 0} (w : Work O) : Type 0 where
   pub unblocked : has_part w.search.listed (believed_with w.search) ≡ false
   pub free : IsFree (believed_with w.search) w.cells
 
--- one more step may be taken: a call, or a move of a choice
-abbrev pub MayGoOn : {O : Type 0} → Work O → Type 0
-MayGoOn w = MayCall w ⊎ ((j : ℕ) × MayMove w.search j)
-
 -- nothing waits, no noted nogood is believed, no cell is believed to hold a contradiction, and
 -- there is a choice of which no side is believed
 pub record MayDeepen {O : Type 0} (w : Work O) : Type 0 where
@@ -56,10 +52,27 @@ pub record MaySkip (s : Stand) (nogood : List ℕ) : Type 0 where
   pub believed : IsPart (set_of nogood) (believed_with (deepened s))
   pub may : MayAdvance s s.level
 
+-- a choice may go on: for a noted nogood that is believed, or for one that would be
+abbrev pub MayPass : Stand → Type 0
+MayPass s = ((j : ℕ) × MayMove s j) ⊎ ((nogood : List ℕ) × MaySkip s nogood)
+
+-- one more step may be taken: a call, a move of a choice, or a skip
+abbrev pub MayGoOn : {O : Type 0} → Work O → Type 0
+MayGoOn w = MayCall w ⊎ MayPass w.search
+
+-- the side on which the first choice stands of which none is believed is believed then, unless it
+-- isn't its last and a noted nogood would be believed with it
+abbrev pub MayBelieve : Stand → Stand → Type 0
+MayBelieve s later =
+    (((n : List ℕ) × MaySkip s n) × (later ≡ s))
+    ⊎ (((n : List ℕ) → MaySkip s n → ⊥)
+    × (later ≡ record (deepened s) { worldview = later.worldview }))
+
 -- The choices went on by so many moves: by each, one that may goes to its next side, for a reason
 -- all of whose premises are culprits, and the later ones to their first. Of these none is believed.
 -- Or the first choice of which no side is believed goes to its next side, for a noted nogood that
--- would be believed with the one on which it stands.
+-- would be believed with the one on which it stands; the next is believed unless it may be passed
+-- over too.
 pub data Passes (old : Stand) : ℕ → Stand → Type 0 where
   none : Passes old 0 old
   next : (n j : ℕ) (s later : Stand) (reason : List ℕ) → Passes old n s →
@@ -71,12 +84,7 @@ pub data Passes (old : Stand) : ℕ → Stand → Type 0 where
         worldview = later.worldview;
       } → Passes old (n + 1) later
   skipped : (n : ℕ) (s later : Stand) (nogood : List ℕ) → Passes old n s → MaySkip s nogood →
-      later ≡ record s {
-        list = advanced s.list s.level;
-        level = s.level + 1;
-        reasons = reasons_advanced s.reasons s.level nogood;
-        worldview = later.worldview;
-      } → Passes old (n + 1) later
+      MayBelieve (passed_over s nogood) later → Passes old (n + 1) later
 
 -- The second work is reached from the first by as many steps: calls of waiting instances, each at
 -- the place that the order picks, and moves, between two calls maybe several. After moves the

@@ -80,6 +80,13 @@ reasons_advanced [] j reason = []
 reasons_advanced (each ∷ reasons) zero reason = (each ++ reason ∷ []) ∷ no_reasons reasons
 reasons_advanced (each ∷ reasons) (suc j) reason = each ∷ reasons_advanced reasons j reason
 
+-- the first choice of which no side is believed goes to its next side, for this reason
+abbrev pub passed_over : Stand → List ℕ → Stand
+passed_over s reason = record s {
+  list = advanced s.list s.level;
+  reasons = reasons_advanced s.reasons s.level reason;
+}
+
 -- why no choice with this name and so many sides can be declared
 abbrev pub declare_refusal : Stand → List ℕ → ℕ → Option Refusal
 declare_refusal s name sides =

@@ -1,5 +1,5 @@
 -- One step of settling, told.
-use Rattle.std.specs.Prelude.{◌≡◌, ◌<◌, ℕ, ◌+◌, List, All, length}
+use Rattle.std.specs.Prelude.{◌≡◌, ◌<◌, ◌⊎◌, ℕ, ◌+◌, List, All, length}
 use Rattle.prop_numbers.specs.Sets.{set_of}
 use Rattle.prop_premises.specs.ChoiceLists.{hypothetical}
 use Rattle.prop_procedures.specs.Stored.{Stored}
@@ -7,11 +7,11 @@ use Rattle.prop_cells.specs.Problems.{Problem}
 use Rattle.prop_scheduler.specs.Shifts.{AreShifted}
 use Rattle.prop_scheduler.specs.Turns.{CallsNext}
 use Rattle.prop_amb.specs.Search.{Stand, users_of, choices_in, believed_with}
-use Rattle.prop_amb.specs.Moving.{advanced, reasons_advanced}
+use Rattle.prop_amb.specs.Moving.{advanced, reasons_advanced, passed_over}
 use Rattle.prop_amb.specs.Culprits.{MayMove, AreCulprits, IsBlamed}
 use Rattle.prop_amb.specs.Refuted.{IsRuledOut}
 use Rattle.prop_amb.specs.Settling.{HasSettled}
-use Rattle.prop_amb.specs.Going.{Work, MayCall, Goes}
+use Rattle.prop_amb.specs.Going.{Work, MayCall, MaySkip, MayBelieve, Goes}
 use Rattle.prop_amb.specs.declared.stepping.Move.{Move}
 use Rattle.prop_amb.specs.declared.stepping.Step.{Step}
 use Rattle.prop_amb.specs.declared.stepping.Step.TheVariants.{Called, Moved, Settled, Contradiction}
@@ -32,6 +32,21 @@ pub record HasMoved (s later : Stand) (m : Move) : Type 0 where
   }
   pub before_is : m.before ≡ s.worldview
 
+-- The first choice of which no side is believed went to its next side, for the noted nogood that is
+-- told, which would be believed with the one that it left. The next is believed unless it may be
+-- passed over too.
+pub record HasSkipped (s later : Stand) (m : Move) : Type 0 where
+  pub may : MaySkip s m.nogood
+  pub place_is : m.place ≡ s.level
+  pub side_is : m.side ≡ hypothetical may.may.choice may.may.side
+  pub known : All (λ p. p < length s.premises) m.nogood
+  pub later_is : MayBelieve (passed_over s m.nogood) later
+  pub before_is : m.before ≡ s.worldview
+
+-- a choice went on, by a move or a skip
+abbrev pub HasPassed : Stand → Stand → Move → Type 0
+HasPassed s later m = HasMoved s later m ⊎ HasSkipped s later m
+
 -- from one work to another by the step that is told; where none is left both are one
 abbrev pub IsStepTo : {O : Type 0} → (O → ℕ → ℕ → O → Type 0) → List Stored → Problem → Work O
     → Step → Work O → Type 0
@@ -40,7 +55,7 @@ IsStepTo picks library problem w (Called i) v =
     × CallsNext picks library (believed_with w.search) i w.cells w.line w.order v.cells v.line
     v.order
 IsStepTo picks library problem w (Moved m) v =
-    HasMoved w.search v.search m × (v.cells ≡ w.cells) × (v.order ≡ w.order)
+    HasPassed w.search v.search m × (v.cells ≡ w.cells) × (v.order ≡ w.order)
     × AreShifted (believed_with w.search) (believed_with v.search) w.cells (length w.cells.kinds)
     w.line v.line
 IsStepTo picks library problem w Settled v =

@@ -1,11 +1,13 @@
 //! What a nogood shows of the choices, and the move that follows.
-ghost use Rattle.std.specs.Prelude.{◌≡◌, ◌+◌, ◌<◌, ◌≤◌, ℕ, length, IsTrue, IfOk, OnOk, OnErr};
+ghost use Rattle.std.specs.Prelude.{◌≡◌, ◌+◌, ◌<◌, ◌≤◌, ℕ, length, false, IsTrue, IfOk, OnOk, OnErr};
 ghost use Rattle.prop_numbers.specs.Sets.{set_of, IsPart};
 ghost use Rattle.prop_cells.specs.Problems.{Problem};
 ghost use Rattle.prop_nogoods.specs.Stores.{has_part};
 ghost use Rattle.prop_amb.specs.Refuted.{IsNogood};
-ghost use Rattle.prop_amb.specs.Search.{choices_in, IsSearch};
-ghost use Rattle.prop_amb.specs.Moving.{advanced, reasons_advanced};
+ghost use Rattle.prop_amb.specs.Search.{choices_in, IsStand, IsSearch};
+ghost use Rattle.prop_amb.specs.Going.{MayBelieve};
+ghost use Rattle.prop_amb.specs.Moving.{advanced, reasons_advanced, passed_over};
+ghost use Rattle.prop_amb.specs.inner.Refuting.{MayStep, HasStepped};
 ghost use Rattle.prop_amb.specs.Resolving.{MayAdvance, IsReason, IsResolved, IfAgainst};
 ghost use Rattle.prop_amb.specs.Resolving.{premises_of};
 ghost use Rattle.prop_amb.specs.Culprits.{AreCulprits, MayLeave};
@@ -85,5 +87,64 @@ impl Search {
         self.level = place + 1;
         self.from = self.from.min(choices[place].first);
         Ok(replace(&mut self.worldview, worldview))
+    }
+
+    /// The first choice of which no side is believed goes to its next side, which isn't believed
+    /// either, and the reason is kept. After want of memory nothing has changed.
+    fn pass_by(&mut self, reason: PremiseSet) -> Result<(), AllocError>
+        requires may { MayAdvance self.old self.old.level }
+        ensures ok { OnOk result (self.new ≡ passed_over self.old reason) }
+        ensures err { OnErr result (self.new ≡ self.old) }
+        ensures stand { IsStand self.new }
+        ensures search { (problem : Problem)
+            → IsReason problem self.old self.old.level (set_of reason)
+            → IsSearch problem self.old → IsSearch problem self.new }
+    {
+        advance_reasons(&mut self.reasons, self.level, reason)?;
+        move_on(&mut self.list, self.level);
+        Ok(())
+    }
+
+    /// The first choice of which no side is believed goes to its next side, and the reason is kept.
+    /// That is believed unless it isn't its last and a noted nogood would be believed with it.
+    /// After want of memory nothing more is believed.
+    fn skip(&mut self, reason: PremiseSet) -> Result<(), AllocError>
+        requires may { MayAdvance self.old self.old.level }
+        requires unblocked { has_part self.old.listed (set_of self.old.worldview) ≡ false }
+        ensures premises { self.new.premises ≡ self.old.premises }
+        ensures listed { self.new.listed ≡ self.old.listed }
+        ensures ok { OnOk result (MayBelieve (passed_over self.old reason) self.new) }
+        ensures err { OnErr result (self.new.worldview ≡ self.old.worldview) }
+        ensures stand { OnErr result (IsStand self.new) }
+        ensures search { (problem : Problem)
+            → IsReason problem self.old self.old.level (set_of reason)
+            → IsSearch problem self.old → IsSearch problem self.new }
+    {
+        self.pass_by(reason)?;
+        if self.refuted_next()?.is_none() {
+            drop(self.deepen()?);
+        }
+        Ok(())
+    }
+
+    /// The choice at a place goes on for a reason, by a move or a skip. Answers the worldview of
+    /// before. After want of memory what is believed is the same.
+    pub(crate) fn step(&mut self, place: usize, reason: PremiseSet) -> Result<Worldview, AllocError>
+        requires { MayStep self.old place reason }
+        ensures premises { self.new.premises ≡ self.old.premises }
+        ensures listed { self.new.listed ≡ self.old.listed }
+        ensures before { IfOk result (λ w. w ≡ self.old.worldview) }
+        ensures ok { OnOk result (HasStepped self.old place reason self.new) }
+        ensures err { OnErr result (self.new.worldview ≡ self.old.worldview) }
+        ensures stand { OnErr result (IsStand self.new) }
+        ensures search { (problem : Problem) → IsReason problem self.old place (set_of reason)
+            → IsSearch problem self.old → IsSearch problem self.new }
+    {
+        if place < self.level {
+            return self.advance(place, reason);
+        }
+        let before = self.worldview.copy()?;
+        self.skip(reason)?;
+        Ok(before)
     }
 }

@@ -8,6 +8,7 @@ ghost use Rattle.prop_nogoods.specs.Stores.{has_part, NoneEndsBelow, AddsSet};
 ghost use Rattle.prop_amb.specs.Refuted.{IsNogood};
 ghost use Rattle.prop_amb.specs.Search.{Stand, no_stand, users_of, choices_in, IsStand, IsSearch};
 ghost use Rattle.prop_amb.specs.Moving.{deepened};
+ghost use Rattle.prop_amb.specs.Going.{MaySkip};
 ghost use Rattle.prop_amb.specs.inner.Refuting.{IsNext};
 
 use crate::reasons::Reasons;
@@ -147,11 +148,12 @@ impl Search {
     }
 
     /// A noted nogood of which every premise would be believed if the side of one choice more were,
-    /// where none is believed now. None where there is no such choice or nogood, or the side is the
-    /// choice's last.
+    /// where none is believed now. None only where there is no such choice or nogood, or the side is
+    /// the choice's last.
     pub(crate) fn refuted_next(&self) -> Result<Option<PremiseSet>, AllocError>
         requires { has_part self.now.listed (set_of self.now.worldview) ≡ false }
-        ensures { IfOk result (λ found. IfSome found (IsNext self.now)) }
+        ensures next { IfOk result (λ found. IfSome found (IsNext self.now)) }
+        ensures none { result ≡ Ok None → (nogood : List ℕ) → MaySkip self.now nogood → ⊥ }
     {
         if self.is_whole() {
             return Ok(None);

@@ -1,7 +1,7 @@
 //! Settling: the first list of choices that isn't refuted, and the least solution with it.
-ghost use Rattle.std.specs.Prelude.{◌≡◌, ◌⊎◌, ℕ, ◌+◌, ◌-◌, ◌<◌, ◌≤◌, [], false, IsTrue, length};
+ghost use Rattle.std.specs.Prelude.{◌≡◌, ◌⊎◌, ℕ, ◌+◌, ◌<◌, ◌≤◌, [], false, IsTrue, length};
 ghost use Rattle.std.specs.Prelude.{Ok, Some, None, IfOk, IfSome, OnOk, OnErr};
-ghost use Rattle.prop_numbers.specs.Sets.{Members, IsPart, set_of};
+ghost use Rattle.prop_numbers.specs.Sets.{Members, set_of};
 ghost use Rattle.prop_procedures.specs.Kept.{AllMean};
 ghost use Rattle.prop_cells.specs.Data.{IsFree};
 ghost use Rattle.prop_cells.specs.Problems.{Problem};
@@ -15,14 +15,12 @@ ghost use Rattle.prop_nogoods.specs.Stores.{has_part};
 ghost use Rattle.prop_amb.specs.Refuted.{IsRuledOut};
 ghost use Rattle.prop_amb.specs.Search.{users_of, choices_in, believed_with, IsStand, IsSearch};
 ghost use Rattle.prop_amb.specs.Search.{Moves};
-ghost use Rattle.prop_amb.specs.Culprits.{IsBlamed, MayMove};
-ghost use Rattle.prop_amb.specs.Going.{work_on, MayCall, Passes, Goes};
+ghost use Rattle.prop_amb.specs.Culprits.{IsBlamed};
+ghost use Rattle.prop_amb.specs.Going.{work_on, MayCall, MayPass, Passes, Goes};
 ghost use Rattle.prop_amb.specs.Settling.{IfContradiction, IsResting, Learns, HasSettled, HasUsed};
 ghost use Rattle.prop_amb.specs.Moving.{deepened};
-ghost use Rattle.prop_amb.specs.Resolving.{IsResolved, IfAgainst};
-ghost use Rattle.prop_amb.specs.inner.Settling.{IsMet};
-ghost use Rattle.prop_amb.specs.inner.Refuting.{IsNext, IsFound, IsRefuting, MayStep, IfStep};
-ghost use Rattle.prop_amb.specs.inner.Refuting.{IfRuledOut};
+ghost use Rattle.prop_amb.specs.Resolving.{IsResolved};
+ghost use Rattle.prop_amb.specs.inner.Refuting.{IsNext, IsFound, MayStep, IfStep, IfRuledOut};
 ghost use Rattle.prop_amb.specs.inner.Trying.{Attempted};
 
 use crate::outcome::Outcome;
@@ -33,13 +31,27 @@ use prop_procedures::Rule;
 use prop_scheduler::{Ended, Live, Order, Run, alert_grown, alert_shifted, run};
 use std::alloc::AllocError;
 
-/// Looks whether a noted nogood is believed, and else runs the network with the sides that are
-/// believed; a clash is noted. Where the list is refuted, the clash is a noted nogood.
+/// A noted nogood that would be believed with the side of one choice more, where it wasn't looked for
+/// already.
+fn ahead(search: &Search, looked: bool) -> Result<Option<PremiseSet>, AllocError>
+    requires { has_part search.now.listed (set_of search.now.worldview) ≡ false }
+    ensures { IfOk result (λ found. IfSome found (IsNext search.now)) }
+{
+    if looked {
+        return Ok(None);
+    }
+    search.refuted_next()
+}
+
+/// Looks whether a noted nogood is believed, or would be with the side of one choice more, and else
+/// runs the network with the sides that are believed; a clash is noted. Where the list is refuted,
+/// the clash is a noted nogood.
 fn attempt<R: Rule + Drop, O: Order>(
     live: &mut Live<R>,
     search: &mut Search,
     order: &mut O,
     budget: u64,
+    looked: bool,
 ) -> Result<Ended<Run>, AllocError>
     requires means { AllMean R.value_of live.old.network.library.procedures.items }
     requires alive { IsLiveIn R.value_of (set_of search.old.worldview) live.old }
@@ -59,8 +71,7 @@ fn attempt<R: Rule + Drop, O: Order>(
     ensures rests { IfOk result (λ r. r.end ≡ Run.Quiet → line_of live.new ≡ []) }
     ensures unblocked { IfOk result (λ r. r.end ≡ Run.Quiet
         → has_part search.new.listed (set_of search.old.worldview) ≡ false) }
-    ensures refuted { IfOk result (λ r.
-        IfClash r.end (IsMet (problem_in R.value_of live.old) search.new)) }
+    ensures refuted { IfOk result (λ r. IfClash r.end (IsFound search.new)) }
     ensures spent { IfOk result (λ r. r.end ≡ Run.Spent → r.steps ≡ budget) }
     ensures left { IfOk result (λ r. r.end ≡ Run.Spent
         → MayCall (work_on search.new live.new order.new)) }
@@ -68,6 +79,7 @@ fn attempt<R: Rule + Drop, O: Order>(
         → r.steps < most_steps (problem_in R.value_of live.old)) }
     ensures steps { IfOk result (λ r. r.steps ≤ budget) }
     ensures at_rest { IfOk result (λ r. line_of live.old ≡ []
+        → search.old.level ≡ length search.old.list
         → IsFree (set_of search.old.worldview) (cells_of live.old)
         → has_part search.old.listed (set_of search.old.worldview) ≡ false
         → (r.end ≡ Run.Quiet) × (r.steps ≡ 0)) }
@@ -82,6 +94,10 @@ fn attempt<R: Rule + Drop, O: Order>(
 {
     if let Some(nogood) = search.blocked() {
         let end = Run::Clash(nogood.copy()?);
+        return Ok(Ended { end, steps: 0 });
+    }
+    if let Some(nogood) = ahead(search, looked)? {
+        let end = Run::Clash(nogood);
         return Ok(Ended { end, steps: 0 });
     }
     let Ended { end, steps } = run(live, search.worldview(), order, budget)?;
@@ -129,26 +145,15 @@ fn believe_more<R: Rule + Drop>(live: &mut Live<R>, search: &mut Search) -> Resu
     Ok(())
 }
 
-/// A noted nogood that would be believed with the side of one choice more, where a move is allowed.
-fn ahead(search: &Search, most: u64) -> Result<Option<PremiseSet>, AllocError>
-    requires { has_part search.now.listed (set_of search.now.worldview) ≡ false }
-    ensures { IfOk result
-        (λ nogood. IfSome nogood (λ n. (1 ≤ most) × IsNext search.now n)) }
-{
-    if most == 0 {
-        return Ok(None);
-    }
-    search.refuted_next()
-}
-
 /// Tries the list on which the choices stand: with the sides that are believed, and where nothing
-/// waits then, with that of one choice more, until the list is refuted or the side of each choice
-/// is believed.
+/// waits then, with that of one choice more, until the list is refuted, a choice may be passed over
+/// or the side of each choice is believed.
 fn try_list<R: Rule + Drop, O: Order>(
     live: &mut Live<R>,
     search: &mut Search,
     order: &mut O,
     budget: u64,
+    looked: bool,
 ) -> Result<Ended<Run>, AllocError>
     requires means { AllMean R.value_of live.old.network.library.procedures.items }
     requires alive { IsLiveIn R.value_of (set_of search.old.worldview) live.old }
@@ -164,15 +169,15 @@ fn try_list<R: Rule + Drop, O: Order>(
         → IsTrue (has_part search.new.listed m) }
     ensures search { IsSearch (problem_in R.value_of live.old) search.new }
     ensures stand { IsStand search.new }
-    ensures refuted { IfOk result (λ r.
-        IfClash r.end (IsRefuting search.new (budget - r.steps))) }
+    ensures refuted { IfOk result (λ r. IfClash r.end (IsFound search.new)) }
     ensures tried { IfOk result (λ r. Attempted O.picks (library_of R.value_of live.old)
         search.old (cells_of live.old) (line_of live.old) order.old budget r.end r.steps search.new
         (cells_of live.new) (line_of live.new) order.new) }
 {
     let mut steps: u64 = 0;
+    let mut looked = looked;
     loop {
-        let tried = attempt(live, search, order, budget - steps)?;
+        let tried = attempt(live, search, order, budget - steps, looked)?;
         steps += tried.steps;
         match tried.end {
             Run::Quiet => {
@@ -180,11 +185,8 @@ fn try_list<R: Rule + Drop, O: Order>(
                     let end = Run::Quiet;
                     return Ok(Ended { end, steps });
                 }
-                if let Some(nogood) = ahead(search, budget - steps)? {
-                    let end = Run::Clash(nogood);
-                    return Ok(Ended { end, steps });
-                }
                 believe_more(live, search)?;
+                looked = false;
             }
             end => return Ok(Ended { end, steps }),
         }
@@ -192,10 +194,11 @@ fn try_list<R: Rule + Drop, O: Order>(
 }
 
 /// A noted nogood that is believed, or where there is none, one that would be with the side of one
-/// choice more. It changes nothing.
-fn found(search: &mut Search) -> Result<Option<PremiseSet>, AllocError>
+/// choice more: none where no choice may go on. It changes nothing.
+pub(crate) fn found(search: &mut Search) -> Result<Option<PremiseSet>, AllocError>
     ensures same { search.new ≡ search.old }
     ensures found { IfOk result (λ nogood. IfSome nogood (IsFound search.old)) }
+    ensures none { result ≡ Ok None → MayPass search.old → ⊥ }
     ensures stand { IsStand search.old }
 {
     let Some(nogood) = search.blocked() else {
@@ -208,11 +211,9 @@ fn found(search: &mut Search) -> Result<Option<PremiseSet>, AllocError>
 /// What such a nogood shows: one that is believed is looked at from the last choice whose side it
 /// holds, and with one that would be believed with the side of one choice more, that choice leaves
 /// its side.
-fn shown(search: &Search, nogood: PremiseSet) -> Result<Resolved, AllocError>
+pub(crate) fn shown(search: &Search, nogood: PremiseSet) -> Result<Resolved, AllocError>
     requires { IsFound search.now nogood }
     ensures step { IfOk result (IfStep (MayStep search.now)) }
-    ensures met { IsPart (set_of nogood) (set_of search.now.worldview)
-        → IfOk result (λ r. IfAgainst r (MayMove search.now)) }
     ensures blamed { IfOk result (IfRuledOut (λ n. IsBlamed search.now (set_of n))) }
     ensures resolved { IfOk result (λ r. (problem : Problem) → IsSearch problem search.now
         → IsResolved problem search.now r) }
@@ -241,7 +242,7 @@ fn go_on(search: &mut Search) -> Result<bool, AllocError>
     match shown(search, refuting)? {
         Resolved::RuledOut(_) => Ok(false),
         Resolved::Against(place, reason) => {
-            drop(search.advance(place, reason)?);
+            drop(search.step(place, reason)?);
             Ok(true)
         }
     }
@@ -284,7 +285,7 @@ fn decide<R: Rule + Drop>(
     requires alive { IsLiveIn R.value_of (set_of search.old.worldview) live.old }
     requires search { IsSearch (problem_in R.value_of live.old) search.old }
     requires stand { IsStand search.old }
-    requires refuted { IfClash tried (IsRefuting search.old most) }
+    requires refuted { IfClash tried (IsFound search.old) }
     ensures network { live.new.network ≡ live.old.network }
     ensures alive { IsLiveIn R.value_of (set_of search.new.worldview) live.new }
     ensures premises { search.new.premises ≡ search.old.premises }
@@ -303,7 +304,7 @@ fn decide<R: Rule + Drop>(
     ensures named { IfOk result (λ r. IfSome r.end (λ end.
         IfContradiction end (λ n. IsBlamed search.old (set_of n)))) }
     ensures unsettled { IfOk result (λ r. r.end ≡ Some Outcome.Unsettled →
-        (tried ≡ Run.Spent) ⊎ ((most ≡ 0) × ((j : ℕ) × MayMove search.old j))) }
+        (tried ≡ Run.Spent) ⊎ ((most ≡ 0) × MayPass search.old)) }
     ensures some { IfOk result (λ r. r.end ≡ None → 1 ≤ r.steps) }
     ensures few { IfOk result (λ r. r.steps ≤ most) }
     ensures moves { IfOk result (λ r. r.end ≡ None → Passes search.old r.steps search.new) }
@@ -332,7 +333,7 @@ fn decide<R: Rule + Drop>(
                 let end = Some(Outcome::Unsettled);
                 return Ok(Ended { end, steps: 0 });
             }
-            let before = search.advance(place, reason)?;
+            let before = search.step(place, reason)?;
             let passed = pass(search, most - 1);
             alert_shifted(live, &before, search.worldview());
             drop(before);
@@ -389,7 +390,7 @@ pub fn settle<R: Rule + Drop, O: Order>(
         let Ended {
             end: tried,
             steps: calls,
-        } = try_list(live, search, order, budget - steps)?;
+        } = try_list(live, search, order, budget - steps, steps > 0)?;
         steps += calls;
         let Ended { end, steps: moves } = decide(live, search, tried, budget - steps)?;
         match end {

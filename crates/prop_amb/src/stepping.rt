@@ -10,13 +10,13 @@ ghost use Rattle.prop_premises.specs.ChoiceLists.{hypothetical};
 ghost use Rattle.prop_amb.specs.Search.{choices_in, IsStand, IsSearch};
 ghost use Rattle.prop_amb.specs.Going.{work_on, MayGoOn};
 ghost use Rattle.prop_amb.specs.Stepping.{IsStepTo, Steps};
-ghost use Rattle.prop_amb.specs.inner.Settling.{IsMet};
+ghost use Rattle.prop_amb.specs.inner.Refuting.{IsFound};
 ghost use Rattle.prop_amb.specs.inner.Stepping.{IsMove};
 
 use crate::outcome::Outcome;
 use crate::resolving::Resolved;
 use crate::search::Search;
-use crate::settling::settle;
+use crate::settling::{found, settle, shown};
 use prop_premises::{Premise, PremiseSet, Worldview};
 use prop_procedures::Rule;
 use prop_scheduler::{Ended, Live, Order, alert_shifted, call_next};
@@ -36,7 +36,8 @@ pub enum Step {
     Contradiction(PremiseSet),
 }
 
-/// A choice went to its next side, and all later ones to their first.
+/// A choice went to its next side, and all later ones to their first: for a noted nogood that was
+/// believed, or as the first choice of which no side was, for one that would have been with it.
 #[derive(Drop)]
 pub struct Move {
     /// The choice's place among the choices.
@@ -101,11 +102,8 @@ fn take_step<R: Rule + Drop, O: Order>(
         (problem_in R.value_of live.old) (work_on search.old live.old order.old) step
         (work_on search.new live.new order.new)) }
 {
-    match search.blocked() {
-        Some(nogood) => {
-            let nogood = nogood.copy()?;
-            move_for(live, search, nogood)
-        }
+    match found(search)? {
+        Some(nogood) => move_for(live, search, nogood),
         None => Ok(Step::Called(call_next(live, search.worldview(), order)?)),
     }
 }
@@ -123,7 +121,8 @@ impl Search {
     }
 }
 
-/// What follows from a noted nogood that is believed: a choice moves, or every list is refuted.
+/// What follows from a noted nogood that is believed, or would be with the side of one choice more:
+/// a choice goes on, or every list is refuted.
 fn move_for<R: Rule + Drop>(
     live: &mut Live<R>,
     search: &mut Search,
@@ -132,7 +131,7 @@ fn move_for<R: Rule + Drop>(
     requires alive { IsLiveIn R.value_of (set_of search.old.worldview) live.old }
     requires search { IsSearch (problem_in R.value_of live.old) search.old }
     requires stand { IsStand search.old }
-    requires met { IsMet (problem_in R.value_of live.old) search.old nogood }
+    requires found { IsFound search.old nogood }
     ensures network { live.new.network ≡ live.old.network }
     ensures alive { IsLiveIn R.value_of (set_of search.new.worldview) live.new }
     ensures premises { search.new.premises ≡ search.old.premises }
@@ -142,12 +141,12 @@ fn move_for<R: Rule + Drop>(
     ensures told { IfOk result (λ step. IsMove (problem_in R.value_of live.old) search.old
         (cells_of live.old) (line_of live.old) step search.new (line_of live.new)) }
 {
-    match search.resolve(nogood)? {
+    match shown(search, nogood)? {
         Resolved::RuledOut(premises) => Ok(Step::Contradiction(premises)),
         Resolved::Against(place, reason) => {
             let nogood = reason.copy()?;
             let side = search.side_at(place);
-            let before = search.advance(place, reason)?;
+            let before = search.step(place, reason)?;
             alert_shifted(live, &before, search.worldview());
             Ok(Step::Moved(Move {
                 place,

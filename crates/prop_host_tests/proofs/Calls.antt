@@ -1,12 +1,12 @@
 -- Two spans are the arguments of one call.
-use Rattle.std.proofs.Common.{◌≡◌, [], ◌∷◌, Option, Some, IfSome}
+use Rattle.std.proofs.Common.{[], ◌∷◌}
 use Rattle.prop_lattice.specs.declared.span.Span as spans
 use Rattle.prop_lattice.specs.declared.info.Info.TheVariants.{Span as span}
 use Rattle.prop_procedures.specs.declared.shape.Param.TheVariants.{Plain}
 use Rattle.prop_procedures.specs.declared.shape.Shape.TheVariants.{Span}
 use Rattle.prop_procedures.specs.declared.shape.Need.TheVariants.{Nothing}
 use Rattle.prop_procedures.specs.Rules.{IsCall}
-use Rattle.prop_procedures.specs.Stored.{Stored, span_kind}
+use Rattle.prop_procedures.specs.Stored.{span_kind}
 
 pub spans_call : (x y : spans.Span) → IsCall (Span ∷ Span ∷ []) Nothing Plain (span x ∷ span y ∷ [])
 spans_call x y = (
@@ -18,7 +18,3 @@ spans_call x y = (
     clear = ((λ e. cc), ((λ e. cc), tt));
   },
 )
-
-pub stored_call : (o : Option Stored) (p : Stored) (x y : spans.Span) → o ≡ Some p → p.ins ≡ Span ∷ Span ∷ []
-    → p.need ≡ Nothing → IfSome o (λ q. IsCall q.ins q.need Plain (span x ∷ span y ∷ []))
-stored_call o p x y at ins need = rw (at, ins, need) (spans_call x y)

@@ -247,21 +247,20 @@ pub(crate) fn purge_everywhere(endings: &mut [Ending], premise: Premise)
 /// there may be some. After want of memory the nogoods are the same.
 pub(crate) fn join(
     endings: &mut Vec<Ending>,
-    nogood: &Listed,
+    nogood: Listed,
     has_larger: bool,
 ) -> Result<(), AllocError>
     requires in_order { AreInOrder endings.old.items }
-    requires none { has_larger ≡ false → IsPartOfNone (sets_of endings.old.items) nogood.now }
+    requires none { has_larger ≡ false → IsPartOfNone (sets_of endings.old.items) nogood }
     ensures in_order { AreInOrder endings.new.items }
     ensures ok { OnOk result ((place : ℕ)
-        × (sets_of endings.new.items ≡ insert (staying (sets_of endings.old.items) nogood.now) place
-        nogood.now)) }
+        × (sets_of endings.new.items ≡ insert (staying (sets_of endings.old.items) nogood) place
+        nogood)) }
     ensures err { OnErr result (sets_of endings.new.items ≡ sets_of endings.old.items) }
 {
-    let again = nogood.again()?;
     let place = room_for(endings, nogood.last())?;
-    drop_any_larger_everywhere(endings, nogood, has_larger);
-    endings[place].add(again);
+    drop_any_larger_everywhere(endings, &nogood, has_larger);
+    endings[place].add(nogood);
     Ok(())
 }
 

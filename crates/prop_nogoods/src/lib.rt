@@ -9,6 +9,7 @@
 //! those that hold a premise (`Store`, `Nogoods`).
 #![tactic(auto)]
 
+mod counted;
 mod ending;
 mod listed;
 pub mod nogoods;

@@ -8,31 +8,28 @@ ghost use Rattle.prop_nogoods.specs.Stores.{has_part, staying, lacking, AreBySiz
 ghost use Rattle.prop_nogoods.specs.inner.Endings.{EndsSo};
 ghost use Rattle.prop_nogoods.specs.inner.Stores.{IsPartOfNone};
 
+use crate::counted::Counted;
 use prop_premises::{Premise, PremiseSet, Signature, Worldview};
 use std::alloc::{AllocError, Global};
 use std::marker::Model;
-use std::rc::Rc;
 
 /// A set of premises that can't all be believed, with how many they are, the last of them and a
 /// signature. Of most sets that aren't believed the signature tells it, and the set itself isn't
-/// looked at. It stands in memory once, in however many lists it is.
+/// looked at.
 #[derive(Drop)]
 pub(crate) struct Listed {
-    size: u32,
     last: Option<Premise>,
     signature: Signature,
-    premises: Rc<PremiseSet, Global>,
+    counted: Counted,
 }
 
 impl Model for Listed {
     ghost Value = { List ℕ };
 
-    ghost view = { λ l. l.premises.value };
+    ghost view = { λ l. l.counted };
 
-    ghost invariant = { λ l. (l.size ≡ length l.premises.value)
-        × IsStrictlyIncreasing l.premises.value
-        × EndsSo l.last l.premises.value
-        × AreRemainders (set_of l.premises.value) (remainders l.signature) };
+    ghost invariant = { λ l. IsStrictlyIncreasing l.counted × EndsSo l.last l.counted
+        × AreRemainders (set_of l.counted) (remainders l.signature) };
 }
 
 impl Listed {
@@ -47,12 +44,11 @@ impl Listed {
             last = Some(premise);
         }
         let signature = premises.signature();
-        let premises = Rc::new(alloc, premises)?;
+        let counted = Counted::new(alloc, premises, size)?;
         Ok(Listed {
-            size,
             last,
             signature,
-            premises,
+            counted,
         })
     }
 
@@ -61,7 +57,7 @@ impl Listed {
     pub(crate) fn size(&self) -> usize
         ensures { result ≡ length self.now }
     {
-        self.size as usize
+        self.counted.size()
     }
 
     /// Its last premise, none where it has no premise.
@@ -72,17 +68,11 @@ impl Listed {
         self.last
     }
 
-    /// The same set for one list more.
-    pub(crate) fn again(&self) -> Result<Listed, AllocError>
-        ensures { IfOk result (λ l. l ≡ self.now) }
+    /// The set with how many premises it has, for one list more.
+    pub(crate) fn counted(&self) -> Result<Counted, AllocError>
+        ensures { IfOk result (λ c. c ≡ self.now) }
     {
-        let premises = self.premises.clone()?;
-        Ok(Listed {
-            size: self.size,
-            last: self.last,
-            signature: self.signature,
-            premises,
-        })
+        self.counted.again()
     }
 
     /// The set itself.
@@ -90,7 +80,7 @@ impl Listed {
     pub(crate) fn premises(&self) -> &PremiseSet
         ensures { result.now ≡ self.now }
     {
-        &self.premises
+        self.counted.premises()
     }
 
     /// Whether each premise of the set is believed in the worldview, which has this signature. It
@@ -100,7 +90,7 @@ impl Listed {
         requires { AreRemainders (set_of worldview.now) (remainders signature) }
         ensures { result ≡ is_within (set_of worldview.now) self.now }
     {
-        self.signature.is_part_of(signature) && worldview.believes(&self.premises)
+        self.signature.is_part_of(signature) && worldview.believes(self.premises())
     }
 
     /// Whether the premise is in the set. It takes no memory.
@@ -108,7 +98,7 @@ impl Listed {
     pub(crate) fn holds(&self, premise: Premise) -> bool
         ensures { result ≡ set_of self.now premise }
     {
-        self.premises.contains(premise)
+        self.premises().contains(premise)
     }
 
     /// Whether each premise of this set is in the other. It takes no memory.
@@ -116,7 +106,7 @@ impl Listed {
     pub(crate) fn is_subset(&self, other: &PremiseSet) -> bool
         ensures { result ≡ is_within (set_of other.now) self.now }
     {
-        self.premises.is_subset(other)
+        self.premises().is_subset(other)
     }
 
     /// Whether each premise of this set is in the other. Of most sets that aren't part of it the
@@ -125,7 +115,7 @@ impl Listed {
     pub(crate) fn is_part_of(&self, other: &Listed) -> bool
         ensures { result ≡ is_within (set_of other.now) self.now }
     {
-        self.signature.is_part_of(other.signature) && self.premises.is_subset(&other.premises)
+        self.signature.is_part_of(other.signature) && self.premises().is_subset(other.premises())
     }
 }
 
@@ -161,18 +151,6 @@ pub(crate) fn drop_larger(listed: &mut Vec<Listed>, nogood: &Listed)
     listed.retain(|larger| !nogood.is_part_of(larger));
 }
 
-/// Drops the listed sets that this one is part of, where there may be some.
-pub(crate) fn drop_any_larger(listed: &mut Vec<Listed>, nogood: &Listed, has_larger: bool)
-    requires none { has_larger ≡ false → IsPartOfNone listed.old.items nogood.now }
-    ensures left { listed.new.items ≡ staying listed.old.items nogood.now }
-    ensures capacity { vec_capacity listed.new ≡ vec_capacity listed.old }
-    ensures len { vec_len listed.new ≤ vec_len listed.old }
-{
-    if has_larger {
-        drop_larger(listed, nogood);
-    }
-}
-
 /// Drops the listed sets that hold the premise.
 pub(crate) fn drop_holding(listed: &mut Vec<Listed>, premise: Premise)
     ensures left { listed.new.items ≡ lacking listed.old.items premise }
@@ -192,9 +170,6 @@ pub(crate) fn first_believed<'a>(
     requires { AreRemainders (set_of worldview.now) (remainders signature) }
     ensures listed { IfSome result (λ s. Contains listed.now s.now) }
     ensures believed { IfSome result (λ s. IsTrue (is_within (set_of worldview.now) s.now)) }
-    ensures smallest { AreBySize listed.now
-        → IfSome result (λ s. All (λ line. IsTrue (is_within (set_of worldview.now) line)
-        → length s.now ≤ length line) listed.now) }
     ensures none { result ≡ None → has_part listed.now (set_of worldview.now) ≡ false }
 {
     listed.iter().find(

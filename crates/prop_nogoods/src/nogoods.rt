@@ -1,7 +1,7 @@
 //! Iteration over the nogoods of a store.
 ghost use Rattle.std.specs.Iterator.{YieldsFirstRef, item_count};
 
-use crate::listed::Listed;
+use crate::counted::Counted;
 use prop_premises::PremiseSet;
 use std::marker::Model;
 
@@ -9,7 +9,7 @@ use std::marker::Model;
 /// order in which they were added.
 #[derive(Drop)]
 pub struct Nogoods<'a> {
-    rest: &'a [Listed],
+    rest: &'a [Counted],
 }
 
 impl<'a> Model for Nogoods<'a> {
@@ -23,7 +23,7 @@ impl<'a> Model for Nogoods<'a> {
 impl<'a> Nogoods<'a> {
     ghost use Rattle.std.specs.Prelude.{◌≡◌};
 
-    pub(crate) fn new(rest: &'a [Listed]) -> Nogoods<'a>
+    pub(crate) fn new(rest: &'a [Counted]) -> Nogoods<'a>
         ensures { result ≡ rest.now }
     {
         Nogoods { rest }

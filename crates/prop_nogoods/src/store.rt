@@ -8,10 +8,11 @@ ghost use Rattle.prop_nogoods.specs.Stores.{has_part, lacking, with_set, AreMini
 ghost use Rattle.prop_nogoods.specs.Stores.{NoneEndsBelow, AddsSet};
 ghost use Rattle.prop_nogoods.specs.inner.Stores.{HaveSame, IsPartOfNone};
 
+use crate::counted::{Counted, drop_any_larger, drop_holding, first_believed, place_of};
 use crate::ending::{
     Ending, earliest_believed, has_larger_among, has_part_among, join, purge_everywhere,
 };
-use crate::listed::{Listed, drop_any_larger, drop_holding, first_believed, place_of};
+use crate::listed::Listed;
 use crate::nogoods::Nogoods;
 use prop_premises::{Premise, PremiseSet, Worldview};
 use std::alloc::{AllocError, Global};
@@ -22,7 +23,7 @@ use std::marker::Model;
 /// The smallest come first, and those of one size in the order in which they were added.
 #[derive(Drop)]
 pub struct Store {
-    nogoods: Vec<Listed>,
+    nogoods: Vec<Counted>,
     /// The same nogoods, each with those that end with the same premise; those come first whose
     /// last premise comes early.
     by_last: Vec<Ending>,
@@ -124,10 +125,11 @@ impl Store {
         let nogood = Listed::new(*self.nogoods.allocator(), nogood)?;
         let has_larger = self.has_larger(&nogood);
         self.nogoods.reserve(1)?;
-        join(&mut self.by_last, &nogood, has_larger)?;
-        drop_any_larger(&mut self.nogoods, &nogood, has_larger);
-        let place = place_of(&self.nogoods, &nogood);
-        self.nogoods.insert(place, nogood)?;
+        let counted = nogood.counted()?;
+        join(&mut self.by_last, nogood, has_larger)?;
+        drop_any_larger(&mut self.nogoods, &counted, has_larger);
+        let place = place_of(&self.nogoods, &counted);
+        self.nogoods.insert(place, counted)?;
         Ok(())
     }
 
@@ -141,7 +143,7 @@ impl Store {
             → length s.now ≤ length line) self.now) }
         ensures none { result ≡ None → has_part self.now (set_of worldview.now) ≡ false }
     {
-        let nogood = first_believed(&self.nogoods, worldview, worldview.signature())?;
+        let nogood = first_believed(&self.nogoods, worldview)?;
         Some(nogood.premises())
     }
 

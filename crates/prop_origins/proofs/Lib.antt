@@ -1,3 +1,5 @@
 pub mod Founding
+pub mod LineLaws
 pub mod LogLaws
+pub mod Proceeding
 pub mod PrunedLaws

@@ -1,5 +1,8 @@
--- What is known of the parts where they are given.
-use Rattle.std.specs.Prelude.{List}
+-- What is known of the parts where they are given, and why they aren't where they aren't.
+use Rattle.std.specs.Prelude.{List, All}
+use Rattle.prop_lattice.specs.Rank.{IsOf}
+use Rattle.prop_procedures.specs.Fitting.{kind_at}
+use Rattle.prop_cells.specs.Data.{Data}
 use Rattle.prop_origins.specs.declared.making.Composition.{Composition}
 use Rattle.prop_origins.specs.declared.making.Composition.TheVariants.{Whole, Cut}
 use Rattle.prop_origins.specs.Parts.{Part}
@@ -7,3 +10,12 @@ use Rattle.prop_origins.specs.Parts.{Part}
 abbrev pub IfWhole : Composition → (List Part → Type 0) → Type 0
 IfWhole (Whole parts) P = P parts.items
 IfWhole Cut P = Unit {0}
+
+abbrev pub IfCut : Composition → Type 0 → Type 0
+IfCut (Whole parts) P = Unit {0}
+IfCut Cut P = P
+
+-- each statement is of its cell's kind
+abbrev pub AreOfTheirKind : Data → Type 0
+AreOfTheirKind d =
+    All (λ x. IsOf (kind_at d.kinds x.cell).kind (kind_at d.kinds x.cell).size x.info) d.statements

@@ -1,57 +1,71 @@
 //! Which instances are to be called.
-ghost use Rattle.std.specs.Prelude.{◌≡◌, ◌<◌, All, IfSome};
+ghost use Rattle.std.specs.Prelude.{◌≡◌, ◌<◌, ◌∷◌, [], None, All, IfOk, IfSome};
+ghost use Rattle.std.specs.List.{range_with_len};
+ghost use Rattle.prop_scheduler.specs.Agendas.{AllAlerted};
+ghost use Rattle.prop_origins.specs.inner.Lines.{Lined};
 
+use prop_scheduler::Agenda;
 use std::alloc::{AllocError, Global};
-use std::collections::VecDeque;
+use std::marker::Model;
 
-/// The instances that wait, and those that were never called: of so many all from a number on.
+/// The instances that wait, each once, and behind them those that were not called in order yet: of
+/// so many all from a number on.
 #[derive(Drop)]
 pub(crate) struct Line {
     count: usize,
     fresh: usize,
-    waiting: VecDeque<usize>,
-    pub ghost below: { All (λ j. j < count) waiting.items },
+    agenda: Agenda,
+}
+
+impl Model for Line {
+    ghost use Rattle.std.specs.Prelude.{◌++◌, ◌-◌};
+    ghost use Rattle.std.specs.List.{range_with_len};
+    ghost use Rattle.prop_origins.specs.inner.Lines.{Lined, IsLined};
+
+    ghost Value = { Lined };
+
+    ghost view = { λ l. record {
+      count = l.count;
+      line = l.agenda.line ++ range_with_len l.fresh (l.count - l.fresh);
+    } };
+
+    ghost invariant = { λ l. IsLined l.count l.fresh l.agenda };
 }
 
 impl Line {
-    /// None of so many instances waits, and none was called.
-    pub(crate) fn new(alloc: Global, count: usize) -> Line
-        ensures { result.count ≡ count }
+    /// All of so many instances, in order. None waits.
+    pub(crate) fn new(alloc: Global, count: usize) -> Result<Line, AllocError>
+        ensures { IfOk result (λ line. line
+            ≡ record { count = count; line = range_with_len 0 count }) }
     {
-        Line {
+        let mut agenda = Agenda::new(alloc);
+        agenda.room(count)?;
+        Ok(Line {
             count,
             fresh: 0,
-            waiting: VecDeque::new(alloc),
-        }
+            agenda,
+        })
     }
 
-    /// An instance waits, behind the others.
-    fn join(&mut self, instance: usize) -> Result<(), AllocError>
-        requires { instance < self.old.count }
-        ensures { self.new.count ≡ self.old.count }
-    {
-        self.waiting.push_back(instance)?;
-        Ok(())
-    }
-
-    /// These instances wait, behind the others.
-    pub(crate) fn alert(&mut self, instances: &[usize]) -> Result<(), AllocError>
+    /// These instances wait, behind the others that do. It takes no memory.
+    pub(crate) fn alert(&mut self, instances: &[usize])
         requires { All (λ j. j < self.old.count) instances.now }
-        ensures { self.new.count ≡ self.old.count }
+        ensures count { self.new.count ≡ self.old.count }
+        ensures alerted { AllAlerted self.old.line self.new.line instances.now }
     {
-        for instance in instances {
-            self.join(*instance)?;
-        }
-        Ok(())
+        self.agenda.alert_all(instances);
     }
 
-    /// The next to be called: the first that waits, and where none does the first that was never
-    /// called.
+    /// The next to be called: the first that waits, and where none does the next in order.
     pub(crate) fn next(&mut self) -> Option<usize>
         ensures count { self.new.count ≡ self.old.count }
         ensures below { IfSome result (λ i. i < self.old.count) }
+        ensures first { IfSome result (λ i. self.old.line ≡ i ∷ self.new.line) }
+        ensures none { result ≡ None → self.old.line ≡ [] }
     {
-        if let Some(instance) = self.waiting.pop_front() {
+        if self.agenda.waiting() > 0 {
+            let instance = self.agenda.at(0);
+            self.agenda.take(0);
             return Some(instance);
         }
         if self.fresh >= self.count {

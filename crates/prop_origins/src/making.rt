@@ -1,7 +1,7 @@
 //! The parts of a value: what the statements say, and what follows from them, one call after the
 //! other.
-ghost use Rattle.std.specs.Prelude.{◌≡◌, ◌<◌, [], ℕ, List, All, length, slice_get, IsTrue, IfOk};
-ghost use Rattle.std.specs.Prelude.{IfSome, false};
+ghost use Rattle.std.specs.Prelude.{◌≡◌, ◌<◌, ◌≤◌, ◌∷◌, [], ℕ, List, All, length, slice_get};
+ghost use Rattle.std.specs.Prelude.{Some, IsTrue, IfOk, OnOk, IfSome, false};
 ghost use Rattle.std.specs.List.{list_any};
 ghost use Rattle.prop_lattice.specs.Order.{Below, is_contradiction};
 ghost use Rattle.prop_lattice.specs.Rank.{IsOf};
@@ -13,7 +13,9 @@ ghost use Rattle.prop_cells.specs.Data.{IsKept, problem_of, support_of};
 ghost use Rattle.prop_cells.specs.Problems.{AreOfKinds, Entails, Premises, is_member, value_on};
 ghost use Rattle.prop_origins.specs.Founded.{AreFounded, MakeUp};
 ghost use Rattle.prop_origins.specs.Parts.{made};
-ghost use Rattle.prop_origins.specs.Whole.{IfWhole};
+ghost use Rattle.prop_origins.specs.Whole.{IfWhole, IfCut, AreOfTheirKind};
+ghost use Rattle.prop_origins.specs.inner.Proceeding.{Proceeds, Hears};
+ghost use Rattle.prop_scheduler.specs.Potential.{most_steps};
 
 use crate::line::Line;
 use crate::log::Log;
@@ -57,6 +59,7 @@ fn is_among(premises: &PremiseSet, statement: &Statement) -> bool
 fn is_news(kind: Kinded, known: Info, value: Info) -> bool
     ensures of_kind { IsTrue result → IsOf kind.kind kind.size value }
     ensures more { IsTrue result → ¬ (Below value known) }
+    ensures known { result ≡ false → IsOf kind.kind kind.size value → Below value known }
 {
     value.is_of(kind.kind, kind.size) && !known.implies(value)
 }
@@ -107,11 +110,17 @@ fn note(
     requires within { All (λ x. x.cell < length held.now.kinds) held.now.statements }
     requires cells { log.old.cells ≡ length held.now.kinds }
     requires line { line.old.count ≡ length held.now.instances }
+    requires of_kinds { AreOfKinds held.now.kinds (made log.old.parts) }
     ensures cells { log.new.cells ≡ log.old.cells }
     ensures line { line.new.count ≡ line.old.count }
     ensures founded { (library : List Stored)
         → AreFounded library held.now (set_of premises.now) log.old.parts
         → AreFounded library held.now (set_of premises.now) log.new.parts }
+    ensures proceeds { OnOk result ((library : List Stored)
+        → Proceeds (problem_of library held.now) 0 line.old.line line.new.line
+        (made log.old.parts) (made log.new.parts)) }
+    ensures heard { OnOk result ((x : Statement) → slice_get held.now.statements number ≡ Some x
+        → Hears held.now.kinds (set_of premises.now) (made log.new.parts) x) }
 {
     let statement = held.statements()[number];
     let cell = statement.cell;
@@ -122,7 +131,8 @@ fn note(
     }
     let part = told(alloc, number, &statement)?;
     log.push(part)?;
-    line.alert(held.readers(cell))
+    line.alert(held.readers(cell));
+    Ok(())
 }
 
 /// Logs what the statements say under the premises or under none.
@@ -136,11 +146,17 @@ fn tell(
     requires within { All (λ x. x.cell < length held.now.kinds) held.now.statements }
     requires cells { log.old.cells ≡ length held.now.kinds }
     requires line { line.old.count ≡ length held.now.instances }
+    requires of_kinds { AreOfKinds held.now.kinds (made log.old.parts) }
     ensures cells { log.new.cells ≡ log.old.cells }
     ensures line { line.new.count ≡ line.old.count }
     ensures founded { (library : List Stored)
         → AreFounded library held.now (set_of premises.now) log.old.parts
         → AreFounded library held.now (set_of premises.now) log.new.parts }
+    ensures proceeds { OnOk result ((library : List Stored)
+        → Proceeds (problem_of library held.now) 0 line.old.line line.new.line
+        (made log.old.parts) (made log.new.parts)) }
+    ensures heard { OnOk result (All
+        (Hears held.now.kinds (set_of premises.now) (made log.new.parts)) held.now.statements) }
 {
     for number in 0..held.statements().len() {
         note(alloc, held, number, premises, line, log)?;
@@ -223,6 +239,9 @@ fn call<R: Rule + Drop>(
     ensures founded { (s : Premises)
         → AreFounded (stored_of R.value_of network.now.library) network.now.cells s log.old.parts
         → AreFounded (stored_of R.value_of network.now.library) network.now.cells s log.new.parts }
+    ensures proceeds { OnOk result
+        (Proceeds (problem_of (stored_of R.value_of network.now.library) network.now.cells) 1
+        (number ∷ line.old.line) line.new.line (made log.old.parts) (made log.new.parts)) }
 {
     let held = network.data();
     let x = held.instance(number);
@@ -237,11 +256,12 @@ fn call<R: Rule + Drop>(
     let support = log.support(alloc, inputs)?;
     let part = called(number, x, args, value, support)?;
     log.push(part)?;
-    line.alert(held.readers(output))
+    line.alert(held.readers(output));
+    Ok(())
 }
 
-/// Logs what follows from the premises by themselves, until it says so much of the cell. It ends
-/// before where nothing waits or the budget of calls is used.
+/// Logs what follows from the premises by themselves, until it says so much of the cell, or the
+/// budget of calls is used. Where nothing waits it does say so much.
 fn make<R: Rule + Drop>(
     alloc: Global,
     network: &Network<R>,
@@ -252,13 +272,19 @@ fn make<R: Rule + Drop>(
     requires means { AllMean R.value_of network.now.library.procedures.items }
     requires kept { IsKept (stored_of R.value_of network.now.library) network.now.cells }
     requires cell { claim.cell < length network.now.cells.kinds }
+    requires entails { Entails
+        (problem_of (stored_of R.value_of network.now.library) network.now.cells)
+        (set_of premises.now) claim.cell claim.value }
     ensures cells { IfOk result (λ log. log.cells ≡ length network.now.cells.kinds) }
     ensures founded { IfOk result (λ log.
         AreFounded (stored_of R.value_of network.now.library) network.now.cells
         (set_of premises.now) log.parts) }
+    ensures enough { IfOk result (λ log. AreOfTheirKind network.now.cells
+        → most_steps (problem_of (stored_of R.value_of network.now.library) network.now.cells)
+        ≤ budget → Below claim.value (made log.parts claim.cell)) }
 {
     let mut log = Log::new(alloc, network.cells())?;
-    let mut line = Line::new(alloc, network.instances());
+    let mut line = Line::new(alloc, network.instances())?;
     tell(alloc, network.data(), premises, &mut line, &mut log)?;
     for _ in 0..budget {
         if log.made(claim.cell).implies(claim.value) {
@@ -274,7 +300,7 @@ fn make<R: Rule + Drop>(
 
 /// The parts that make up so much of a cell as the premises entail: statements under these premises
 /// or under none, and calls. They are looked for in calls of instances that read what is known, up
-/// to a budget.
+/// to a budget. It is enough where it is no less than the most steps of a run.
 pub fn origins<R: Rule + Drop>(
     alloc: Global,
     network: &Network<R>,
@@ -288,9 +314,11 @@ pub fn origins<R: Rule + Drop>(
     requires entails { Entails
         (problem_of (stored_of R.value_of network.now.library) network.now.cells)
         (set_of why.now.support) cell why.now.value }
-    ensures { IfOk result (λ o. IfWhole o
+    ensures whole { IfOk result (λ o. IfWhole o
         (MakeUp (stored_of R.value_of network.now.library) network.now.cells
         (set_of why.now.support) cell why.now.value)) }
+    ensures cut { IfOk result (λ o. IfCut o (AreOfTheirKind network.now.cells → budget
+        < most_steps (problem_of (stored_of R.value_of network.now.library) network.now.cells))) }
 {
     let value = why.value;
     let log = make(alloc, network, &why.support, Claim { cell, value }, budget)?;

@@ -12,7 +12,7 @@ use Rattle.prop_tms.specs.Kept.{IsLeftWithout}
 use Rattle.prop_tms.specs.declared.supported.Supported.{Supported}
 use Rattle.prop_tms.proofs.MergedLemmas.{first_below, second_below, join_below, merged_below, below_merged, join-above}
 use Rattle.prop_tms.proofs.MergedLemmas.{join-assoc}
-use Rattle.prop_tms.proofs.KeptLemmas.{insert_cases, insert_here, insert_there, left_only, left_kept, left_none}
+use Rattle.prop_tms.proofs.KeptLemmas.{contains_here, insert_cases, insert_here, insert_there, left_only, left_kept, left_none}
 use Rattle.prop_tms.proofs.KeptLemmas.{left_pairs, pairs_insert}
 
 filtered : {X : Type 0} (t : X → Bool) (P : X → Type 0) (xs : List X) → AllByRecursion (λ x. t x ≡ true → P x) xs
@@ -232,6 +232,15 @@ module _ {V : Type 0} {below : V → V → Type 0} {bottom top : V} {join : V �
                 alike;
           }))
       by x c apart false alike = alike
+
+  -- it subsumes the only one, where that rests on the same premises
+  pub joined_alone : (o e : Supported V) → is_alike o.support e.support ≡ true
+      → Subsumes below (joined_with bottom join (o ∷ []) e) o
+  joined_alone o e alike = record {
+    value = laws.transitive o.value (alike_said (o ∷ []) e) _ (below_alike (o ∷ []) e o (contains_here o []) alike)
+        (second_below laws e.value (alike_said (o ∷ []) e));
+    support = and_second (is_within (set_of e.support) o.support) (is_within (set_of o.support) e.support) alike;
+  }
 
   needless_below : (w : Members) (es : List (Supported V)) (e : Supported V) → IsNeedless below bottom es e
       → is_within w e.support ≡ true → below e.value (belief_of bottom join w es)

@@ -18,7 +18,8 @@ use crate::strongest::{belief, says, sole_support, strongest};
 use crate::supported::Supported;
 use crate::trimming::{count_derived, trim};
 use crate::values::{
-    Values, count, drop_bare, drop_emptied, drop_from, drop_subsumed, is_needless, joined, room_for,
+    Values, count, drop_bare, drop_emptied, drop_from, drop_subsumed, is_alone, is_needless,
+    joined, put_alone, room_for,
 };
 use prop_lattice::Partial;
 use prop_premises::{Premise, PremiseSet, Worldview};
@@ -97,6 +98,10 @@ impl<V: Partial> Tms<V> {
         let value = joined(&self.values, entry.value, &entry.support);
         let support = entry.support;
         let entry = Supported { value, support };
+        if is_alone(&self.values, &entry.support) {
+            put_alone(&mut self.values, entry);
+            return Ok(Change::Grown);
+        }
         let place = room_for(&mut self.values, value)?;
         let emptied = drop_subsumed(&mut self.values, &entry);
         self.values[place].supports.push(entry.support)?;

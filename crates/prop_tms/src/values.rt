@@ -1,5 +1,5 @@
 //! Values, each once, with the supports that say so.
-ghost use Rattle.std.specs.Prelude.{◌≡◌, ◌≢◌, ◌↔◌, ◌<◌, ◌≤◌, ◌+◌, ◌^◌, ℕ, [], Any, All, false, not};
+ghost use Rattle.std.specs.Prelude.{◌≡◌, ◌≢◌, ◌↔◌, ◌<◌, ◌≤◌, ◌+◌, ◌^◌, ℕ, List, [], ◌∷◌, Any, All, false, not};
 ghost use Rattle.std.specs.Prelude.{length, filter, get_or, IsTrue, OnOk, OnErr, IfOk, IfSome};
 ghost use Rattle.std.specs.Prelude.{IfNone};
 ghost use Rattle.std.specs.List.{list_any};
@@ -9,7 +9,7 @@ ghost use Rattle.prop_tms.specs.Beliefs.{Subsumes, IsNeedless, joined_with};
 ghost use Rattle.prop_tms.specs.Kept.{IsLeftWithout};
 ghost use Rattle.prop_tms.specs.Values.{entries_of, entries_of_one};
 ghost use Rattle.prop_tms.specs.inner.Values.{values_of, AreApart, NoneBare, NoneBareBut};
-ghost use Rattle.prop_tms.specs.inner.Values.{NoneEmptied, HasRoomOf};
+ghost use Rattle.prop_tms.specs.inner.Values.{NoneEmptied, HasRoomOf, StandsAlone};
 ghost use Rattle.prop_tms.specs.declared.supported.Supported.{Supported};
 ghost use Rattle.prop_tms.specs.declared.values.Valued.{Valued};
 
@@ -109,6 +109,34 @@ pub(crate) fn joined<V: Partial>(values: &[Valued<V>], value: V, support: &Premi
         }
     }
     value.merge(said)
+}
+
+/// Whether there is one entry alone, on the same premises as this support.
+#[inline]
+pub(crate) fn is_alone<V: Partial>(values: &[Valued<V>], support: &PremiseSet) -> bool
+    ensures { IsTrue result → StandsAlone values.now support.now }
+{
+    match values {
+        [only] => match only.supports.as_slice() {
+            [own] => own.is_same(support),
+            _ => false,
+        },
+        _ => false,
+    }
+}
+
+/// Puts an entry in the place of the only one.
+#[inline]
+pub(crate) fn put_alone<V: Partial>(values: &mut [Valued<V>], entry: Supported<V>)
+    requires { (s : List ℕ) × StandsAlone values.old s }
+    ensures same { entries_of values.new ≡ entry ∷ [] }
+    ensures len { length values.new ≡ length values.old }
+    ensures apart { AreApart values.new }
+    ensures bare { NoneBare values.new }
+{
+    let only = &mut values[0];
+    only.value = entry.value;
+    only.supports[0] = entry.support;
 }
 
 /// Whether both are the same value.

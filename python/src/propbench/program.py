@@ -27,6 +27,10 @@ _GATHER = 0.001
 _END = 5.0
 # How often replies are looked at while the program takes no line, in thousandths of a second.
 _LOOK = 1
+# The variable by which a repository's scripts don't say once more that they run unproved.
+_TOLD = "PROPBENCH_TOLD"
+# The commands of which what they say was shown already.
+_shown: set[str] = set()
 
 
 @dataclass(eq=False)
@@ -64,6 +68,9 @@ class Program:
         """Starts the program. What it says on standard error is kept, or shown on that of this
         process. Raises ProgramEnded where it can't be started."""
         self._errors = tempfile.TemporaryFile()
+        env = {**os.environ, _TOLD: "1"} if command[0] in _shown else None
+        if show_errors:
+            _shown.add(command[0])
         try:
             # In a session of its own, so that Ctrl-C at a terminal doesn't end it.
             self._process = subprocess.Popen(
@@ -73,6 +80,7 @@ class Program:
                 stderr=None if show_errors else self._errors,
                 bufsize=0,
                 start_new_session=True,
+                env=env,
             )
         except OSError as error:
             self._errors.close()

@@ -1,17 +1,20 @@
 -- What is known of a nogood that refutes a list, and of the move that follows.
-use Rattle.std.specs.Prelude.{◌≡◌, ◌≤◌, ◌+◌, ◌⊎◌, ℕ, List, Contains}
+use Rattle.std.specs.Prelude.{◌≡◌, ◌<◌, ◌+◌, ◌⊎◌, ℕ, List, false, Contains}
 use Rattle.prop_numbers.specs.Sets.{set_of, IsPart}
 use Rattle.prop_cells.specs.Problems.{Problem}
+use Rattle.prop_nogoods.specs.Stores.{has_part}
 use Rattle.prop_amb.specs.Search.{Stand, IsSearch}
-use Rattle.prop_amb.specs.Moving.{advanced, reasons_advanced}
-use Rattle.prop_amb.specs.Resolving.{MayAdvance, IsReason}
+use Rattle.prop_amb.specs.Moving.{advanced, reasons_advanced, passed_over}
+use Rattle.prop_amb.specs.Resolving.{IsReason}
 use Rattle.prop_amb.specs.declared.resolving.Resolved.{Resolved}
 use Rattle.prop_amb.specs.declared.resolving.Resolved.TheVariants.{Against, RuledOut}
-use Rattle.prop_amb.specs.Going.{MaySkip, Passes}
+use Rattle.prop_amb.specs.Culprits.{MayMove, AreCulprits}
+use Rattle.prop_amb.specs.Going.{MaySkip, MayBelieve}
 
 -- a noted nogood that would be believed with the side of one choice more, against which it speaks
 pub record IsNext (s : Stand) (n : List ℕ) : Type 0 where
   pub may : MaySkip s n
+  pub unblocked : has_part s.listed (set_of s.worldview) ≡ false
   pub reason : (problem : Problem) → IsSearch problem s → IsReason problem s s.level (set_of n)
 
 -- a noted nogood of which every premise is believed
@@ -23,17 +26,24 @@ pub record IsHere (s : Stand) (n : List ℕ) : Type 0 where
 abbrev pub IsFound : Stand → List ℕ → Type 0
 IsFound s n = IsHere s n ⊎ IsNext s n
 
--- the same, where of the second kind a move has to be allowed
-abbrev pub IsRefuting : Stand → ℕ → List ℕ → Type 0
-IsRefuting s most n = IsHere s n ⊎ ((1 ≤ most) × IsNext s n)
+-- The choice at place j may go on for this reason: for a noted nogood that is believed, or as the
+-- first of which no side is, where no noted nogood is.
+abbrev pub MayStep : Stand → ℕ → List ℕ → Type 0
+MayStep s j reason =
+    ((j < s.level) × ((may : MayMove s j) × AreCulprits s may.nogood (set_of reason)))
+    ⊎ ((j ≡ s.level) × (has_part s.listed (set_of s.worldview) ≡ false) × MaySkip s reason)
 
--- the choice at place j may go on for this reason, and that is a move
-pub record MayStep (s : Stand) (j : ℕ) (reason : List ℕ) : Type 0 where
-  pub below : j ≤ s.level
-  pub may : MayAdvance s j
-  pub passes : (new : Stand) → new.premises ≡ s.premises → new.listed ≡ s.listed
-      → new.list ≡ advanced s.list j → new.level ≡ j + 1
-      → new.reasons ≡ reasons_advanced s.reasons j reason → Passes s 1 new
+-- it did
+abbrev pub HasStepped : Stand → ℕ → List ℕ → Stand → Type 0
+HasStepped s j reason new =
+    (((may : MayMove s j) × AreCulprits s may.nogood (set_of reason))
+    × (new ≡ record s {
+      list = advanced s.list j;
+      level = j + 1;
+      reasons = reasons_advanced s.reasons j reason;
+      worldview = new.worldview;
+    }))
+    ⊎ ((j ≡ s.level) × MaySkip s reason × MayBelieve (passed_over s reason) new)
 
 -- where a choice leaves its side, its place and the reason
 abbrev pub IfStep : (ℕ → List ℕ → Type 0) → Resolved → Type 0

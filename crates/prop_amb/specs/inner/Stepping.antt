@@ -7,14 +7,14 @@ use Rattle.prop_scheduler.specs.Shifts.{AreShifted}
 use Rattle.prop_amb.specs.Search.{Stand, users_of, choices_in, believed_with}
 use Rattle.prop_amb.specs.Culprits.{IsBlamed}
 use Rattle.prop_amb.specs.Refuted.{IsRuledOut}
-use Rattle.prop_amb.specs.Stepping.{HasMoved}
+use Rattle.prop_amb.specs.Stepping.{HasPassed}
 use Rattle.prop_amb.specs.declared.stepping.Step.{Step}
 use Rattle.prop_amb.specs.declared.stepping.Step.TheVariants.{Called, Moved, Settled, Contradiction}
 
 -- from one stand to another by the step that is told, a move; or none is left, by a contradiction
 abbrev pub IsMove : Problem → Stand → Data → List ℕ → Step → Stand → List ℕ → Type 0
 IsMove problem s d line (Moved m) new line' =
-    HasMoved s new m
+    HasPassed s new m
     × AreShifted (believed_with s) (believed_with new) d (length d.kinds) line line'
 IsMove problem s d line (Contradiction n) new line' =
     (new ≡ s) × (line' ≡ line)

@@ -1,7 +1,7 @@
 -- Values, each once, with the supports that say so.
-use Rattle.std.specs.Prelude.{◌≡◌, ◌≢◌, ℕ, ◌+◌, ◌^◌, ◌<◌, ◌≤◌, Bool, not, ◌&&◌, ◌||◌, List, []}
+use Rattle.std.specs.Prelude.{◌≡◌, ◌≢◌, ℕ, ◌+◌, ◌^◌, ◌<◌, ◌≤◌, Bool, not, ◌&&◌, ◌||◌, true, List, [], ◌∷◌}
 use Rattle.std.specs.Prelude.{length, get_or, map, take, All, AllPairs}
-use Rattle.prop_numbers.specs.Sets.{Members, is_within}
+use Rattle.prop_numbers.specs.Sets.{Members, is_within, is_alike}
 use Rattle.prop_tms.specs.Beliefs.{NoneSubsumed, NoneAlike}
 use Rattle.prop_tms.specs.declared.values.Valued.{Valued}
 use Rattle.prop_tms.specs.Values.{entries_of}
@@ -48,3 +48,8 @@ HasRoomOf new old = (new.supports.capacity ≡ old.supports.capacity)
 -- whether these premises are all in just one of two sets
 abbrev pub is_in_one : Members → Members → List ℕ → Bool
 is_in_one w z s = (is_within w s && not (is_within z s)) || (is_within z s && not (is_within w s))
+
+-- there is one entry alone, on the same premises as these
+abbrev pub StandsAlone : {V : Type 0} → List (Valued V) → List ℕ → Type 0
+StandsAlone {V} xs s = (x : Valued V) × (own : List ℕ) × (xs ≡ x ∷ []) × (x.supports.items ≡ own ∷ [])
+    × (is_alike own s ≡ true)

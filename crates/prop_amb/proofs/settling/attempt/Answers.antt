@@ -5,6 +5,9 @@ use Rattle.prop_cells.specs.Data.{problem_of}
 use Rattle.prop_amb.specs.Going.Goes.{none}
 use Rattle.prop_amb.proofs.GoingLaws.{ran, ran_noting, ran_may}
 use Rattle.prop_amb.proofs.MetLaws.{clash_nogood, clash_is_new, met_listed, met_noted}
+use Rattle.prop_amb.specs.inner.Refuting.{IsNext}
+use Rattle.prop_amb.proofs.SkippingLaws.{not_whole}
+use Rattle.prop_amb.proofs.RefutingLaws.{met_found}
 use Rattle.prop_amb.proofs.RunLaws.{same_problem, falls_in, bounded_in, conflict_in}
 use Rattle.prop_amb.proofs.settling.attempt.Goals as goal
 
@@ -40,9 +43,9 @@ returns-in_ok-note-in-Clash-clause-gone g c =
 pub returns-in-Some-clause-refuted : goal.returns-in-Some-clause-refuted
 returns-in-Some-clause-refuted g c =
     let same : c.in_ok-copy.field-0 ≡ c.in-Some.nogood.now = c.in_ok-copy.ensures in
-    rw same (met_listed (problem_of (stored_of g.R.Rule.value_of c.args.live.now.network.library)
+    rw same (met_found _ _ _ (met_listed (problem_of (stored_of g.R.Rule.value_of c.args.live.now.network.library)
     c.args.live.now.network.cells)
-    c.args.search.now c.in-Some.nogood.now c.requires.search c.in-Some.ensures.listed c.in-Some.ensures.believed)
+    c.args.search.now c.in-Some.nogood.now c.requires.search c.in-Some.ensures.listed c.in-Some.ensures.believed))
 
 pub returns-in-Quiet-clause-falls : goal.returns-in-Quiet-clause-falls
 returns-in-Quiet-clause-falls g c =
@@ -114,11 +117,11 @@ returns-in_ok-note-in-Clash-clause-refuted g c =
     c.args.live.now.network.cells c.run.new.live.network.cells c.in_ok-end.ensures.ran.library
     c.in_ok-end.ensures.ran.rest in
     let h = rw c.in-Clash.is at c.in_ok-end.ensures.conflict in
-    met_noted (problem_of (stored_of g.R.Rule.value_of c.args.live.now.network.library) c.args.live.now.network.cells)
+    met_found _ _ _ (met_noted (problem_of (stored_of g.R.Rule.value_of c.args.live.now.network.library) c.args.live.now.network.cells)
     c.args.search.now c.note.new.self.listed c.in_ok-copy-in-Clash.field-0 c.in-Clash.support c.note.new.self
     c.worldview.ensures.stand
     (conflict_in _ _ _ _ _ _ same (ap set_of c.worldview.ensures.same) refl h) c.in_ok-copy-in-Clash.ensures
-    c.in_ok-note-in-Clash.ensures.adds c.in_ok-note-in-Clash.ensures.only (c.in_default.ensures.none refl)
+    c.in_ok-note-in-Clash.ensures.adds c.in_ok-note-in-Clash.ensures.only (c.in_default.ensures.none refl))
 
 pub returns-in-Quiet-clause-most : goal.returns-in-Quiet-clause-most
 returns-in-Quiet-clause-most g c = inr (rw c.worldview.ensures.same at c.in_ok-end.ensures.most)
@@ -128,3 +131,11 @@ returns-in-Spent-clause-most g c = inr (rw c.worldview.ensures.same at c.in_ok-e
 
 pub returns-in_ok-note-in-Clash-clause-most : goal.returns-in_ok-note-in-Clash-clause-most
 returns-in_ok-note-in-Clash-clause-most g c = inr (rw c.worldview.ensures.same at c.in_ok-end.ensures.most)
+
+pub returns-in-Some-2-clause-gone : goal.returns-in-Some-2-clause-gone
+returns-in-Some-2-clause-gone g c = none
+
+pub returns-in-Some-2-clause-at_rest : goal.returns-in-Some-2-clause-at_rest
+returns-in-Some-2-clause-at_rest g c = λ idle full free unblocked.
+    let next : IsNext c.args.search.now c.in-Some-2.nogood = rw c.in-Some-2.is at c.in_ok-nogood.ensures in
+    absurd (not_whole c.args.search.now full c.in-Some-2.nogood next.may)

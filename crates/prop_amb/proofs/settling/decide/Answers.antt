@@ -4,39 +4,23 @@ use Rattle.prop_cells.specs.Data.{problem_of}
 use Rattle.prop_numbers.specs.Sets.{set_of}
 use Rattle.prop_amb.specs.Going.{Passes}
 use Rattle.prop_amb.specs.Resolving.{IsReason}
-use Rattle.prop_amb.specs.inner.Refuting.{IsRefuting, MayStep}
-use Rattle.prop_amb.proofs.DecidingLaws.{passes_on, are_shifted}
-use Rattle.prop_amb.proofs.RefutingLaws.{found_of, refuting_here}
+use Rattle.prop_amb.specs.inner.Refuting.{MayStep}
+use Rattle.prop_amb.proofs.DecidingLaws.{goes_by, passes_on, are_shifted}
+use Rattle.prop_amb.proofs.RefutingLaws.{why_pass}
 use Rattle.prop_amb.proofs.settling.decide.Goals as goal
 
 pub shown-requires : goal.shown-requires
-shown-requires g c =
-    let refuting : IsRefuting c.args.search.now c.args.most c.in-Clash.nogood =
-    rw c.in-Clash.is at c.requires.refuted in
-    found_of c.args.search.now c.args.most c.in-Clash.nogood refuting
+shown-requires g c = rw c.in-Clash.is at c.requires.refuted
 
-pub advance-requires-clause-may : goal.advance-requires-clause-may
-advance-requires-clause-may g c =
-    let step : MayStep c.args.search.now c.in-Against.place c.in-Against.reason =
-    rw c.in-Against.is at c.in_ok-premises.ensures.step in
-    step.may
-
-pub advance-requires-clause-below : goal.advance-requires-clause-below
-advance-requires-clause-below g c =
-    let step : MayStep c.args.search.now c.in-Against.place c.in-Against.reason =
-    rw c.in-Against.is at c.in_ok-premises.ensures.step in
-    step.below
+pub step-requires : goal.step-requires
+step-requires g c = rw c.in-Against.is at c.in_ok-premises.ensures.step
 
 pub returns-then-most-eq0-clause-unsettled : goal.returns-then-most-eq0-clause-unsettled
 returns-then-most-eq0-clause-unsettled g c =
     λ e.
-    let refuting : IsRefuting c.args.search.now c.args.most c.in-Clash.nogood =
-    rw c.in-Clash.is at c.requires.refuted in
-    let here = refuting_here c.args.search.now c.args.most c.in-Clash.nogood refuting c.if-most-eq0.true in
-    inr (
-      c.if-most-eq0.true,
-      (c.in-Against.place, rw c.in-Against.is at (c.in_ok-premises.ensures.met here.believed)),
-    )
+    let step : MayStep c.args.search.now c.in-Against.place c.in-Against.reason =
+    rw c.in-Against.is at c.in_ok-premises.ensures.step in
+    inr (c.if-most-eq0.true, why_pass c.args.search.now c.in-Against.place c.in-Against.reason step)
 
 pub returns-in-RuledOut-clause-contradiction : goal.returns-in-RuledOut-clause-contradiction
 returns-in-RuledOut-clause-contradiction g c =
@@ -50,7 +34,7 @@ returns-in_err-steps-in-Against-clause-search g c =
     c.args.live.now.network.cells in
     let reason : IsReason problem c.args.search.now c.in-Against.place (set_of c.in-Against.reason) =
     rw c.in-Against.is at (c.in_ok-premises.ensures.resolved problem c.requires.search) in
-    c.pass-passed.ensures.search problem (c.advance.ensures.search problem reason c.requires.search)
+    c.pass-passed.ensures.search problem (c.step.ensures.search problem reason c.requires.search)
 
 pub returns-in_ok-steps-in-Against-clause-search : goal.returns-in_ok-steps-in-Against-clause-search
 returns-in_ok-steps-in-Against-clause-search g c =
@@ -58,16 +42,13 @@ returns-in_ok-steps-in-Against-clause-search g c =
     c.args.live.now.network.cells in
     let reason : IsReason problem c.args.search.now c.in-Against.place (set_of c.in-Against.reason) =
     rw c.in-Against.is at (c.in_ok-premises.ensures.resolved problem c.requires.search) in
-    c.pass-passed.ensures.search problem (c.advance.ensures.search problem reason c.requires.search)
+    c.pass-passed.ensures.search problem (c.step.ensures.search problem reason c.requires.search)
 
 pub returns-in_ok-steps-in-Against-clause-moves : goal.returns-in_ok-steps-in-Against-clause-moves
 returns-in_ok-steps-in-Against-clause-moves g c = λ _.
     let s = c.args.search.now in
-    let step : MayStep s c.in-Against.place c.in-Against.reason = rw c.in-Against.is at c.in_ok-premises.ensures.step in
-    let first : Passes s 1 c.advance.new.self =
-    step.passes c.advance.new.self c.advance.ensures.premises c.advance.ensures.listed
-    c.in_ok-before-in-Against.ensures.list c.in_ok-before-in-Against.ensures.level
-    c.in_ok-before-in-Against.ensures.reasons in
+    let first : Passes s 1 c.step.new.self =
+    goes_by s c.step.new.self c.in-Against.place c.in-Against.reason c.in_ok-before-in-Against.ensures.ok in
     let more = c.in_ok-steps-in-Against.field-0 in
     let e : 1 + more ≡ more + 1 = omega arith in
     subst (λ n. Passes s n c.pass-passed.new.search) e (passes_on first c.in_ok-steps-in-Against.ensures.moves)

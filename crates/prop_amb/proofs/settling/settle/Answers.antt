@@ -3,15 +3,14 @@ use Rattle.std.proofs.Common.{inl, inr, arith}
 use Rattle.prop_procedures.specs.Kept.{stored_of}
 use Rattle.prop_cells.specs.Data.{problem_of}
 use Rattle.prop_amb.specs.Search.{IsSearch}
-use Rattle.prop_amb.specs.Culprits.{MayMove}
+use Rattle.prop_amb.specs.Going.{MayPass}
 use Rattle.prop_amb.specs.declared.outcome.Outcome.{Outcome}
 use Rattle.prop_amb.specs.declared.outcome.Outcome.TheVariants.{Settled, Unsettled}
 use Rattle.prop_scheduler.specs.declared.outcome.Ended.{Ended}
 use Rattle.prop_scheduler.specs.declared.outcome.Run.TheVariants.{Quiet, Spent}
-use Rattle.prop_scheduler.specs.Ends.{IfClash}
-use Rattle.prop_amb.specs.inner.Refuting.{IsRefuting}
 use Rattle.prop_amb.specs.inner.Trying.{Attempted}
 use Rattle.prop_amb.proofs.Blocked.{kept_block}
+use Rattle.prop_amb.proofs.RefutingLaws.{pass_may}
 use Rattle.prop_amb.proofs.OnWay.{OnTry}
 use Rattle.prop_amb.proofs.SearchLaws.{kept_refute}
 use Rattle.prop_amb.proofs.SettlingLaws.{rest_on, premises_in, search_in, search_from, attempted_in}
@@ -101,10 +100,7 @@ decide-requires-clause-search g c =
     c.try_list.ensures.ran.library c.try_list.ensures.ran.rest c.try_list.ensures.search
 
 pub decide-requires-clause-refuted : goal.decide-requires-clause-refuted
-decide-requires-clause-refuted g c =
-    let e : (c.args.budget - c.loop-tried.steps) - c.in_ok-tried.field-0.steps ≡ c.args.budget -
-    (c.loop-tried.steps + c.in_ok-tried.field-0.steps) = omega arith in
-    subst (λ m. IfClash c.in_ok-tried.field-0.end (IsRefuting c.try_list.new.search m)) e c.in_ok-tried.ensures.refuted
+decide-requires-clause-refuted g c = c.in_ok-tried.ensures.refuted
 
 pub returns-in_err-end-clause-ran : goal.returns-in_err-end-clause-ran
 returns-in_err-end-clause-ran g c = record {
@@ -187,7 +183,7 @@ returns-in-Some g c =
     → c.in_ok-tried.field-0.end ≡ Quiet = λ e. c.in_ok-end.ensures.settled (some ∙ ap Some e) in
     let unsettled : c.in-Some.end ≡ Unsettled
     → (c.in_ok-tried.field-0.end ≡ Spent) ⊎ ((c.args.budget - (c.loop-tried.steps + c.in_ok-tried.field-0.steps) ≡ 0)
-    × ((j : ℕ) × MayMove c.decide.new.search j)) =
+    × MayPass c.decide.new.search) =
     λ e. rw as_was (c.in_ok-end.ensures.unsettled (some ∙ ap Some e)) in
     record {
       ran = record { library = ap (λ n. n.library) c.decide.ensures.network ∙ both; rest = t.rest };
@@ -233,8 +229,8 @@ returns-in-Some g c =
               c.args.live.now.network.cells c.args.live.now.agenda.line c.args.order.now c.decide.new.search
               c.decide.new.live.network.cells c.decide.new.live.agenda.line c.try_list.new.order
               (c.loop-tried.steps + c.in_ok-tried.field-0.steps) c.args.budget c.in_ok-tried.field-0.end t (omega
-              (arith, h.0)) h.1.0
-              h.1.1
+              (arith, h.0)) (pass_may c.decide.new.search h.1).0
+              (pass_may c.decide.new.search h.1).1
         ];
         left = elim (unsettled e) [ inl q ↦ inl (t.leaves q) | inr h ↦ inr h.1 ];
       };

@@ -1,8 +1,6 @@
 use Rattle.std.proofs.Common.{◌≡◌, sym, true, false}
 use Rattle.prop_numbers.specs.Sets.{set_of, is_within}
-use Rattle.prop_numbers.proofs.WithinLemmas.{within_from}
-use Rattle.prop_amb.proofs.SearchLaws.{both}
-use Rattle.prop_amb.proofs.RefutingLaws.{here_of, next_of, step_here, may_here, blamed_here, nogood_here, step_next}
+use Rattle.prop_amb.proofs.RefutingLaws.{here_of, next_of, step_here, blamed_here, nogood_here, step_next}
 use Rattle.prop_amb.proofs.settling.shown.Goals as goal
 
 pub resolve-requires : goal.resolve-requires
@@ -19,14 +17,6 @@ returns-then-believes-clause-step c =
     let here = here_of c.args.search.now c.args.nogood c.requires within in
     step_here c.args.search.now c.args.nogood c.in_ok-shown.shown c.worldview.ensures.stand here
     c.in_ok-shown.ensures.may c.in_ok-shown.ensures.below c.in_ok-shown.ensures.culprits
-
-pub returns-then-believes-clause-met : goal.returns-then-believes-clause-met
-returns-then-believes-clause-met c = λ _.
-    let within : is_within (set_of c.args.search.now.worldview) c.args.nogood ≡ true =
-    sym (rw c.worldview.ensures.same at c.if-believes.ensures) in
-    let here = here_of c.args.search.now c.args.nogood c.requires within in
-    may_here c.args.search.now c.args.nogood c.in_ok-shown.shown c.worldview.ensures.stand here
-    c.in_ok-shown.ensures.may
 
 pub returns-then-believes-clause-blamed : goal.returns-then-believes-clause-blamed
 returns-then-believes-clause-blamed c =
@@ -50,12 +40,6 @@ returns-clause-step c =
     sym (rw c.worldview.ensures.same at c.if-believes.ensures) in
     rw c.level.ensures (step_next c.args.search.now c.args.nogood (next_of c.args.search.now c.args.nogood
     c.requires lacks))
-
-pub returns-clause-met : goal.returns-clause-met
-returns-clause-met c = λ believed.
-    let lacks : is_within (set_of c.args.search.now.worldview) c.args.nogood ≡ false =
-    sym (rw c.worldview.ensures.same at c.if-believes.ensures) in
-    absurd (both (within_from (set_of c.args.search.now.worldview) c.args.nogood believed) lacks)
 
 pub returns-clause-resolved : goal.returns-clause-resolved
 returns-clause-resolved c problem h =

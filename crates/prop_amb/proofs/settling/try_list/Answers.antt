@@ -1,4 +1,4 @@
-use Rattle.std.proofs.Common.{◌≢◌, ◌∙◌, ◌+◌, ◌-◌, ◌<◌, length, refl, sym, ap, subst, inr, arith}
+use Rattle.std.proofs.Common.{◌≢◌, ◌∙◌, ◌+◌, ◌-◌, ◌<◌, length, refl, sym, ap, subst, arith}
 use Rattle.std.proofs.lemmas.Bool.{false≢true}
 use Rattle.prop_procedures.specs.Kept.{stored_of}
 use Rattle.prop_cells.specs.Data.{problem_of}
@@ -6,8 +6,7 @@ use Rattle.prop_amb.specs.Search.{Stand}
 use Rattle.prop_amb.specs.inner.Trying.{Attempted}
 use Rattle.prop_amb.proofs.OnWay.{AtLevel}
 use Rattle.prop_amb.proofs.SettlingLaws.{search_from}
-use Rattle.prop_amb.proofs.DeepeningLaws.{at_level, at_first, list_tried, ahead_tried, deepened_on}
-use Rattle.prop_amb.proofs.RefutingLaws.{clash_refutes}
+use Rattle.prop_amb.proofs.DeepeningLaws.{at_level, at_first, list_tried, deepened_on}
 use Rattle.prop_amb.proofs.settling.try_list.Goals as goal
 
 pub loop-tried-init : goal.loop-tried-init
@@ -25,11 +24,6 @@ attempt-requires-clause-search g c =
     search_from (stored_of g.R.Rule.value_of) c.args.live.now.network.library c.loop-tried.live.network.library
     c.args.live.now.network.cells c.loop-tried.live.network.cells c.loop-tried.search c.loop-tried.invariant.same
     c.loop-tried.invariant.way.rest c.loop-tried.invariant.way.search
-
-pub ahead-requires : goal.ahead-requires
-ahead-requires g c =
-    let met = c.in_ok-tried.ensures in
-    rw (ap (λ (s : Stand). s.worldview) met.only) (met.unblocked c.in-Quiet.is)
 
 pub believe_more-requires-clause-unblocked : goal.believe_more-requires-clause-unblocked
 believe_more-requires-clause-unblocked g c =
@@ -131,50 +125,6 @@ returns-in_default-clause-tried g c =
     c.attempt.new.live.network.cells c.attempt.new.live.agenda.line c.attempt.new.order a
     (λ quiet. absurd (c.in_default.not-Quiet quiet))
 
-pub returns-in-Some-clause-tried : goal.returns-in-Some-clause-tried
-returns-in-Some-clause-tried g c =
-    let a : AtLevel g.O.Order.picks (stored_of g.R.Rule.value_of c.args.live.now.network.library) c.loop-tried.search
-    c.loop-tried.live.network.cells c.loop-tried.live.agenda.line c.loop-tried.order (c.args.budget -
-    c.loop-tried.steps)
-    c.in_ok-tried.tried.end c.in_ok-tried.tried.steps c.attempt.new.search c.attempt.new.live.network.cells
-    c.attempt.new.live.agenda.line c.attempt.new.order =
-    at_level (stored_of g.R.Rule.value_of) c.args.live.now.network.library c.loop-tried.live.network.library
-    g.O.Order.picks
-    c.loop-tried.search c.loop-tried.live.network.cells c.loop-tried.live.agenda.line c.loop-tried.order
-    (c.args.budget - c.loop-tried.steps) c.in_ok-tried.tried.end c.in_ok-tried.tried.steps
-    c.attempt.new.search c.attempt.new.live.network.cells c.attempt.new.live.agenda.line c.attempt.new.order
-    c.loop-tried.invariant.same
-    (record {
-      only = c.in_ok-tried.ensures.only;
-      kept = c.in_ok-tried.ensures.listed;
-      search = c.in_ok-tried.ensures.search;
-      stand = c.in_ok-tried.ensures.stand;
-      rest = c.in_ok-tried.ensures.ran.rest;
-      under_way = rw c.in_ok-tried.ensures.ran.library at c.in_ok-tried.ensures.alive.under_way;
-      gone = c.in_ok-tried.ensures.gone;
-      quiet = c.in_ok-tried.ensures.quiet;
-      rests = c.in_ok-tried.ensures.rests;
-      unblocked = c.in_ok-tried.ensures.unblocked;
-      spent = c.in_ok-tried.ensures.spent;
-      leaves = c.in_ok-tried.ensures.left;
-      earned = c.in_ok-tried.ensures.earned;
-      steps = c.in_ok-tried.ensures.steps;
-      at_rest = c.in_ok-tried.ensures.at_rest;
-      falls = c.in_ok-tried.ensures.falls;
-      few = c.in_ok-tried.ensures.few;
-      most = c.in_ok-tried.ensures.most;
-    }) in
-    let apart : c.attempt.new.search.level ≢ length c.attempt.new.search.list =
-    λ e. false≢true (sym c.if-is_whole.false ∙ c.is_whole.ensures.whole.1 e) in
-    let left : c.attempt.new.search.level < length c.attempt.new.search.list =
-    omega (arith, apart, c.is_whole.ensures.stand.level) in
-    ahead_tried g.O.Order.picks (stored_of g.R.Rule.value_of c.args.live.now.network.library) c.args.search.now
-    c.args.live.now.network.cells c.args.live.now.agenda.line c.args.order.now c.loop-tried.search
-    c.loop-tried.live.network.cells
-    c.loop-tried.live.agenda.line c.loop-tried.order c.loop-tried.steps c.args.budget c.loop-tried.invariant.way
-    c.loop-tried.invariant.within c.in_ok-tried.tried.end c.in_ok-tried.tried.steps c.attempt.new.search
-    c.attempt.new.live.network.cells c.attempt.new.live.agenda.line c.attempt.new.order a c.in-Some.nogood left
-
 pub returns-then-is_whole-clause-tried : goal.returns-then-is_whole-clause-tried
 returns-then-is_whole-clause-tried g c =
     let a : AtLevel g.O.Order.picks (stored_of g.R.Rule.value_of c.args.live.now.network.library) c.loop-tried.search
@@ -220,11 +170,3 @@ returns-then-is_whole-clause-tried g c =
     c.loop-tried.invariant.within c.in_ok-tried.tried.end c.in_ok-tried.tried.steps c.attempt.new.search
     c.attempt.new.live.network.cells c.attempt.new.live.agenda.line c.attempt.new.order a
     (λ quiet. c.is_whole.ensures.whole.0 c.if-is_whole.true))
-
-pub returns-in_default-clause-refuted : goal.returns-in_default-clause-refuted
-returns-in_default-clause-refuted g c =
-    clash_refutes (problem_of (stored_of g.R.Rule.value_of c.loop-tried.live.network.library)
-    c.loop-tried.live.network.cells) c.attempt.new.search _ c.in_ok-tried.tried.end c.in_ok-tried.ensures.refuted
-
-pub returns-in-Some-clause-refuted : goal.returns-in-Some-clause-refuted
-returns-in-Some-clause-refuted g c = inr (rw c.in-Some.is at c.in_ok-nogood-in-Quiet.ensures)

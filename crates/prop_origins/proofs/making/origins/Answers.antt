@@ -19,5 +19,8 @@ returns g c =
     ∙ ap (λ (ps : List Part). pruned (λ k. k == cell) ps) c.into_parts.ensures.parts in
     let enough : Below c.args.why.now.value (made log.parts cell) =
     rw c.made.ensures at (c.implies.ensures.0 c.if-not-implies.false) in
-    subst (λ (ps : List Part). MakeUp library d s cell c.args.why.now.value ps) (sym is)
-    (made_up library d s cell c.args.why.now.value log.parts c.in_ok-log.ensures.founded enough)
+    record {
+      whole = subst (λ (ps : List Part). MakeUp library d s cell c.args.why.now.value ps) (sym is)
+          (made_up library d s cell c.args.why.now.value log.parts c.in_ok-log.ensures.founded enough);
+      cut = tt;
+    }

@@ -1,6 +1,4 @@
-use Rattle.std.proofs.Common.{◌≡◌, ◌∙◌, ℕ, List, Bool, false, sym, inl}
-use Rattle.std.specs.List.{list_any}
-use Rattle.prop_numbers.specs.Sets.{set_of, is_within}
+use Rattle.std.proofs.Common.{◌∙◌, sym, inl}
 use Rattle.prop_tms.proofs.strongest.adds.Goals as goal
 
 pub returns-then-not-implies-clause-none : goal.returns-then-not-implies-clause-none

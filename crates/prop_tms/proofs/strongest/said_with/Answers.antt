@@ -1,4 +1,4 @@
-use Rattle.std.proofs.Common.{◌≡◌, ◌∙◌, Bool, ℕ, List, true, false, sym, refl, inl, inr}
+use Rattle.std.proofs.Common.{◌≡◌, ◌∙◌, Bool, ℕ, List, true, false, refl, inl, inr}
 use Rattle.std.specs.List.{list_any}
 use Rattle.prop_numbers.specs.Sets.{set_of, is_within}
 use Rattle.prop_tms.proofs.MergedLemmas.{join-assoc}

@@ -1,42 +1,25 @@
-use Rattle.std.proofs.Common.{◌≡◌, ◌∙◌, Bool, ℕ, List, true, false, sym, refl, take, inl, inr}
-use Rattle.std.specs.List.{list_any}
+use Rattle.std.proofs.Common.{◌≡◌, ◌∙◌, [], ◌∷◌, ◌++◌, Bool, ℕ, List, true, false, sym, ap}
 use Rattle.prop_numbers.specs.Sets.{set_of, is_within}
-use Rattle.prop_tms.proofs.MergedLemmas.{join-assoc, bottom-join}
-use Rattle.prop_tms.proofs.ValueLemmas.{said_first, said_more, said_passed}
+use Rattle.prop_tms.specs.Beliefs.{belief_of}
+use Rattle.prop_tms.specs.Values.{entries_of}
+use Rattle.prop_tms.proofs.ValueLemmas.{said_beside}
 use Rattle.prop_tms.proofs.strongest.says.Goals as goal
-use Rattle.prop_tms.proofs.strongest.says.Goals.{then-adds, else-adds}
+use Rattle.prop_tms.proofs.strongest.says.Goals.{then-believes_any, else-believes_any}
 
-pub loop-valued-preserved : goal.loop-valued-preserved
-loop-valued-preserved g c =
+pub returns : goal.returns
+returns g c =
     let laws = g.met.V.Partial.laws in
-    let xs = c.args.values.now in
-    let i = c.loop-valued.valued-index in
-    let x = c.valued-item.result in
-    let u : List ℕ → Bool = λ s. is_within (set_of c.args.worldview.now) s in
-    let l = c.loop-valued-test.true in
-    elim c.if-adds.branch [
-      | then-adds t ↦
-          (let on : list_any u x.supports.items ≡ true = c.adds.ensures.more t.if-adds.true in
-          rw (
-            t.merged-is,
-            t.merge-merged.ensures,
-            said_more laws u xs i x true l c.valued-item.is on,
-            join-assoc laws,
-            ← c.loop-valued.invariant,
-          ) refl)
-      | else-adds t ↦ elim (c.adds.ensures.none t.if-adds.false) [
-        | inl off ↦ rw (t.merged-is, said_more laws u xs i x false l c.valued-item.is off, ← c.loop-valued.invariant)
-            refl
-        | inr below ↦ rw t.merged-is (c.loop-valued.invariant
-            ∙ said_passed laws u xs i x g.V.Partial.bottom l c.valued-item.is
-            (rw c.loop-valued.invariant at below))
-      ]
-    ]
-
-pub returns-then-implies : goal.returns-then-implies
-returns-then-implies g c =
-    let laws = g.met.V.Partial.laws in
-    let u : List ℕ → Bool = λ s. is_within (set_of c.args.worldview.now) s in
-    let is = c.loop-valued.invariant ∙ bottom-join laws _ in
-    let told = rw is at (c.implies.ensures.0 c.if-implies.true) in
-    (λ t. laws.transitive _ _ _ told (said_first laws u c.args.values.now c.loop-valued.valued-index), λ b. refl)
+    let w = set_of c.args.worldview.now in
+    let u : List ℕ → Bool = λ s. is_within w s in
+    let ys = c.in-Some.earlier.now in
+    let x = c.in-Some.newest.now in
+    let some = rw c.deref.ensures at c.believes_any.ensures in
+    let whole = elim c.if-believes_any.branch as (λ _.
+    g.V.Partial.join c.if-believes_any.first
+    (belief_of g.V.Partial.bottom g.V.Partial.join w (entries_of ys)) ≡ belief_of g.V.Partial.bottom
+    g.V.Partial.join w (entries_of (ys ++ x ∷ []))) [
+      | then-believes_any t ↦ rw t.first-is (said_beside laws u ys x true (sym some ∙ t.if-believes_any.true))
+      | else-believes_any t ↦ rw (t.first-is, t.nothing-first.ensures)
+          (said_beside laws u ys x false (sym some ∙ t.if-believes_any.false))
+    ] ∙ sym (ap (λ vs. belief_of g.V.Partial.bottom g.V.Partial.join w (entries_of vs)) c.in-Some.ensures.cases.0) in
+    rw whole at c.says_with.ensures

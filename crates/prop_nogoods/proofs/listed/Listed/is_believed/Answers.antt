@@ -10,6 +10,6 @@ returns-else-is_part_of c =
     let apart : ¬ (IsPart (remainders c.self.inside.signature) (remainders c.args.signature)) =
     (λ part. cc (c.is_part_of.ensures.1 part, c.if-is_part_of.false)) in
     c.if-is_part_of.false
-    ∙ sym (no_part w c.self.inside.premises.value (remainders c.self.inside.signature) (remainders c.args.signature)
-    c.self.invariant.3 c.requires apart)
+    ∙ sym (no_part w c.self.inside.counted (remainders c.self.inside.signature) (remainders c.args.signature)
+    c.self.invariant.2 c.requires apart)
     ∙ ap (is_within w) c.self.view_is

@@ -11,7 +11,7 @@ use Rattle.prop_nogoods.proofs.store.Store.add_new.Goals as goal
 
 pub has_larger-has_larger-requires : goal.has_larger-has_larger-requires
 has_larger-has_larger-requires c = record {
-  in_order = rw (← c.nogood.view_is) c.nogood.invariant.1;
+  in_order = rw (← c.nogood.view_is) c.nogood.invariant.0;
   no_part = rw c.in_ok-nogood.ensures c.requires;
 }
 
@@ -28,14 +28,19 @@ join-requires c = record {
 pub drop_any_larger-requires : goal.drop_any_larger-requires
 drop_any_larger-requires c = record {
   none = λ e.
-      rw (c.in_ok-reserve.ensures.items, c.self.view_is) (c.has_larger-has_larger.ensures e);
+      rw (c.in_ok-reserve.ensures.items, c.self.view_is, c.in_ok-counted.ensures) (c.has_larger-has_larger.ensures e);
 }
 
 pub place_of-place-requires : goal.place_of-place-requires
 place_of-place-requires c =
     let left : c.deref.result.now ≡ staying c.self.inside.nogoods.items c.args.nogood =
-    rw (c.deref.ensures.value, c.drop_any_larger.ensures.left, c.in_ok-reserve.ensures.items, c.in_ok-nogood.ensures)
-    refl in
+    rw (
+      c.deref.ensures.value,
+      c.drop_any_larger.ensures.left,
+      c.in_ok-reserve.ensures.items,
+      c.in_ok-counted.ensures,
+      c.in_ok-nogood.ensures,
+    ) refl in
     rw left (by_size_kept c.self.inside.nogoods.items c.args.nogood c.self.invariant.2)
 
 left : (c : goal.In_ok-insert) → c.deref.result.now ≡ staying c.self.inside.nogoods.items c.args.nogood
@@ -43,6 +48,7 @@ left c = rw (
   c.deref.ensures.value,
   c.drop_any_larger.ensures.left,
   c.in_ok-reserve.ensures.items,
+  c.in_ok-counted.ensures,
   c.in_ok-nogood.ensures,
 ) refl
 
@@ -52,6 +58,7 @@ now c = rw (
   c.in_ok-insert.ensures.items,
   c.drop_any_larger.ensures.left,
   c.in_ok-reserve.ensures.items,
+  c.in_ok-counted.ensures,
   c.in_ok-nogood.ensures,
 ) refl
 
@@ -71,13 +78,13 @@ returns-clause-minimal c =
 pub returns-clause-in_order : goal.returns-clause-in_order
 returns-clause-in_order c =
     let in_order : IsStrictlyIncreasing c.args.nogood =
-    rw (c.nogood.view_is, c.in_ok-nogood.ensures) at c.nogood.invariant.1 in
+    rw (c.nogood.view_is, c.in_ok-nogood.ensures) at c.nogood.invariant.0 in
     rw (now c) (in_order_joined c.self.inside.nogoods.items c.args.nogood c.place_of-place.result in_order
     c.self.invariant.1)
 
 place : (c : goal.In_ok-insert) → IsPlace (staying c.self.inside.nogoods.items c.args.nogood) c.args.nogood
     c.place_of-place.result
-place c = rw (left c, c.in_ok-nogood.ensures) at c.place_of-place.ensures.between
+place c = rw (left c, c.in_ok-counted.ensures, c.in_ok-nogood.ensures) at c.place_of-place.ensures.between
 
 pub returns-clause-by_size : goal.returns-clause-by_size
 returns-clause-by_size c =

@@ -1,15 +1,16 @@
 use Rattle.std.proofs.Common.{rules, ◌≡◌, ◌≢◌, ◌∙◌, ◌+◌, ◌*◌, ◌<◌, ◌≤◌, ◌++◌, [], ◌∷◌, List, ℕ, AllPairs, refl, sym, ap}
-use Rattle.std.proofs.Common.{subst, inr, length, get_or, set, drop, arith}
+use Rattle.std.proofs.Common.{subst, inl, inr, length, get_or, map, set, drop, arith}
+use Rattle.prop_lattice.specs.InformationOrder.{IsInformationOrder}
 use Rattle.std.specs.List.{refill}
 use Rattle.std.proofs.lemmas.List.{length-set}
 use Rattle.std.proofs.Math.Nat.{le_of_lt, lt_of_le_of_lt, mul-le-mul_right}
 use Rattle.prop_tms.specs.Beliefs.{Adds, IsNeedless, NoneAlike, NoneSubsumed, Subsumes, joined_with}
 use Rattle.prop_tms.specs.Kept.{IsLeftWithout}
 use Rattle.prop_tms.specs.Values.{entries_of}
-use Rattle.prop_tms.specs.inner.Values.{values_of, AreApart, NoneBare}
+use Rattle.prop_tms.specs.inner.Values.{values_of, AreApart, NoneBare, StandsAlone}
 use Rattle.prop_tms.specs.declared.supported.Supported.{Supported}
 use Rattle.prop_tms.specs.declared.values.Valued.{Valued}
-use Rattle.prop_tms.proofs.BeliefLemmas.{adds_joined, adds_needless, needed_joined, none_alike-joined}
+use Rattle.prop_tms.proofs.BeliefLemmas.{adds_joined, adds_needless, joined_alone, needed_joined, none_alike-joined}
 use Rattle.prop_tms.proofs.BeliefLemmas.{none_subsumed-joined}
 use Rattle.prop_tms.proofs.KeptLemmas.{insert_length}
 use Rattle.prop_tms.proofs.ValueLemmas.{grown_all, has_room, left_length, length_values, none_bare-push, values_of-set}
@@ -65,8 +66,8 @@ returns-in_err-place-clause-needless g c =
     λ n. cc (c.if-is_needless.false, c.is_needless.ensures.1 (rw c.deref.ensures n)) in
     λ n. absurd (needed (rw c.self.view_is n))
 
-pub invariant_of-self : goal.invariant_of-self
-invariant_of-self g c =
+pub invariant_of-self-in_err-place : goal.invariant_of-self-in_err-place
+invariant_of-self-in_err-place g c =
     let same = c.in_err-place.ensures.same in
     let count = ap length same in
     record {
@@ -84,11 +85,11 @@ no_refusal g c =
     let mid = c.drop_subsumed-emptied.new.values in
     let i = c.in_ok-place.place in
     let x = c.index-deref_mut-place.result in
-    let values = rw c.deref_mut.ensures.value at c.drop_subsumed-emptied.ensures.values in
-    let is : x ≡ get_or mid i x = rw (c.deref_mut-2.ensures.value, written_values (length start) start mid refl values)
+    let values = rw c.deref_mut-2.ensures.value at c.drop_subsumed-emptied.ensures.values in
+    let is : x ≡ get_or mid i x = rw (c.deref_mut-3.ensures.value, written_values (length start) start mid refl values)
     at c.index-deref_mut-place.is in
     let l = c.in_ok-place.ensures.place.0 in
-    let kept = rw c.deref_mut.ensures.value at c.drop_subsumed-emptied.ensures.room in
+    let kept = rw c.deref_mut-2.ensures.value at c.drop_subsumed-emptied.ensures.room in
     cc (c.in_err-push.ensures.succeeds (rw (← c.index-deref_mut-place.is)
     (has_room start mid i x l is (c.in_ok-place.ensures.room x) (kept i x l))))
 
@@ -110,6 +111,96 @@ returns-in_err-push-clause-len g c = absurd (no_refusal g c)
 pub returns-in_err-push-clause-err : goal.returns-in_err-push-clause-err
 returns-in_err-push-clause-err g c = absurd (no_refusal g c)
 
+-- ---- in the place of the only entry
+
+-- the entry subsumes the only one
+left_alone : {V : Type 0} {below : V → V → Type 0} {bottom top : V} {join : V → V → V}
+    (laws : IsInformationOrder below bottom top join) (xs : List (Valued V)) (e : Supported V)
+    → StandsAlone xs e.support →
+    IsLeftWithout (Subsumes below (joined_with bottom join (entries_of xs) e)) (entries_of xs) []
+left_alone {V} {below} {bottom} {top} {join} laws xs e alone =
+    let x = alone.0 in
+    let o : Supported V = record { value = x.value; support = alone.1 } in
+    let is : entries_of xs ≡ o ∷ [] = ap entries_of alone.2
+    ∙ ap (λ ss. map (λ s. record { value = x.value; support = s }) ss ++ []) alone.3 in
+    subst (λ es. IsLeftWithout (Subsumes below (joined_with bottom join es e)) es []) (sym is)
+    (inl (joined_alone laws o e alone.4, refl))
+
+stands_alone : (g : Over) (c : goal.After-self-1 g) → StandsAlone c.self.inside.values.items c.args.support
+stands_alone g c = rw c.deref-4.ensures at (c.is_alone.ensures c.if-is_alone.true)
+
+pub put_alone-requires : goal.put_alone-requires
+put_alone-requires g c = (
+  c.args.support,
+  rw c.deref_mut.ensures.value (rw c.deref-4.ensures at (c.is_alone.ensures c.if-is_alone.true)),
+)
+
+put_again : (g : Over) (c : goal.After-self-1 g) →
+    let start = c.self.inside.values.items in
+    refill (length start) start c.put_alone.new.values ≡ c.put_alone.new.values
+put_again g c =
+    let start = c.self.inside.values.items in
+    let new = c.put_alone.new.values in
+    let given = ap length c.deref_mut.ensures.value in
+    written (length start) new (drop (length new) start) (omega (arith, c.put_alone.ensures.len, given))
+
+replaced : (g : Over) (c : goal.After-self-1 g) →
+    let old = entries_of c.self.inside.values.items in
+    let m = joined_with g.V.Partial.bottom g.V.Partial.join old
+    (record { value = c.args.value; support = c.args.support }) in
+    let start = c.self.inside.values.items in
+    IsLeftWithout (Subsumes g.V.Partial.below m) old []
+    × (entries_of (refill (length start) start c.put_alone.new.values) ≡ m ∷ [])
+replaced g c =
+    let old = entries_of c.self.inside.values.items in
+    let e : Supported _ = record { value = c.args.value; support = c.args.support } in
+    let m = joined_with g.V.Partial.bottom g.V.Partial.join old e in
+    let said : c.joined-value.result ≡ m.value = rw c.deref-3.ensures at c.joined-value.ensures in (
+      left_alone g.met.V.Partial.laws c.self.inside.values.items e (stands_alone g c),
+      ap entries_of (put_again g c) ∙ c.put_alone.ensures.same
+          ∙ ap (λ v. record { value = v; support = c.args.support } ∷ []) said,
+    )
+
+needed_alone : (g : Over) (c : goal.After-self-1 g)
+    → ¬ (IsNeedless g.V.Partial.below g.V.Partial.bottom (entries_of c.self.inside.values.items)
+    (record { value = c.args.value; support = c.args.support }))
+needed_alone g c = λ n. cc (c.if-is_needless.false, c.is_needless.ensures.1 (rw c.deref.ensures n))
+
+pub invariant_of-self : goal.invariant_of-self
+invariant_of-self g c =
+    let laws = g.met.V.Partial.laws in
+    let old = entries_of c.self.inside.values.items in
+    let e : Supported _ = record { value = c.args.value; support = c.args.support } in
+    let m = joined_with g.V.Partial.bottom g.V.Partial.join old e in
+    let stands = replaced g c in
+    record {
+      subsumed = subst (NoneSubsumed g.V.Partial.below) (sym stands.1)
+          (none_subsumed-joined laws old [] [] m stands.0 (needed_joined laws old e (needed_alone g c))
+          c.self.invariant.subsumed);
+      alike = subst NoneAlike (sym stands.1) (none_alike-joined laws old [] [] e stands.0 c.self.invariant.alike);
+      apart = subst AreApart (sym (put_again g c)) c.put_alone.ensures.apart;
+      bare = subst NoneBare (sym (put_again g c)) c.put_alone.ensures.bare;
+      counted = (let one = ap length stands.1 in omega (arith, one));
+    }
+
+pub returns-then-is_alone-clause-adds : goal.returns-then-is_alone-clause-adds
+returns-then-is_alone-clause-adds g c =
+    let old = entries_of c.self.inside.values.items in
+    let e : Supported _ = record { value = c.args.value; support = c.args.support } in
+    let stands = replaced g c in
+    rw (← c.self.view_is) (subst (λ (new : List (Supported _)). Adds g.V.Partial.bottom g.V.Partial.join old new e)
+    (sym stands.1) (adds_joined g.met.V.Partial.laws old [] [] e stands.0))
+
+pub returns-then-is_alone-clause-same : goal.returns-then-is_alone-clause-same
+returns-then-is_alone-clause-same g c = (λ t. cc, λ n. absurd (needed_alone g c (rw c.self.view_is n)))
+
+pub returns-then-is_alone-clause-needless : goal.returns-then-is_alone-clause-needless
+returns-then-is_alone-clause-needless g c = λ n. absurd (needed_alone g c (rw c.self.view_is n))
+
+pub returns-then-is_alone-clause-stay : goal.returns-then-is_alone-clause-stay
+returns-then-is_alone-clause-stay g c =
+    let stands = replaced g c in rw (← c.self.view_is) (inr ([], [], stands.0, stands.1))
+
 -- ---- the entry, with what those on its premises say
 
 fits_at : (i n size top : ℕ) → i < n → n * size < top → i * size < top
@@ -119,26 +210,26 @@ pub offset_bounds-deref_mut-place : goal.offset_bounds-deref_mut-place
 offset_bounds-deref_mut-place g c =
     let start = c.room_for.new.values.items in
     let mid = c.drop_subsumed-emptied.new.values in
-    let values = rw c.deref_mut.ensures.value at c.drop_subsumed-emptied.ensures.values in
-    let same = ap length (again_is start mid c.deref_mut-2.result.now c.deref_mut-2.ensures.value values) in
+    let values = rw c.deref_mut-2.ensures.value at c.drop_subsumed-emptied.ensures.values in
+    let same = ap length (again_is start mid c.deref_mut-3.result.now c.deref_mut-3.ensures.value values) in
     let n = length_values mid start values in
-    let l : c.in_ok-place.place < length c.deref_mut-2.result.now =
+    let l : c.in_ok-place.place < length c.deref_mut-3.result.now =
     omega (arith, c.in_ok-place.ensures.place.0, n, same) in
-    let fits = fits_at _ _ _ _ l c.deref_mut-2.type_inv.1 in
+    let fits = fits_at _ _ _ _ l c.deref_mut-3.type_inv.1 in
     omega (arith, fits)
 
 pub drop_emptied-requires : goal.drop_emptied-requires
 drop_emptied-requires g c =
     let start = c.room_for.new.values.items in
     let mid = c.drop_subsumed-emptied.new.values in
-    let again = c.deref_mut-2.result.now in
-    let values = rw c.deref_mut.ensures.value at c.drop_subsumed-emptied.ensures.values in
-    let emptied = rw c.deref_mut.ensures.value at c.drop_subsumed-emptied.ensures.emptied in
+    let again = c.deref_mut-3.result.now in
+    let values = rw c.deref_mut-2.ensures.value at c.drop_subsumed-emptied.ensures.values in
+    let emptied = rw c.deref_mut-2.ensures.value at c.drop_subsumed-emptied.ensures.emptied in
     let i = c.in_ok-place.place in
     let x = c.index-deref_mut-place.result in
     let y : Valued _ = record { value = (get_or again i x).value; supports = c.push.new.self } in
-    let whole = again_is start mid again c.deref_mut-2.ensures.value values in
-    let pushed = pushed_is start mid again i y c.deref_mut-2.ensures.value values in
+    let whole = again_is start mid again c.deref_mut-3.ensures.value values in
+    let pushed = pushed_is start mid again i y c.deref_mut-3.ensures.value values in
     let n = length_values mid start values in
     let l : i < length mid = omega (arith, c.in_ok-place.ensures.place.0, n) in
     let some : y.supports.items ≢ [] = λ none.
@@ -173,16 +264,16 @@ grown g c =
     let mid = c.drop_subsumed-emptied.new.values in
     let i = c.in_ok-place.place in
     let x = c.index-deref_mut-place.result in
-    let again = c.deref_mut-2.result.now in
+    let again = c.deref_mut-3.result.now in
     let y : Valued _ = record { value = (get_or again i x).value; supports = c.push.new.self } in
     let said : c.joined-value.result ≡ m.value = rw c.deref-3.ensures at c.joined-value.ensures in
-    let values = rw c.deref_mut.ensures.value at c.drop_subsumed-emptied.ensures.values in
-    let whole = again_is start mid again c.deref_mut-2.ensures.value values in
-    let pushed = pushed_is start mid again i y c.deref_mut-2.ensures.value values in
+    let values = rw c.deref_mut-2.ensures.value at c.drop_subsumed-emptied.ensures.values in
+    let whole = again_is start mid again c.deref_mut-3.ensures.value values in
+    let pushed = pushed_is start mid again i y c.deref_mut-3.ensures.value values in
     let at = c.index-deref_mut-place.is in
     let is : x ≡ get_or mid i x = at ∙ ap (λ (zs : List (Valued _)). get_or zs i x) whole in
     let left : IsLeftWithout (Subsumes g.V.Partial.below m) (entries_of start) (entries_of mid) =
-    rw (c.deref_mut.ensures.value, said) at c.drop_subsumed-emptied.ensures.kept in
+    rw (c.deref_mut-2.ensures.value, said) at c.drop_subsumed-emptied.ensures.kept in
     grown_all (Subsumes g.V.Partial.below m) old (entries_of c.drop_emptied.new.values.items) m start mid i x y
     c.in_ok-place.ensures.same c.in_ok-place.ensures.place.0 (c.in_ok-place.ensures.place.1 x ∙ said) left values is
     (sym (ap (λ (z : Valued _). z.value) at)) (rw (← at) at c.in_ok-push.ensures.ok)
