@@ -128,10 +128,16 @@ class Asking:
         seen = self._look()
         shown = seen.values.get(cell)
         if shown is None:
-            return {"shown": None, "bears": None}
+            return {"shown": None, "bears": None, "how": ""}
         bears = self._watched.bears(seen, shown)
-        names = {key: sorted(value) for key, value in vars(bears).items() if key != "says"}
-        return {"shown": _shown(shown), "bears": names}
+        names = {
+            "cells": sorted(bears.cells),
+            "uses": sorted(bears.uses),
+            "premises": sorted(bears.premises),
+            "choices": sorted(bears.choices),
+        }
+        how = str(bears.claim) if bears.claim and bears.claim.ways else ""
+        return {"shown": _shown(shown), "bears": names, "how": how}
 
     def _core(self, asked: Mapping[str, object]) -> dict[str, object]:
         shown = self._watched.core(self._cell_named(asked), self._progress)

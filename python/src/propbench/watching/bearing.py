@@ -6,8 +6,8 @@ value; nothing is concluded from it. A value can rest on another only where its 
 reasons of the other.
 """
 
-from collections.abc import Iterable, Iterator, Mapping, Sequence
-from dataclasses import dataclass, field
+from collections.abc import Iterable, Iterator, Sequence
+from dataclasses import dataclass
 
 from propbench.watching.claims import Claim
 from propbench.watching.network import Network, Said, Seen, Shown, Use
@@ -19,13 +19,19 @@ _MOST_EXACT = 150
 @dataclass(frozen=True)
 class Bearing:
     """Names of the cells and uses that bear on a cell, itself included, and of premises and
-    choices. `says` has what is known of those cells on the way of which it is told."""
+    choices. `claim` is what makes up the value, where the program told."""
 
     cells: frozenset[str]
     uses: frozenset[str]
     premises: frozenset[str]
     choices: frozenset[str]
-    says: Mapping[str, str] = field(default_factory=dict)
+    claim: Claim | None = None
+
+    @property
+    def says(self) -> dict[str, str]:
+        """What is known on the way of those cells of which it is told."""
+        claims = list(self.claim.claims()) if self.claim else []
+        return {each.cell: each.says for each in sorted(claims, key=lambda it: -it.place)}
 
 
 @dataclass(frozen=True, eq=False)
@@ -39,15 +45,13 @@ class _Arrow:
 
 def resting(claim: Claim) -> Bearing:
     """What a value is made up of, as the program told it."""
-    claims = list(claim.claims())
-    sources = [source for each in claims for way in each.ways for source in way.sources]
-    claims.sort(key=lambda each: -each.place)
+    sources = [it for each in claim.claims() for way in each.ways for it in way.sources]
     return Bearing(
-        frozenset(each.cell for each in claims),
+        frozenset(each.cell for each in claim.claims()),
         frozenset(source.use for source in sources if source.use),
         frozenset(source.premise for source in sources if source.premise),
         frozenset(source.choice for source in sources if source.choice),
-        {each.cell: each.says for each in claims},
+        claim,
     )
 
 
