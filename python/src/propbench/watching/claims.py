@@ -14,7 +14,7 @@ from html import escape
 
 from propbench.replies import Called, How, Stated
 from propbench.showing import printable
-from propbench.values import Held, Nothing, both
+from propbench.values import Held, both
 
 # A tree is so deep at the most, and says of what lies deeper that it is there.
 _DEEPEST = 12
@@ -115,15 +115,44 @@ def claim_of(how: How, wording: Wording) -> Claim:
     return Claim(wording.name(how.cell), says, ways, cut=how.parts is None)
 
 
+class _AtCell:
+    """The parts at a cell by their places, and what those from each on say together."""
+
+    def __init__(self, places: list[int], values: Sequence[Held]) -> None:
+        self._places, self._values = places, values
+        self._together = [*accumulate(reversed(values), both)][::-1]
+
+    def needed(self, place: int) -> list[int]:
+        """Of those behind a place some that say together what all do. The first of them says more
+        than all behind it; then come those that stand behind, as what is stated does."""
+        first = bisect_right(self._places, place)
+        if first == len(self._places):
+            return []
+        kept, known = [first], self._values[first]
+        while both(known, self._together[first]) != known:
+            # (from each part on less is said than from the one before it)
+            low, high = first, len(self._places) - 1
+            while low < high:
+                middle = (low + high + 1) // 2
+                is_news = both(known, self._together[middle]) != known
+                low, high = (middle, high) if is_news else (low, middle - 1)
+            kept.append(low)
+            known = both(known, self._values[low])
+        return [self._places[each] for each in sorted(kept)]
+
+
 class _Made:
     """The ways of parts, made from the last part on: each counts those behind it."""
 
     def __init__(self, parts: Sequence[Called | Stated], wording: Wording) -> None:
         self._parts, self._wording = parts, wording
-        # The places of the parts at each cell.
-        self._places: dict[str, list[int]] = {}
+        places: dict[str, list[int]] = {}
         for place, part in enumerate(parts):
-            self._places.setdefault(part.cell, []).append(place)
+            places.setdefault(part.cell, []).append(place)
+        self._at = {
+            cell: _AtCell(found, [parts[place].value for place in found])
+            for cell, found in places.items()
+        }
         self._claims: dict[tuple[str, int], Claim] = {}
         self._ways: dict[int, Way] = {}
         for place in reversed(range(len(parts))):
@@ -131,25 +160,11 @@ class _Made:
                 self._ways[place] = self._way(place)
 
     def ways_behind(self, cell: str, place: int) -> tuple[Way, ...]:
-        """The ways by the parts at a cell behind this place."""
-        return tuple(self._ways[each] for each in self._needed(self._behind(cell, place)))
-
-    def _needed(self, places: list[int]) -> list[int]:
-        """Those of several parts of a cell that say together what all of them do. What is stated
-        stands behind and goes first: the first part says more than all behind it."""
-        values = [self._parts[place].value for place in places]
-        fronts = list(accumulate(values, both))
-        kept: list[int] = []
-        known: Held = Nothing()
-        for at in reversed(range(1, len(places))):
-            if both(fronts[at - 1], known) != both(fronts[at], known):
-                kept.append(places[at])
-                known = both(values[at], known)
-        return [*places[:1], *reversed(kept)]
+        """The ways by the parts at a cell behind this place, as far as they are needed."""
+        return tuple(self._ways[each] for each in self._behind(cell, place))
 
     def _behind(self, cell: str, place: int) -> list[int]:
-        places = self._places.get(cell, [])
-        return places[bisect_right(places, place) :]
+        return self._at[cell].needed(place) if cell in self._at else []
 
     def _way(self, place: int) -> Way:
         """The way of a part: through all parts at inner cells that it counts."""
@@ -178,7 +193,7 @@ class _Made:
         for cell in dict.fromkeys(part.inputs if isinstance(part, Called) else ()):
             behind = self._behind(cell, place)
             if behind:
-                yield cell, self._needed(behind)
+                yield cell, behind
 
     def _claim(self, cell: str, places: list[int]) -> Claim:
         """What the parts at these places, all of a cell and needed, say together."""
