@@ -35,6 +35,7 @@ from propbench import (
     UnknownCommand,
     Workbench,
     all_different,
+    implies,
     maximum,
 )
 from propbench.completion import completions
@@ -430,6 +431,29 @@ def test_a_quantity_tells_how(wide: str) -> None:
         assert how.says == two.ask().value_text
         text = str(how)
         assert "by series == R1 + R2" in text and "told by meter" in text and "_" not in text
+
+
+def test_elements_and_truths_tell_how(wide: str) -> None:
+    with Workbench(wide) as w:
+        day = w.domain("day", "mon tue wed")
+        first, second = w.element("first", day), w.element("second", day)
+        late, shut, colour = w.truth("late"), w.truth("shut"), w.symbol("colour")
+        w.require(first == "tue", under="ana's day")
+        w.require(first != second)
+        w.tell("ben", second, ["tue", "wed"])
+        w.require(shut == (second == "wed"))
+        w.tell("cleo", late, True)
+        w.require(implies(late, colour == "dark red"))
+        assert str(shut.how()).split("\n") == [
+            "shut = yes, by shut == (second == wed)",
+            "  second = wed, by first != second",
+            "    first = tue, by first == tue (ana's day)",
+            "    second = {tue wed}, told by ben",
+        ]
+        assert str(colour.how()).split("\n") == [
+            "colour = dark red, by implies(late, colour == dark red)",
+            "  late = yes, told by cleo",
+        ]
 
 
 def test_a_tree_of_many_parts(wide: str) -> None:

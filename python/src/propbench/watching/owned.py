@@ -96,7 +96,8 @@ def _states(line: str) -> bool:
     return line.startswith(("fix ", "tell "))
 
 
-def _key(line: str) -> tuple[str, frozenset[str]]:
-    """A statement whatever the order of its elements."""
-    front, _, elements = line.partition("{")
-    return front, frozenset(elements.strip("}").split(" "))
+def _key(line: str) -> tuple[tuple[str, ...], frozenset[str]]:
+    """A statement however its elements are written: their order, and braces around one."""
+    words = line.replace("{", "").replace("}", "").split(" ")
+    front = 2 if words[0] == "fix" else 3
+    return tuple(words[:front]), frozenset(words[front:])
