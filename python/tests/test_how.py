@@ -456,6 +456,16 @@ def test_elements_and_truths_tell_how(wide: str) -> None:
         ]
 
 
+def test_what_only_makes_an_expression_is_not_named(wide: str) -> None:
+    with Workbench(wide) as w:
+        x, y = w.number("x", 0, 20), w.number("y", 3, 20)
+        w.require(x + y != 4)
+        w.require(x + y <= 9, under="few")
+        text = str(x.how())
+        assert text.startswith("x = 0..6\n") and "by x + y <= 9 (few)" in text
+        assert "x + y != 4" not in text
+
+
 def test_a_tree_of_many_parts(wide: str) -> None:
     lines = ["cell x0 span", "fix x0 1..2"]
     for at in range(1, 50):
