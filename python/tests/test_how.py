@@ -43,6 +43,7 @@ from propbench.model.expressions import Number, Truth
 from propbench.pictures import picture_of
 from propbench.replies import lines_behind, reply_of
 from propbench.values import Held, both
+from propbench.watching import bears
 from propbench.watching.of_session import SessionWatched
 
 KINDS = {"z": "span", "x": "span", "t": "truth", "d": "day", "s": "symbol", "how": "span"}
@@ -245,7 +246,7 @@ def test_what_bears_is_told_and_enough(wide: str, options: dict[str, Any]) -> No
             watched = SessionWatched(session)
             seen = watched.see()
             shown = [each for each in seen.values.values() if each.is_known]
-            found = [(each, watched.bears(seen, each), watched.how(each.cell)) for each in shown]
+            found = [(each, bears(watched, seen, each), watched.how(each.cell)) for each in shown]
         attached = [line for line in lines if line.startswith("attach")]
         for each, lit, claim in found:
             assert claim.says == each.text
@@ -283,12 +284,10 @@ def test_the_shell_tells_how_as_a_tree(wide: str) -> None:
         assert "There is no cell `w`" in talk(":how w")
         session.send_all(["choose plan z 20 or 7", "kick ben", "ask x", *DEFINED])
         session.send_all(["cell u span", "attach twice x u", "choose more u 3 or 14", "settle"])
-        assert [line.split() for line in talk(":list choices").split("\n")[1:]] == [
-            "plan=1 z = 20 believed".split(),
-            "plan=2 z = 7".split(),
-            "more=1 u = 3".split(),
-            "more=2 u = 14 believed".split(),
-        ]
+        rows = [" ".join(line.split()) for line in talk(":list choices").split("\n")[1:]]
+        # (of a side that was left it is told why)
+        assert re.fullmatch("more=1 u = 3( impossible: .*more=1.*)?", rows.pop(2))
+        assert rows == ["plan=1 z = 20 believed", "plan=2 z = 7", "more=2 u = 14 believed"]
         assert "ben      out  z = 0..8" in talk(":list premises")
         session.send_all(["cell v span", "attach twice y v", "ask v"])
         assert "v = 60..68, by adder 3.m 3.m v, of twice y v\n  3.m = 30..34" in talk(":how v")

@@ -12,7 +12,7 @@ from conftest import REPOSITORY, TIMES, Bare
 
 from propbench import NoSuchCell, Session, Workbench
 from propbench.running import Way
-from propbench.watching import Network, Use, Watched
+from propbench.watching import Network, Use, Watched, bears
 from propbench.watching.bearing import bearing
 from propbench.watching.of_session import SessionWatched
 from propbench.watching.of_workbench import WorkbenchWatched
@@ -119,7 +119,7 @@ def test_what_bears_is_enough(program: str, bare: Bare, both_ways: bool) -> None
             session.send_all(lines)
             watched = SessionWatched(session)
             seen = watched.see()
-            found = [(each, watched.bears(seen, each)) for each in seen.values.values()]
+            found = [(each, bears(watched, seen, each)) for each in seen.values.values()]
         attached = [line for line in lines if line.startswith("attach")]
         for shown, lit in found:
             if not shown.is_known:

@@ -21,6 +21,7 @@ from propbench.watching import (
     Steps,
     Use,
     Watched,
+    bears,
 )
 
 # A page is told of so many steps at once at the most.
@@ -129,14 +130,14 @@ class Asking:
         shown = seen.values.get(cell)
         if shown is None:
             return {"shown": None, "bears": None, "how": ""}
-        bears = self._watched.bears(seen, shown)
+        lit = bears(self._watched, seen, shown)
         names = {
-            "cells": sorted(bears.cells),
-            "uses": sorted(bears.uses),
-            "premises": sorted(bears.premises),
-            "choices": sorted(bears.choices),
+            "cells": sorted(lit.cells),
+            "uses": sorted(lit.uses),
+            "premises": sorted(lit.premises),
+            "choices": sorted(lit.choices),
         }
-        how = str(bears.claim) if bears.claim and bears.claim.ways else ""
+        how = str(lit.claim) if lit.claim and lit.claim.ways else ""
         return {"shown": _shown(shown), "bears": names, "how": how}
 
     def _core(self, asked: Mapping[str, object]) -> dict[str, object]:

@@ -12,7 +12,8 @@ from typing import Protocol
 from propbench.questions.clock import Progress as Told
 from propbench.runs import Progress
 from propbench.session import Session
-from propbench.watching.bearing import Bearing
+from propbench.refusals import UnknownCommand
+from propbench.watching.bearing import Bearing, bearing, resting
 from propbench.watching.claims import Claim, Source, Way
 from propbench.watching.mending import Mending
 from propbench.watching.network import (
@@ -72,10 +73,6 @@ class Watched(Protocol):
         program doesn't tell."""
         ...
 
-    def bears(self, seen: Seen, shown: Shown) -> Bearing:
-        """What bears on what is seen of a cell: as the program tells it, or else worked out."""
-        ...
-
     def core(self, cell: str, progress: Progress | None = None) -> Shown | None:
         """The value of a cell with reasons of which none can be left out, None at a conflict."""
         ...
@@ -125,6 +122,15 @@ class Watched(Protocol):
         ...
 
 
+def bears(watched: Watched, seen: Seen, shown: Shown) -> Bearing:
+    """What bears on what is seen of a cell: as the program tells it, or else as it is worked out."""
+    try:
+        claim = watched.how(shown.cell)
+    except UnknownCommand:
+        return bearing(watched.network(), seen, shown)
+    return bearing(watched.network(), seen, shown) if claim.cut else resting(claim)
+
+
 __all__ = [
     "NOTHING_SEEN",
     "Bearing",
@@ -147,4 +153,5 @@ __all__ = [
     "Use",
     "Watched",
     "Way",
+    "bears",
 ]

@@ -10,13 +10,11 @@ from propbench.questions.asking import so_far
 from propbench.questions.bounding import Optimum, find_optimum
 from propbench.questions.clock import Clock
 from propbench.questions.clock import Progress as Telling
-from propbench.refusals import UnknownCommand
 from propbench.replies import Called, Contradiction, Stated, Value, Worldview
 from propbench.runs import Progress
 from propbench.session import Session
 from propbench.values import Nothing
 from propbench.watching import Best
-from propbench.watching.bearing import Bearing, bearing, resting
 from propbench.watching.claims import Claim, Source, Wording, claim_of
 from propbench.watching.instances import Instances, how_of, listing_of, named
 from propbench.watching.lines import Lines
@@ -122,13 +120,6 @@ class SessionWatched:
         return claim_of(
             found, Wording(lambda _, value, __: str(value), source, lambda _: False, lambda it: it)
         )
-
-    def bears(self, seen: Seen, shown: Shown) -> Bearing:
-        try:
-            claim = self.how(shown.cell)
-        except UnknownCommand:
-            return bearing(self.network(), seen, shown)
-        return bearing(self.network(), seen, shown) if claim.cut else resting(claim)
 
     def steps(self) -> Steps:
         reading = Reading(self._shown, self._named, self._call)

@@ -23,13 +23,11 @@ from propbench.questions.asking import so_far
 from propbench.questions.bounding import Optimum
 from propbench.questions.clock import Progress as Telling
 from propbench.questions.conflicts import Conflicts, Repairs, find_conflicts, find_repairs
-from propbench.refusals import UnknownCommand
 from propbench.replies import Called, Contradiction, Value, Worldview
 from propbench.runs import Progress
 from propbench.session import Session
 from propbench.values import Nothing
 from propbench.watching import Best
-from propbench.watching.bearing import Bearing, bearing, resting
 from propbench.watching.claims import Claim, claim_of
 from propbench.watching.instances import Instances, how_of
 from propbench.watching.mending import FITS, Mending
@@ -179,13 +177,6 @@ class WorkbenchWatched:
         names = made.vocabulary.cells
         found = how_of(made.session, names.line(cell))
         return claim_of(found, wording_of(made, Instances(made.session), found.sides))
-
-    def bears(self, seen: Seen, shown: Shown) -> Bearing:
-        try:
-            claim = self.how(shown.cell)
-        except UnknownCommand:
-            return bearing(self.network(), seen, shown)
-        return bearing(self.network(), seen, shown) if claim.cut else resting(claim)
 
     def steps(self) -> Steps:
         made = self.workbench.network
