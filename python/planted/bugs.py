@@ -494,4 +494,28 @@ BUGS = [
         "        yield UNSATISFIABLE\n",
         "flatzinc::no_time_is_unknown_and_statistics",
     ),
+    Bug(
+        "watching/claims.py",
+        "        while both(known, self._together[first]) != known:\n",
+        "        while False:\n",
+        "how::the_shell_tells_how_as_a_tree",
+    ),
+    Bug(
+        "watching/instances.py",
+        "return replace(call, inputs=found.inputs, output=found.output) if found else call",
+        "return call",
+        "how::the_shell_tells_how_as_a_tree",
+    ),
+    Bug(
+        "model/script.py",
+        "Owner(event, place in making)",
+        "Owner(event, False)",
+        "how::what_only_makes_an_expression_is_not_named",
+    ),
+    Bug(
+        "watching/owned.py",
+        'under = f" ({event.premise})" if event.premise else ""',
+        'under = ""',
+        "how::a_workbench_tells_how",
+    ),
 ]
