@@ -23,9 +23,9 @@ from puzzles import Puzzle, pigeons, queens, small_colouring, tenants, tenants_b
 SOLVED = ["6 pigeons", "tenants", "tenants told apart by one floor at a time"]
 SOLVED += ["6 queens", "8 queens"]
 
-# The limits of slices, and how many hundredths of the steps of one run they may take together. In
-# slices of 1 what waits runs between two choices that go on, and for each of them more waits.
-SLICES = {1: 130, 10: 120, 1_000: 120}
+# The limits of slices, and how many hundredths of the steps of one run they may take together.
+# Slices go the same way, but where choices go on one after the other, more waits for each of them.
+SLICES = {1: 120, 10: 120, 1_000: 120}
 
 
 def puzzles() -> Iterator[Puzzle]:

@@ -14,7 +14,7 @@ use Rattle.prop_amb.specs.Moving.{deepened}
 use Rattle.prop_amb.specs.Going.{work, MayDeepen}
 use Rattle.prop_amb.specs.Going.Goes.{none, deeper}
 use Rattle.prop_scheduler.specs.declared.outcome.Run.{Run}
-use Rattle.prop_scheduler.specs.declared.outcome.Run.TheVariants.{Quiet, Spent}
+use Rattle.prop_scheduler.specs.declared.outcome.Run.TheVariants.{Quiet}
 use Rattle.prop_amb.proofs.GoingLaws.{goes_then}
 use Rattle.prop_amb.proofs.MetLaws.{believes_worldview}
 use Rattle.prop_amb.specs.Settling.{IsResting}

@@ -1,18 +1,21 @@
 -- One step of settling.
-use Rattle.std.proofs.Common.{◌≡◌, ◌∙◌, ℕ, zero, suc, ◌<◌, ◌≤◌, ◌||◌, ◌==◌, IsTrue, false, List, [], ◌∷◌, All, length}
+use Rattle.std.proofs.Common.{◌≡◌, ◌∙◌, ℕ, zero, suc, ◌<◌, ◌≤◌, ◌==◌, IsTrue, List, [], ◌∷◌, All, length}
 use Rattle.std.proofs.Common.{take, get_or, slice_get, Some, true, refl, sym, ap, subst, inl, inr}
 use Rattle.std.proofs.Common.{◌+◌, ◌-◌, arith}
 use Rattle.std.proofs.lemmas.Bool.{cases_eq, or_cases, eqb-true, eq-eqb}
 use Rattle.std.proofs.lemmas.List.Folds.{list_any_at}
-use Rattle.prop_numbers.specs.Sets.{Members, set_of}
+use Rattle.prop_numbers.specs.Sets.{set_of}
+use Rattle.prop_premises.specs.Origins.{Origin, choices_of}
 use Rattle.prop_premises.specs.declared.choice.Choice.{Choice}
 use Rattle.prop_premises.specs.ChoiceLists.{hypothetical, hypotheticals_of, is_hypothetical, is_side_of, IsChoiceList}
 use Rattle.prop_premises.proofs.OriginLemmas.{in_range}
 use Rattle.prop_cells.specs.Problems.{Problem}
-use Rattle.prop_amb.specs.Search.{Stand, IsStand, users_of, choices_in, IsKept}
+use Rattle.prop_amb.specs.Search.{Stand, IsStand, choices_in, IsKept}
 use Rattle.prop_procedures.specs.Stored.{Stored}
 use Rattle.prop_cells.specs.Data.{Data, problem_of}
-use Rattle.prop_amb.specs.Going.{Work, work, MayCall, MayGoOn, MayPass, Goes}
+use Rattle.prop_amb.specs.Moving.{passed_over}
+use Rattle.prop_amb.specs.Resolving.{MayAdvance}
+use Rattle.prop_amb.specs.Going.{Work, work, MayCall, MayGoOn, MayPass, MayBelieve, Goes}
 use Rattle.prop_amb.specs.Stepping.{IsStepTo, HasPassed, Steps}
 use Rattle.prop_amb.specs.inner.Refuting.{HasStepped}
 use Rattle.prop_amb.specs.declared.stepping.Move.{Move}
@@ -120,6 +123,40 @@ has_passed s new m (inr (at, skip, believes)) side known before =
       later_is = believes;
       before_is = before;
     })
+
+-- the side of a choice that may leave it is a premise
+side_there : (cs : List Choice) (j : ℕ) (c : Choice) (side : ℕ) → slice_get cs j ≡ Some c → side < c.sides
+    → IsTrue (is_hypothetical cs (hypothetical c side))
+side_there cs j c zero at more = its_side cs j c 1 at (omega arith, omega (arith, more))
+side_there cs j c (suc k) at more = its_side cs j c (suc k) at (omega arith, omega (arith, more))
+
+left_known : (s later : Stand) (j side : ℕ) (n : List ℕ) (may : MayAdvance s j) → IsStand later
+    → later.premises ≡ s.premises → side ≡ hypothetical may.choice may.side → All (λ p. p < length s.premises) n →
+    (side < length later.premises) × All (λ p. p < length later.premises) n
+left_known s later j side n may stand same side_is known =
+    let below = stand.numbered.below in
+    let small : hypothetical may.choice may.side < length later.premises =
+    below (hypothetical may.choice may.side)
+    (subst (λ (os : List Origin). IsTrue (is_hypothetical (choices_of os) (hypothetical may.choice may.side)))
+    (sym same)
+    (side_there (choices_in s) j may.choice may.side may.choice_at may.more)) in (
+      omega (arith, small, side_is),
+      subst (λ (os : List Origin). All (λ p. p < length os) n) (sym same) known,
+    )
+
+premises_stay : (s later : Stand) → MayBelieve s later → later.premises ≡ s.premises
+premises_stay s later (inl (some, same)) = ap (λ (x : Stand). x.premises) same
+premises_stay s later (inr (unless, same)) = ap (λ (x : Stand). x.premises) same
+
+-- what is told of a choice that went on is there
+pub passed_known : (s later : Stand) (m : Move) → IsStand later → HasPassed s later m
+    → (m.side < length later.premises) × All (λ p. p < length later.premises) m.nogood
+passed_known s later m stand (inl moved) =
+    left_known s later m.place m.side m.nogood moved.may.leaves.may stand
+    (ap (λ (x : Stand). x.premises) moved.later_is) moved.side_is moved.known
+passed_known s later m stand (inr skipped) =
+    left_known s later s.level m.side m.nogood skipped.may.may stand
+    (premises_stay (passed_over s m.nogood) later skipped.later_is) skipped.side_is skipped.known
 
 -- what took no step
 pub no_steps : {O : Type 0} {picks : O → ℕ → ℕ → O → Type 0} {library : List Stored} {start w : Work O} {n : ℕ}

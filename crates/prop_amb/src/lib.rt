@@ -15,8 +15,8 @@
 //! ruled out, and culprits of a noted nogood that is believed. `Unsettled`: the whole budget is
 //! used, budget + 1 is below lists * (most steps + 1), and one more step could be taken. Each step
 //! is a call where no noted nogood is believed and no cell holds a contradiction, or a choice goes
-//! on for a noted nogood that is believed, or would be with its side (a skip). `step_once` takes one
-//! of these and tells which.
+//! on for a noted nogood that is believed, or would be with its side (a skip: its next side is
+//! believed unless that may be passed over too). `step_once` takes one of these and tells which.
 #![tactic(auto)]
 
 pub mod believing;

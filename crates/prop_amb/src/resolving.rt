@@ -1,5 +1,6 @@
 //! What a nogood shows of the choices, and the move that follows.
-ghost use Rattle.std.specs.Prelude.{◌≡◌, ◌+◌, ◌<◌, ◌≤◌, ℕ, length, false, IsTrue, IfOk, OnOk, OnErr};
+ghost use Rattle.std.specs.Prelude.{◌≡◌, ◌+◌, ◌<◌, ◌≤◌, ℕ, length, false, IsTrue, IfOk, OnOk};
+ghost use Rattle.std.specs.Prelude.{OnErr};
 ghost use Rattle.prop_numbers.specs.Sets.{set_of, IsPart};
 ghost use Rattle.prop_cells.specs.Problems.{Problem};
 ghost use Rattle.prop_nogoods.specs.Stores.{has_part};
@@ -107,12 +108,13 @@ impl Search {
 
     /// The first choice of which no side is believed goes to its next side, and the reason is kept.
     /// That is believed unless it isn't its last and a noted nogood would be believed with it.
-    /// After want of memory nothing more is believed.
-    fn skip(&mut self, reason: PremiseSet) -> Result<(), AllocError>
+    /// Answers the worldview of before. After want of memory nothing more is believed.
+    fn skip(&mut self, reason: PremiseSet) -> Result<Worldview, AllocError>
         requires may { MayAdvance self.old self.old.level }
         requires unblocked { has_part self.old.listed (set_of self.old.worldview) ≡ false }
         ensures premises { self.new.premises ≡ self.old.premises }
         ensures listed { self.new.listed ≡ self.old.listed }
+        ensures before { IfOk result (λ w. w ≡ self.old.worldview) }
         ensures ok { OnOk result (MayBelieve (passed_over self.old reason) self.new) }
         ensures err { OnErr result (self.new.worldview ≡ self.old.worldview) }
         ensures stand { OnErr result (IsStand self.new) }
@@ -122,9 +124,11 @@ impl Search {
     {
         self.pass_by(reason)?;
         if self.refuted_next()?.is_none() {
-            drop(self.deepen()?);
+            let before = self.deepen()?;
+            return Ok(before);
         }
-        Ok(())
+        let before = self.worldview().copy()?;
+        Ok(before)
     }
 
     /// The choice at a place goes on for a reason, by a move or a skip. Answers the worldview of
@@ -143,8 +147,6 @@ impl Search {
         if place < self.level {
             return self.advance(place, reason);
         }
-        let before = self.worldview.copy()?;
-        self.skip(reason)?;
-        Ok(before)
+        self.skip(reason)
     }
 }

@@ -148,8 +148,8 @@ impl Search {
     }
 
     /// A noted nogood of which every premise would be believed if the side of one choice more were,
-    /// where none is believed now. None only where there is no such choice or nogood, or the side is
-    /// the choice's last.
+    /// where none is believed now. None only where there is no such choice or nogood, or the side
+    /// is the choice's last.
     pub(crate) fn refuted_next(&self) -> Result<Option<PremiseSet>, AllocError>
         requires { has_part self.now.listed (set_of self.now.worldview) ≡ false }
         ensures next { IfOk result (λ found. IfSome found (IsNext self.now)) }

@@ -31,8 +31,8 @@ use prop_procedures::Rule;
 use prop_scheduler::{Ended, Live, Order, Run, alert_grown, alert_shifted, run};
 use std::alloc::AllocError;
 
-/// A noted nogood that would be believed with the side of one choice more, where it wasn't looked for
-/// already.
+/// A noted nogood that would be believed with the side of one choice more, where it wasn't looked
+/// for already.
 fn ahead(search: &Search, looked: bool) -> Result<Option<PremiseSet>, AllocError>
     requires { has_part search.now.listed (set_of search.now.worldview) ≡ false }
     ensures { IfOk result (λ found. IfSome found (IsNext search.now)) }

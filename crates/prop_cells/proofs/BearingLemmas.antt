@@ -1,5 +1,5 @@
 -- Which premises bear on which cells, as entries come and go.
-use Rattle.std.proofs.Common.{◌≡◌, ◌∙◌, ℕ, suc, ◌<◌, ◌≤◌, ◌/◌, ◌&&◌, ◌||◌, Bool, true, false, ◌==◌}
+use Rattle.std.proofs.Common.{◌≡◌, ◌∙◌, ℕ, suc, ◌<◌, ◌/◌, ◌&&◌, ◌||◌, Bool, true, false, ◌==◌}
 use Rattle.std.proofs.Common.{if◌then◌else◌, not, Contains, List, [], ◌∷◌, ◌++◌, length, take, map, filter, slice_set}
 use Rattle.std.proofs.Common.{slice_index_or, refl, sym, ap, subst, arith, inl, inr, All}
 use Rattle.std.proofs.lemmas.Bool.{cases_eq, cases_lt}

@@ -15,6 +15,7 @@ use Rattle.prop_numbers.specs.Sets.{set_of, without, IsPart}
 use Rattle.prop_tms.proofs.BeliefUses.{belief_of-without, belief_of-more}
 use Rattle.prop_procedures.specs.Stored.{Stored}
 use Rattle.prop_procedures.specs.Fitting.{kind_at}
+use Rattle.prop_procedures.specs.declared.shape.Kinded.{Kinded}
 use Rattle.prop_cells.specs.declared.instance.Statement.{Statement}
 use Rattle.prop_cells.specs.Problems.{Problem, Premises, Assignment, Satisfies, Meets, IsSolution, Entails}
 use Rattle.prop_cells.specs.Problems.{IsContradictory, is_member}
@@ -205,10 +206,11 @@ module _ (p : ℕ) where
       other : q ≡ p → ⊥
       other e = elim (eqb_tells q p) [ inl f ↦ cc (f.0, off) | inr f ↦ f.1 e ]
 
-  still_stated : (n : ℕ) (contents : List (List Entry)) (x : Statement) → IsStated n contents x
-      → not (is_under p x.premise) ≡ true → IsStated n (map (λ entries. not_on p entries) contents) x
-  still_stated n contents x h t = record {
+  still_stated : (kinds : List Kinded) (contents : List (List Entry)) (x : Statement) → IsStated kinds contents x
+      → not (is_under p x.premise) ≡ true → IsStated kinds (map (λ entries. not_on p entries) contents) x
+  still_stated kinds contents x h t = record {
     within = h.within;
+    of_kind = h.of_kind;
     below = λ s member.
         info_laws.transitive x.info (beliefs (without s p) contents x.cell)
         (beliefs s (map (λ entries. not_on p entries) contents) x.cell)
@@ -235,9 +237,9 @@ module _ (p : ℕ) where
         (All-filter (λ e. not (set_of e.support p))
         (λ e. IsOf (kind_at d.kinds cell).kind (kind_at d.kinds cell).size e.value) (content_of d.contents cell)
         (h.of_kinds cell));
-    stated = left_keeps (λ x. not (is_under p x.premise)) (IsStated (length d.kinds) d.contents)
-        (IsStated (length d.kinds) (map (λ entries. not_on p entries) d.contents))
-        (still_stated (length d.kinds) d.contents) d.statements h.stated;
+    stated = left_keeps (λ x. not (is_under p x.premise)) (IsStated d.kinds d.contents)
+        (IsStated d.kinds (map (λ entries. not_on p entries) d.contents))
+        (still_stated d.kinds d.contents) d.statements h.stated;
   }
 
   pub kept_forgotten : (library : List Stored) (d : Data) → IsKept library d → IsKept library (forgotten p d)

@@ -219,9 +219,10 @@ module _ (d : Data) (contents : List (List Entry)) (told : List (List ℕ)) (s t
     → Contains (content_of contents cell) e) where
   -- what is told of the cell is believed as before
   still_stated : (x : Statement) → ((p : ℕ) → x.premise ≡ Some p → IsTrue (set_of (slice_index_or told x.cell []) p))
-      → IsStated (length d.kinds) d.contents x → IsStated (length d.kinds) contents x
+      → IsStated d.kinds d.contents x → IsStated d.kinds contents x
   still_stated x under h = record {
     within = h.within;
+    of_kind = h.of_kind;
     below = λ t m. elim (eqb_tells x.cell cell) as (λ _. Below x.info (beliefs t contents x.cell)) [
       | inl same ↦
           (let u = set_of (support_of x.premise) in

@@ -28,11 +28,14 @@ impl Model for Counted {
 }
 
 impl Counted {
-    /// The set, of so many premises.
-    pub(crate) fn new(alloc: Global, premises: PremiseSet, size: u32) -> Result<Counted, AllocError>
-        requires { size ≡ length premises }
+    /// The set, its premises counted.
+    pub(crate) fn new(alloc: Global, premises: PremiseSet) -> Result<Counted, AllocError>
         ensures { IfOk result (λ c. c ≡ premises) }
     {
+        let mut size = 0;
+        for _ in premises.iter() {
+            size += 1;
+        }
         let premises = Rc::new(alloc, premises)?;
         Ok(Counted { size, premises })
     }

@@ -13,12 +13,10 @@ use prop_premises::{Premise, PremiseSet, Signature, Worldview};
 use std::alloc::{AllocError, Global};
 use std::marker::Model;
 
-/// A set of premises that can't all be believed, with how many they are, the last of them and a
-/// signature. Of most sets that aren't believed the signature tells it, and the set itself isn't
-/// looked at.
+/// A set of premises that can't all be believed, with how many they are and a signature. Of most
+/// sets that aren't believed the signature tells it, and the set itself isn't looked at.
 #[derive(Drop)]
 pub(crate) struct Listed {
-    last: Option<Premise>,
     signature: Signature,
     counted: Counted,
 }
@@ -28,28 +26,18 @@ impl Model for Listed {
 
     ghost view = { λ l. l.counted };
 
-    ghost invariant = { λ l. IsStrictlyIncreasing l.counted × EndsSo l.last l.counted
+    ghost invariant = { λ l. IsStrictlyIncreasing l.counted
         × AreRemainders (set_of l.counted) (remainders l.signature) };
 }
 
 impl Listed {
-    /// The set, its premises counted.
+    /// The set, with what is looked at first of it.
     pub(crate) fn new(alloc: Global, premises: PremiseSet) -> Result<Listed, AllocError>
         ensures { IfOk result (λ l. l ≡ premises) }
     {
-        let mut size = 0;
-        let mut last = None;
-        for premise in premises.iter() {
-            size += 1;
-            last = Some(premise);
-        }
         let signature = premises.signature();
-        let counted = Counted::new(alloc, premises, size)?;
-        Ok(Listed {
-            last,
-            signature,
-            counted,
-        })
+        let counted = Counted::new(alloc, premises)?;
+        Ok(Listed { signature, counted })
     }
 
     /// How many premises the set has.
@@ -61,11 +49,14 @@ impl Listed {
     }
 
     /// Its last premise, none where it has no premise.
-    #[inline]
     pub(crate) fn last(&self) -> Option<Premise>
         ensures { EndsSo result self.now }
     {
-        self.last
+        let mut last = None;
+        for premise in self.premises().iter() {
+            last = Some(premise);
+        }
+        last
     }
 
     /// The set with how many premises it has, for one list more.

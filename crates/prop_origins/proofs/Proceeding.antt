@@ -18,7 +18,7 @@ use Rattle.prop_procedures.specs.Stored.{Stored, span_kind}
 use Rattle.prop_procedures.specs.Fitting.{kind_at}
 use Rattle.prop_cells.specs.declared.instance.Statement.{Statement}
 use Rattle.prop_cells.specs.Problems.{Problem, Premises, Assignment, AreOfKinds, Constraint, Entails, Meets, MergesAt}
-use Rattle.prop_cells.specs.Problems.{OthersMeet, value_at}
+use Rattle.prop_cells.specs.Problems.{OthersMeet, Satisfies, value_at}
 use Rattle.prop_cells.specs.Instances.{Instance, constraint_of, readers_of}
 use Rattle.prop_cells.specs.Data.{Data, problem_of}
 use Rattle.prop_cells.proofs.Fitted.{merge_of_kind}
@@ -29,8 +29,7 @@ use Rattle.prop_scheduler.specs.Potential.{input_places, potential, most_steps}
 use Rattle.prop_scheduler.proofs.Falls.{ranks_fall}
 use Rattle.prop_scheduler.proofs.Steps.{from_map}
 use Rattle.prop_origins.specs.Parts.{Part, made}
-use Rattle.prop_origins.specs.Whole.{AreOfTheirKind}
-use Rattle.prop_origins.specs.inner.Proceeding.{Proceeds, Hears}
+use Rattle.prop_origins.specs.inner.Proceeding.{Proceeds}
 use Rattle.prop_origins.proofs.LogLaws.{same_test}
 
 -- ---- steps after steps
@@ -204,15 +203,10 @@ proceeds_idle library d line a i x are at below = record {
 
 -- ---- statements
 
-pub heard_still : (kinds : List Kinded) (s : Premises) (a b : Assignment) (x : Statement) → ((cell : ℕ)
-    → Below (a cell) (b cell)) → Hears kinds s a x → Hears kinds s b x
-heard_still kinds s a b x grows h is member =
-    info_laws.transitive x.info (a x.cell) (b x.cell) (h is member) (grows x.cell)
-
-pub all_heard_still : (kinds : List Kinded) (s : Premises) (a b : Assignment) (xs : List Statement) → ((cell : ℕ)
-    → Below (a cell) (b cell)) → All (Hears kinds s a) xs → All (Hears kinds s b) xs
-all_heard_still kinds s a b xs grows all =
-    All-weaker (Hears kinds s a) (Hears kinds s b) (λ x h. heard_still kinds s a b x grows h) xs all
+pub heard_still : (s : Premises) (a b : Assignment) (xs : List Statement) → ((cell : ℕ) → Below (a cell) (b cell))
+    → All (Satisfies s a) xs → All (Satisfies s b) xs
+heard_still s a b xs grows all = All-weaker (Satisfies s a) (Satisfies s b) (λ x h member.
+    info_laws.transitive x.info (a x.cell) (b x.cell) (h member) (grows x.cell)) xs all
 
 -- ---- from the start to the end
 
@@ -224,7 +218,11 @@ all_wait library d count a is = record {
       let l = slice_get_within (problem_of library d).constraints j c at in
       let n = length-map d.instances (constraint_of library) in
       let m = length-range_with_len 0 count in
-      absurd (idle (j, omega (arith, l, n, m, is), get_or-range_with_len 0 count j j (omega (arith, l, n, is)) ∙ zero-add j));
+      absurd (idle (
+        j,
+        omega (arith, l, n, m, is),
+        get_or-range_with_len 0 count j j (omega (arith, l, n, is)) ∙ zero-add j,
+      ));
 }
 
 pub most_at_start : (library : List Stored) (d : Data) (count : ℕ) → count ≡ length d.instances
@@ -240,12 +238,12 @@ none_left (i ∷ line) e = absurd (omega (arith, e))
 
 -- where nothing waits, all that is entailed is known
 pub known_at_rest : (library : List Stored) (d : Data) (s : Premises) (cell : ℕ) (v : Info) (a : Assignment)
-    (start line : List ℕ) (n : ℕ) → Entails (problem_of library d) s cell v → AreOfTheirKind d
-    → All (Hears d.kinds s a) d.statements → (b : Assignment) → OthersMeet (problem_of library d).constraints start b
+    (start line : List ℕ) (n : ℕ) → Entails (problem_of library d) s cell v
+    → All (Satisfies s a) d.statements → (b : Assignment) → OthersMeet (problem_of library d).constraints start b
     → Proceeds (problem_of library d) n start line b a → line ≡ [] → Below v (a cell)
-known_at_rest library d s cell v a start line n entails theirs heard b waited went none = entails.below a (record {
+known_at_rest library d s cell v a start line n entails heard b waited went none = entails.below a (record {
   kinds = went.of_kinds;
-  statements = λ k x l. heard k x l (theirs k x l);
+  statements = heard;
   instances = λ k c l.
       (subst (λ (w : List ℕ). OthersMeet (problem_of library d).constraints w a) none (went.met waited)).met k _
       (slice_get-get_or (problem_of library d).constraints k c l) (λ w. absurd (omega (arith, w.1)));

@@ -1,8 +1,5 @@
 -- What is known of the parts where they are given, and why they aren't where they aren't.
-use Rattle.std.specs.Prelude.{List, All}
-use Rattle.prop_lattice.specs.Rank.{IsOf}
-use Rattle.prop_procedures.specs.Fitting.{kind_at}
-use Rattle.prop_cells.specs.Data.{Data}
+use Rattle.std.specs.Prelude.{List}
 use Rattle.prop_origins.specs.declared.making.Composition.{Composition}
 use Rattle.prop_origins.specs.declared.making.Composition.TheVariants.{Whole, Cut}
 use Rattle.prop_origins.specs.Parts.{Part}
@@ -14,8 +11,3 @@ IfWhole Cut P = Unit {0}
 abbrev pub IfCut : Composition → Type 0 → Type 0
 IfCut (Whole parts) P = Unit {0}
 IfCut Cut P = P
-
--- each statement is of its cell's kind
-abbrev pub AreOfTheirKind : Data → Type 0
-AreOfTheirKind d =
-    All (λ x. IsOf (kind_at d.kinds x.cell).kind (kind_at d.kinds x.cell).size x.info) d.statements

@@ -6,7 +6,8 @@
 //! say of the inputs; it says more of its cell than they do, and rests on what they rest on. So
 //! nothing supports itself: the last part is a statement, or a call that needs no input to be
 //! known. All parts together say as much of the cell as was asked for, and each is at that cell or
-//! at one that a part before it reads (`origins`).
+//! at one that a part before it reads. They are found wherever the budget of calls is no less than
+//! the most steps of a run (`origins`).
 //!
 //! The network is only read.
 #![tactic(auto)]

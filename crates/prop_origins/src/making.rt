@@ -1,20 +1,20 @@
 //! The parts of a value: what the statements say, and what follows from them, one call after the
 //! other.
-ghost use Rattle.std.specs.Prelude.{◌≡◌, ◌<◌, ◌≤◌, ◌∷◌, [], ℕ, List, All, length, slice_get};
-ghost use Rattle.std.specs.Prelude.{Some, IsTrue, IfOk, OnOk, IfSome, false};
+ghost use Rattle.std.specs.Prelude.{◌≡◌, ◌<◌, ◌≤◌, ◌∷◌, [], List, All, length, slice_get};
+ghost use Rattle.std.specs.Prelude.{Some, IfOk, OnOk, IfSome, false};
 ghost use Rattle.std.specs.List.{list_any};
 ghost use Rattle.prop_lattice.specs.Order.{Below, is_contradiction};
-ghost use Rattle.prop_lattice.specs.Rank.{IsOf};
 ghost use Rattle.prop_numbers.specs.Sets.{set_of};
 ghost use Rattle.prop_procedures.specs.Kept.{AllMean, stored_of};
 ghost use Rattle.prop_procedures.specs.Rules.{IsCall};
 ghost use Rattle.prop_procedures.specs.Stored.{Stored, value_of};
-ghost use Rattle.prop_cells.specs.Data.{IsKept, problem_of, support_of};
-ghost use Rattle.prop_cells.specs.Problems.{AreOfKinds, Entails, Premises, is_member, value_on};
+ghost use Rattle.prop_cells.specs.Data.{IsKept, IsWellMade, problem_of, support_of};
+ghost use Rattle.prop_cells.specs.Problems.{AreOfKinds, Entails, Premises, Satisfies, is_member};
+ghost use Rattle.prop_cells.specs.Problems.{value_on};
 ghost use Rattle.prop_origins.specs.Founded.{AreFounded, MakeUp};
 ghost use Rattle.prop_origins.specs.Parts.{made};
-ghost use Rattle.prop_origins.specs.Whole.{IfWhole, IfCut, AreOfTheirKind};
-ghost use Rattle.prop_origins.specs.inner.Proceeding.{Proceeds, Hears};
+ghost use Rattle.prop_origins.specs.Whole.{IfWhole, IfCut};
+ghost use Rattle.prop_origins.specs.inner.Proceeding.{Proceeds};
 ghost use Rattle.prop_scheduler.specs.Potential.{most_steps};
 
 use crate::line::Line;
@@ -24,7 +24,7 @@ use crate::pruning::prune;
 use prop_cells::{Cells, Instance, Network, Statement};
 use prop_lattice::{Info, Partial};
 use prop_premises::{Premise, PremiseSet};
-use prop_procedures::{Kinded, Library, Rule};
+use prop_procedures::{Library, Rule};
 use prop_tms::Supported;
 use smallvec::SmallVec;
 use std::alloc::{AllocError, Global};
@@ -34,7 +34,7 @@ use std::alloc::{AllocError, Global};
 pub enum Composition {
     /// These parts, the one that completes it first.
     Whole(Vec<Part>),
-    /// It is not known: the budget was used before.
+    /// They were not found: the budget of calls was used before.
     Cut,
 }
 
@@ -53,15 +53,6 @@ fn is_among(premises: &PremiseSet, statement: &Statement) -> bool
         None => true,
         Some(premise) => premises.contains(premise),
     }
-}
-
-/// Whether a value of the kind says more than what is known.
-fn is_news(kind: Kinded, known: Info, value: Info) -> bool
-    ensures of_kind { IsTrue result → IsOf kind.kind kind.size value }
-    ensures more { IsTrue result → ¬ (Below value known) }
-    ensures known { result ≡ false → IsOf kind.kind kind.size value → Below value known }
-{
-    value.is_of(kind.kind, kind.size) && !known.implies(value)
 }
 
 /// The premise of a statement, or none.
@@ -107,7 +98,7 @@ fn note(
     log: &mut Log,
 ) -> Result<(), AllocError>
     requires number { number < length held.now.statements }
-    requires within { All (λ x. x.cell < length held.now.kinds) held.now.statements }
+    requires made { IsWellMade held.now }
     requires cells { log.old.cells ≡ length held.now.kinds }
     requires line { line.old.count ≡ length held.now.instances }
     requires of_kinds { AreOfKinds held.now.kinds (made log.old.parts) }
@@ -120,13 +111,11 @@ fn note(
         → Proceeds (problem_of library held.now) 0 line.old.line line.new.line
         (made log.old.parts) (made log.new.parts)) }
     ensures heard { OnOk result ((x : Statement) → slice_get held.now.statements number ≡ Some x
-        → Hears held.now.kinds (set_of premises.now) (made log.new.parts) x) }
+        → Satisfies (set_of premises.now) (made log.new.parts) x) }
 {
     let statement = held.statements()[number];
     let cell = statement.cell;
-    if !is_among(premises, &statement)
-        || !is_news(held.kind(cell), log.made(cell), statement.info)
-    {
+    if !is_among(premises, &statement) || log.made(cell).implies(statement.info) {
         return Ok(());
     }
     let part = told(alloc, number, &statement)?;
@@ -143,7 +132,7 @@ fn tell(
     line: &mut Line,
     log: &mut Log,
 ) -> Result<(), AllocError>
-    requires within { All (λ x. x.cell < length held.now.kinds) held.now.statements }
+    requires made { IsWellMade held.now }
     requires cells { log.old.cells ≡ length held.now.kinds }
     requires line { line.old.count ≡ length held.now.instances }
     requires of_kinds { AreOfKinds held.now.kinds (made log.old.parts) }
@@ -155,8 +144,8 @@ fn tell(
     ensures proceeds { OnOk result ((library : List Stored)
         → Proceeds (problem_of library held.now) 0 line.old.line line.new.line
         (made log.old.parts) (made log.new.parts)) }
-    ensures heard { OnOk result (All
-        (Hears held.now.kinds (set_of premises.now) (made log.new.parts)) held.now.statements) }
+    ensures heard { OnOk result
+        (All (Satisfies (set_of premises.now) (made log.new.parts)) held.now.statements) }
 {
     for number in 0..held.statements().len() {
         note(alloc, held, number, premises, line, log)?;
@@ -279,8 +268,8 @@ fn make<R: Rule + Drop>(
     ensures founded { IfOk result (λ log.
         AreFounded (stored_of R.value_of network.now.library) network.now.cells
         (set_of premises.now) log.parts) }
-    ensures enough { IfOk result (λ log. AreOfTheirKind network.now.cells
-        → most_steps (problem_of (stored_of R.value_of network.now.library) network.now.cells)
+    ensures enough { IfOk result (λ log.
+        most_steps (problem_of (stored_of R.value_of network.now.library) network.now.cells)
         ≤ budget → Below claim.value (made log.parts claim.cell)) }
 {
     let mut log = Log::new(alloc, network.cells())?;
@@ -300,7 +289,7 @@ fn make<R: Rule + Drop>(
 
 /// The parts that make up so much of a cell as the premises entail: statements under these premises
 /// or under none, and calls. They are looked for in calls of instances that read what is known, up
-/// to a budget. It is enough where it is no less than the most steps of a run.
+/// to a budget, which is enough where it is no less than the most steps of a run.
 pub fn origins<R: Rule + Drop>(
     alloc: Global,
     network: &Network<R>,
@@ -317,7 +306,7 @@ pub fn origins<R: Rule + Drop>(
     ensures whole { IfOk result (λ o. IfWhole o
         (MakeUp (stored_of R.value_of network.now.library) network.now.cells
         (set_of why.now.support) cell why.now.value)) }
-    ensures cut { IfOk result (λ o. IfCut o (AreOfTheirKind network.now.cells → budget
+    ensures cut { IfOk result (λ o. IfCut o (budget
         < most_steps (problem_of (stored_of R.value_of network.now.library) network.now.cells))) }
 {
     let value = why.value;

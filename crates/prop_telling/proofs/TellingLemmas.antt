@@ -15,15 +15,9 @@ use Rattle.prop_amb.specs.Going.{Work}
 use Rattle.prop_amb.specs.Stepping.{Steps, IsStepTo}
 use Rattle.prop_amb.specs.declared.stepping.Step.{Step}
 use Rattle.prop_amb.specs.declared.stepping.Step.TheVariants.{Called, Moved, Settled, Contradiction}
-use Rattle.prop_amb.proofs.LookingLaws.{its_side}
+use Rattle.prop_amb.proofs.SteppingLaws.{passed_known}
 use Rattle.prop_workbench.proofs.AskLemmas.{believed_known}
 use Rattle.prop_telling.specs.inner.Telling.{IsNamed}
-
--- the side of a choice that may leave it is a premise
-side_there : (cs : List Choice) (j : ℕ) (c : Choice) (side : ℕ) → slice_get cs j ≡ Some c → side < c.sides
-    → IsTrue (is_hypothetical cs (hypothetical c side))
-side_there cs j c zero at more = its_side cs j c 1 at (omega arith, omega (arith, more))
-side_there cs j c (suc k) at more = its_side cs j c (suc k) at (omega arith, omega (arith, more))
 
 named_to : {O : Type 0} (picks : O → ℕ → ℕ → O → Type 0) (library : List Stored) (problem : Problem) (w : Work O)
     (step : Step) (v : Work O) → IsStand v.search → IsStepTo picks library problem w step v → IsNamed v step
@@ -31,18 +25,8 @@ named_to picks library problem w (Called i) v stand (may, same, calls) =
     let within = slice_get_within w.cells.instances calls.turn.called calls.turn.instance calls.turn.at in
     let count = ap (λ d. length d.instances) calls.turn.calls.rest in
     omega (arith, within, count, calls.called_is)
-named_to picks library problem w (Moved m) v stand (moved, cells, order, shifted) =
-    let there = moved.may.leaves.may in
-    let same : v.search.premises ≡ w.search.premises = ap (λ s. s.premises) moved.later_is in
-    let below = stand.numbered.below in
-    let small : hypothetical there.choice there.side < length v.search.premises =
-    below (hypothetical there.choice there.side)
-    (subst (λ (os : List Origin). IsTrue (is_hypothetical (choices_of os) (hypothetical there.choice there.side)))
-    (sym same)
-    (side_there (choices_of w.search.premises) m.place there.choice there.side there.choice_at there.more)) in (
-      omega (arith, small, moved.side_is),
-      subst (λ (os : List Origin). All (λ p. p < length os) m.nogood) (sym same) moved.known,
-    )
+named_to picks library problem w (Moved m) v stand (passed, cells, order, shifted) =
+    passed_known w.search v.search m stand passed
 named_to picks library problem w Settled v stand taken = tt
 named_to picks library problem w (Contradiction n) v stand (same, out, blamed) =
     subst (λ (u : Work _). All (λ p. p < length u.search.premises) n) (sym same)

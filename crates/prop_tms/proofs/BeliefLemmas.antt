@@ -12,8 +12,8 @@ use Rattle.prop_tms.specs.Kept.{IsLeftWithout}
 use Rattle.prop_tms.specs.declared.supported.Supported.{Supported}
 use Rattle.prop_tms.proofs.MergedLemmas.{first_below, second_below, join_below, merged_below, below_merged, join-above}
 use Rattle.prop_tms.proofs.MergedLemmas.{join-assoc}
-use Rattle.prop_tms.proofs.KeptLemmas.{contains_here, insert_cases, insert_here, insert_there, left_only, left_kept, left_none}
-use Rattle.prop_tms.proofs.KeptLemmas.{left_pairs, pairs_insert}
+use Rattle.prop_tms.proofs.KeptLemmas.{contains_here, insert_cases, insert_here, insert_there, left_only}
+use Rattle.prop_tms.proofs.KeptLemmas.{left_kept, left_none, left_pairs, pairs_insert}
 
 filtered : {X : Type 0} (t : X → Bool) (P : X → Type 0) (xs : List X) → AllByRecursion (λ x. t x ≡ true → P x) xs
     → AllByRecursion P (filter t xs)

@@ -32,7 +32,7 @@ Reads commands from standard input, one on each line, and writes a reply or a re
   steps       limit, step
 
 WIDE.md lists what there is beside the kit, and LANGUAGE.md describes each command: in docs/ of the
-sources.",
+sources, and in /usr/share/doc/propbench of the Debian package.",
 };
 
 fn main(rt: HostRuntime) -> ExitCode {

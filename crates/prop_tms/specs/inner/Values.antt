@@ -1,5 +1,6 @@
 -- Values, each once, with the supports that say so.
-use Rattle.std.specs.Prelude.{◌≡◌, ◌≢◌, ℕ, ◌+◌, ◌^◌, ◌<◌, ◌≤◌, Bool, not, ◌&&◌, ◌||◌, true, List, [], ◌∷◌}
+use Rattle.std.specs.Prelude.{◌≡◌, ◌≢◌, ℕ, ◌+◌, ◌^◌, ◌<◌, ◌≤◌, Bool, not, ◌&&◌, ◌||◌, true}
+use Rattle.std.specs.Prelude.{List, [], ◌∷◌}
 use Rattle.std.specs.Prelude.{length, get_or, map, take, All, AllPairs}
 use Rattle.prop_numbers.specs.Sets.{Members, is_within, is_alike}
 use Rattle.prop_tms.specs.Beliefs.{NoneSubsumed, NoneAlike}
@@ -51,5 +52,5 @@ is_in_one w z s = (is_within w s && not (is_within z s)) || (is_within z s && no
 
 -- there is one entry alone, on the same premises as these
 abbrev pub StandsAlone : {V : Type 0} → List (Valued V) → List ℕ → Type 0
-StandsAlone {V} xs s = (x : Valued V) × (own : List ℕ) × (xs ≡ x ∷ []) × (x.supports.items ≡ own ∷ [])
-    × (is_alike own s ≡ true)
+StandsAlone {V} xs s = (x : Valued V) × (own : List ℕ) × (xs ≡ x ∷ [])
+    × (x.supports.items ≡ own ∷ []) × (is_alike own s ≡ true)

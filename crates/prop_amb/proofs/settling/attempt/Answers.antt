@@ -117,7 +117,8 @@ returns-in_ok-note-in-Clash-clause-refuted g c =
     c.args.live.now.network.cells c.run.new.live.network.cells c.in_ok-end.ensures.ran.library
     c.in_ok-end.ensures.ran.rest in
     let h = rw c.in-Clash.is at c.in_ok-end.ensures.conflict in
-    met_found _ _ _ (met_noted (problem_of (stored_of g.R.Rule.value_of c.args.live.now.network.library) c.args.live.now.network.cells)
+    met_found _ _ _
+    (met_noted (problem_of (stored_of g.R.Rule.value_of c.args.live.now.network.library) c.args.live.now.network.cells)
     c.args.search.now c.note.new.self.listed c.in_ok-copy-in-Clash.field-0 c.in-Clash.support c.note.new.self
     c.worldview.ensures.stand
     (conflict_in _ _ _ _ _ _ same (ap set_of c.worldview.ensures.same) refl h) c.in_ok-copy-in-Clash.ensures

@@ -1,7 +1,6 @@
 use Rattle.std.proofs.Common.{◌≢◌, ◌∙◌, ◌+◌, ◌-◌, ◌<◌, length, refl, sym, ap, subst, arith}
 use Rattle.std.proofs.lemmas.Bool.{false≢true}
 use Rattle.prop_procedures.specs.Kept.{stored_of}
-use Rattle.prop_cells.specs.Data.{problem_of}
 use Rattle.prop_amb.specs.Search.{Stand}
 use Rattle.prop_amb.specs.inner.Trying.{Attempted}
 use Rattle.prop_amb.proofs.OnWay.{AtLevel}

@@ -1,6 +1,5 @@
-use Rattle.std.proofs.Common.{◌≡◌, ◌≤◌, ℕ, arith, refl, subst, sym}
+use Rattle.std.proofs.Common.{refl}
 use Rattle.std.proofs.lemmas.Result.{IfOk-weaker}
-use Rattle.prop_procedures.specs.Stored.{Stored}
 use Rattle.prop_procedures.specs.Kept.{stored_of}
 use Rattle.prop_cells.specs.Data.{problem_of}
 use Rattle.prop_numbers.specs.Sets.{set_of}
@@ -8,7 +7,6 @@ use Rattle.prop_amb.specs.Search.{users_of, choices_in}
 use Rattle.prop_amb.specs.Refuted.{IsRuledOut}
 use Rattle.prop_amb.specs.Culprits.{IsBlamed}
 use Rattle.prop_amb.specs.Going.{work}
-use Rattle.prop_amb.specs.Stepping.{IsStepTo}
 use Rattle.prop_amb.proofs.SteppingLaws.{no_steps, steps_then}
 use Rattle.prop_amb.proofs.stepping.step_once.Goals as goal
 

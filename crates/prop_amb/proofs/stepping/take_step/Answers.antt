@@ -1,12 +1,12 @@
-use Rattle.std.proofs.Common.{◌≡◌, ◌∙◌, Ok, ap, sym, refl, subst}
+use Rattle.std.proofs.Common.{◌≡◌, ◌∙◌, Ok, ap, sym, subst}
 use Rattle.prop_numbers.specs.Sets.{Members, set_of}
 use Rattle.prop_procedures.specs.Kept.{stored_of}
-use Rattle.prop_cells.specs.Data.{IsFree, problem_of}
+use Rattle.prop_cells.specs.Data.{IsFree}
 use Rattle.prop_scheduler.specs.Turns.{CallsNext}
 use Rattle.prop_amb.specs.Search.{Stand, believed_with}
 use Rattle.prop_amb.specs.Going.{work}
 use Rattle.prop_amb.proofs.MetLaws.{believes_worldview}
-use Rattle.prop_amb.proofs.SteppingLaws.{may_call, move_to}
+use Rattle.prop_amb.proofs.SteppingLaws.{may_call}
 use Rattle.prop_amb.proofs.stepping.take_step.Goals as goal
 
 pub call_next-requires-clause-waits : goal.call_next-requires-clause-waits

@@ -1,25 +1,22 @@
-use Rattle.std.proofs.Common.{◌≡◌, ◌∙◌, ◌<◌, ◌∷◌, [], ℕ, List, All, arith, length, ap, subst, sym, refl}
+use Rattle.std.proofs.Common.{◌≡◌, ◌∙◌, ◌∷◌, [], ℕ, List, All, arith, length, ap, subst, sym, refl}
 use Rattle.std.specs.List.{range_with_len}
-use Rattle.std.proofs.lemmas.List.Elements.{All-weaker}
 use Rattle.prop_lattice.specs.Order.{Below}
 use Rattle.prop_numbers.specs.Sets.{set_of}
 use Rattle.prop_procedures.specs.Kept.{stored_of}
-use Rattle.prop_cells.specs.Data.{Data, IsStated, problem_of}
+use Rattle.prop_cells.specs.Data.{Data, problem_of}
+use Rattle.prop_cells.specs.Problems.{Satisfies}
 use Rattle.prop_origins.specs.Founded.{AreFounded}
 use Rattle.prop_origins.specs.Parts.{made}
 use Rattle.prop_origins.specs.inner.Lines.{Lined}
 use Rattle.prop_origins.specs.inner.Logs.{Logged}
-use Rattle.prop_origins.specs.inner.Proceeding.{Proceeds, Hears}
-use Rattle.prop_origins.proofs.Proceeding.{proceeds_then, all_heard_still, known_at_rest, rests_at_most, all_wait}
+use Rattle.prop_origins.specs.inner.Proceeding.{Proceeds}
+use Rattle.prop_origins.proofs.Proceeding.{proceeds_then, heard_still, known_at_rest, rests_at_most, all_wait}
 use Rattle.prop_origins.proofs.making.make.Goals as goal
 use Rattle.prop_origins.proofs.making.make.Goals.{else-loop-test, then-loop-test+then-implies}
 use Rattle.prop_origins.proofs.making.make.Goals.{then-loop-test+else-implies+in_default}
 
-pub tell-requires-clause-within : goal.tell-requires-clause-within
-tell-requires-clause-within g c =
-    let d = c.args.network.now.cells in
-    rw c.data.ensures (All-weaker (IsStated (length d.kinds) d.contents) (λ x. x.cell < length d.kinds)
-    (λ x h. h.within) d.statements c.requires.kept.made.stated)
+pub tell-requires-clause-made : goal.tell-requires-clause-made
+tell-requires-clause-made g c = rw c.data.ensures c.requires.kept.made
 
 pub call-requires-clause-of_kinds : goal.call-requires-clause-of_kinds
 call-requires-clause-of_kinds g c = c.loop.invariant.proceeds.of_kinds
@@ -45,7 +42,7 @@ loop-init g c =
       founded = subst (λ (e : Data). AreFounded library e s parts) c.data.ensures told;
       proceeds = subst (λ (e : Data). Proceeds (problem_of library e) 0 (range_with_len 0 (length d.instances)) line
           (made []) (made parts)) c.data.ensures counted;
-      heard = subst (λ (e : Data). All (Hears e.kinds s (made parts)) e.statements) c.data.ensures
+      heard = subst (λ (e : Data). All (Satisfies s (made parts)) e.statements) c.data.ensures
           c.in_ok-tell.ensures.heard;
     }
 
@@ -66,11 +63,11 @@ loop-preserved g c =
       founded = c.call.ensures.founded s c.loop.invariant.founded;
       proceeds = proceeds_then problem c.loop.counter 1 start (c.in-Some.number ∷ c.next.new.self.line)
           c.call.new.line.line (made []) was now taken step;
-      heard = all_heard_still d.kinds s was now d.statements step.grows c.loop.invariant.heard;
+      heard = heard_still s was now d.statements step.grows c.loop.invariant.heard;
     }
 
 pub returns-clause-enough : goal.returns-clause-enough
-returns-clause-enough g c = λ theirs most.
+returns-clause-enough g c = λ most.
     let library = stored_of g.R.Rule.value_of c.args.network.now.library in
     let d = c.args.network.now.cells in
     let s = set_of c.args.premises.now in
@@ -81,7 +78,7 @@ returns-clause-enough g c = λ theirs most.
     let went = c.loop.invariant.proceeds in
     let at_rest : c.loop.line.line ≡ [] → Below value (known cell) =
     known_at_rest library d s cell value known (range_with_len 0 count) c.loop.line.line c.loop.counter
-    c.requires.entails theirs c.loop.invariant.heard (made []) (all_wait library d count (made []) refl) went in
+    c.requires.entails c.loop.invariant.heard (made []) (all_wait library d count (made []) refl) went in
     elim c.loop-test.branch as (λ _. Below value (known cell)) [
       | else-loop-test w ↦ at_rest (rests_at_most library d count c.loop.counter c.args.budget c.loop.line.line known
           refl went (omega (arith, w.loop-test.false)) most)

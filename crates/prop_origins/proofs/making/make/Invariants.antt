@@ -3,9 +3,10 @@ use Rattle.std.specs.List.{range_with_len}
 use Rattle.prop_numbers.specs.Sets.{set_of}
 use Rattle.prop_procedures.specs.Kept.{stored_of}
 use Rattle.prop_cells.specs.Data.{problem_of}
+use Rattle.prop_cells.specs.Problems.{Satisfies}
 use Rattle.prop_origins.specs.Founded.{AreFounded}
 use Rattle.prop_origins.specs.Parts.{made}
-use Rattle.prop_origins.specs.inner.Proceeding.{Proceeds, Hears}
+use Rattle.prop_origins.specs.inner.Proceeding.{Proceeds}
 use Rattle.prop_origins.proofs.making.make.Given as goal
 
 abbrev pub invariant-loop : goal.invariant-loop
@@ -15,5 +16,5 @@ invariant-loop g l = record {
   founded : AreFounded (stored_of g.R.Rule.value_of l.network.library) l.network.cells (set_of l.premises) l.log.parts;
   proceeds : Proceeds (problem_of (stored_of g.R.Rule.value_of l.network.library) l.network.cells) l.counter
       (range_with_len 0 (length l.network.cells.instances)) l.line.line (made []) (made l.log.parts);
-  heard : All (Hears l.network.cells.kinds (set_of l.premises) (made l.log.parts)) l.network.cells.statements;
+  heard : All (Satisfies (set_of l.premises) (made l.log.parts)) l.network.cells.statements;
 }

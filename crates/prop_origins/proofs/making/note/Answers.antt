@@ -1,14 +1,12 @@
-use Rattle.std.proofs.Common.{◌≡◌, ◌∙◌, ◌<◌, ◌∷◌, length, slice_get, Some, IsTrue, refl, ap, subst, sym}
+use Rattle.std.proofs.Common.{◌≡◌, ◌∙◌, ◌∷◌, length, slice_get, Some, IsTrue, refl, ap, subst, sym}
 use Rattle.std.proofs.lemmas.Option.{slice_get_read}
 use Rattle.prop_lattice.specs.Order.{Below}
-use Rattle.prop_lattice.specs.Rank.{IsOf}
 use Rattle.prop_numbers.specs.Sets.{set_of}
-use Rattle.prop_procedures.specs.Fitting.{kind_at}
 use Rattle.prop_cells.specs.Problems.{is_member}
 use Rattle.prop_cells.specs.declared.instance.Statement.{Statement}
-use Rattle.prop_cells.specs.Data.{problem_of}
+use Rattle.prop_cells.specs.Data.{IsStated, problem_of}
 use Rattle.prop_cells.specs.Instances.{readers_of}
-use Rattle.prop_cells.proofs.Keeping.{All-at}
+use Rattle.prop_cells.proofs.Keeping.{All-at, unless_true}
 use Rattle.prop_cells.proofs.Reading.{readers_are}
 use Rattle.prop_scheduler.specs.Agendas.{AllAlerted}
 use Rattle.prop_origins.specs.Parts.{Part, made}
@@ -33,10 +31,10 @@ returns-clause-founded c = λ library f.
     slice_get_read d.statements (length d.statements) c.args.number x refl c.requires.number
     (rw c.statements.ensures at c.index-statements-number.is) in
     let member : IsTrue (is_member s x.premise) = sym c.is_among.ensures ∙ c.if-not-is_among.false in
-    let of_kind : IsOf (kind_at d.kinds x.cell).kind (kind_at d.kinds x.cell).size x.info =
-    rw c.kind.ensures at (c.is_news.ensures.of_kind c.if-not-is_news.false) in
+    let stated = All-at (IsStated d.kinds d.contents) d.statements c.args.number x c.requires.made.stated at in
+    let of_kind = stated.of_kind in
     let more : ¬ (Below x.info (made c.args.log.now.parts x.cell)) =
-    rw c.made.ensures at (c.is_news.ensures.more c.if-not-is_news.false) in
+    unless_true (rw c.made.ensures at c.implies.ensures.1) c.if-implies.false in
     subst (λ (q : Logged). AreFounded library d s q.parts) (sym c.in_ok-push.ensures.ok)
     (told_founded library d s c.args.log.now.parts c.args.number x c.in_ok-part.part at member c.in_ok-part.ensures
     of_kind more f)
@@ -49,10 +47,10 @@ returns-clause-proceeds c = λ library.
     let at : slice_get d.statements c.args.number ≡ Some x =
     slice_get_read d.statements (length d.statements) c.args.number x refl c.requires.number
     (rw c.statements.ensures at c.index-statements-number.is) in
-    let of_kind : IsOf (kind_at d.kinds x.cell).kind (kind_at d.kinds x.cell).size x.info =
-    rw c.kind.ensures at (c.is_news.ensures.of_kind c.if-not-is_news.false) in
+    let stated = All-at (IsStated d.kinds d.contents) d.statements c.args.number x c.requires.made.stated at in
+    let of_kind = stated.of_kind in
     let more : ¬ (Below x.info (made parts x.cell)) =
-    rw c.made.ensures at (c.is_news.ensures.more c.if-not-is_news.false) in
+    unless_true (rw c.made.ensures at c.implies.ensures.1) c.if-implies.false in
     let alerted : AllAlerted c.args.line.now.line c.alert.new.self.line (readers_of d.instances x.cell) =
     rw c.readers.ensures at c.alert.ensures.alerted in
     subst (λ (q : Logged).
@@ -60,11 +58,11 @@ returns-clause-proceeds c = λ library.
     (sym c.in_ok-push.ensures.ok)
     (told_goes_on library d c.args.line.now.line c.alert.new.self.line c.in_ok-part.part parts x
     (ap (λ (p : Part). p.cell) c.in_ok-part.ensures) (ap (λ (p : Part). p.value) c.in_ok-part.ensures)
-    (All-at (λ (y : Statement). y.cell < length d.kinds) d.statements c.args.number x c.requires.within at)
+    (All-at (IsStated d.kinds d.contents) d.statements c.args.number x c.requires.made.stated at).within
     c.requires.of_kinds of_kind more alerted)
 
 pub returns-clause-heard : goal.returns-clause-heard
-returns-clause-heard c = λ y at_y of_kind member.
+returns-clause-heard c = λ y at_y member.
     let d = c.args.held.now in
     let x = c.index-statements-number.result in
     let p = c.in_ok-part.part in

@@ -7,8 +7,8 @@ use Rattle.prop_numbers.specs.Sets.{set_of}
 use Rattle.prop_cells.specs.declared.instance.Statement.{Statement}
 use Rattle.prop_cells.specs.Data.{problem_of}
 use Rattle.prop_origins.specs.Parts.{made}
-use Rattle.prop_origins.specs.inner.Proceeding.{Hears}
-use Rattle.prop_origins.proofs.Proceeding.{proceeds_none, proceeds_then, all_heard_still}
+use Rattle.prop_cells.specs.Problems.{Satisfies}
+use Rattle.prop_origins.proofs.Proceeding.{proceeds_none, proceeds_then, heard_still}
 use Rattle.prop_origins.proofs.making.tell.Goals as goal
 
 pub note-requires-clause-of_kinds : goal.note-requires-clause-of_kinds
@@ -25,7 +25,7 @@ loop-number-init c = record {
   founded = λ library f. f;
   proceeds = λ library. proceeds_none (problem_of library c.args.held.now) c.args.line.now.line
       (made c.args.log.now.parts) c.requires.of_kinds;
-  heard = All-nil (Hears c.args.held.now.kinds (set_of c.args.premises.now) (made c.args.log.now.parts));
+  heard = All-nil (Satisfies (set_of c.args.premises.now) (made c.args.log.now.parts));
 }
 
 pub loop-number-preserved : goal.loop-number-preserved
@@ -48,8 +48,8 @@ loop-number-preserved c =
       proceeds = λ library. proceeds_then (problem_of library d) 0 0 c.args.line.now.line c.loop-number.line.line
           c.note.new.line.line (made c.args.log.now.parts) was now (c.loop-number.invariant.proceeds library)
           (step library);
-      heard = All-more (Hears d.kinds s now) d.statements n nobody within
-          (all_heard_still d.kinds s was now (take n d.statements) (step []).grows c.loop-number.invariant.heard) heard;
+      heard = All-more (Satisfies s now) d.statements n nobody within
+          (heard_still s was now (take n d.statements) (step []).grows c.loop-number.invariant.heard) heard;
     }
 
 pub returns-clause-proceeds : goal.returns-clause-proceeds
@@ -60,5 +60,5 @@ returns-clause-heard c =
     let d = c.args.held.now in
     let end = ap (λ (xs : List Statement). length xs) c.statements-number-end.ensures in
     let all : length d.statements ≤ c.loop-number.number = omega (arith, c.loop-number-test.false, end) in
-    subst (λ (xs : List Statement). All (Hears d.kinds (set_of c.args.premises.now) (made c.loop-number.log.parts)) xs)
+    subst (λ (xs : List Statement). All (Satisfies (set_of c.args.premises.now) (made c.loop-number.log.parts)) xs)
     (take_all c.loop-number.number d.statements all) c.loop-number.invariant.heard

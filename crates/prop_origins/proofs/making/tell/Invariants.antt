@@ -2,9 +2,10 @@ use Rattle.std.proofs.Common.{◌≡◌, List, All, take}
 use Rattle.prop_numbers.specs.Sets.{set_of}
 use Rattle.prop_procedures.specs.Stored.{Stored}
 use Rattle.prop_cells.specs.Data.{problem_of}
+use Rattle.prop_cells.specs.Problems.{Satisfies}
 use Rattle.prop_origins.specs.Founded.{AreFounded}
 use Rattle.prop_origins.specs.Parts.{made}
-use Rattle.prop_origins.specs.inner.Proceeding.{Proceeds, Hears}
+use Rattle.prop_origins.specs.inner.Proceeding.{Proceeds}
 use Rattle.prop_origins.proofs.making.tell.Given as goal
 
 abbrev pub invariant-loop-number : goal.invariant-loop-number
@@ -15,5 +16,5 @@ invariant-loop-number l = record {
       → AreFounded library l.held (set_of l.premises) l.log.parts;
   proceeds : (library : List Stored) → Proceeds (problem_of library l.held) 0 l.initial.line.line l.line.line
       (made l.initial.log.parts) (made l.log.parts);
-  heard : All (Hears l.held.kinds (set_of l.premises) (made l.log.parts)) (take l.number l.held.statements);
+  heard : All (Satisfies (set_of l.premises) (made l.log.parts)) (take l.number l.held.statements);
 }

@@ -42,7 +42,7 @@ returns-then-implies g c =
     let v = c.args.first in
     let u : List ℕ → Bool = λ s. is_within (set_of c.args.worldview.now) s in
     let told = rw c.loop-valued.invariant at (c.implies.ensures.0 c.if-implies.true) in
-    let all = g.V.Partial.join v (belief_of g.V.Partial.bottom g.V.Partial.join (set_of c.args.worldview.now) (entries_of xs))
-    in
+    let all = g.V.Partial.join v
+    (belief_of g.V.Partial.bottom g.V.Partial.join (set_of c.args.worldview.now) (entries_of xs)) in
     let later = laws.transitive _ _ all (said_first laws u xs i) (second_below laws v _) in
     (λ t. laws.transitive _ _ all told (join_below laws v _ all (first_below laws v _) later), λ b. refl)

@@ -40,8 +40,12 @@ invariant_of-self-2 c =
     let reasons_are : c.advance_reasons.new.reasons ≡ reasons_advanced c.self.inside.reasons.items c.self.inside.level
     c.args.reason = rw c.deref_mut.ensures.value at c.in_ok-advance_reasons.ensures.ok in
     let listed = written c.self.inside.list.items c.move_on.new.list c.self.inside.list.len
-    (omega (arith, ap length list_is, length-advanced c.self.inside.list.items c.self.inside.level,
-    c.self.inside.list.ok)) in (
+    (omega (
+      arith,
+      ap length list_is,
+      length-advanced c.self.inside.list.items c.self.inside.level,
+      c.self.inside.list.ok,
+    )) in (
       rw listed
           (stand_passed (the_view c.self.inside) c.args.reason c.move_on.new.list c.advance_reasons.new.reasons
           c.self.inside.reasons.len c.self.invariant.0 may list_is reasons_are
@@ -60,8 +64,12 @@ returns-clause-search c problem reason h =
     let reasons_are : c.advance_reasons.new.reasons ≡ reasons_advanced c.self.inside.reasons.items c.self.inside.level
     c.args.reason = rw c.deref_mut.ensures.value at c.in_ok-advance_reasons.ensures.ok in
     let listed = written c.self.inside.list.items c.move_on.new.list c.self.inside.list.len
-    (omega (arith, ap length list_is, length-advanced c.self.inside.list.items c.self.inside.level,
-    c.self.inside.list.ok)) in
+    (omega (
+      arith,
+      ap length list_is,
+      length-advanced c.self.inside.list.items c.self.inside.level,
+      c.self.inside.list.ok,
+    )) in
     let reason_was : IsReason problem (the_view c.self.inside) c.self.inside.level (set_of c.args.reason) =
     rw (← c.self.view_is) at reason in
     let search_was : IsSearch problem (the_view c.self.inside) = rw (← c.self.view_is) at h in

@@ -1,7 +1,5 @@
-use Rattle.std.proofs.Common.{◌∙◌, ◌+◌, ◌<◌, ap, arith, length, sym}
+use Rattle.std.proofs.Common.{◌∙◌, ◌<◌, ap, arith, length, sym}
 use Rattle.std.proofs.lemmas.Option.{same_Some}
-use Rattle.prop_premises.specs.declared.choice.Choice.{Choice}
-use Rattle.prop_premises.specs.ChoiceLists.{hypothetical}
 use Rattle.prop_amb.specs.contracts.search.Search.{the_view}
 use Rattle.prop_amb.proofs.LookingLaws.{choices_count, stands_here, is_its_side, side_small}
 use Rattle.prop_amb.proofs.SteppingLaws.{same_side}

@@ -1,4 +1,4 @@
-use Rattle.std.proofs.Common.{◌≡◌, ◌∙◌, Ok, ap}
+use Rattle.std.proofs.Common.{◌∙◌, Ok, ap}
 use Rattle.prop_amb.proofs.AdvancingLaws.{passed_left}
 use Rattle.prop_amb.proofs.SkippingLaws.{no_some, believes_on}
 use Rattle.prop_amb.proofs.search.Search.skip.Goals as goal
@@ -7,8 +7,8 @@ pub deepen-requires-clause-left : goal.deepen-requires-clause-left
 deepen-requires-clause-left c =
     rw c.in_ok-pass_by.ensures.ok (passed_left c.args.self.now c.args.reason c.requires.may)
 
-pub returns-in_ok-deepen-clause-ok : goal.returns-in_ok-deepen-clause-ok
-returns-in_ok-deepen-clause-ok c =
+pub returns-then-is_none-clause-ok : goal.returns-then-is_none-clause-ok
+returns-then-is_none-clause-ok c =
     believes_on c.args.self.now c.pass_by.new.self c.deepen.new.self c.args.reason c.in_ok-pass_by.ensures.ok
     (c.refuted_next.ensures.none (c.in_ok-refuted_next.was ∙ ap Ok (no_some _ c.if-is_none.ensures)))
-    c.in_ok-deepen.ensures.ok
+    c.in_ok-before.ensures.ok

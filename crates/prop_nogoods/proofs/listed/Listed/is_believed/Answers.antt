@@ -11,5 +11,5 @@ returns-else-is_part_of c =
     (λ part. cc (c.is_part_of.ensures.1 part, c.if-is_part_of.false)) in
     c.if-is_part_of.false
     ∙ sym (no_part w c.self.inside.counted (remainders c.self.inside.signature) (remainders c.args.signature)
-    c.self.invariant.2 c.requires apart)
+    c.self.invariant.1 c.requires apart)
     ∙ ap (is_within w) c.self.view_is

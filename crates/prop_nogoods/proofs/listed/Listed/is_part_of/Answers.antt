@@ -10,7 +10,7 @@ returns-else-is_part_of c =
     (λ part. cc (c.is_part_of.ensures.1 part, c.if-is_part_of.false)) in
     c.if-is_part_of.false
     ∙ sym (no_part (set_of c.other.inside.counted) c.self.inside.counted
-    (remainders c.self.inside.signature) (remainders c.other.inside.signature) c.self.invariant.2 c.other.invariant.2
+    (remainders c.self.inside.signature) (remainders c.other.inside.signature) c.self.invariant.1 c.other.invariant.1
     apart)
     ∙ ap (λ s. is_within (set_of s) c.self.inside.counted) c.other.view_is
     ∙ ap (is_within (set_of c.args.other.now)) c.self.view_is
