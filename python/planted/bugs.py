@@ -412,7 +412,7 @@ BUGS = [
     Bug(
         "planning/project.py",
         "if not self._has(task.end):",
-        "if not task.end:",
+        "if not self.workbench:",
         "planning::what_is_wrong",
     ),
     Bug(
@@ -493,5 +493,29 @@ BUGS = [
         "        yield UNSATISFIABLE if solutions.is_complete else UNKNOWN\n",
         "        yield UNSATISFIABLE\n",
         "flatzinc::no_time_is_unknown_and_statistics",
+    ),
+    Bug(
+        "watching/claims.py",
+        "        while both(known, self._together[first]) != known:\n",
+        "        while False:\n",
+        "how::the_shell_tells_how_as_a_tree",
+    ),
+    Bug(
+        "watching/instances.py",
+        "return replace(call, inputs=found.inputs, output=found.output) if found else call",
+        "return call",
+        "how::the_shell_tells_how_as_a_tree",
+    ),
+    Bug(
+        "model/script.py",
+        "Owner(event, place in making)",
+        "Owner(event, False)",
+        "how::what_only_makes_an_expression_is_not_named",
+    ),
+    Bug(
+        "watching/owned.py",
+        'under = f" ({event.premise})" if event.premise else ""',
+        'under = ""',
+        "how::a_workbench_tells_how",
     ),
 ]
