@@ -82,16 +82,38 @@ class Listed:
             belief == "in" and stands in worldview if worldview is not None else belief in ("in", "out")
         )
 
+    def refuted(self, side: str, line: str, taken: set[str]) -> bool:
+        """Whether a line tells why a side was left, beside these sides of earlier choices and what is believed."""
+        word, left, because, *reason = line.split()
+        premises = set(reason)
+        return (
+            [word, left, because] == ["refuted", side, "because"]
+            and side in premises <= self.session.believed | taken | {side}
+            and (not self.is_settled or self.session.refutes(premises))
+        )
+
+    def are_choices(self, lines: list[str], worldview: Optional[set[str]]) -> bool:
+        """Whether the lines tell of each choice where it stands, and why it left each side before."""
+        taken: set[str] = set()
+        for sides in self.session.choices:
+            head, *lines = lines
+            left = int(head.split()[2]) - 1
+            refuted, lines = lines[:left], lines[left:]
+            if not self.choice(sides, head, worldview) or len(refuted) != left:
+                return False
+            if not all(self.refuted(side, line, taken) for side, line in zip(sides, refuted)):
+                return False
+            taken.add(sides[left])
+        return not lines
+
     def is_right(self, reply: str, _seen: Any) -> bool:
         head, *lines = reply.split("\n")
         wanted = self.lines()
         worldview = self.session.worldview() if self.is_settled else None
-        rest = lines[len(wanted) :]
         return (
             head == f"list {len(lines)}"
             and lines[: len(wanted)] == wanted
-            and len(rest) == len(self.session.choices)
-            and all(self.choice(sides, line, worldview) for sides, line in zip(self.session.choices, rest))
+            and self.are_choices(lines[len(wanted) :], worldview)
         )
 
     def wanted(self, _seen: Any) -> str:

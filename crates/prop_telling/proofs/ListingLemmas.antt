@@ -1,9 +1,9 @@
 -- Lines, one more at a time.
 use Rattle.std.proofs.Common.{◌≡◌, ◌∙◌, ◌+◌, ◌<◌, ℕ, zero, suc, List, [], ◌∷◌, ◌++◌, length, take, map, sym, ap, refl}
-use Rattle.std.proofs.Common.{append_assoc, append-nil, arith, Bool, get_or, Some, None, slice_get}
+use Rattle.std.proofs.Common.{append_assoc, append-nil, map-id, arith, Bool, get_or, Some, None, slice_get}
 use Rattle.std.specs.List.{range_with_len}
 use Rattle.std.specs.Option.{option_map, option_map_or}
-use Rattle.std.specs.Prelude.{flat_map, Option, is_some, true, false, codes, decimal, unwrap_or}
+use Rattle.std.specs.Prelude.{flat_map, Result, Ok, Err, OnOk, Option, is_some, true, false, codes, decimal, unwrap_or}
 use Rattle.std.proofs.lemmas.List.{take_more, map-append}
 use Rattle.std.proofs.lemmas.List.FromFn.{map-range_with_len_more}
 use Rattle.std.proofs.lemmas.List.Concat.{flat_map-append}
@@ -46,6 +46,28 @@ pub lines_pushed : {T : Type 0} (bytes_of : T → List ℕ) (f : ℕ → List �
 lines_pushed bytes_of f old now new x k before more is =
     lines_more f (map bytes_of old) (map bytes_of now) (map bytes_of new) k (bytes_of x) before
     (ap (map bytes_of) more ∙ map-append bytes_of now (x ∷ [])) is
+
+-- an item that there is, whatever stands for one that there is not
+pub get_same : {A : Type 0} (xs : List A) (k : ℕ) (d e : A) → k < length xs → get_or xs k d ≡ get_or xs k e
+get_same [] k d e l = absurd (omega (arith, l))
+get_same (x ∷ xs) zero d e l = refl
+get_same (x ∷ xs) (suc k) d e l = get_same xs k d e (omega (arith, l))
+
+pub on_ok : {T E P Q : Type 0} (r : Result T E) → (P → Q) → OnOk r P → OnOk r Q
+on_ok (Ok t) f h = f h
+on_ok (Err e) f h = tt
+
+-- several lines more for one place more
+pub pieces_more : (f : ℕ → List (List ℕ)) (old now new : List (List ℕ)) (k : ℕ)
+    → now ≡ old ++ flat_map f (range_with_len 0 k) → new ≡ now ++ f k
+    → new ≡ old ++ flat_map f (range_with_len 0 (k + 1))
+pieces_more f old now new k before more =
+    let range : range_with_len 0 (k + 1) ≡ range_with_len 0 k ++ k ∷ [] = sym (map-id (range_with_len 0 (k + 1)))
+    ∙ map-range_with_len_more (λ n. n) 0 k k (omega arith) ∙ ap (λ xs. xs ++ k ∷ []) (map-id (range_with_len 0 k)) in
+    more ∙ ap (λ t. t ++ f k) before ∙ append_assoc old (flat_map f (range_with_len 0 k)) (f k)
+    ∙ ap (λ t. old ++ (flat_map f (range_with_len 0 k) ++ t)) (sym (append-nil (f k)))
+    ∙ ap (λ t. old ++ t) (sym (flat_map-append f (range_with_len 0 k) (k ∷ [])))
+    ∙ ap (λ xs. old ++ flat_map f xs) (sym range)
 
 -- ---- premises
 
@@ -119,7 +141,7 @@ place_there s k stand l =
       first = omega (arith, below);
     }
 
-named_or : (x : Option Origin) (n : List ℕ) → option_map name_of x ≡ Some n → option_map_or name_of x [] ≡ n
+pub named_or : (x : Option Origin) (n : List ℕ) → option_map name_of x ≡ Some n → option_map_or name_of x [] ≡ n
 named_or (Some o) n e = some_same e
 named_or None n e = cc
 

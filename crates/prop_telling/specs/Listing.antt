@@ -1,6 +1,7 @@
 -- What is there, line by line.
 use Rattle.std.specs.Prelude.{◌≡◌, ◌⊎◌, ℕ, ◌-◌, List, [], ◌∷◌, ◌++◌, Bool, true, false, codes}
 use Rattle.std.specs.Prelude.{decimal, Option, Some, None, flat_map, length, map, slice_get}
+use Rattle.std.specs.Prelude.{slice_index_or, ◌+◌}
 use Rattle.std.specs.Prelude.{unwrap_or, cond, ◌==◌}
 use Rattle.std.specs.List.{range_with_len}
 use Rattle.std.specs.Option.{option_map_or}
@@ -17,9 +18,10 @@ use Rattle.prop_procedures.specs.Fitting.{kind_at}
 use Rattle.prop_vocabulary.specs.Cells.{CellNames}
 use Rattle.prop_cells.specs.declared.instance.Statement.{Statement}
 use Rattle.prop_cells.specs.Instances.{Instance}
+use Rattle.prop_amb.specs.Search.{Stand}
 use Rattle.prop_amb.specs.Going.{Work}
 use Rattle.prop_engine.specs.Answers.{Answer, Text, Refused}
-use Rattle.prop_texts.specs.Texts.{label_at}
+use Rattle.prop_texts.specs.Texts.{label_at, premises_text}
 use Rattle.prop_workbench.specs.Machine.{State, text_at}
 use Rattle.prop_workbench.specs.Engine.{Standing}
 use Rattle.prop_telling.specs.Texts.{procedure_text}
@@ -98,6 +100,24 @@ choice_line premises w list place =
     option_map_or (choice_text premises w (unwrap_or (slice_get list place) 0))
     (slice_get (choices_of premises) place) []
 
+-- the reason against a side that a choice left, of which the first has 0
+abbrev pub refuted_line : List Origin → Choice → List (List ℕ) → ℕ → List ℕ
+refuted_line premises c reasons n =
+    codes "refuted " ++ (option_map_or name_of (slice_get premises c.first) [] ++ (codes "="
+    ++ (decimal (n + 1) ++ (codes " because" ++ premises_text premises
+    (slice_index_or reasons n [])))))
+
+abbrev pub refuted_lines : List Origin → Choice → List (List ℕ) → List (List ℕ)
+refuted_lines premises c reasons =
+    map (refuted_line premises c reasons) (range_with_len 0 (length reasons))
+
+-- a choice, and the sides that it left
+abbrev pub choice_lines : Stand → ℕ → List (List ℕ)
+choice_lines s place =
+    choice_line s.premises (set_of s.worldview) s.list place ∷ option_map_or
+    (λ (c : Choice). refuted_lines s.premises c (slice_index_or s.reasons place []))
+    (slice_get (choices_of s.premises) place) []
+
 -- all lines: the cells, the instances and the statements in order, the premises, and the choices
 abbrev pub lines_of : {O : Type 0} → Notes → List Stored → State → Work O → List (List ℕ)
 lines_of notes library s w =
@@ -105,8 +125,7 @@ lines_of notes library s w =
     ++ (map (instance_line notes library s) (range_with_len 0 (length s.instances))
     ++ (map (statement_line notes s) (range_with_len 0 (length s.statements))
     ++ (flat_map premise_lines s.premises
-    ++ map (choice_line s.premises (set_of w.search.worldview) w.search.list)
-    (range_with_len 0 (length w.search.list)))))
+    ++ flat_map (choice_lines w.search) (range_with_len 0 (length w.search.list)))))
 
 -- a reply of these lines, the first of which says how many follow
 abbrev pub list_text : List (List ℕ) → List ℕ

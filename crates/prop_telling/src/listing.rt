@@ -6,16 +6,16 @@ ghost use Rattle.prop_cells.specs.Data.{IsKept};
 ghost use Rattle.prop_cells.specs.Instances.{Instance as InstanceOf};
 ghost use Rattle.prop_texts.specs.Texts.{label_at};
 ghost use Rattle.prop_telling.specs.Listing.{domain_text, kind_text, belief_text, begin_text};
-ghost use Rattle.prop_telling.specs.Listing.{list_text, instance_text};
+ghost use Rattle.prop_telling.specs.Listing.{list_text, instance_text, refuted_lines};
 
 use crate::naming::Made;
 use crate::notes::Notes;
 use crate::telling::Teller;
-use crate::texts::{label_text, push_text};
+use crate::texts::{label_text, push_text, reason_text};
 use prop_cells::Network;
 use prop_engine::Reply;
 use prop_lattice::Kind;
-use prop_premises::{Premise, Premises};
+use prop_premises::{Choice, Premise, PremiseSet, Premises};
 use prop_procedures::Rule;
 use prop_scheduler::Order;
 use prop_vocabulary::CellNames;
@@ -69,6 +69,27 @@ fn belief_text(is_in: bool) -> &'static str
     if is_in { "in" } else { "out" }
 }
 
+/// A line for each side that a choice left, with the reason against it.
+fn push_refuted(
+    alloc: Global,
+    premises: &Premises,
+    choice: Choice,
+    reasons: &[PremiseSet],
+    lines: &mut Vec<String>,
+) -> Result<(), AllocError>
+    requires first { choice.first < length premises.now }
+    ensures { OnOk result (map string_bytes lines.new.items ≡ map string_bytes
+        lines.old.items ++ refuted_lines premises.now choice reasons.now) }
+{
+    let name = premises.name(choice.first);
+    for number in 0..reasons.len() {
+        let reason = reason_text(alloc, premises, &reasons[number])?;
+        let side = number + 1;
+        lines.push(format!(in alloc; "refuted {name}={side} because{reason}")?)?;
+    }
+    Ok(())
+}
+
 /// A reply of these lines, the first of which says how many follow.
 fn lines_text(alloc: Global, lines: &[String]) -> Result<String, AllocError>
     ensures { IfOk result (λ text.
@@ -107,7 +128,7 @@ fn instance_text<R: Rule + Drop>(
 
 impl<R: Rule + Drop, O: Order + Drop> Teller<R, O> {
     ghost use Rattle.std.specs.Prelude.{◌≡◌, ◌<◌, ◌++◌, length, map, flat_map, IfOk, OnOk};
-    ghost use Rattle.std.specs.Prelude.{string_bytes, IsTrue};
+    ghost use Rattle.std.specs.Prelude.{string_bytes, IsTrue, slice_index_or, []};
     ghost use Rattle.std.specs.List.{range_with_len};
     ghost use Rattle.prop_numbers.specs.Sets.{set_of};
     ghost use Rattle.prop_premises.specs.Origins.{is_user_at};
@@ -115,7 +136,8 @@ impl<R: Rule + Drop, O: Order + Drop> Teller<R, O> {
     ghost use Rattle.prop_workbench.specs.Engine.{standing_of};
     ghost use Rattle.prop_workbench.specs.Sessions.{library_of, state_of, work_of, IsSound};
     ghost use Rattle.prop_telling.specs.Listing.{cell_line, instance_line, statement_line};
-    ghost use Rattle.prop_telling.specs.Listing.{premise_lines, choice_line, lines_of, SaysList};
+    ghost use Rattle.prop_telling.specs.Listing.{premise_lines, choice_line, choice_lines, lines_of};
+    ghost use Rattle.prop_telling.specs.Listing.{SaysList};
     ghost use Rattle.prop_telling.specs.Listing.{premise_line};
 
     /// Tells what is there.
@@ -256,14 +278,40 @@ impl<R: Rule + Drop, O: Order + Drop> Teller<R, O> {
     fn push_choices(&self, lines: &mut Vec<String>) -> Result<(), AllocError>
         requires sound { IsSound R.value_of self.now.session }
         ensures { OnOk result (map string_bytes lines.new.items ≡ map string_bytes
-            lines.old.items ++ map (choice_line self.now.session.search.premises
-            (set_of self.now.session.search.worldview) self.now.session.search.list)
+            lines.old.items ++ flat_map (choice_lines self.now.session.search)
             (range_with_len 0 (length self.now.session.search.list))) }
     {
         for place in 0..self.session.search().list().len() {
-            lines.push(self.choice_line(place)?)?;
+            self.push_choice(place, lines)?;
         }
         Ok(())
+    }
+
+    /// A line for a choice, and one for each side that it left.
+    fn push_choice(&self, place: usize, lines: &mut Vec<String>) -> Result<(), AllocError>
+        requires sound { IsSound R.value_of self.now.session }
+        requires place { place < length self.now.session.search.list }
+        ensures { OnOk result (map string_bytes lines.new.items ≡ map string_bytes
+            lines.old.items ++ choice_lines self.now.session.search place) }
+    {
+        let premises = self.session.search().premises();
+        let choice = premises.choices()[place];
+        lines.push(self.choice_line(place)?)?;
+        push_refuted(
+            self.session.alloc(),
+            premises,
+            choice,
+            self.reasons_at(place),
+            lines,
+        )
+    }
+
+    /// The reasons against the sides that a choice left, in order.
+    fn reasons_at(&self, place: usize) -> &[PremiseSet]
+        requires place { place < length self.now.session.search.reasons }
+        ensures { result.now ≡ slice_index_or self.now.session.search.reasons place [] }
+    {
+        self.session.search().reasons()[place].sets()
     }
 
     /// A choice, the side on which it stands, of how many, and whether that is believed.

@@ -6,12 +6,12 @@ ghost use Rattle.prop_premises.specs.Origins.{side_at};
 ghost use Rattle.prop_procedures.specs.Kept.{stored_of};
 ghost use Rattle.prop_cells.specs.Data.{IsKept};
 ghost use Rattle.prop_cells.specs.Instances.{Instance as InstanceOf};
-ghost use Rattle.prop_texts.specs.Texts.{label_at};
+ghost use Rattle.prop_texts.specs.Texts.{label_at, premises_text};
 ghost use Rattle.prop_telling.specs.Texts.{cell_text, cells_text, call_text, sides_text};
 ghost use Rattle.prop_telling.specs.Texts.{moved_text};
 
 use prop_cells::Network;
-use prop_premises::{Premise, Premises, Worldview};
+use prop_premises::{Premise, PremiseSet, Premises, Worldview};
 use prop_procedures::Rule;
 use prop_vocabulary::CellNames;
 use std::alloc::{AllocError, Global};
@@ -97,6 +97,34 @@ pub(crate) fn label_text(
         Some(side) => format!(in alloc; "{name}={side}"),
         None => String::from_str(alloc, name),
     }
+}
+
+/// Writes a space and the label of a premise behind the text, and the space alone where there is no
+/// such premise.
+fn push_any(text: &mut String, premises: &Premises, premise: Premise) -> Result<(), AllocError>
+    ensures { OnOk result (string_bytes text.new ≡ string_bytes
+        text.old ++ (32 ∷ label_at premises.now premise)) }
+{
+    if usize::from(premise) < premises.len() {
+        push_label(text, premises, premise)
+    } else {
+        write!(text, " ")
+    }
+}
+
+/// The labels of the premises of a set, in order of number, each with one space before it.
+pub(crate) fn reason_text(
+    alloc: Global,
+    premises: &Premises,
+    reason: &PremiseSet,
+) -> Result<String, AllocError>
+    ensures { IfOk result (λ text. string_bytes text ≡ premises_text premises.now reason.now) }
+{
+    let mut text = String::new(alloc);
+    for premise in reason.iter() {
+        push_any(&mut text, premises, premise)?;
+    }
+    Ok(text)
 }
 
 /// Writes a line feed and a line behind the text.
