@@ -136,8 +136,8 @@ impl<R: Rule + Drop, O: Order + Drop> Teller<R, O> {
     ghost use Rattle.prop_workbench.specs.Engine.{standing_of};
     ghost use Rattle.prop_workbench.specs.Sessions.{library_of, state_of, work_of, IsSound};
     ghost use Rattle.prop_telling.specs.Listing.{cell_line, instance_line, statement_line};
-    ghost use Rattle.prop_telling.specs.Listing.{premise_lines, choice_line, choice_lines, lines_of};
-    ghost use Rattle.prop_telling.specs.Listing.{SaysList};
+    ghost use Rattle.prop_telling.specs.Listing.{premise_lines, choice_line, choice_lines};
+    ghost use Rattle.prop_telling.specs.Listing.{lines_of, SaysList};
     ghost use Rattle.prop_telling.specs.Listing.{premise_line};
 
     /// Tells what is there.
