@@ -8,7 +8,8 @@ On the bare pipe lines that are pipelined are written by a thread while line fee
 counted; lines one by one are an `os.write` and an `os.read` each. A workbench asks cells that are
 joined by sums, and each answer is looked at. What stands beside is timed in turn, each the given
 number of rounds, and the best of each counts: on a machine that does other work too, short rounds
-find a moment in which it doesn't.
+find a moment in which it doesn't. The answers of a workbench, and what stands beside these, are
+timed by what the two processes use of a processor.
 """
 
 import argparse
@@ -73,6 +74,18 @@ def seconds(work: Callable[[], None]) -> float:
     return time.perf_counter() - begun
 
 
+def spent(pid: int, work: Callable[[], None]) -> float:
+    """How long the work takes, in seconds of one processor, here and in the process of the number."""
+
+    def used() -> float:
+        # (clock_getcpuclockid(3) makes the number of a process's clock so)
+        return time.process_time() + time.clock_gettime(~pid << 3 | 2)
+
+    begun = used()
+    work()
+    return used() - begun
+
+
 class Bare:
     """The program on a bare pipe."""
 
@@ -83,6 +96,11 @@ class Bare:
         assert self._process.stdin and self._process.stdout
         self._stdin = self._process.stdin
         self._into, self._out = self._stdin.fileno(), self._process.stdout.fileno()
+
+    @property
+    def pid(self) -> int:
+        """The number of its process."""
+        return self._process.pid
 
     def pipelined(self, lines: list[str]) -> None:
         """Writes lines, each of which has a reply of one line, while the replies are read."""
@@ -168,7 +186,8 @@ def joined(workbench: Workbench) -> list[NumberCell]:
 
 
 def of_answers(program: str, count: int, rounds: int) -> tuple[float, float]:
-    """The best replies a second of the bare pipe, and answers of a workbench to the same."""
+    """The best replies a second of the bare pipe, and answers of a workbench to the same: seconds of
+    one processor, of both processes, since each waits for the other."""
     with Workbench(program) as workbench:
         cells = joined(workbench)
         bare = Bare(program)
@@ -179,7 +198,10 @@ def of_answers(program: str, count: int, rounds: int) -> tuple[float, float]:
         def ask() -> None:
             assert all(cell.ask().high is not None for cell in asked)
 
-        pairs = [(seconds(lambda: bare.one_by_one(lines)), seconds(ask)) for _ in range(rounds)]
+        pairs = [
+            (spent(bare.pid, lambda: bare.one_by_one(lines)), spent(workbench.session.pid, ask))
+            for _ in range(rounds)
+        ]
         bare.end()
     return count / min(pair[0] for pair in pairs), count / min(pair[1] for pair in pairs)
 

@@ -32,6 +32,7 @@ _STRONG = "workbench_random::a_believed_premise_is_as_strong_as_none"
 _ALTERNATIVES = "workbench_random::alternatives_hold_in_their_plans"
 _LINES = "workbench_files::the_lines_of_a_constraint_are_all_that_it_needs"
 _CONFLICTS = "questions::conflicts_and_repairs_are_all_there_are"
+_GOES_ON = "questions::a_question_goes_on_from_the_one_before"
 _BOUNDS = "questions::bounds_are_those_of_all_plans"
 _PLANS = "questions::plans_are_all_there_are"
 _PROJECTS = "planning::best_plans_are_those_of_all"
@@ -329,6 +330,42 @@ BUGS = [
         "hitting::nothing_is_looked_at_where_the_time_is_over",
     ),
     Bug(
+        "questions/hitting.py",
+        "(max(child.spent, least), next(self._order), child)",
+        "(least, next(self._order), child)",
+        "hitting::each_least_set_comes_once_cheapest_first",
+    ),
+    Bug(
+        "questions/conflicts.py",
+        "explored.complete and len(explored.repairs) <= most",
+        "explored.complete",
+        "questions::what_is_known_is_not_asked_again",
+    ),
+    Bug(
+        "questions/conflicts.py",
+        "known.base == list(model.base())",
+        "known.base",
+        "questions::what_is_known_is_not_asked_again",
+    ),
+    Bug(
+        "questions/conflicts.py",
+        "found.complete or found.weights == dict(weight)",
+        "found.complete or found.weights",
+        "questions::other_weights_give_another_order",
+    ),
+    Bug(
+        "questions/exploring.py",
+        "            made._hitting.learn(refuted.mask)\n",
+        "            made._hitting.finish(refuted.mask)\n",
+        _GOES_ON,
+    ),
+    Bug(
+        "questions/trial.py",
+        "if not self.model.is_measured(cell)",
+        "if self.whole[cell]",
+        "measured::plans_are_told_without_quantities",
+    ),
+    Bug(
         "questions/changes.py",
         "    out = set(kicked) - set(brought)\n",
         "    out = set(kicked)\n",
@@ -341,6 +378,12 @@ BUGS = [
         "what_ifs::what_premises_are_worth",
     ),
     # What checks certificates.
+    Bug(
+        "questions/checker.py",
+        "[hit - {name} for hit in hits if hit & names == {name}]",
+        "[hit for hit in hits if hit & names == names]",
+        "hitting::each_least_set_comes_once_cheapest_first",
+    ),
     Bug(
         "questions/checker.py",
         "if first <= low else low",
@@ -366,6 +409,18 @@ BUGS = [
         "certificates::a_choice_that_leaves_out_a_value",
     ),
     # Plans over days.
+    Bug(
+        "planning/project.py",
+        "if not self._has(task.end):",
+        "if not self.workbench:",
+        "planning::what_is_wrong",
+    ),
+    Bug(
+        "model/seam.py",
+        "name: choices[name].stands_on(side) for",
+        "name: choices[name].stands_on(0) for",
+        "planning::the_best_plan_says_which_options_it_takes",
+    ),
     Bug(
         "planning/project.py",
         "(other.end <= task.start) |",
@@ -438,5 +493,29 @@ BUGS = [
         "        yield UNSATISFIABLE if solutions.is_complete else UNKNOWN\n",
         "        yield UNSATISFIABLE\n",
         "flatzinc::no_time_is_unknown_and_statistics",
+    ),
+    Bug(
+        "watching/claims.py",
+        "        while both(known, self._together[first]) != known:\n",
+        "        while False:\n",
+        "how::the_shell_tells_how_as_a_tree",
+    ),
+    Bug(
+        "watching/instances.py",
+        "return replace(call, inputs=found.inputs, output=found.output) if found else call",
+        "return call",
+        "how::the_shell_tells_how_as_a_tree",
+    ),
+    Bug(
+        "model/script.py",
+        "Owner(event, place in making)",
+        "Owner(event, False)",
+        "how::what_only_makes_an_expression_is_not_named",
+    ),
+    Bug(
+        "watching/owned.py",
+        'under = f" ({event.premise})" if event.premise else ""',
+        'under = ""',
+        "how::a_workbench_tells_how",
     ),
 ]

@@ -83,6 +83,14 @@ def program(over: None) -> str:
 
 
 @pytest.fixture(scope="session")
+def wide(over: None) -> str:
+    """The path of propwide."""
+    if "propwide" not in PROGRAMS:
+        pytest.skip("no propwide is named by $PROPWIDE, built or installed")
+    return PROGRAMS["propwide"]
+
+
+@pytest.fixture(scope="session")
 def bare(program: str) -> Bare:
     """What the program writes to lines on a bare pipe, given options."""
 

@@ -104,6 +104,9 @@ class LineModel(Questions):
         kind = self.kinds[cell]
         return int(text) if kind == "span" else text == "yes" if kind == "truth" else text
 
+    def chosen(self, plan: Mapping[str, Point]) -> Mapping[str, object]:
+        return {}
+
     def is_measured(self, cell: str) -> bool:
         return False
 

@@ -40,9 +40,18 @@ def test_each_least_set_comes_once_cheapest_first(drawn: tuple[list[float], list
     costs = [sum(weights[bit.bit_length() - 1] for bit in bits_of(hit)) for hit in found]
     assert costs == sorted(costs)
     named = [frozenset(str(bit) for bit in bits_of(conflict)) for conflict in conflicts]
-    mine = {frozenset(each) for each in hitting(named)}
-    assert {frozenset(str(bit) for bit in bits_of(hit)) for hit in wanted} <= mine
-    assert all(each & conflict for each in mine for conflict in named)
+    mine = [frozenset(each) for each in hitting(named)]
+    assert set(mine) == {frozenset(str(bit) for bit in bits_of(hit)) for hit in wanted}
+    assert len(mine) == len(wanted)
+
+
+def test_many_sets_are_hit_soon() -> None:
+    """Of 24 names in a ring two each that stand side by side: the least ways to hit all these pairs
+    are few beside all ways to take one of each."""
+    ring = [{f"{number}", f"{(number + 1) % 24}"} for number in range(24)]
+    found = {frozenset(each) for each in hitting(ring)}
+    assert all(each & pair for each in found for pair in ring)
+    assert min(map(len, found)) == 12 and len(found) == 853
 
 
 def test_sets_that_overlap_are_hit_at_once() -> None:

@@ -414,6 +414,19 @@ def test_a_quantity_in_a_workbench(w: Workbench, tmp_path: Path) -> None:
     again.close()
 
 
+def test_plans_are_told_without_quantities(w: Workbench) -> None:
+    """No plan has the real number of a quantity, and the steps of its cell say nothing to a user."""
+    x, n = w.measured("x", unit="mm", low=0, high=100, step="0.1"), w.number("n", 1, 3)
+    w.read("calliper", x, "20 +- 1 mm")
+    plans = w.plans()
+    assert plans == [{"n": 1}, {"n": 2}, {"n": 3}] and plans.whole == tuple(plans)
+    assert plans.complete and plans.certificate.check()
+    with pytest.raises(TypeError, match="no plan has a real number"):
+        w.plans([n, x])
+    best = w.greatest(n)
+    assert best.plan == {"n": 3} and best.certificate.check()
+
+
 def test_temperatures(w: Workbench) -> None:
     inside = w.measured("inside", unit="degC", low=-50, high=100, step="0.1")
     outside = w.measured("outside", unit="degF", low=-50, high=200, step="0.1")

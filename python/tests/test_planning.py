@@ -120,9 +120,22 @@ def test_facts_are_premises(p: Project) -> None:
     assert w.least(p.end).value == 9
 
 
+def test_the_best_plan_says_which_options_it_takes(p: Project) -> None:
+    w = p.workbench
+    for cell, option in ((p.end, "hotel"), (p.total_cost, "uni")):
+        best = w.least(cell)
+        assert best.choices == {"venue": option} and best.plan is not None
+        assert ["venue", option] in [line.split() for line in str(best).splitlines()]
+        assert best.rows()[:-1] == list(best.plan.items())
+
+
 def test_what_is_wrong(p: Project) -> None:
     with pytest.raises(ValueError, match="nobody in the plan is called 'anna'. Did you mean ana?"):
         p.task("talk", 2, who="anna")
+    with Workbench() as other:
+        elsewhere = other.plan(days=60).task("elsewhere", 1)
+        with pytest.raises(ValueError, match="talk: the task 'elsewhere' is none of this workben"):
+            p.task("talk", 2, after=[elsewhere])
     with pytest.raises(ValueError, match="there is a task 'venue'"):
         p.task("venue", 2)
     with pytest.raises(ValueError, match="say how many days"):

@@ -3,6 +3,7 @@
 from collections.abc import Iterable
 from itertools import chain, combinations
 
+import pytest
 from drawn_models import model_lines
 from conftest import TIMES
 from hypothesis import given, settings
@@ -54,6 +55,71 @@ def test_conflicts_and_repairs_are_all_there_are(lines: list[str]) -> None:
         assert not mended.complete or set(mended) == repairs
         assert set(mended) <= repairs
         assert found.certificate.check() and mended.certificate.check()
+
+
+@settings(max_examples=20 * TIMES)
+@given(model_lines(conflicting=True), st.data())
+def test_a_question_goes_on_from_the_one_before(lines: list[str], data: st.DataObject) -> None:
+    """Whatever was asked before, in however small parts, all comes out as if it had not been."""
+    with Session() as session, Session() as other:
+        model, fresh = LineModel(session, lines), LineModel(other, lines)
+        weights = {p: data.draw(st.sampled_from([1, 2, 5])) for p in model.believed()}
+        wanted, needed = fresh.repairs(weights, most=1000), fresh.conflicts(most=1000)
+        costs = [repair.cost for repair in wanted]
+        for kind in data.draw(st.lists(st.sampled_from(["conflicts", "plain", "repairs"]))):
+            most = data.draw(st.sampled_from([1, 2, 4]))
+            if kind == "conflicts":
+                some = model.conflicts(most=most)
+                assert len(some) <= most and (not needed.complete or set(some) <= set(needed))
+                assert not some.complete or len(some) == len(needed)
+                assert some.certificate.check()
+            else:
+                told = weights if kind == "repairs" else {}
+                few = model.repairs(told, most=most)
+                assert len(few) <= most and (not wanted.complete or set(few) <= set(wanted))
+                assert not few.complete or len(few) == len(wanted)
+                if kind == "repairs" and wanted.complete:
+                    assert [repair.cost for repair in few] == costs[: len(few)]
+                assert few.certificate.check()
+        mended, found = model.repairs(weights, most=1000), model.conflicts(most=1000)
+        if wanted.complete and mended.complete:
+            assert set(mended) == set(wanted) and [repair.cost for repair in mended] == costs
+            assert set(found) == set(needed)
+        assert mended.complete == wanted.complete
+        assert mended.certificate.check() and found.certificate.check()
+
+
+def test_other_weights_give_another_order() -> None:
+    """What the question before found out counts, and not in which order."""
+    with Session() as session:
+        model = LineModel(session, ["cell x span", *(f"tell p{n} x {n}" for n in range(4))])
+        for dear in ("p0", "p3", "p1"):
+            [cheapest] = model.repairs({dear: 9}, most=1)
+            assert cheapest == set(model.premises()) - {dear} and cheapest.cost == 3
+
+
+def test_what_is_known_is_not_asked_again(monkeypatch: pytest.MonkeyPatch) -> None:
+    """Of the same network no program is begun for what is known, and one for what is not."""
+    lines = ["cell x span", *(f"tell p{n} x {n}" for n in range(4))]
+    with Session() as session:
+        model = LineModel(session, lines)
+        begun: list[Session] = []
+        fresh = Session.fresh
+
+        def counted(of: Session) -> Session:
+            begun.append(fresh(of))
+            return begun[-1]
+
+        monkeypatch.setattr(Session, "fresh", counted)
+        assert len(model.conflicts(most=2)) == 2 and len(begun) == 1
+        assert len(model.conflicts(most=1)) == 1 and len(begun) == 1
+        assert len(model.conflicts()) == 6 and len(begun) == 2
+        assert [repair.cost for repair in model.repairs({"p0": 9})] == [3, 11, 11, 11]
+        assert len(begun) == 2
+        few = model.repairs(most=3)
+        assert len(few) == 3 and not few.complete and few.certificate.check()
+        model.send("kick p3")
+        assert len(model.conflicts()) == 3 and len(begun) == 3
 
 
 @settings(max_examples=30 * TIMES)

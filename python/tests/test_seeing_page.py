@@ -1,5 +1,7 @@
 """The examples of the page on seeing do what they say."""
 
+import re
+
 from pathlib import Path
 
 import pytest
@@ -21,13 +23,27 @@ def test_the_page(
     monkeypatch.setenv("PROPBENCH", program)
     monkeypatch.chdir(tmp_path)
     names: dict[str, object] = {}
-    found = examples(PAGE.read_text(encoding="utf-8"))
+    found = examples(without_how(PAGE.read_text(encoding="utf-8")))
     assert len(found) == 1
     for code, wanted in found:
         exec(code, names)
         assert capsys.readouterr().out.replace(f"{UNPROVED}\n", "") == wanted
     assert (tmp_path / "plan.svg").read_text().count("</svg>") == 1
     assert "Ana&#39;s wish" in (tmp_path / "days.svg").read_text()
+
+
+def without_how(text: str) -> str:
+    """The page without what propwide alone tells."""
+    return re.sub(r"\n## What makes up a value\n.*?(?=\n## )", "", text, flags=re.S)
+
+
+def test_what_propwide_tells(wide: str, capsys: pytest.CaptureFixture[str]) -> None:
+    text = PAGE.read_text(encoding="utf-8")
+    [(code, _)] = examples(without_how(text))
+    [(how, wanted)] = examples(text[text.index("## What makes up a value") :][:900])
+    names: dict[str, object] = {}
+    exec(code.partition("w.picture")[0].replace("Workbench()", f"Workbench({wide!r})") + how, names)
+    assert capsys.readouterr().out == wanted
 
 
 def test_it_is_short() -> None:

@@ -14,7 +14,7 @@ from typing import Any
 
 import pytest
 from browsing import new_browser, shown
-from conftest import PROGRAMS, REPOSITORY, TIMES
+from conftest import REPOSITORY, TIMES
 from test_desk import Talk
 from test_watching import random_lines
 
@@ -119,20 +119,6 @@ def test_a_program_that_tells_no_steps_says_so(program: str) -> None:
 
 
 # --- over propwide ---
-
-
-@pytest.fixture(scope="module")
-def wide() -> str:
-    """A propwide that tells steps."""
-    path = PROGRAMS.get("propwide", "")
-    if not path:
-        pytest.skip("no propwide is named by $PROPWIDE, built or installed")
-    with Session(path) as session:
-        try:
-            session.step()
-        except UnknownCommand:
-            pytest.skip("this propwide tells no steps")
-    return path
 
 
 def bare_lines(program: str, lines: list[str], options: list[str]) -> list[str]:
@@ -372,7 +358,7 @@ def test_a_film_tells_what_was_called(wide: str) -> None:
     assert "how: 9 is left for how: 4" in {frame.does for frame in taken}
 
 
-def test_the_page_tells_what_was_called(wide: str) -> None:
+def test_the_page_tells_what_was_called_and_how(wide: str) -> None:
     browser = new_browser()
     try:
         with Session(wide) as session:
@@ -387,5 +373,22 @@ def test_the_page_tells_what_was_called(wide: str) -> None:
                 assert page.one("#changes .does").text == "adder x y z, of sum x y z"
                 assert page.marked("bears") == 1
                 page.keep("told")
+        lines = [f"cell {name} span" for name in "abcde"]
+        lines += ["attach sum a b c", "attach sum c d e", "attach max a b d"]
+        with Session(wide) as session:
+            session.send_all([*lines, "tell ana a 3..5", "fix b 10", "tell ben e 20..90"])
+            with shown(browser, Page(SessionWatched(session), "how")) as page:
+                page.click("c")
+                page.until(lambda: page.text("cell-name") == "c" and page.marked("bears"))
+                # the cells a, b, c and the first use: what is behind c says no more of it
+                assert page.marked("bears") == 4
+                assert {each.text for each in page.all("#premises li.lit label")} == {"ana"}
+                page.one("#how summary").click()
+                assert page.text("cell-how").split("\n") == [
+                    "c = 13..15, by adder a b c, of sum a b c",
+                    "  a = 3..5, told by ana",
+                    "  b = 10, as fixed",
+                ]
+                page.keep("how")
     finally:
         browser.quit()

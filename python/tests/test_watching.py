@@ -12,7 +12,8 @@ from conftest import REPOSITORY, TIMES, Bare
 
 from propbench import NoSuchCell, Session, Workbench
 from propbench.running import Way
-from propbench.watching import Network, Use, Watched, bearing
+from propbench.watching import Network, Use, Watched, bears
+from propbench.watching.bearing import bearing
 from propbench.watching.of_session import SessionWatched
 from propbench.watching.of_workbench import WorkbenchWatched
 from propbench.watching.opening import opened
@@ -117,12 +118,12 @@ def test_what_bears_is_enough(program: str, bare: Bare, both_ways: bool) -> None
         with Session(program) as session:
             session.send_all(lines)
             watched = SessionWatched(session)
-            seen, network = watched.see(), watched.network()
+            seen = watched.see()
+            found = [(each, bears(watched, seen, each)) for each in seen.values.values()]
         attached = [line for line in lines if line.startswith("attach")]
-        for shown in seen.values.values():
+        for shown, lit in found:
             if not shown.is_known:
                 continue
-            lit = bearing(network, seen, shown)
             kept = [line for line in lines if line.startswith("cell")]
             kept += [line for at, line in enumerate(attached, 1) if str(at) in lit.uses]
             kept += [

@@ -29,7 +29,7 @@ impl Reasons {
     }
 
     /// The reasons, in order.
-    pub(crate) fn sets(&self) -> &[PremiseSet]
+    pub fn sets(&self) -> &[PremiseSet]
         ensures { result.now ≡ self.now }
     {
         &self.sets

@@ -85,6 +85,13 @@ impl Search {
         &self.list
     }
 
+    /// The reasons against the sides that each choice has left, in order of declaration.
+    pub fn reasons(&self) -> &[Reasons]
+        ensures { result.now ≡ self.now.reasons }
+    {
+        &self.reasons
+    }
+
     /// Of how many choices the side is believed.
     pub(crate) fn level(&self) -> usize
         ensures { result ≡ self.now.level }

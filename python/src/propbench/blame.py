@@ -44,8 +44,12 @@ _NAMES = (
     Role.PREMISE,
 )
 
-_NEEDS = "`step` needs propwide: this program doesn't tell what its runs do."
-_ALONE = "`step` stands alone on its line, and needs propwide."
+# What a program doesn't tell that lacks the command.
+_UNTOLD = {
+    "step": "what its runs do",
+    "how": "what makes up a value",
+    "list": "what it holds",
+}
 
 
 @dataclass(frozen=True)
@@ -125,8 +129,20 @@ def _not_utf8(case: _Case) -> Blame:
 def _unknown_command(case: _Case) -> Blame:
     first, *more = tokens_of(case.line)
     if first.text in TELLING:
-        return _at(more[0], _ALONE) if more else _at(first, _NEEDS)
+        return _untold(case, first, more)
     return _at(first, f"No command is called {quoted(first.text)}.", FORMS)
+
+
+def _untold(case: _Case, first: Token, more: list[Token]) -> Blame:
+    """Of a command that propwide alone has."""
+    if case.parse.complete and case.parse.broken is None:
+        says = f"needs propwide: this program doesn't tell {_UNTOLD[first.text]}."
+        return _at(first, f"`{first.text}` {says}")
+    [usage] = usages_of(first.text)
+    written = f"is written `{usage.form}`"
+    if usage.form == first.text:
+        written = "stands alone on its line"
+    return _at((more or [first])[-1], f"`{first.text}` {written}, and needs propwide.")
 
 
 def _listed(expected: Expected) -> str:

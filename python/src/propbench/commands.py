@@ -70,7 +70,17 @@ USAGES = tuple(
     )
 )
 
+# Those that propwide has beside them, as docs/WIDE.md has them.
+TOLD = tuple(
+    Usage(form, f"{meaning}; propwide alone has this command")
+    for form, meaning in (
+        ("step", "takes one step of a run, and tells it"),
+        ("how X", "what makes up what is known of X: statements and calls"),
+        ("list", "what there is: cells, procedures, premises, choices"),
+    )
+)
+
 
 def usages_of(command: str) -> tuple[Usage, ...]:
     """The ways to write a command, none where it is no command."""
-    return tuple(usage for usage in USAGES if usage.command == command)
+    return tuple(usage for usage in USAGES + TOLD if usage.command == command)

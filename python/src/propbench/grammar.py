@@ -225,19 +225,21 @@ FORMS: dict[str, Callable[[], Form]] = {
 
 # The commands that run the network.
 RUNNING = frozenset(("ask", "why", "core", "settle", "worldview"))
-# Those that tell what a run does, which propwide has and propbench has not.
-TELLING = frozenset(("step",))
+# Those that tell what a run does, what a value is made of, and what there is: propwide has them, and
+# propbench has not.
+TELLING: dict[str, Callable[[], Form]] = {"step": _bare, "how": _of_cell, "list": _bare}
+_ALL = {**FORMS, **TELLING}
 # Those that ask: they are answered by more than `ok`, and change nothing that was said.
-ASKING = RUNNING | TELLING | {"nogoods"}
+ASKING = RUNNING | TELLING.keys() | {"nogoods"}
 
 
 def parsed(line: str) -> Parse:
     """The line by the form of its command. Without a command nothing of it has a place."""
     tokens = tokens_of(line)
-    if not tokens or tokens[0].text not in FORMS:
+    if not tokens or tokens[0].text not in _ALL:
         return Parse((), False, tokens[0] if tokens else None, (Role.COMMAND,))
     places = [Place(tokens[0], Role.COMMAND)]
-    form = FORMS[tokens[0].text]()
+    form = _ALL[tokens[0].text]()
     expected = next(form)
     for token in tokens[1:]:
         place = _placed(token, expected)

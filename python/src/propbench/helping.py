@@ -5,9 +5,8 @@ import shutil
 from collections.abc import Iterator
 from pathlib import Path
 
-from propbench.commands import USAGES, usages_of
+from propbench.commands import TOLD, USAGES, usages_of
 from propbench.finding import repository
-from propbench.grammar import TELLING
 from propbench.kit import KIT
 from propbench.known import Known
 from propbench.refusals import CLASSES
@@ -41,7 +40,7 @@ def columns() -> int:
 
 def all_help() -> str:
     """All commands, each with what it does."""
-    rows = [(usage.form, plain(usage.meaning)) for usage in USAGES]
+    rows = [(usage.form, plain(usage.meaning)) for usage in USAGES + TOLD]
     return table(("command", "what it does"), rows, most=columns())
 
 
@@ -49,8 +48,6 @@ def help_on(word: str, known: Known) -> str:
     """What there is to say of a command, a procedure or definition, or the number of a refusal."""
     if usages_of(word):
         return "\n".join(_on_command(word))
-    if word in TELLING:
-        return f"{word}  takes one step of a run, and tells it; propwide alone has this command"
     if known.is_procedure(word):
         return "\n".join(_on_procedure(word, known))
     if word.isdigit() and int(word) in CLASSES:

@@ -1,12 +1,14 @@
 """What a session was told, as lists: statements by premise, choices by side, definitions.
 
-It is read from the lines that were carried out, and nothing is concluded from it.
+It is read from the lines that were carried out, and nothing is concluded from it. Where the program
+lists what is stated and believed, that takes its place.
 """
 
 from collections.abc import Iterable
 from dataclasses import dataclass, field
 
 from propbench.grammar import Place, Role, parsed
+from propbench.replies import Listing, Stand
 
 
 @dataclass(frozen=True)
@@ -23,13 +25,15 @@ class Statement:
 @dataclass
 class Told:
     """What lines have told. `premises` has the statements of each premise, "" for what is fixed, and
-    `choices` those of each side, in order."""
+    `choices` those of each side, in order; `stands` has where a choice stands, where that is
+    listed."""
 
     premises: dict[str, list[Statement]] = field(default_factory=dict)
     choices: dict[str, list[Statement]] = field(default_factory=dict)
     definitions: dict[str, str] = field(default_factory=dict)
     attached: list[str] = field(default_factory=list)
     kicked: dict[str, None] = field(default_factory=dict)
+    stands: dict[str, Stand] = field(default_factory=dict)
 
     def learn(self, line: str) -> None:
         """Takes in a line that was carried out."""
@@ -37,6 +41,16 @@ class Told:
         learn = _LEARNS.get(words[0])
         if learn:
             learn(self, words[1], line)
+
+    def take(self, listing: Listing) -> None:
+        """Takes in what the program lists of premises and choices, in place of what lines told."""
+        stated = [each for each in listing.statements if "=" not in each.premise]
+        self.premises = {"": []} if any(not each.premise for each in stated) else {}
+        self.premises.update((name, []) for name, _ in listing.premises)
+        for each in stated:
+            self.premises[each.premise].append(Statement(each.cell, str(each.value)))
+        self.kicked = {name: None for name, is_believed in listing.premises if not is_believed}
+        self.stands = {each.choice: each for each in listing.choices}
 
     def side(self, name: str) -> Statement | None:
         """What a side such as `venue=2` says, None where the name is no side."""

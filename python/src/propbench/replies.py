@@ -4,7 +4,7 @@ A reply is read by what was asked, never by how it looks: `because = because bec
 symbol, and what it rests on. `str(reply)` is the text of the program.
 """
 
-from collections.abc import Mapping
+from collections.abc import Iterator, Mapping, Sequence
 from dataclasses import dataclass
 from typing import TYPE_CHECKING
 
@@ -82,6 +82,15 @@ class Value:
             return _said(*unread)
         return self.cell, self.value, self.settled, self.because, self.reduced
 
+    def ends(self) -> "Ends | None":
+        """The ends of a number with the premises that are enough for them, where the text is still
+        to be read, and says that in reply to a `why` that is settled. (To read no more than that is
+        twice as fast.)"""
+        unread = self.__dict__.get("_unread")
+        if unread and unread[1] == "why" and unread[2] == "span":
+            return _ends(unread[0])
+        return None
+
     def __str__(self) -> str:
         text = f"{self.cell} = {self.value}"
         if not self.settled:
@@ -94,6 +103,8 @@ class Value:
 # The fields of a Value: their names in order, and what they are.
 _FIELDS = ("cell", "value", "settled", "because", "reduced")
 Said = tuple[str, Held, bool, tuple[str, ...] | None, bool | None]
+# A number from one to another, and the premises that are enough for it.
+Ends = tuple[int, int, list[str]]
 
 
 @dataclass(frozen=True)
@@ -159,9 +170,14 @@ class Called:
     because: tuple[str, ...]
 
     @property
+    def cell(self) -> str:
+        """The cell that it says something of: its output."""
+        return self.output
+
+    @property
     def says(self) -> str:
         """What is known of the output, as a `why` says it."""
-        return f"{self.output} = {self.value} because {_named(self.because)}"
+        return _said_of(self.output, self.value, self.because)
 
     def __str__(self) -> str:
         words = (str(self.instance), self.procedure, *self.inputs, self.output)
@@ -194,7 +210,127 @@ class Step:
         return "\n".join([f"step {len(lines)}", *lines])
 
 
-Reply = Silent | Done | Value | Settled | Unsettled | Contradiction | Worldview | Nogoods | Step
+@dataclass(frozen=True)
+class Stated:
+    """What is stated of a cell: under a premise, by a side of a choice (`choice=1`), or always,
+    where `premise` is ""."""
+
+    premise: str
+    cell: str
+    value: Held
+    because: tuple[str, ...]
+
+    @property
+    def line(self) -> str:
+        """The line that states it, of a side one that would."""
+        told = f"tell {self.premise}" if self.premise else "fix"
+        return f"{told} {self.cell} {self.value}"
+
+    def __str__(self) -> str:
+        told = f"told: {self.premise}" if self.premise else "told:"
+        return f"{told}\n{_said_of(self.cell, self.value, self.because)}"
+
+
+@dataclass(frozen=True)
+class How:
+    """What makes up what is known of a cell, as propwide tells it: the statements and the calls
+    that say it together. The first of the `parts` completes it. Of the inputs of a call it counts
+    what the parts behind it say, so nothing supports itself. `parts` is None where they weren't
+    found within the limit. `sides` are those of choices that are believed."""
+
+    sides: tuple[str, ...]
+    cell: str
+    value: Held
+    because: tuple[str, ...]
+    parts: tuple[Called | Stated, ...] | None
+
+    def __str__(self) -> str:
+        lines = [
+            " ".join(("sides:", *self.sides)),
+            _said_of(self.cell, self.value, self.because),
+            *(["cut"] if self.parts is None else "\n".join(map(str, self.parts)).split("\n")),
+        ]
+        kept = list(filter(None, lines))
+        return "\n".join([f"how {len(kept)}", *kept])
+
+
+@dataclass(frozen=True)
+class Instance:
+    """A procedure between cells. `number` is the one by which a call names it, and `part` says what
+    it was made by: `2.1` is the first part of what the second `attach` made, `2` that itself. What
+    stands behind `by` is `given`, "" for nothing."""
+
+    number: int
+    part: str
+    procedure: str
+    inputs: tuple[str, ...]
+    output: str
+    given: str
+
+    def __str__(self) -> str:
+        by = ("by", self.given) if self.given else ()
+        words = (str(self.number), self.part, self.procedure, *self.inputs, self.output, *by)
+        return f"instance {' '.join(words)}"
+
+
+@dataclass(frozen=True)
+class Stand:
+    """The side, from 1, of so many on which a choice stands, and whether it is believed as yet. For
+    each side that was left `refuted` has the premises and sides for which it was."""
+
+    choice: str
+    side: int
+    sides: int
+    is_believed: bool
+    refuted: tuple[tuple[str, tuple[str, ...]], ...]
+
+    def __str__(self) -> str:
+        word = _BELIEVED[self.is_believed]
+        lines = [f"choice {self.choice} {self.side} of {self.sides} {word}"]
+        lines += [f"refuted {side} because {_named(names)}" for side, names in self.refuted]
+        return "\n".join(lines)
+
+
+@dataclass(frozen=True)
+class Listing:
+    """What there is, as propwide tells it: cells with their kinds, a local of a compound by its use
+    (`2.k`); instances; what is stated, sides of choices among it; premises, and whether each is
+    believed; and where the choices stand. All in the order in which it came."""
+
+    cells: tuple[tuple[str, str], ...]
+    instances: tuple[Instance, ...]
+    statements: tuple[Stated, ...]
+    premises: tuple[tuple[str, bool], ...]
+    choices: tuple[Stand, ...]
+
+    def __str__(self) -> str:
+        parts = [
+            *(f"cell {name} {kind}" for name, kind in self.cells),
+            *map(str, self.instances),
+            *(each.line for each in self.statements),
+            *(f"premise {name} {_BELIEVED[believed]}" for name, believed in self.premises),
+            *map(str, self.choices),
+        ]
+        lines = [line for part in parts for line in part.split("\n")]
+        return "\n".join([f"list {len(lines)}", *lines])
+
+
+_BELIEVED = {True: "in", False: "out"}
+
+
+Reply = (
+    Silent
+    | Done
+    | Value
+    | Settled
+    | Unsettled
+    | Contradiction
+    | Worldview
+    | Nogoods
+    | Step
+    | How
+    | Listing
+)
 
 SILENT = Silent()
 DONE = Done()
@@ -204,14 +340,21 @@ UNSETTLED = Unsettled()
 # What is said in place of premises where there are none.
 NO_PREMISE = "no premise"
 # The commands whose reply may have more than one line.
-SEVERAL = frozenset(("worldview", "nogoods", "step"))
+SEVERAL = frozenset(("worldview", "nogoods", "step", "how", "list"))
+# Those of them whose first line is the command and how many lines follow.
+_COUNTED = ("nogoods", "step", "how", "list")
 _WORDS: tuple[Reply, ...] = (DONE, SETTLED, UNSETTLED)
 _PLAIN = {str(reply): reply for reply in _WORDS}
 _VALUED = frozenset(("ask", "why", "core"))
+_new, _put = object.__new__, object.__setattr__
 
 
 def _named(premises: tuple[str, ...]) -> str:
     return " ".join(premises) or NO_PREMISE
+
+
+def _said_of(cell: str, value: Held, because: tuple[str, ...]) -> str:
+    return f"{cell} = {value} because {_named(because)}"
 
 
 def _names(text: str) -> tuple[str, ...]:
@@ -230,11 +373,8 @@ def lines_behind(command: str, first: str) -> int:
     """How many lines follow the first of the reply to this command."""
     if command == "worldview" and first.startswith("in:"):
         return 1
-    if command == "nogoods" and first.startswith("nogoods "):
-        return int(first[8:])
-    if command == "step" and first.startswith("step "):
-        return int(first[5:])
-    return 0
+    word, _, count = first.partition(" ")
+    return int(count) if word == command and command in _COUNTED else 0
 
 
 def reply_of(words: list[str], text: str, kinds: Mapping[str, str]) -> Reply:
@@ -243,12 +383,13 @@ def reply_of(words: list[str], text: str, kinds: Mapping[str, str]) -> Reply:
     command = words[0]
     if command == "step":
         return _step(text.split("\n")[1:], kinds)
+    if command == "how":
+        return _how(text.split("\n")[1:], kinds)
+    if command == "list":
+        return _listing(text.split("\n")[1:])
     # (no name has the mark `=`)
     if command in _VALUED and " = " in text:
-        made = object.__new__(Value)
-        # (past the freeze; by `vars` it would take twice the time and memory)
-        object.__setattr__(made, "_unread", (text, command, kinds[words[1]]))
-        return made
+        return unread(text, command, kinds[words[1]])
     if text.startswith("contradiction:"):
         return Contradiction(_names(text[15:]))
     if command == "worldview" and text != "unsettled":
@@ -257,6 +398,27 @@ def reply_of(words: list[str], text: str, kinds: Mapping[str, str]) -> Reply:
     if command == "nogoods":
         return Nogoods(tuple(_names(line[8:]) for line in text.split("\n")[1:]))
     return _PLAIN[text]
+
+
+def unread(text: str, command: str, kind: str) -> Value:
+    """The value that a text says in reply to a command, of a cell of this kind."""
+    made = _new(Value)
+    # (past the freeze; by `vars` it would take twice the time and memory)
+    _put(made, "_unread", (text, command, kind))
+    return made
+
+
+def _ends(text: str) -> Ends | None:
+    """What the text of a reply to a `why` says of a number, where it is settled."""
+    words = text.split(" ")
+    if words[3] != "because":
+        return None
+    low, dots, high = words[2].partition("..")
+    if not low[-1].isdigit():
+        return None
+    least = int(low)
+    names = words[4:]
+    return least, int(high) if dots else least, names if names[0] != "no" else []
 
 
 def _said(text: str, command: str, kind: str) -> Said:
@@ -273,17 +435,86 @@ def _step(lines: list[str], kinds: Mapping[str, str]) -> Step:
     sides = tuple(lines[0].split(" ")[1:])
     word, *said = lines[1].split(" ")
     if word == "called:":
-        number, procedure, *inputs, output = said
-        _, held, behind = _cut(lines[2])
-        # (of a cell without a name the value tells whether it is of numbers: no name begins so)
-        kind = kinds.get(output, "span" if looks_like_number(held) else "")
-        because = _names(behind.removeprefix("because "))
-        value = value_of(held, kind)
-        return Step(sides, Called(int(number), procedure, tuple(inputs), output, value, because))
+        return Step(sides, _called(said, lines[2], kinds))
     if word == "moved:":
         left, taken = said
         return Step(sides, Moved(left, taken, _names(lines[2][8:])))
     return Step(sides, SETTLED if word == "settled" else Contradiction(_names(lines[1][15:])))
+
+
+def _how(lines: list[str], kinds: Mapping[str, str]) -> How:
+    """What makes up a value by these lines, those behind the first."""
+    said = _known(lines[1], kinds)
+    sides, told = tuple(lines[0].split(" ")[1:]), lines[2:]
+    if told == ["cut"]:
+        return How(sides, *said, None)
+    parts: list[Called | Stated] = []
+    for first, says in zip(told[::2], told[1::2]):
+        word, *words = first.split(" ")
+        is_call = word == "called:"
+        parts.append(
+            _called(words, says, kinds) if is_call else Stated("".join(words), *_known(says, kinds))
+        )
+    return How(sides, *said, tuple(parts))
+
+
+def _listing(lines: list[str]) -> Listing:
+    """What there is by these lines, those behind the first."""
+    told = [line.split(" ") for line in lines]
+
+    def of(*kinds_of_line: str) -> Iterator[list[str]]:
+        return (words for words in told if words[0] in kinds_of_line)
+
+    kinds = {name: kind for _, name, kind in of("cell")}
+    left = list(of("refuted"))
+    return Listing(
+        tuple(kinds.items()),
+        tuple(_instance(words) for words in of("instance")),
+        tuple(_stated(words, kinds) for words in of("fix", "tell")),
+        tuple((name, word == "in") for _, name, word in of("premise")),
+        tuple(_stand(words, left) for words in of("choice")),
+    )
+
+
+def _instance(words: list[str]) -> Instance:
+    _, number, part, procedure, *on = words
+    is_given = on[-2] == "by"
+    *inputs, output = on[:-2] if is_given else on
+    given = on[-1] if is_given else ""
+    return Instance(int(number), part, procedure, tuple(inputs), output, given)
+
+
+def _stated(words: list[str], kinds: Mapping[str, str]) -> Stated:
+    premise = words[1] if words[0] == "tell" else ""
+    cell, *value = words[2 if premise else 1 :]
+    because = (premise,) if premise else ()
+    return Stated(premise, cell, value_of(" ".join(value), kinds[cell]), because)
+
+
+def _stand(words: list[str], refuted: Sequence[list[str]]) -> Stand:
+    """Where a choice stands, given all sides that were left."""
+    _, choice, side, _, sides, word = words
+    left = [
+        (name, _names(" ".join(names)))
+        for _, name, _, *names in refuted
+        if name.partition("=")[0] == choice
+    ]
+    return Stand(choice, int(side), int(sides), word == "in", tuple(left))
+
+
+def _called(words: list[str], says: str, kinds: Mapping[str, str]) -> Called:
+    """The call that these words name, and what is known of its output behind it."""
+    number, procedure, *inputs, output = words
+    _, value, because = _known(says, kinds)
+    return Called(int(number), procedure, tuple(inputs), output, value, because)
+
+
+def _known(text: str, kinds: Mapping[str, str]) -> tuple[str, Held, tuple[str, ...]]:
+    """The cell of which a text says a value, that value, and the premises behind it."""
+    cell, held, behind = _cut(text)
+    # (of a cell without a name the value tells whether it is of numbers: no name begins so)
+    kind = kinds.get(cell, "span" if looks_like_number(held) else "")
+    return cell, value_of(held, kind), _names(behind.partition("because ")[2])
 
 
 def _cut(text: str) -> tuple[str, str, str]:

@@ -10,7 +10,7 @@ from collections.abc import Callable
 from dataclasses import dataclass, replace
 
 from propbench.conversation import Conversation
-from propbench.replies import Reply, Unsettled, Value, reply_of
+from propbench.replies import Reply, Unsettled, Value, reply_of, unread
 
 # What is told of a run that goes on: the steps that it took, and what is known then.
 Progress = Callable[[int, Reply], None]
@@ -86,12 +86,11 @@ class Runner:
             text = program.hear()
         except KeyboardInterrupt as stopped:
             return self._interrupted(Question(line, words, number), stopped)
-        if text[:6] == "error " or "unsettled" in text:
+        if text[:6] == "error " or " = " not in text or "unsettled" in text:
             return self._heard(line, words, number, text)
-        reply = reply_of(words, text, talk.kinds)
         talk.lines.append(line)
         talk.in_step = True
-        return reply
+        return unread(text, words[0], talk.kinds[words[1]])
 
     def hear(self, line: str, words: list[str], number: int) -> Reply:
         """The reply to a question that was told, which is no `core`, in as many slices as it needs;

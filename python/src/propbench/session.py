@@ -16,14 +16,18 @@ from propbench.conversation import Conversation
 from propbench.finding import find_program
 from propbench.grammar import FORMS, RUNNING
 from propbench.known import Known
-from propbench.refusals import Refused
-from propbench.replies import DONE, SILENT, Reply, Step, reply_of
+from propbench.refusals import Refused, UnknownCommand
+from propbench.replies import DONE, SILENT, How, Listing, Reply, Step, reply_of
 from propbench.runs import Progress, Question, Runner, Watch, is_settled
 from propbench.words import MOST_STEPS, as_line, is_silent
 
 STEPS = 1_000_000_000
 MOST_SEED = 2**64 - 1
 ORDERS = ("fifo", "lifo", "mixed")
+# (within the class `list` is what it does)
+Texts = list[str]
+Replies = list[Reply]
+Outcomes = list[Reply | Refused]
 # With what most questions begin.
 _QUESTIONS = frozenset(("ask ", "why "))
 
@@ -57,7 +61,10 @@ class Session(Closing):
         self._command = [found.path, "--order", order, "--seed", str(seed)]
         self._first_limit = STEPS if limit is None else limit
         self._sent = 0
+        self._tells: tuple[str, ...] | None = None
         self._closed = False
+        # What those who ask a session much keep of it, by their names; it goes with the session.
+        self.kept: dict[str, object] = {}
         self._begin()
 
     def fresh(self) -> "Session":
@@ -75,7 +82,7 @@ class Session(Closing):
         return self._found.proved
 
     @property
-    def lines(self) -> list[str]:
+    def lines(self) -> Texts:
         """The lines that were carried out, in order, without those that were silent or refused.
 
         A program that is given these lines answers as this session did. A question that was cut
@@ -145,18 +152,16 @@ class Session(Closing):
         return self._heard(text, words)
 
     @overload
-    def send_all(self, lines: Iterable[str | bytes]) -> list[Reply]:
+    def send_all(self, lines: Iterable[str | bytes]) -> Replies:
         ...
 
     @overload
-    def send_all(
-        self, lines: Iterable[str | bytes], *, keep_refused: Literal[True]
-    ) -> list[Reply | Refused]:
+    def send_all(self, lines: Iterable[str | bytes], *, keep_refused: Literal[True]) -> Outcomes:
         ...
 
     def send_all(
         self, lines: Iterable[str | bytes], *, keep_refused: bool = False
-    ) -> list[Reply] | list[Reply | Refused]:
+    ) -> Replies | Outcomes:
         """Sends lines without waiting for the replies in between, and gives the reply to each.
 
         All lines are carried out but those that are refused. The first of these is raised in the
@@ -183,7 +188,7 @@ class Session(Closing):
             raise batch.first_refused
         return batch.replies
 
-    def look(self, questions: Iterable[str]) -> list[Reply | Refused]:
+    def look(self, questions: Iterable[str]) -> Outcomes:
         """What is known now: the replies to questions that are asked without a step being taken.
 
         Where what is known is settled, they leave no trace in `lines`.
@@ -212,7 +217,31 @@ class Session(Closing):
         assert isinstance(reply, Step)
         return reply
 
-    def replay(self, lines: Iterable[str] | None = None) -> list[Reply | Refused]:
+    def how(self, cell: str) -> How:
+        """What makes up what is known of a cell as it stands, where the program is propwide: no
+        step is taken. Raises UnknownCommand over a program that doesn't tell, the refusal of a cell
+        that isn't there, and ProgramEnded."""
+        reply = self.send(f"how {cell}")
+        assert isinstance(reply, How)
+        return reply
+
+    def list(self) -> Listing:
+        """What there is, with how the choices stand, where the program is propwide. Raises
+        UnknownCommand over a program that doesn't tell, and ProgramEnded."""
+        reply = self.send("list")
+        assert isinstance(reply, Listing)
+        return reply
+
+    @property
+    def tells(self) -> tuple[str, ...]:
+        """Those of the commands `step`, `how` and `list` that the program has. It is asked once."""
+        if self._tells is None:
+            replies = zip(("how", "list"), self.look(["how _", "list"]))
+            found = [word for word, reply in replies if not isinstance(reply, UnknownCommand)]
+            self._tells = ("step", *found) if found else ()
+        return self._tells
+
+    def replay(self, lines: Iterable[str] | None = None) -> Outcomes:
         """Begins the program anew with the lines that were carried out, or with these in their
         place, and gives their replies.
 
@@ -261,7 +290,7 @@ class Session(Closing):
         self._runner.tell(line)
         return self._heard(line, words)
 
-    def _heard(self, line: str, words: list[str]) -> Reply:
+    def _heard(self, line: str, words: Texts) -> Reply:
         """The reply to a line that was told, and runs nothing."""
         talk = self._talk
         if (not words or words[0] not in FORMS) and is_silent(line):

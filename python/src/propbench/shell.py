@@ -23,6 +23,7 @@ from propbench.replies import (
     Moved,
     Reply,
     Silent,
+    Stand,
     Step,
     Unsettled,
     Value,
@@ -32,6 +33,7 @@ from propbench.runs import is_settled
 from propbench.session import Session
 from propbench.showing import printable, said_of
 from propbench.tables import table
+from propbench.watching.instances import listing_of
 from propbench.watching.of_session import SessionWatched
 
 Result = TypeVar("Result")
@@ -42,6 +44,7 @@ ASIDES = {
     ":list": "[cells|premises|choices|definitions|attached]  what the session knows; all of it",
     ":undo": "takes back the last line that changed something",
     ":step": "[N]  takes one step, or N, and shows what changed; over propwide what was called",
+    ":how": "X  what makes up what is known of X, as a tree, over propwide",
     ":draw": "[X] [FILE]  draws the network, or what bears on the cell X, as SVG or .dot",
     ":limit": "[N]  shows or sets how many steps a run takes at most",
     ":save": "FILE  writes the lines that were carried out",
@@ -79,6 +82,7 @@ class Shell:
             ":list": self._list,
             ":undo": self._undo,
             ":step": self._step,
+            ":how": self._how,
             ":draw": self._draw,
             ":limit": self._limit,
             ":save": self._save,
@@ -148,7 +152,6 @@ class Shell:
             self._write("  (the limit is used up; asked again it goes on from there)")
 
     def _list(self, words: list[str]) -> None:
-        told = told_by(self.session.lines)
         lists: dict[str, Callable[[Told], None]] = {
             "cells": self._list_cells,
             "premises": self._list_premises,
@@ -162,7 +165,14 @@ class Shell:
         for name in wanted:
             if len(wanted) > 1:
                 self._write(f"{name}:")
-            lists[name](told)
+            lists[name](self._stated())
+
+    def _stated(self) -> Told:
+        """What was told, as the program lists it where it does."""
+        told, listing = told_by(self.session.lines), listing_of(self.session)
+        if listing:
+            told.take(listing)
+        return told
 
     def _list_cells(self, told: Told) -> None:
         shown = self._watched(partial(overview, self.session, progress=self._progress))
@@ -177,10 +187,16 @@ class Shell:
         self._listed(("premise", "", "says"), rows, "Nothing is told.")
 
     def _list_choices(self, told: Told) -> None:
-        rows = []
+        rows: list[tuple[str, ...]] = []
         for choice, sides in told.choices.items():
-            rows += [(f"{choice}={i}", str(side)) for i, side in enumerate(sides, 1)]
-        self._listed(("side", "says"), rows, "There are no choices.")
+            names = [f"{choice}={i}" for i in range(1, len(sides) + 1)]
+            if choice in told.stands:
+                stands = stands_on(told.stands[choice])
+                rows += [(it, str(side), stands.get(it, "")) for it, side in zip(names, sides)]
+            else:
+                rows += [(it, str(side)) for it, side in zip(names, sides)]
+        heads = ("side", "says", "") if told.stands else ("side", "says")
+        self._listed(heads, rows, "There are no choices.")
 
     def _list_definitions(self, told: Told) -> None:
         self._write("\n".join(told.definitions.values()) or "Nothing is defined but the prelude.")
@@ -237,6 +253,12 @@ class Shell:
             cell: str(reply.value) if isinstance(reply, Value) else "(in conflict)"
             for cell, reply in zip(cells, replies)
         }
+
+    def _how(self, words: list[str]) -> None:
+        if len(words) != 1:
+            self._write("Say of which cell: :how X")
+            return
+        self._write(str(SessionWatched(self.session).how(words[0])))
 
     def _draw(self, words: list[str]) -> None:
         cell = words[0] if words and words[0] in self.session.known.cells else None
@@ -302,6 +324,13 @@ def lines_on(step: Step) -> list[str]:
     if isinstance(did, Moved):
         return [f"moved {did.left} to {did.taken}: impossible together: {' '.join(did.nogood)}"]
     return []
+
+
+def stands_on(stand: Stand) -> dict[str, str]:
+    """What there is to say of the sides of a choice: where it stands, and why others were left."""
+    found = {side: f"impossible: {' '.join(names)}" for side, names in stand.refuted}
+    here = "believed" if stand.is_believed else "not believed yet"
+    return {**found, f"{stand.choice}={stand.side}": here}
 
 
 def printable_lines(reply: Reply) -> str:

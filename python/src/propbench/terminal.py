@@ -53,7 +53,8 @@ def _rich_reader(session: Session) -> Callable[[], str]:
         def get_completions(
             self, document: Document, complete_event: CompleteEvent
         ) -> Iterable[Completion]:
-            begun, found = completions(document.text_before_cursor, session.known, ASIDES)
+            asides = [*session.tells, *ASIDES]
+            begun, found = completions(document.text_before_cursor, session.known, asides)
             return [Completion(word, start_position=-len(begun)) for word in found]
 
     history: History = InMemoryHistory()

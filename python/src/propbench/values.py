@@ -2,6 +2,8 @@
 
 from dataclasses import dataclass
 
+_put = object.__setattr__
+
 
 @dataclass(frozen=True)
 class Span:
@@ -9,6 +11,10 @@ class Span:
 
     low: int
     high: int
+
+    def __init__(self, low: int, high: int) -> None:
+        # (past the freeze, both at once: one by one it would take longer)
+        _put(self, "__dict__", {"low": low, "high": high})
 
     def __str__(self) -> str:
         return str(self.low) if self.low == self.high else f"{self.low}..{self.high}"
@@ -51,6 +57,22 @@ class Impossible:
 
 
 Held = Span | Elements | Symbol | Nothing | Impossible
+
+
+def both(one: Held, other: Held) -> Held:
+    """What is left of a value where both are known of it."""
+    if one == other or isinstance(other, Nothing):
+        return one
+    if isinstance(one, Nothing):
+        return other
+    if isinstance(one, Span) and isinstance(other, Span):
+        low, high = max(one.low, other.low), min(one.high, other.high)
+        return Span(low, high) if low <= high else Impossible()
+    if isinstance(one, Elements) and isinstance(other, Elements):
+        names = tuple(name for name in one.names if name in other.names)
+        return Elements(names) if names else Impossible()
+    return Impossible()
+
 
 _SAID: tuple[Held, ...] = (Nothing(), Impossible())
 _PLAIN = {str(held): held for held in _SAID}

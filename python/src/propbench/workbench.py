@@ -55,16 +55,19 @@ from propbench.questions import Sensitivity
 from propbench.questions.asking import CellLike
 from propbench.questions.clock import Progress
 from propbench.questions.model import First
+from propbench.refusals import UnknownCommand
 from propbench.replies import Contradiction, Settled, Value, Worldview
 from propbench.session import Session
 
 if TYPE_CHECKING:
     from propbench.page import Page
     from propbench.pictures import Film, Picture
+    from propbench.watching import Claim
 
 # What each alternative of a choice states: one constraint or several.
 Stated = Truth | bool | Sequence[Truth | bool]
 SomeCell = TypeVar("SomeCell", bound=Cell)
+_UNTOLD = "what makes up a value is told by propwide, and this program is another"
 _LACKS = "The program has no rule of its own for {}: answers may be wider than those of propwide."
 
 
@@ -321,9 +324,9 @@ class Workbench(Measuring, Closing):
         reply = network.session.send(
             f"{command} {network.vocabulary.cells.line(cell.name)}", seconds=seconds
         )
-        if isinstance(reply, Contradiction):
+        if not isinstance(reply, Value):
+            assert isinstance(reply, Contradiction)
             raise self._conflict(reply)
-        assert isinstance(reply, Value)
         if not network.premises.choices:
             return self._reader.answer(cell, reply, {})
         if command == "core" and reply.settled:
@@ -393,6 +396,17 @@ class Workbench(Measuring, Closing):
 
         name = None if cell is None else self._own(cell).name
         return picture_of(WorkbenchWatched(self), name)
+
+    def how(self, cell: Cell, *, seconds: float | None = None) -> "Claim":
+        """What makes up what follows for a cell, as `cell.how()` gives it."""
+        from propbench.watching.of_workbench import WorkbenchWatched
+
+        declared = self._own(cell)
+        self.answer("why", declared, seconds, None)
+        try:
+            return WorkbenchWatched(self).how(declared.name)
+        except UnknownCommand:
+            raise ValueError(_UNTOLD) from None
 
     def film(self, steps: int = 12) -> "Film":
         """The first steps that change something, of a run from nothing, as a strip of pictures."""

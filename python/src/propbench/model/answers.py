@@ -11,6 +11,8 @@ from propbench.values import Elements, Impossible, Nothing, Span
 # What is left for a cell: one value where one is left, else all that are.
 Left = int | str | bool | Span | Elements | Nothing | Impossible | Interval
 
+_put = object.__setattr__
+
 
 @dataclass(frozen=True)
 class Answer:
@@ -57,7 +59,7 @@ class Answer:
             "choices": choices or {},
             "reduced": reduced,
         }
-        object.__setattr__(self, "__dict__", held)
+        _put(self, "__dict__", held)
 
     def __str__(self) -> str:
         text = f"{printable(self.name)} = {self.value_text}"

@@ -10,6 +10,7 @@ from propbench.model.nodes import Declared, cell
 
 if TYPE_CHECKING:
     from propbench.pictures import Picture
+    from propbench.watching import Claim
 
 
 class Asked(Protocol):
@@ -19,6 +20,9 @@ class Asked(Protocol):
         self, command: str, cell: Declared, seconds: float | None, over: str | None
     ) -> Answer:
         """The answer to `why` or `core`."""
+
+    def how(self, cell: "Cell", *, seconds: float | None = None) -> "Claim":
+        """What makes up what follows for a cell."""
 
     def picture(self, cell: "Cell | None" = None) -> "Picture":
         """A picture of what bears on a cell."""
@@ -58,6 +62,14 @@ class Cell(Expression):
     def core(self, *, seconds: float | None = None) -> Answer:
         """The same, from premises of which none can be left out."""
         return self._workbench.answer("core", self._declared, seconds, None)
+
+    def how(self, *, seconds: float | None = None) -> "Claim":
+        """What makes up what follows for the cell: the constraints and statements that lead to it,
+        with what is known of other cells on the way. Printed it is a tree; `ways` are its branches.
+
+        Raises Conflict where what is believed can't all hold, and ValueError where the program is
+        not propwide, which alone tells this."""
+        return self._workbench.how(self, seconds=seconds)
 
     def picture(self) -> "Picture":
         """A picture of what bears on the cell, as a notebook shows it."""

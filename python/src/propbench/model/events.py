@@ -120,7 +120,12 @@ class ValueChoice:
 
     def is_met(self, points: Points) -> bool:
         """Whether the point is one that an alternative gives."""
-        return any(is_among(points[self.cell], self.cell, each) for each in self.alternatives)
+        return self.side_at(points) is not None
+
+    def side_at(self, points: Points) -> int | None:
+        """The first alternative that gives the point, None where none does."""
+        met = (is_among(points[self.cell], self.cell, each) for each in self.alternatives)
+        return next((side for side, is_it in enumerate(met) if is_it), None)
 
 
 @dataclass(frozen=True)
@@ -151,7 +156,12 @@ class ConstraintChoice:
 
     def is_met(self, points: Points) -> bool:
         """Whether all constraints of some alternative fit the points. Raises Beyond."""
-        return any(all(holds(each, points) for each in nodes) for _, nodes in self.alternatives)
+        return self.side_at(points) is not None
+
+    def side_at(self, points: Points) -> int | None:
+        """The first alternative of which all constraints fit the points. Raises Beyond."""
+        met = (all(holds(each, points) for each in nodes) for _, nodes in self.alternatives)
+        return next((side for side, is_it in enumerate(met) if is_it), None)
 
 
 Choice = ValueChoice | ConstraintChoice

@@ -19,7 +19,7 @@ from propbench.model.kinds import Domain
 from propbench.model.kit import offered, written
 from propbench.model.nodes import Declared, Node
 from propbench.model.premises import Premises
-from propbench.model.script import Script
+from propbench.model.script import Owner, Script
 from propbench.model.vocabulary import Vocabulary
 from propbench.model.writer import YES
 from propbench.questions.model import First
@@ -134,6 +134,16 @@ class Network:
             if isinstance(event, Required) and event.constraint is constraint:
                 lines.update(dict.fromkeys(self._base.explained(event)))
         return list(lines)
+
+    def owners(self) -> dict[str, Owner]:
+        """What the lines are for that the session was told, by the line."""
+        return self._script.owners()
+
+    def base_owners(self) -> dict[str, Owner]:
+        """What the lines of the base are for."""
+        self.base()
+        assert self._base
+        return self._base.owners()
 
     def begin_anew(self) -> None:
         """Has the program begin anew, with what is known to be carried out."""

@@ -5,7 +5,7 @@ from collections.abc import Iterable, Mapping
 from propbench.measuring.quantities import MeasuredAnswer, interval_of
 from propbench.model.answers import Answer, Left, numbers_left
 from propbench.model.choosing import alternative_of, alternatives_at, first_name
-from propbench.model.kinds import Domain
+from propbench.model.kinds import MOST, Domain
 from propbench.model.measures import Interval, Measure
 from propbench.model.nodes import Declared
 from propbench.model.premises import Premises
@@ -24,6 +24,17 @@ class Reader:
 
     def answer(self, cell: Declared, reply: Value, plan: Mapping[str, int]) -> Answer:
         """A reply about a cell, under the plan on which the choices stand."""
+        ends = None if self._premises.choices or cell.measure else reply.ends()
+        if ends:
+            least, most, rests_on = ends
+            return Answer(
+                cell.name,
+                least if least == most else Span(least, most),
+                None if least == -MOST else least,
+                None if most == MOST else most,
+                True,
+                self._vocabulary.premises.texts(rests_on),
+            )
         _, held, settled, named, reduced = reply.all()
         names = named or ()
         if self._premises.choices:

@@ -1,6 +1,7 @@
 """The lines of events, in order: what makes the network on the program's side."""
 
 from collections.abc import Callable, Sequence
+from dataclasses import dataclass
 
 from propbench.model.choosing import is_large, second_name, sides_of
 from propbench.model.context import Context
@@ -19,6 +20,15 @@ from propbench.model.nodes import Declared
 from propbench.model.translation import Translation
 from propbench.model.vocabulary import Vocabulary
 from propbench.model.writer import Writer, span_text
+
+
+@dataclass(frozen=True)
+class Owner:
+    """What a line is for, and whether it only makes a cell that a user never sees, or hands on what
+    others have found out."""
+
+    event: Event
+    makes: bool
 
 
 class Script:
@@ -49,12 +59,23 @@ class Script:
             self._choose_value(event)
         else:
             self._choose_constraints(event)
-        self._places[event] = (first, self.writer.position)
+        # (what was stated before has no lines of its own)
+        if self.writer.position > first or event not in self._places:
+            self._places[event] = (first, self.writer.position)
         return self.writer.taken()
 
     def explained(self, event: Event) -> list[str]:
         """The lines of an event that was carried out, with all that they need of earlier ones."""
         return self.writer.with_what_they_need(*self._places[event])
+
+    def owners(self) -> dict[str, Owner]:
+        """What each line is for, by the line."""
+        making, lines = self.writer.making(), self.writer.lines
+        found: dict[str, Owner] = {}
+        for event, (first, last) in self._places.items():
+            for place in range(first, last):
+                found.setdefault(lines[place], Owner(event, place in making))
+        return found
 
     def forget(self, premise: str) -> None:
         """Takes in that all that was told under a premise is gone, its gates with it."""

@@ -120,6 +120,15 @@ class BenchModel:
             if all(_is_met(each, points) for each in stated)
         ]
 
+    def chosen(self, plan: Mapping[str, Point]) -> dict[str, object]:
+        """For each choice the alternative that holds at these points, as it was written."""
+        points = self._points(plan)
+        choices = self._network.premises.choices
+        sides = {name: choice.side_at(points) for name, choice in choices.items()}
+        return {
+            name: choices[name].stands_on(side) for name, side in sides.items() if side is not None
+        }
+
     def first(self) -> Sequence[First]:
         """The cells of which values are tried out before those of others."""
         return self._network.first

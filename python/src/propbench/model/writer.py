@@ -71,6 +71,11 @@ class Writer:
         """Takes in that the lines from a position on only hand on what others have found out."""
         self._shared.update(range(since, len(self._log)))
 
+    def making(self) -> set[int]:
+        """The positions of lines that only make cells which a user never sees, or hand on what
+        others have found out."""
+        return self._shared.union(*(range(*each) for each in self._made.values()))
+
     def with_what_they_need(self, first: int, last: int) -> list[str]:
         """The lines from one position to another, and all that make the cells in them which a user
         never sees."""

@@ -15,7 +15,8 @@ it there, and the session goes on.
     from propbench.notebook import film, picture
     picture(session)
 
-draws what such a session has stated, and `film(session)` the steps of its run.
+draws what such a session has stated, and `film(session)` the steps of its run. Over propwide
+`how(session, "x")` tells what makes up a value.
 """
 
 from html import escape
@@ -32,6 +33,7 @@ from propbench.replies import Done, Reply, Silent
 from propbench.session import Session
 from propbench.showing import printable
 from propbench.tables import table
+from propbench.watching import Claim
 from propbench.watching.of_session import SessionWatched
 
 _NEW = "--new"
@@ -136,6 +138,12 @@ def film(session: Session, steps: int = 12) -> Film:
     return film_of(SessionWatched(session), steps)
 
 
+def how(session: Session, cell: str) -> Claim:
+    """What makes up what is known of a cell of a session. Raises UnknownCommand where the program
+    doesn't tell, and NoSuchCell."""
+    return SessionWatched(session).how(cell)
+
+
 def load_ipython_extension(shell: Any) -> None:
     """Has a notebook know `%%propbench`, and shows a bar for questions that take long."""
 
@@ -164,6 +172,7 @@ __all__ = [
     "Replies",
     "carried_out",
     "film",
+    "how",
     "load_ipython_extension",
     "picture",
     "unload_ipython_extension",

@@ -21,7 +21,7 @@ from propbench.watching import (
     Steps,
     Use,
     Watched,
-    bearing,
+    bears,
 )
 
 # A page is told of so many steps at once at the most.
@@ -126,13 +126,19 @@ class Asking:
 
     def _cell(self, asked: Mapping[str, object]) -> dict[str, object]:
         cell = self._cell_named(asked)
-        seen, network = self._look(), self._watched.network()
+        seen = self._look()
         shown = seen.values.get(cell)
         if shown is None:
-            return {"shown": None, "bears": None}
-        bears = bearing(network, seen, shown)
-        names = {key: sorted(value) for key, value in vars(bears).items()}
-        return {"shown": _shown(shown), "bears": names}
+            return {"shown": None, "bears": None, "how": ""}
+        lit = bears(self._watched, seen, shown)
+        names = {
+            "cells": sorted(lit.cells),
+            "uses": sorted(lit.uses),
+            "premises": sorted(lit.premises),
+            "choices": sorted(lit.choices),
+        }
+        how = str(lit.claim) if lit.claim and lit.claim.ways else ""
+        return {"shown": _shown(shown), "bears": names, "how": how}
 
     def _core(self, asked: Mapping[str, object]) -> dict[str, object]:
         shown = self._watched.core(self._cell_named(asked), self._progress)

@@ -3,12 +3,13 @@ premises, those that are out in grey.
 """
 
 import os
+from dataclasses import replace
 
 from propbench.pictures.dot import Look, dot_of
 from propbench.pictures.film import Film
 from propbench.pictures.graphviz import NoGraphviz, svgs_of
 from propbench.showing import quoted
-from propbench.watching import Frame, Watched, bearing
+from propbench.watching import Frame, Shown, Watched, bears
 
 # A film looks at so many steps at the most.
 _MOST_STEPS = 5000
@@ -52,8 +53,10 @@ def picture_of(watched: Watched, cell: str | None = None, parts: bool | None = N
     shown = seen.values.get(cell)
     if shown is None:
         raise ValueError(f"nothing follows for {quoted(cell)}: what is believed can't all hold")
-    lit = bearing(network, seen, shown)
-    return Picture(dot_of(network, seen, Look(lit=lit, only_lit=True, is_open=parts)))
+    lit = bears(watched, seen, shown)
+    inner = {name: Shown(name, text, ()) for name, text in lit.says.items()}
+    known = replace(seen, values={**inner, **seen.values})
+    return Picture(dot_of(network, known, Look(lit=lit, only_lit=True, is_open=parts)))
 
 
 def film_of(watched: Watched, steps: int) -> Film:

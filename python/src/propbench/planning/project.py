@@ -70,13 +70,13 @@ class Project:
         `who` does it, one person or all of several; `after` are tasks that have to be done before.
         What it takes, and that it comes after these, is stated under premises with names such as
         `review takes 5` and `review after venue`, or all of it `under` one. Raises ValueError where
-        there is such a task, no such person, or `end` or `total_cost` was asked for before, and
-        TypeError for days that are no whole number or an `after` that is no list of tasks. Then
-        the plan is as it was.
+        there is such a task, no such person, a task of another workbench before it, or `end` or
+        `total_cost` was asked for before, and TypeError for days that are no whole number or an
+        `after` that is no list of tasks. Then the plan is as it was.
         """
         people = self._checked(name, who)
         ways = checked_ways(name, days, cost, options)
-        earlier = tasks_in(name, after)
+        earlier = self._earlier(name, after)
         task = self._made(name, people, any(way.cost for way in ways.values()))
         self.tasks[name] = task
         if options is not None:
@@ -169,6 +169,14 @@ class Project:
         for person in people:
             self._person(person)
         return people
+
+    def _earlier(self, name: str, after: Iterable[Task]) -> tuple[Task, ...]:
+        """The tasks that a new one comes after, which are those of this workbench."""
+        tasks = tasks_in(name, after)
+        for task in tasks:
+            if not self._has(task.end):
+                raise ValueError(f"{name}: the task {task.name!r} is none of this workbench")
+        return tasks
 
     def _has(self, cell: NumberCell) -> bool:
         """Whether the workbench has the cell: one that was made for a what-if is gone behind it."""

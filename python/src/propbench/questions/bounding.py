@@ -1,7 +1,7 @@
 """The least and the greatest value of a cell in any plan, by bounds that close in on it."""
 
-from collections.abc import Sequence
-from dataclasses import dataclass
+from collections.abc import Mapping, Sequence
+from dataclasses import dataclass, field
 
 from propbench.questions.asking import CellLike, whole_named, tried
 from propbench.questions.certificate import Certificate, Evidence
@@ -21,9 +21,10 @@ LEAST, GREATEST = "least", "greatest"
 class Optimum(Shown):
     """The least or greatest value of a cell in any plan.
 
-    `value` is that of the best plan that was found, and `plan` has the values of all cells in it;
-    both are None where none was found. `bound` is a number beyond which nothing fits. `proved` says
-    that there is nothing better than `value`, or no plan at all where that is None.
+    `value` is that of the best plan that was found, and `plan` has the values of all cells in it but
+    quantities; both are None where none was found. `choices` has for each choice the alternative
+    that the plan takes. `bound` is a number beyond which nothing fits. `proved` says that there is
+    nothing better than `value`, or no plan at all where that is None.
     """
 
     cell: str
@@ -33,6 +34,7 @@ class Optimum(Shown):
     bound: int | None
     proved: bool
     _certificate: Certificate | None
+    choices: Mapping[str, object] = field(default_factory=dict)
 
     @property
     def complete(self) -> bool:  # type: ignore[override]  # (what `proved` says)
@@ -58,7 +60,7 @@ class Optimum(Shown):
         return ("cell", "value")
 
     def rows(self) -> Sequence[Sequence[object]]:
-        return list((self.plan or {}).items())
+        return [*(self.plan or {}).items(), *self.choices.items()]
 
 
 class Bounding:
@@ -149,8 +151,10 @@ class Bounding:
         evidence = Evidence.of(self.trial)
         claim = self.show(evidence)
         certificate = evidence.certificate([claim]) if claim else None
-        plan = self.fits.plan if self.fits else None
-        return Optimum(self.cell, self.sort, self.value, plan, self.bound, self.proved, certificate)
+        plan = self.trial.shown(self.fits.plan) if self.fits else None
+        choices = self.trial.model.chosen(self.fits.plan) if self.fits else {}
+        known = self.value, plan, self.bound, self.proved
+        return Optimum(self.cell, self.sort, *known, certificate, choices)
 
 
 def find_optimum(

@@ -34,9 +34,8 @@ def demand(holds: object, says: str) -> None:
 def room_of(value: str) -> Room:
     """The values that a text or a reply leaves: `3`, `3..5`, `red`, `{red blue}`, `x = 3`."""
     low, dots, high = (value := BESIDE.sub("", value)).partition("..")
-    if not low.removeprefix("-").isdecimal():
-        return value.strip("{}").split()
-    return [int(low), int(high if dots else low)]
+    is_number = low.removeprefix("-").isdecimal()
+    return [int(low), int(high if dots else low)] if is_number else value.strip("{}").split()
 
 
 def covers(parts: Iterable[str], room: Room) -> bool:
@@ -63,13 +62,14 @@ def digits(cell: str, room: Room, mark: str) -> list[str]:
     return [*made, f"attach same {total} {cell}"]
 
 
-def hitting(sets: Sequence[Any], out: frozenset[str] = frozenset()) -> list[set[str]]:
-    """Sets that have a name of each of these sets, none that is out; each least one among them."""
-    found: list[set[str]] = []
-    for name in sorted({*sets[0]} - out) if sets else ():
-        found += [{name, *more} for more in hitting([s for s in sets if name not in s], out)]
-        out |= {name}
-    return found if sets else [set()]
+def hitting(sets: Iterable[Iterable[str]]) -> list[set[str]]:
+    """The least sets that have a name of each of these sets."""
+    found: list[set[str]] = [set()]
+    for names in sorted(({*each} for each in sets), key=len):
+        hits, rest = [[h for h in found if bool(h & names) is has] for has in (True, False)]
+        by = {name: [hit - {name} for hit in hits if hit & names == {name}] for name in names}
+        found = hits + [h | {n} for n in names for h in rest if not any(map(h.issuperset, by[n]))]
+    return found
 
 
 class Checker:
@@ -96,6 +96,7 @@ class Checker:
         for plan in self.plans:
             self.believe(plan["in"])
             self.settles([], plan["values"])
+            plan["in"] = {*plan["in"]}
 
     def say(self, *lines: str, wanted: Wanted = "ok".__eq__) -> None:
         self.asked += [(line, wanted) for line in lines]
@@ -127,7 +128,7 @@ class Checker:
 
     def fits(self, given: Iterable[str], told: Any) -> None:
         """A plan of the evidence has these premises, and values among those that are told."""
-        plans = [plan["values"] for plan in self.plans if {*given} <= {*plan["in"]}]
+        plans = [plan["values"] for plan in self.plans if plan["in"].issuperset(given)]
         found = any(all(covers([v], room_of(plan[c])) for c, v in told) for plan in plans)
         demand(found, f"no plan is given with {[*given]} {[*told]}")
 
@@ -171,9 +172,8 @@ class Checker:
 
         self.believe(given)
         self.cases(tree, [], leaf)
-        demand(
-            sorted(found) == sorted(plans) and len(found) == len({*map(str, found)}), "wrong plans"
-        )
+        is_each_once = len(found) == len({*map(str, found)})
+        demand(is_each_once and sorted(found) == sorted(plans), "wrong plans")
 
     def answer(self, given: Iterable[str], told: Any, ask: str, said: str) -> None:
         self.believe(given)

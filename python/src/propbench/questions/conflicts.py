@@ -1,17 +1,16 @@
 """Conflicts, the least sets of premises that can't all hold, and repairs, the least to give up."""
 
-from collections.abc import Iterable, Iterator, Mapping, Sequence
-from weakref import WeakKeyDictionary
+from collections.abc import Callable, Iterable, Iterator, Mapping, Sequence
+from dataclasses import dataclass
 
-from propbench.questions.asking import premises_named, tried
+from propbench.questions.asking import Result, premises_named, tried
 from propbench.questions.certificate import Certificate, Evidence
 from propbench.questions.clock import Clock, Progress
-from propbench.questions.exploring import Exploring
+from propbench.questions.exploring import Exploring, Refuted
 from propbench.questions.hitting import bits_of
 from propbench.questions.model import Model
 from propbench.questions.shown import NOT_REFUTED, Shown, listed, shortened
 from propbench.questions.trial import Trial
-from propbench.session import Session
 
 
 class Premises(frozenset[str]):
@@ -126,14 +125,13 @@ def find_conflicts(
 ) -> Conflicts:
     """The least sets of believed premises that can't all hold beside those that are kept, so many
     at the most."""
-    explored = _explore(model, {}, keep, most, Clock(seconds, progress))
-
-    def run() -> None:
-        while explored.step() and len(explored.conflicts) < most:
-            _tell(explored)
-        _keep(model, explored)
-
-    return tried(explored.trial, run, lambda: _conflicts(explored, _texts(model)))
+    texts = _texts(model)
+    return _searched(
+        model,
+        _explore(model, {}, keep, Clock(seconds, progress)),
+        lambda explored: len(explored.conflicts) < most,
+        lambda explored: _conflicts(explored, texts, most),
+    )
 
 
 def find_both(
@@ -146,17 +144,13 @@ def find_both(
 ) -> tuple[Conflicts, Repairs]:
     """The least conflicts and the least repairs, so many of each at the most, from one search. What
     premises say is told by these texts, where they have one."""
-    explored = _explore(model, {}, keep, most, Clock(seconds, progress))
-
-    def run() -> None:
-        while explored.step() and max(len(explored.conflicts), len(explored.repairs)) < most:
-            _tell(explored)
-        _keep(model, explored)
-
-    def result() -> tuple[Conflicts, Repairs]:
-        return _conflicts(explored, {**_texts(model), **texts}), _repairs(explored, {})
-
-    return tried(explored.trial, run, result)
+    said = {**_texts(model), **texts}
+    return _searched(
+        model,
+        _explore(model, {}, keep, Clock(seconds, progress)),
+        lambda explored: max(len(explored.conflicts), len(explored.repairs)) < most,
+        lambda explored: (_conflicts(explored, said, most), _repairs(explored, {}, most)),
+    )
 
 
 def find_repairs(
@@ -173,61 +167,95 @@ def find_repairs(
     for premise, value in weight.items():
         if not value >= 0:
             raise ValueError(f"the weight of {premise} is less than nothing: {value}")
-    explored = _explore(model, weight, keep, most, Clock(seconds, progress))
-
-    def run() -> None:
-        while explored.step() and len(explored.repairs) < most:
-            _tell(explored)
-        _keep(model, explored)
-
-    return tried(explored.trial, run, lambda: _repairs(explored, weight))
+    return _searched(
+        model,
+        _explore(model, weight, keep, Clock(seconds, progress)),
+        lambda explored: len(explored.repairs) < most,
+        lambda explored: _repairs(explored, weight, most),
+    )
 
 
-def _conflicts(explored: Exploring, texts: Mapping[str, str]) -> Conflicts:
-    """The conflicts that are known."""
+def _conflicts(explored: Exploring, texts: Mapping[str, str], most: int) -> Conflicts:
+    """The conflicts that are known, so many at the most."""
     found = []
-    for refuted in explored.conflicts:
+    for refuted in explored.conflicts[:most]:
         found.append(Conflict(explored.names(refuted.mask)))
         found[-1].least = refuted.least
-    certificate = _certificate(explored, [])
-    return Conflicts(found, explored.complete, texts, explored.kept, certificate)
+    complete = explored.complete and len(explored.conflicts) <= most
+    certificate = _certificate(explored, explored.conflicts[:most], [], complete)
+    return Conflicts(found, complete, texts, explored.kept, certificate)
 
 
-def _repairs(explored: Exploring, weight: Mapping[str, float]) -> Repairs:
-    """The repairs that are known, the cheapest first."""
+def _repairs(explored: Exploring, weight: Mapping[str, float], most: int) -> Repairs:
+    """The repairs that are known, so many at the most and the cheapest first, those of the same
+    cost in the order of their premises."""
+    costs = {
+        mask: sum(weight.get(premise, 1) for premise in explored.names(mask))
+        for mask in explored.repairs
+    }
+    shown = sorted(explored.repairs, key=lambda mask: (costs[mask], bits_of(mask)))[:most]
     found = []
-    for mask in explored.repairs:
+    for mask in shown:
         found.append(Repair(explored.names(mask)))
-        found[-1].cost = sum(weight.get(premise, 1) for premise in found[-1])
-    found.sort(key=lambda repair: repair.cost)
-    certificate = _certificate(explored, explored.repairs)
-    return Repairs(found, explored.complete, explored.kept, certificate)
+        found[-1].cost = costs[mask]
+    complete = explored.complete and len(explored.repairs) <= most
+    certificate = _certificate(explored, explored.conflicts, shown, complete)
+    return Repairs(found, complete, explored.kept, certificate)
 
 
-# The last search of a session's network that found all conflicts and repairs, with the lines of
-# that network: another question of the same is answered by it.
-_all_found: "WeakKeyDictionary[Session, tuple[list[str], Exploring]]" = WeakKeyDictionary()
+@dataclass
+class _Known:
+    """What the last search of a network has found out, and the lines that made the network: a
+    question of the same goes on from there."""
+
+    base: list[str]
+    explored: Exploring
+
+
+# Where a session keeps that.
+_KNOWN = "conflicts"
 
 
 def _explore(
-    model: Model, weight: Mapping[str, float], keep: Iterable[str], most: int, clock: Clock
+    model: Model, weight: Mapping[str, float], keep: Iterable[str], clock: Clock
 ) -> Exploring:
-    """The search for conflicts and repairs: a new one, or one that has found all there are, so many
-    at the most."""
+    """The search for conflicts and repairs: a new one, or the last one of the same, which goes on.
+    Its trial may have ended."""
     believed = model.believed()
     kept = set(premises_named(model, keep)) & set(believed)
-    known = _all_found.get(model.session)
-    if known and known[0] == list(model.base()):
-        found = known[1]
-        if set(found.kept) == kept and max(len(found.conflicts), len(found.repairs)) <= most:
-            return found
+    known = model.session.kept.get(_KNOWN)
+    if isinstance(known, _Known) and known.base == list(model.base()):
+        found = known.explored
+        if set(found.kept) == kept:
+            found.trial.clock = clock
+            is_usable = found.complete or found.weights == dict(weight)
+            return found if is_usable else found.weighing(weight)
     return Exploring(Trial(model, kept, clock), believed, weight)
 
 
-def _keep(model: Model, explored: Exploring) -> None:
-    """Keeps a search that has found all."""
-    if explored.complete:
-        _all_found[model.session] = list(model.base()), explored
+def _searched(
+    model: Model,
+    explored: Exploring,
+    lacks: Callable[[Exploring], bool],
+    result: Callable[[Exploring], Result],
+) -> Result:
+    """The result of a search that goes on while something is lacking. What it has found out is kept
+    where it ends by itself, and all of it is sure."""
+    kept, trial = model.session.kept, explored.trial
+
+    def run() -> None:
+        # (a step that is interrupted leaves a search half done)
+        kept.pop(_KNOWN, None)
+        while lacks(explored) and explored.step():
+            _tell(explored)
+        if explored.is_sure:
+            kept[_KNOWN] = _Known(list(model.base()), explored)
+
+    if explored.complete or not lacks(explored):
+        trial.close()
+        return result(explored)
+    trial.be_open()
+    return tried(trial, run, lambda: result(explored))
 
 
 def _tell(explored: Exploring) -> None:
@@ -239,19 +267,21 @@ def _texts(model: Model) -> dict[str, str]:
     return {premise: model.text(premise) for premise in model.premises()}
 
 
-def _certificate(explored: Exploring, outs: Sequence[int]) -> Certificate:
-    """What shows that the conflicts are least, and that these repairs are; and that there are no
-    more where all were found. Conflicts that may not be least are shown as what can't hold."""
+def _certificate(
+    explored: Exploring, conflicts: Sequence[Refuted], outs: Sequence[int], full: bool
+) -> Certificate:
+    """What shows that these conflicts are least, and that these repairs are; and that there are no
+    more where these are all. Conflicts that may not be least are shown as what can't hold."""
     evidence = Evidence.of(explored.trial)
-    for refuted in explored.conflicts:
+    for refuted in conflicts:
         evidence.add_tree((*explored.kept, *explored.names(refuted.mask)), [], refuted.tree)
-    least = [refuted.mask for refuted in explored.conflicts if refuted.least]
+    least = [refuted.mask for refuted in conflicts if refuted.least]
     needed = [mask & ~bit for mask in least for bit in bits_of(mask)]
     needed += [explored.all & ~hit for hit in explored.repairs]
     for mask in needed:
         kept = next(kept for kept in explored.plans if kept.mask & mask == mask)
         evidence.add_plan((*explored.kept, *explored.names(kept.mask)), kept.fits)
-    is_sure = len(least) == len(explored.conflicts)
+    is_sure = len(least) == len(conflicts)
 
     def lines(mask: int) -> list[str]:
         return evidence.lines_of(explored.names(mask))
@@ -263,10 +293,10 @@ def _certificate(explored: Exploring, outs: Sequence[int]) -> Certificate:
         "told": [],
         "sets": [lines(mask) for mask in least],
         "outs": [lines(hit) for hit in outs] if is_sure else [],
-        "full": explored.complete,
+        "full": full,
     }
     claims: list[tuple[str, dict[str, object]]] = [("conflicts", claim)]
-    for refuted in explored.conflicts:
+    for refuted in conflicts:
         if not refuted.least:
             claims.append(("fails", {"given": [*kept_lines, *lines(refuted.mask)], "told": []}))
     if not is_sure:

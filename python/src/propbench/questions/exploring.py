@@ -49,6 +49,7 @@ class Exploring:
         self.premises = [premise for premise in premises if premise not in self.kept]
         self._bit = {premise: 1 << place for place, premise in enumerate(self.premises)}
         self.all = (1 << len(self.premises)) - 1
+        self.weights = dict(weights)
         self._hitting = Hitting([weights.get(premise, 1) for premise in self.premises])
         self.plans: list[Kept] = []
         self.conflicts: list[Refuted] = []
@@ -56,6 +57,19 @@ class Exploring:
         # Whether all conflicts and repairs were found, and what was neither shown nor refuted.
         self.complete = False
         self.unknown: list[int] = []
+
+    def weighing(self, weights: Mapping[str, float]) -> "Exploring":
+        """A search by other weights, to which all counts that this one has found out."""
+        made = Exploring(self.trial, self.premises, weights, self._told)
+        made.plans, made.conflicts = list(self.plans), list(self.conflicts)
+        for refuted in made.conflicts:
+            made._hitting.learn(refuted.mask)
+        return made
+
+    @property
+    def is_sure(self) -> bool:
+        """Whether all that was looked at was decided."""
+        return not self.unknown and all(each.least for each in self.conflicts)
 
     def names(self, mask: int) -> tuple[str, ...]:
         """The premises of a set."""
@@ -69,8 +83,7 @@ class Exploring:
         """Finds one conflict or repair more; whether there may be others."""
         hit = self._hitting.next(self.trial.clock.is_over)
         if hit is None:
-            is_sure = not self.unknown and all(each.least for each in self.conflicts)
-            self.complete = self._hitting.is_done and is_sure
+            self.complete = self._hitting.is_done and self.is_sure
             return False
         rest = self.all & ~hit
         outcome = self.try_out(rest)

@@ -7,6 +7,7 @@ be hit; the cheapest way to do so is tried next, and either repairs all or bring
 import heapq
 from collections.abc import Callable, Sequence
 from itertools import count
+from typing import NamedTuple
 
 # What a set costs: its weight, and how many it has.
 Cost = tuple[float, int]
@@ -22,6 +23,18 @@ def bits_of(mask: int) -> list[int]:
     return found
 
 
+class _Node(NamedTuple):
+    """A set so far and what it costs; what it does not take; how many of the finished sets it is
+    known to have none of; and of so many conflicts those that it may miss."""
+
+    hit: int
+    spent: Cost
+    out: int
+    done: int
+    missed: list[int]
+    known: int
+
+
 class Hitting:
     """The sets that hit all conflicts, each handed out once and only the least ones."""
 
@@ -34,11 +47,10 @@ class Hitting:
         # The sets that are finished, all and by a bit that they have.
         self._done: list[int] = []
         self._done_with: dict[int, list[int]] = {bit: [] for bit in self._weight}
-        self._order = count()
-        # What is to be looked at: the least cost, the set so far with what that costs, what it does
-        # not take, and how many of the finished sets it is known to have none of.
-        self._open: list[tuple[Cost, int, int, Cost, int, int]]
-        self._open = [((0, 0), next(self._order), 0, (0, 0), 0, 0)]
+        self._order = count(0, -1)
+        # What is to be looked at: the least cost, its number, and what it is.
+        self._open: list[tuple[Cost, int, _Node]]
+        self._open = [((0, 0), next(self._order), _Node(0, (0, 0), 0, 0, [], 0))]
 
     def learn(self, conflict: int) -> None:
         """Takes in a set that has to be hit."""
@@ -60,34 +72,45 @@ class Hitting:
         is no more, or the time is over. It comes again until it is finished or another conflict is
         learned."""
         while self._open and not is_over():
-            cost, order, hit, spent, out, known = heapq.heappop(self._open)
-            if _has_one(hit, self._done[known:]):
+            cost, order, node = heapq.heappop(self._open)
+            if _has_one(node.hit, self._done[node.done :]):
                 continue
-            known = len(self._done)
-            missed = [conflict & ~out for conflict in self._conflicts if not conflict & hit]
-            if not missed:
-                heapq.heappush(self._open, (cost, order, hit, spent, out, known))
-                return hit
-            missed.sort(key=int.bit_count)
-            least = self._least(spent, missed)
+            node = self._up_to_date(node)
+            if not node.missed:
+                heapq.heappush(self._open, (cost, order, node))
+                return node.hit
+            least = self._least(node.spent, node.missed)
             if least is None:
                 continue
             if least > cost:
-                heapq.heappush(self._open, (least, next(self._order), hit, spent, out, known))
+                heapq.heappush(self._open, (least, next(self._order), node))
                 continue
-            self._fork(hit, spent, out, missed[0])
+            self._fork(node, cost)
         return None
 
-    def _fork(self, hit: int, spent: Cost, out: int, conflict: int) -> None:
-        """The ways to hit one more conflict: by its first bit, by the next and not the first, .."""
-        known, (weight, number) = len(self._done), spent
-        for bit in bits_of(conflict):
-            more = hit | bit
+    def _up_to_date(self, node: "_Node") -> "_Node":
+        """The same, with what it misses of all that is learned, the smallest first."""
+        hit, may = node.hit, ~node.out
+        missed = [conflict & may for conflict in node.missed if not conflict & hit]
+        new = self._conflicts[node.known :]
+        missed += [conflict & may for conflict in new if not conflict & hit]
+        missed.sort(key=int.bit_count)
+        known = len(self._conflicts)
+        return _Node(hit, node.spent, node.out, len(self._done), missed, known)
+
+    def _fork(self, node: "_Node", least: Cost) -> None:
+        """The ways to hit one more conflict: by its first bit, by the next and not the first, ..
+        The first comes next, of those that cost as much."""
+        children, out, (weight, number) = [], node.out, node.spent
+        for bit in bits_of(node.missed[0]):
+            more = node.hit | bit
             # (what is finished and not within the set has the bit, where it is within both)
             if not _has_one(more, self._done_with[bit]):
                 cost = weight + self._weight[bit], number + 1
-                heapq.heappush(self._open, (cost, next(self._order), more, cost, out, known))
+                children.append(_Node(more, cost, out, node.done, node.missed, node.known))
             out |= bit
+        for child in reversed(children):
+            heapq.heappush(self._open, (max(child.spent, least), next(self._order), child))
 
     def _least(self, spent: Cost, missed: Sequence[int]) -> Cost | None:
         """A cost below which these conflicts, the smallest first, can't be hit beside what is spent:

@@ -84,6 +84,10 @@ class Model(Protocol):
         """The premises of which all that is stated holds at these points."""
         ...
 
+    def chosen(self, plan: Mapping[str, Point]) -> Mapping[str, object]:
+        """For each choice the alternative that holds at these points, as the user wrote it."""
+        ...
+
     def is_measured(self, cell: str) -> bool:
         """Whether the cell counts steps of a measured quantity."""
         ...

@@ -2,7 +2,7 @@
 
 from collections.abc import Iterable, Sequence
 
-from propbench.questions.asking import CellLike, cell_named, tried
+from propbench.questions.asking import CellLike, tried, whole_named
 from propbench.questions.certificate import Certificate, Evidence, Tree, as_json, on_lines
 from propbench.questions.clock import Clock, Progress
 from propbench.questions.model import Model, Plan
@@ -19,7 +19,7 @@ _AT_ONCE = 16
 
 class Plans(Shown, list[Plan]):
     """Plans over the cells that are shown, each a dict by their names; all there are where it is
-    `complete`. In `whole` the same plans have all cells."""
+    `complete`. In `whole` the same plans have all cells but quantities."""
 
     def __init__(
         self, show: Sequence[str], found: Iterable[Plan], complete: bool, certificate: Certificate
@@ -112,7 +112,7 @@ class Listing:
         found = sorted(self.found, key=self._place)
         shown = ({cell: fits.plan[cell] for cell in self.show} for fits in found)
         plans = Plans(self.show, shown, self.complete, self._certificate())
-        plans.whole = tuple(fits.plan for fits in found)
+        plans.whole = tuple(self.trial.shown(fits.plan) for fits in found)
         return plans
 
     def _certificate(self) -> Certificate:
@@ -152,14 +152,15 @@ def find_plans(
     seconds: float | None,
     progress: Progress | None,
 ) -> Plans:
-    """All plans with what is believed, over these cells, or over all but those for symbols. Raises
-    ValueError for one of these."""
+    """All plans with what is believed, over these cells, or over all but quantities and those for
+    symbols. Raises ValueError for one for symbols, and TypeError for a quantity."""
     clock = Clock(seconds, progress)
-    names = None if show is None else [cell_named(model, cell) for cell in show]
+    names = None if show is None else [whole_named(model, cell) for cell in show]
     trial = Trial(model, model.believed(), clock)
     symbols = [cell for cell in trial.cells if trial.rooms[cell] is None]
     if names is None:
-        names = [cell for cell in trial.cells if cell not in symbols]
+        beside = {*symbols, *filter(model.is_measured, trial.cells)}
+        names = [cell for cell in trial.cells if cell not in beside]
     for name in set(names) & set(symbols):
         trial.close()
         raise ValueError(f"{name} is for symbols, and these are too many to go through")

@@ -6,10 +6,11 @@ more of these; beyond that it goes on here, by cases of cells within one another
 
 from collections.abc import Iterable, Sequence
 
+from propbench.questions.model import Plan
 from propbench.questions.outcomes import Cannot, Fits, Fork, Open, Outcome
 from propbench.questions.rooms import Room, around, halves, room_left, single
 from propbench.questions.trial import Case, Seen, Trial
-from propbench.replies import Contradiction
+from propbench.replies import Contradiction, Settled
 from propbench.values import Held
 
 # No more cases lie within one another.
@@ -44,7 +45,7 @@ def _plan_in(trial: Trial, premises: Sequence[str], seen: Seen) -> Fits | None:
     values = {cell: value for cell, held in seen.items() if (value := single(held)) is not None}
     if len(values) < len(seen):
         return None
-    plan = {cell: trial.model.point(cell, value) for cell, value in values.items()}
+    plan = _points(trial, values)
     return None if trial.model.violated(plan, premises) else Fits(plan, values)
 
 
@@ -62,16 +63,29 @@ def _searched(trial: Trial, premises: tuple[str, ...], told: tuple[Case, ...]) -
             return fits or _forked(trial, premises, told, _beside(trial, seen, told))
         if trial.cover_forks(seen):
             continue
-        corner: Fits | None = None
-        if trial.has_forks:
-            corner = _plan_in(trial, premises, trial.look_at_corner(premises, told, seen))
+        corner = _corner(trial, premises, told, seen)
         if corner:
             return corner
         if not trial.cover_some(loose):
-            if not trial.has_forks:
-                corner = _plan_in(trial, premises, trial.look_at_corner(premises, told, seen))
-            return corner or _forked(trial, premises, told, _halved(trial, loose, seen, told))
+            return _forked(trial, premises, told, _halved(trial, loose, seen, told))
     return Open("there was no time for more")
+
+
+def _corner(
+    trial: Trial, premises: Sequence[str], told: Sequence[Case], held: dict[str, Held]
+) -> Fits | None:
+    """The plan in which each cell has the lowest value that is left, where that is one. The program
+    is asked of it only where all holds that is stated."""
+    values = trial.lowest(held)
+    if trial.model.violated(_points(trial, values), premises):
+        return None
+    seen = trial.look_at_corner(premises, told, held, values)
+    return Fits(_points(trial, values), values) if isinstance(seen, Settled) else None
+
+
+def _points(trial: Trial, values: dict[str, str]) -> Plan:
+    """A plan, by values as lines say them."""
+    return {cell: trial.model.point(cell, value) for cell, value in values.items()}
 
 
 def _halved(

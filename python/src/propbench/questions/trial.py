@@ -10,7 +10,7 @@ from collections.abc import Collection, Iterable, Sequence
 from propbench.closing import Closing
 from propbench.questions.checker import MOST, digits
 from propbench.questions.clock import Clock
-from propbench.questions.model import Model
+from propbench.questions.model import Model, Plan
 from propbench.questions.rooms import (
     Names,
     Numbers,
@@ -73,8 +73,9 @@ class Trial(Closing):
         self.has_forks = False
         self._cases: OrderedDict[tuple[str, str], str] = OrderedDict()
         self._inside: set[str] = set()
-        # Lines that are to be sent before the next question.
+        # Lines that are to be sent before the next question, and those of choices that were made.
         self._new: list[str] = []
+        self._chosen: list[str] = []
         self._corners, self._has_corner = f"{self.mark}corner", False
         # What no symbol of the user's begins with.
         self._others = mark_for(self.base, "other{}_")
@@ -89,34 +90,54 @@ class Trial(Closing):
         # Whether the last look saw values: then the next one asks for them at once.
         self._expects_values = False
         self.session = model.session.fresh()
+        self._is_open = True
         try:
             self._begin()
         except BaseException:
-            self.session.close()
+            self.close()
             raise
 
     def close(self) -> None:
         """Ends the session."""
+        self._is_open = False
         self.session.close()
 
-    def _begin(self) -> None:
-        chosen = [line for line in self.base if line.split()[0] == "choose"]
+    def be_open(self) -> None:
+        """Begins the session anew where it has ended, with all choices that were made."""
+        if self._is_open:
+            return
+        self.session = self.model.session.fresh()
+        self._is_open = True
+        try:
+            self.session.send_all([*self._stated(), *self._base_choices(), *self._chosen])
+        except BaseException:
+            self.close()
+            raise
+        self._inside = {self.line[premise] for premise in self.basis}
+        self._cases.clear()
+        self._new.clear()
+        self._has_corner = False
+
+    def _base_choices(self) -> list[str]:
+        """The lines of the base that make choices."""
+        return [line for line in self.base if line.split()[0] == "choose"]
+
+    def _stated(self) -> list[str]:
+        """The other lines of the base, where nothing is believed but what always is."""
         made = [line for line in self.base if line.split()[0] != "choose"]
         told = dict.fromkeys(line.split()[1] for line in made if line.split()[0] == "tell")
+        kicks = [f"kick {premise}" for premise in told]
+        brings = [f"bring {self.line[premise]}" for premise in self.basis]
+        return [*made, *kicks, *brings, f"limit {_STEPS}"]
+
+    def _begin(self) -> None:
+        chosen = self._base_choices()
         self._choices_left = _CHOICES - len(chosen)
-        brought = [self.line[premise] for premise in self.basis]
         forks = list(self.model.forks())
-        self.session.send_all(
-            [
-                *made,
-                *(f"kick {premise}" for premise in told),
-                *(f"bring {premise}" for premise in brought),
-                f"limit {_STEPS}",
-            ]
-        )
+        self.session.send_all(self._stated())
         asks = [*self._asks, *(f"ask {fork}" for fork in forks)]
         replies = self.session.send_all([*asks, *chosen])
-        self._inside = set(brought)
+        self._inside = {self.line[premise] for premise in self.basis}
         held = self._values(replies)
         known = map(_held_in, replies[len(self._asks) :])
         self._forks = [fork for fork, it in zip(forks, known) if isinstance(it, Nothing)]
@@ -206,18 +227,28 @@ class Trial(Closing):
         self._inside = wanted
         return lines
 
+    def lowest(self, held: dict[str, Held]) -> dict[str, str]:
+        """For each cell the lowest of the values that are left, as a line says it."""
+        return {
+            cell: single(left) or _lowest(left, self.whole[cell]) or f"{self._others}{number}"
+            for number, (cell, left) in enumerate(held.items())
+        }
+
     def look_at_corner(
-        self, premises: Iterable[str], told: Iterable[Case], held: dict[str, Held]
+        self,
+        premises: Iterable[str],
+        told: Iterable[Case],
+        held: dict[str, Held],
+        values: dict[str, str],
     ) -> Seen:
-        """What is seen where each cell of which more is left has the lowest of these values."""
+        """Whether it settles where each cell of which more is left has this value."""
         lines = [f"forget {self._corners}"] if self._has_corner else []
-        for number, cell in enumerate(self.cells):
-            if single(held[cell]) is None:
-                low = _lowest(held[cell], self.whole[cell]) or f"{self._others}{number}"
-                lines.append(f"tell {self._corners} {self.cell_line[cell]} {low}")
+        for cell, left in held.items():
+            if single(left) is None:
+                lines.append(f"tell {self._corners} {self.cell_line[cell]} {values[cell]}")
         lines += [f"bring {self._corners}"] if self._has_corner else []
         self._has_corner = True
-        seen = self.look(premises, told, *lines)
+        (seen,) = self._looks([(self._lines(premises, told, lines), False)])
         self._inside.add(self._corners)
         return seen
 
@@ -276,13 +307,20 @@ class Trial(Closing):
         if parts is None:
             assert isinstance(room, Numbers)
             name = f"{self.mark}c{len(self.choices)}"
-            self._new += digits(line, [room.low, room.high], name)
+            made = digits(line, [room.low, room.high], name)
             self.choices.append((line, ""))
         else:
+            made = []
             for sides in parts:
                 name = f"{self.mark}c{len(self.choices)}"
                 self.choices.append((line, " or ".join(sides)))
-                self._new.append(f"choose {name} {line} {self.choices[-1][1]}")
+                made.append(f"choose {name} {line} {self.choices[-1][1]}")
+        self._new += made
+        self._chosen += made
+
+    def shown(self, plan: Plan) -> Plan:
+        """A plan as it is shown: without quantities, of which no plan has the real number."""
+        return {cell: value for cell, value in plan.items() if not self.model.is_measured(cell)}
 
     def known(self, told: Iterable[Case]) -> dict[str, Room]:
         """What is left for cells by what is supposed; symbols are left out."""

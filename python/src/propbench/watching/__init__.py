@@ -1,8 +1,8 @@
 """What views see of a session or a workbench, behind one interface.
 
 Pictures, the page and the notebook know `Watched` and no more. It rests on what the program answers
-today (`settle`, `why`, `core`, `worldview`, `nogoods`) and on the lines that were carried out; where
-the program tells more by itself, that takes its place behind the same methods.
+(`settle`, `why`, `core`, `worldview`, `nogoods`) and on the lines that were carried out; where the
+program tells more by itself (`step`, `how`, `list`), that takes its place behind the same methods.
 """
 
 from collections.abc import Sequence
@@ -12,7 +12,9 @@ from typing import Protocol
 from propbench.questions.clock import Progress as Told
 from propbench.runs import Progress
 from propbench.session import Session
-from propbench.watching.bearing import Bearing, bearing
+from propbench.refusals import UnknownCommand
+from propbench.watching.bearing import Bearing, bearing, resting
+from propbench.watching.claims import Claim, Source, Way
 from propbench.watching.mending import Mending
 from propbench.watching.network import (
     NOTHING_SEEN,
@@ -66,6 +68,11 @@ class Watched(Protocol):
         """What is known now, without a step."""
         ...
 
+    def how(self, cell: str) -> Claim:
+        """What makes up what is known of a cell, without a step. Raises UnknownCommand where the
+        program doesn't tell."""
+        ...
+
     def core(self, cell: str, progress: Progress | None = None) -> Shown | None:
         """The value of a cell with reasons of which none can be left out, None at a conflict."""
         ...
@@ -115,6 +122,15 @@ class Watched(Protocol):
         ...
 
 
+def bears(watched: Watched, seen: Seen, shown: Shown) -> Bearing:
+    """What bears on what is seen of a cell: as the program tells it, or else as it is worked out."""
+    try:
+        claim = watched.how(shown.cell)
+    except UnknownCommand:
+        return bearing(watched.network(), seen, shown)
+    return bearing(watched.network(), seen, shown) if claim.cut else resting(claim)
+
+
 __all__ = [
     "NOTHING_SEEN",
     "Bearing",
@@ -122,6 +138,7 @@ __all__ = [
     "Cell",
     "Change",
     "Choice",
+    "Claim",
     "Clash",
     "Frame",
     "Mending",
@@ -131,8 +148,10 @@ __all__ = [
     "Said",
     "Seen",
     "Shown",
+    "Source",
     "Steps",
     "Use",
     "Watched",
-    "bearing",
+    "Way",
+    "bears",
 ]

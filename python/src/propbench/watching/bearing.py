@@ -1,13 +1,15 @@
-"""What may bear on a cell: the cells and uses that lead from its reasons to it.
+"""What bears on a cell: the cells and uses that lead from its reasons to it.
 
-This is worked out here, from the directions of the procedures and from the reasons that the program
-names for each value; nothing is concluded from it. A value can rest on another only where its
-reasons have all reasons of the other.
+A program that tells what makes up a value tells this too (`resting`). For another it is worked out
+here, from the directions of the procedures and from the reasons that the program names for each
+value; nothing is concluded from it. A value can rest on another only where its reasons have all
+reasons of the other.
 """
 
 from collections.abc import Iterable, Iterator, Sequence
 from dataclasses import dataclass
 
+from propbench.watching.claims import Claim
 from propbench.watching.network import Network, Said, Seen, Shown, Use
 
 # For so many cells it is looked what is reached without them; for others that of the last serves.
@@ -17,12 +19,19 @@ _MOST_EXACT = 150
 @dataclass(frozen=True)
 class Bearing:
     """Names of the cells and uses that bear on a cell, itself included, and of premises and
-    choices."""
+    choices. `claim` is what makes up the value, where the program told."""
 
     cells: frozenset[str]
     uses: frozenset[str]
     premises: frozenset[str]
     choices: frozenset[str]
+    claim: Claim | None = None
+
+    @property
+    def says(self) -> dict[str, str]:
+        """What is known on the way of those cells of which it is told."""
+        claims = list(self.claim.claims()) if self.claim else []
+        return {each.cell: each.says for each in sorted(claims, key=lambda it: -it.place)}
 
 
 @dataclass(frozen=True, eq=False)
@@ -32,6 +41,18 @@ class _Arrow:
     inputs: tuple[str, ...]
     output: str
     use: str
+
+
+def resting(claim: Claim) -> Bearing:
+    """What a value is made up of, as the program told it."""
+    sources = [it for each in claim.claims() for way in each.ways for it in way.sources]
+    return Bearing(
+        frozenset(each.cell for each in claim.claims()),
+        frozenset(source.use for source in sources if source.use),
+        frozenset(source.premise for source in sources if source.premise),
+        frozenset(source.choice for source in sources if source.choice),
+        claim,
+    )
 
 
 def bearing(network: Network, seen: Seen, shown: Shown) -> Bearing:

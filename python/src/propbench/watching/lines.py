@@ -1,34 +1,32 @@
 """The network that a session's lines make: read from the lines that were carried out.
 
 A compound is taken apart by its definition, where that is known: it was defined on a line, or
-stands in the kit's prelude. What others make, as the compounds of propwide, the program tells, where
-it tells steps.
+stands in the kit's prelude. What others make, as the compounds of propwide, the program lists.
 """
 
-from collections.abc import Sequence
+from collections.abc import Callable, Mapping, Sequence
 from dataclasses import replace
 
 from propbench.grammar import Role, parsed
 from propbench.kit import KIT
 from propbench.known import Known
 from propbench.listing import Statement, Told
-from propbench.watching.instances import DECLARING, PROBED, Makers
+from propbench.replies import Instance, Listing
 from propbench.watching.network import Cell, Choice, Network, Premise, Said, Use
 
 
 class Lines:
     """The lines of a session, read as they come."""
 
-    def __init__(self, makers: Makers) -> None:
-        self._makers = makers
+    def __init__(self, listing: Callable[[], Listing | None]) -> None:
+        """Of a session of which the program lists what there is, where it does."""
+        self._listing = listing
         self._begin()
 
     def _begin(self) -> None:
         self._read: list[str] = []
         self._told = Told()
         self._uses: list[Use] = []
-        # The lines so far that declare what compounds are made with.
-        self._declared: list[str] = []
 
     def take(self, lines: Sequence[str], known: Known) -> None:
         """Takes in the lines of a session, of which those that are known are not read again."""
@@ -37,11 +35,8 @@ class Lines:
         parts: _Parts | None = None
         for line in lines[len(self._read) :]:
             self._told.learn(line)
-            command = line.split(None, 1)[0]
-            if command in DECLARING:
-                self._declared.append(line)
-            elif command == "attach":
-                parts = parts or _Parts(self._makers, self._declared, known)
+            if line.split(None, 1)[0] == "attach":
+                parts = parts or _Parts(self._listing, known)
                 self._uses.append(parts.attached(line, str(len(self._uses) + 1)))
         self._read = list(lines)
 
@@ -49,6 +44,11 @@ class Lines:
     def told(self) -> Told:
         """What was told."""
         return self._told
+
+    @property
+    def uses(self) -> Sequence[Use]:
+        """The uses, in the order in which they were attached."""
+        return self._uses
 
     def network(self, known: Known) -> Network:
         """The network as it is now."""
@@ -76,9 +76,11 @@ def _said(stated: Sequence[Statement]) -> tuple[Said, ...]:
 class _Parts:
     """What uses are made of. The kind of each cell is kept by its name."""
 
-    def __init__(self, makers: Makers, declared: Sequence[str], known: Known) -> None:
-        self._makers, self._declared = makers, declared
+    def __init__(self, listing: Callable[[], Listing | None], known: Known) -> None:
+        self._listing = listing
         self._definitions, self._kinds = known.definitions, dict(known.cells)
+        # The instances that are listed, by the `attach` that made them.
+        self._made: dict[str, list[Instance]] | None = None
 
     def attached(self, line: str, name: str) -> Use:
         """The use that a line attaches."""
@@ -111,21 +113,27 @@ class _Parts:
         return replace(made, parts=tuple(parts), locals=tuple(own.values()))
 
     def _told(self, made: Use) -> Use:
-        """A use with what the program tells that it makes; a procedure makes itself."""
-        kinds = [self._kinds[cell] for cell in made.cells]
-        called = self._makers.made(made.text, kinds, made.given, self._declared)
-        if [each.procedure for each in called] == [made.text]:
+        """A use with what is listed of it; a procedure makes itself."""
+        begin = f"{made.name}."
+        listed = self._listed().get(begin.partition(".")[0], ())
+        if any(each.part == made.name for each in listed):
             return replace(made, one_way=True)
-        names = {PROBED.format(place): cell for place, cell in enumerate(made.cells, 1)}
         own: dict[str, Cell] = {}
         parts: list[Use] = []
-        for each in called:
-            cells = (*each.inputs, each.output)
-            for cell in cells:
-                if cell not in names:
-                    text = f"inner{len(own) + 1}"
-                    names[cell] = f"{made.name}.{text}"
-                    own[cell] = Cell(names[cell], text, "")
-            on = tuple(names[cell] for cell in cells)
-            parts.append(Use(f"{made.name}.{len(parts) + 1}", each.procedure, on, one_way=True))
+        for each in listed:
+            if each.part.startswith(begin):
+                cells = (*each.inputs, each.output)
+                fresh = (cell for cell in cells if cell not in made.cells)
+                own.update({it: Cell(it, it.removeprefix(begin), self._kinds[it]) for it in fresh})
+                parts.append(Use(each.part, each.procedure, cells, each.given, one_way=True))
         return replace(made, parts=tuple(parts), locals=tuple(own.values()))
+
+    def _listed(self) -> Mapping[str, Sequence[Instance]]:
+        """The instances by the number of the `attach` that made them."""
+        if self._made is None:
+            self._made = {}
+            listing = self._listing()
+            self._kinds.update(listing.cells if listing else ())
+            for each in listing.instances if listing else ():
+                self._made.setdefault(each.part.partition(".")[0], []).append(each)
+        return self._made

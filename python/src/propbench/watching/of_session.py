@@ -10,12 +10,13 @@ from propbench.questions.asking import so_far
 from propbench.questions.bounding import Optimum, find_optimum
 from propbench.questions.clock import Clock
 from propbench.questions.clock import Progress as Telling
-from propbench.replies import Called, Contradiction, Value, Worldview
+from propbench.replies import Called, Contradiction, Stated, Value, Worldview
 from propbench.runs import Progress
 from propbench.session import Session
 from propbench.values import Nothing
 from propbench.watching import Best
-from propbench.watching.instances import Instances, Makers
+from propbench.watching.claims import Claim, Source, Wording, claim_of
+from propbench.watching.instances import Instances, how_of, listing_of, named
 from propbench.watching.lines import Lines
 from propbench.watching.mending import Mending, mended
 from propbench.watching.network import Clash, Network, Reason, Seen, Shown
@@ -38,7 +39,7 @@ class SessionWatched:
         self.session = session
         self._source = list(source)
         self._since = len(session.lines)
-        self._lines = Lines(Makers(session.program))
+        self._lines = Lines(lambda: listing_of(session))
         # The premises under which a side of a choice is wished for.
         self._wishes: dict[tuple[str, int], str] = {}
 
@@ -102,22 +103,27 @@ class SessionWatched:
             SETTLES,
         )
 
+    def how(self, cell: str) -> Claim:
+        instances = Instances(self.session)
+        found = named(how_of(self.session, cell), instances)
+
+        def source(part: Called | Stated) -> Source:
+            if isinstance(part, Called):
+                call = self._call(part, instances)
+                return Source("by", call.text, call.use)
+            choice, mark, _ = part.premise.partition("=")
+            if mark:
+                return Source("on", self._named(part.premise), choice=choice)
+            told = ("told by", part.premise) if part.premise else ("as", "fixed")
+            return Source(*told, premise=part.premise)
+
+        return claim_of(
+            found, Wording(lambda _, value, __: str(value), source, lambda _: False, lambda it: it)
+        )
+
     def steps(self) -> Steps:
-        lines, uses = self.lines(), self.network().uses
-        instances = Instances(self.session.program, lines, self._known)
-
-        def call(did: Called) -> Call:
-            place, part = instances.place(did.instance)
-            use = uses[place]
-            cells = list(use.leaves())[part].cells
-            own = " ".join((did.procedure, *cells))
-            text = (
-                own if use.text == did.procedure else f"{own}, of {use.text} {' '.join(use.cells)}"
-            )
-            return Call(text, use.name, "" if cells[-1] == did.output else cells[-1])
-
-        reading = Reading(self._shown, self._named, call)
-        return Steps(self.session.fresh(), lines, list(self._known.cells), reading)
+        reading = Reading(self._shown, self._named, self._call)
+        return Steps(self.session.fresh(), self.lines(), list(self._known.cells), reading)
 
     def lines(self) -> list[str]:
         return [line for line in self.session.lines if not _is_aside(line)]
@@ -140,6 +146,18 @@ class SessionWatched:
     def _read(self) -> Lines:
         self._lines.take(self.session.lines, self._known)
         return self._lines
+
+    def _call(self, did: Called, instances: Instances) -> Call:
+        """A call, with the compound that it is a part of."""
+        call = instances.named(did)
+        own = " ".join((call.procedure, *call.inputs, call.output))
+        attach = instances.attach_of(did)
+        if not attach:
+            return Call(own, "")
+        use = self._read().uses[attach - 1]
+        whole = f", of {use.text} {' '.join(use.cells)}" if instances.is_part(did) else ""
+        is_inner = call.output not in self._known.cells
+        return Call(f"{own}{whole}", use.name, call.output if is_inner else "")
 
     def _believed(self) -> list[str]:
         told = self._told

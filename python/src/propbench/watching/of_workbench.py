@@ -28,7 +28,8 @@ from propbench.runs import Progress
 from propbench.session import Session
 from propbench.values import Nothing
 from propbench.watching import Best
-from propbench.watching.instances import Instances
+from propbench.watching.claims import Claim, claim_of
+from propbench.watching.instances import Instances, how_of
 from propbench.watching.mending import FITS, Mending
 from propbench.watching.network import (
     Cell,
@@ -42,6 +43,7 @@ from propbench.watching.network import (
     Shown,
     Use,
 )
+from propbench.watching.owned import Owned, is_use, wording_of
 from propbench.watching.steps import Call, Reading, Steps
 from propbench.workbench import Workbench
 
@@ -170,34 +172,26 @@ class WorkbenchWatched:
         rows = tuple((name, point_text(value)) for name, value in plan.items())
         return Best(found.headline(), rows, found.proved, PLAN)
 
+    def how(self, cell: str) -> Claim:
+        made = self.workbench.network
+        names = made.vocabulary.cells
+        found = how_of(made.session, names.line(cell))
+        return claim_of(found, wording_of(made, Instances(made.session), found.sides))
+
     def steps(self) -> Steps:
         made = self.workbench.network
         names = [made.vocabulary.cells.line(cell) for cell in made.cells]
-        lines, owners = made.base(), self._owners()
-        instances = Instances(made.session.program, lines, made.session.known)
+        lines = made.base()
+        owned = Owned(made, made.base_owners(), lines)
 
-        def call(did: Called) -> Call:
-            use, text = owners[instances.place(did.instance)[0]]
-            return Call(f"{did.procedure}, of {text}", use)
+        def call(did: Called, instances: Instances) -> Call:
+            owner = owned.of_call(did, instances)
+            if owner is None or isinstance(owner.event, DomainMade | CellMade):
+                return Call(did.procedure, "")
+            return Call(f"{did.procedure}, of {owner.event.text}", owned.use(owner.event))
 
         reading = Reading(lambda reply: self._shown(reply, {}), self._named, call)
         return Steps(made.session.fresh(), lines, names, reading)
-
-    def _owners(self) -> list[tuple[str, str]]:
-        """For each line of the base that attaches, the name of the use that it is for, "" where it
-        is for none, and the text of what was stated."""
-        made = self.workbench.network
-        script = made.new_script()
-        found: list[tuple[str, str]] = []
-        count = 0
-        for event in made.events:
-            lines = script.lines_of(event)
-            if isinstance(event, DomainMade | CellMade):
-                continue
-            count += _is_use(event)
-            owner = (str(count) if _is_use(event) else "", event.text)
-            found += [owner for line in lines if line.startswith("attach ")]
-        return found
 
     def lines(self) -> list[str]:
         return self.workbench.network.base()
@@ -263,18 +257,13 @@ def _stated(events: Sequence[Event]) -> _Stated:
         if isinstance(event, Required):
             cells = tuple(cell.name for cell in cells_in(event.constraint))
             said = Said(event.text, cells[0] if len(cells) == 1 else "")
-            if _is_use(event):
+            if is_use(event):
                 uses.append(Use(str(len(uses) + 1), event.text, cells, "", event.premise or ""))
             if len(cells) < 2 or event.premise:
                 says.setdefault(event.premise or "", []).append(said)
         elif isinstance(event, Told):
             says.setdefault(event.premise or "", []).append(Said(event.text, event.cell.name))
     return tuple(uses), {name: tuple(said) for name, said in says.items()}
-
-
-def _is_use(event: Event) -> bool:
-    """Whether it is shown as a use: a constraint on several cells."""
-    return isinstance(event, Required) and len(cells_in(event.constraint)) > 1
 
 
 def _choice(event: ValueChoice | ConstraintChoice) -> Choice:

@@ -90,6 +90,10 @@ class SessionModel:
         """None that are known."""
         return ()
 
+    def chosen(self, plan: Mapping[str, Point]) -> dict[str, object]:
+        """Nothing: what a choice of a session takes is a value of a cell."""
+        return {}
+
     def is_measured(self, cell: str) -> bool:
         """No cell of a session has a unit."""
         return False

@@ -11,6 +11,7 @@ from dataclasses import dataclass, replace
 from propbench.refusals import Refused, UnknownCommand
 from propbench.replies import Called, Contradiction, Moved, Nogoods, Reply, Settled, Value
 from propbench.session import Session
+from propbench.watching.instances import Instances
 from propbench.watching.network import Reason, Shown
 
 
@@ -58,7 +59,7 @@ class Reading:
 
     shown: Callable[[Value], Shown]
     named: Callable[[str], str]
-    call: Callable[[Called], Call]
+    call: Callable[[Called, Instances], Call]
 
 
 class Steps:
@@ -72,6 +73,7 @@ class Steps:
         self._session, self._reading = session, reading
         self._read, self._named = reading.shown, reading.named
         self._tells = True
+        self._instances: Instances | None = None
         self._asks = [f"why {cell}" for cell in cells]
         self._known: dict[str, Shown] = {}
         self._nogoods: set[frozenset[str]] = set()
@@ -100,7 +102,8 @@ class Steps:
         [end] = self._looked(["settle"])
         frame = Frame(len(self.frames), self._changes(), self._new_nogoods(), self._end(end))
         if isinstance(did, Called):
-            call = self._reading.call(did)
+            self._instances = self._instances or Instances(self._session)
+            call = self._reading.call(did, self._instances)
             inner = [Value(call.inner, did.value, True, did.because)] if call.inner else []
             changes = (*self._among(inner), *frame.changes)
             return replace(frame, changes=changes, does=call.text, use=call.use)

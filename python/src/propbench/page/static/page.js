@@ -285,12 +285,16 @@ async function look(name) {
   at("cell-value").textContent = known ? known.text : nothing;
   at("cell-because").textContent = known ? `because of ${reasonsOf(known)}` : "";
   bears = null;
+  let how = "";
   if (frame < 0 && !state.seen.clash) {
     const told = await asked({ what: "cell", cell: name });
     if (told === undefined || picked !== name) return;
     bears = told.bears;
+    how = told.how;
     if (told.shown) at("cell-because").textContent = `because of ${reasonsOf(told.shown)}`;
   }
+  at("how").hidden = !how;
+  at("cell-how").textContent = how;
   const kind = state.network.cells.find((each) => each.name === name).kind;
   at("least").hidden = at("greatest").hidden = !["span", "a number"].includes(kind);
   drawing.light(bears);
