@@ -25,6 +25,7 @@ from typing import Any, Iterator, Optional
 import choices
 import drawn
 import formulas
+import listing
 import plain
 import steps
 from case import ORDERS, Check
@@ -39,7 +40,7 @@ def replies_of(output: bytes) -> Iterator[str]:
     """The replies in an output, each with all its lines."""
     lines = iter(output.decode(errors="replace").splitlines())
     for line in lines:
-        counted = re.fullmatch(r"(?:step|how) (\d+)", line)
+        counted = re.fullmatch(r"(?:step|how|list) (\d+)", line)
         yield "\n".join([line, *(next(lines, "") for _ in range(int(counted[1]) if counted else 0))])
 
 
@@ -320,6 +321,7 @@ class DrawChoices(choices.Draw):
 def cases(count: int = DRAWN) -> Iterator[drawn.Drawn]:
     yield from drawn.drawn(Draw, "telling", count)
     yield from drawn.drawn(DrawChoices, "telling with choices", count)
+    yield from listing.cases(count)
 
 
 def over_propwide(case: drawn.Drawn, options: list[str]) -> Check:

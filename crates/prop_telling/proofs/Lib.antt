@@ -1,4 +1,6 @@
 pub mod Starting
 pub mod TextLemmas
 pub mod TellingLemmas
+pub mod NoteLemmas
+pub mod ListingLemmas
 pub mod HowLemmas

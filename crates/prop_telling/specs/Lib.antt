@@ -1,5 +1,8 @@
 pub mod Asking
 pub mod Texts
+pub mod Notes
+pub mod Naming
+pub mod Listing
 pub mod How
 pub mod Telling
 pub mod Answering

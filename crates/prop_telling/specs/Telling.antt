@@ -1,6 +1,6 @@
 -- What a layer tells of a run, as a machine.
 use Rattle.std.specs.Prelude.{◌≡◌, ◌⊎◌, ℕ, List, ◌++◌, codes, Some, slice_get}
-use Rattle.std.specs.Prelude.{Bool, true, false}
+use Rattle.std.specs.Prelude.{Bool, true, false, length}
 use Rattle.prop_numbers.specs.Sets.{set_of}
 use Rattle.prop_refusals.specs.declared.refusal.Refusal.TheVariants.{Memory}
 use Rattle.prop_procedures.specs.Stored.{Stored}
@@ -16,8 +16,11 @@ use Rattle.prop_texts.specs.Texts.{contradiction_text, support_text}
 use Rattle.prop_workbench.specs.Machine.{State, problem_in}
 use Rattle.prop_workbench.specs.Steps.{Covers}
 use Rattle.prop_workbench.specs.Questions.{Picks}
-use Rattle.prop_workbench.specs.Engine.{Standing, WorkFits, Works}
-use Rattle.prop_telling.specs.Asking.{is_step, is_how}
+use Rattle.prop_workbench.specs.Engine.{Standing, WorkFits, Works, new_standing}
+use Rattle.prop_language.specs.Reading.{AsRead}
+use Rattle.prop_telling.specs.Asking.{is_step, is_how, is_list, may_declare}
+use Rattle.prop_telling.specs.Notes.{Notes, no_notes, note_read, noted}
+use Rattle.prop_telling.specs.Listing.{SaysList}
 use Rattle.prop_telling.specs.How.{TellsHow}
 use Rattle.prop_telling.specs.Texts.{call_text, says_text, sides_text, moved_text}
 use Rattle.prop_telling.specs.Texts.{two_lines, three_lines}
@@ -72,9 +75,34 @@ abbrev pub Own : Bool → Type 0 → Type 0 → Type 0
 Own true own other = own
 Own false own other = other
 
+-- where a teller stands: where its session does, and what lines declared
+pub record Told (O : Type 0) : Type 0 where
+  pub standing : Standing O
+  pub notes : Notes
+
+-- where a teller of a new session stands
+abbrev pub new_told : {O : Type 0} → ℕ → O → Told O
+new_told limit order = record { standing = new_standing limit order; notes = no_notes }
+
+-- what a line declares is noted, where it is carried out
+abbrev pub IsNoted : {O : Type 0} → Told O → List ℕ → Answer → Notes → Type 0
+IsNoted old line answer new =
+    let s = old.standing.shown.state in
+    AsRead line (λ read. new ≡ noted old.notes
+    (note_read old.notes (length s.kinds) (length s.instances) read) answer)
+
+-- the line does what the session does, and what it declares is noted
+pub record DoesAsSession {O : Type 0} (picks : Picks O) (library : List Stored) (old : Told O)
+    (line : List ℕ) (answer : Answer) (new : Told O) : Type 0 where
+  pub works : Works picks library old.standing line answer new.standing
+  pub noted : Own (may_declare line) (IsNoted old line answer new.notes) (new.notes ≡ old.notes)
+
 -- a line is the layer's own, or does what the session does
-abbrev pub telling : {O : Type 0} → Picks O → List Stored → Machine (Standing O)
+abbrev pub telling : {O : Type 0} → Picks O → List Stored → Machine (Told O)
 telling picks library old line answer new =
-    Own (is_step line) (TellsStep picks library old answer new)
-    (Own (is_how line) (TellsHow library old line answer new)
-    (Works picks library old line answer new))
+    Own (is_step line) ((new.notes ≡ old.notes)
+    × TellsStep picks library old.standing answer new.standing)
+    (Own (is_how line) ((new.notes ≡ old.notes)
+    × TellsHow library old.standing line answer new.standing)
+    (Own (is_list line) ((new ≡ old) × SaysList library old.notes old.standing answer)
+    (DoesAsSession picks library old line answer new)))

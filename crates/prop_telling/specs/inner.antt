@@ -1,3 +1,4 @@
 pub mod Answering
 pub mod Telling
+pub mod Notes
 pub mod How

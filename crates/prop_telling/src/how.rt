@@ -45,7 +45,8 @@ fn lines_for(made: &Composition) -> u128
 }
 
 impl<R: Rule + Drop, O: Order + Drop> Teller<R, O> {
-    ghost use Rattle.std.specs.Prelude.{◌≡◌, ◌<◌, ◌⊎◌, ◌++◌, All, codes, length, IfOk, OnOk, string_bytes};
+    ghost use Rattle.std.specs.Prelude.{◌≡◌, ◌<◌, ◌⊎◌, ◌++◌, All, codes, length, IfOk};
+    ghost use Rattle.std.specs.Prelude.{OnOk, string_bytes};
     ghost use Rattle.prop_numbers.specs.Sets.{set_of};
     ghost use Rattle.prop_origins.specs.Whole.{IfWhole};
     ghost use Rattle.prop_engine.specs.Answers.{answer_of, Refused};

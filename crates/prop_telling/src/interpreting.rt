@@ -1,8 +1,8 @@
 //! A teller is what the engine has its lines carried out by.
 ghost use Rattle.prop_procedures.specs.Kept.{stored_of};
 ghost use Rattle.prop_workbench.specs.Sessions.{IsSound, IsMeant};
-ghost use Rattle.prop_workbench.specs.Engine.{Standing, standing_of};
-ghost use Rattle.prop_telling.specs.Telling.{telling};
+ghost use Rattle.prop_telling.specs.Telling.{telling, Told};
+ghost use Rattle.prop_telling.specs.inner.Telling.{told_of};
 ghost use Rattle.prop_telling.specs.laws.TellingLaws.{telling_asks_by_prefix, telling_is_total};
 
 use crate::telling::Teller;
@@ -13,11 +13,11 @@ use prop_scheduler::Order;
 impl<R: Rule + Drop, O: Order + Drop> Interpreter for Teller<R, O> {
     type Setting = Library<R>;
 
-    ghost State = { Standing O };
+    ghost State = { Told O };
 
     ghost setting = { λ t. t.session.live.network.library };
 
-    ghost state = { λ t. standing_of t.session };
+    ghost state = { λ t. told_of t };
 
     ghost machine = { λ library. telling O.picks (stored_of R.value_of library) };
 

@@ -15,6 +15,9 @@
 mod asking;
 mod how;
 mod interpreting;
+mod listing;
+mod naming;
+mod notes;
 mod running;
 mod telling;
 mod texts;

@@ -9,6 +9,8 @@ ghost use Rattle.prop_workbench.specs.Engine.{standing_of};
 ghost use Rattle.prop_workbench.specs.Sessions.{library_of, IsSound, IsMeant};
 ghost use Rattle.prop_engine.specs.Endings.{WritesPrefix};
 ghost use Rattle.prop_telling.specs.Telling.{telling};
+ghost use Rattle.prop_telling.specs.Notes.{no_notes};
+ghost use Rattle.prop_telling.specs.inner.Telling.{told_of};
 ghost use Rattle.prop_telling.specs.inner.Answering.{Writes};
 ghost use Rattle.prop_telling.specs.Answering.{IsToldBy, IsToldInPartBy, IsTold, IsToldInPart};
 
@@ -64,7 +66,7 @@ pub fn run<R: Rule + Drop, Rd: Read, W: Write>(
 
 /// Loads the prelude into a session, runs it with a teller around it and drops it.
 fn serve<R: Rule + Drop, O: Order + Drop, Rd: Read, W: Write>(
-    mut session: Session<R, O>,
+    session: Session<R, O>,
     prelude: &[&str],
     devices: &mut Devices<Rd, W>,
 ) -> Result<Counts, Fault>
@@ -73,19 +75,20 @@ fn serve<R: Rule + Drop, O: Order + Drop, Rd: Read, W: Write>(
     requires means { IsMeant R.value_of session }
     requires sound { IsSound R.value_of session }
     ensures ok { IfOk result (IsToldBy O.picks (library_of R.value_of session)
-        (standing_of session) (words prelude.now)
+        (record { standing = standing_of session; notes = no_notes }) (words prelude.now)
         (Rd.remaining (device (reader devices.old))) (W.contents (device (writer devices.old)))
         (W.contents (device (writer devices.new)))) }
     ensures err { OnErr result (IsToldInPartBy O.picks (library_of R.value_of session)
-        (standing_of session) (words prelude.now)
+        (record { standing = standing_of session; notes = no_notes }) (words prelude.now)
         (Rd.remaining (device (reader devices.old))) (W.contents (device (writer devices.old)))
         (W.contents (device (writer devices.new)))) }
     ensures devices { TellsDevices result devices.old devices.new }
 {
-    match session.load_prelude(prelude) {
-        Ok(()) => tell(Teller::new(session), devices),
+    let mut teller = Teller::new(session);
+    match teller.load_prelude(prelude) {
+        Ok(()) => tell(teller, devices),
         Err(_) => {
-            drop(session);
+            drop(teller);
             Err(Fault::Memory(AllocError))
         }
     }
@@ -100,14 +103,13 @@ fn tell<R: Rule + Drop, O: Order + Drop, Rd: Read, W: Write>(
     requires writer { IsPassedOn devices.old }
     requires means { IsMeant R.value_of teller.session }
     requires sound { IsSound R.value_of teller.session }
-    ensures ok { IfOk result (Writes O.picks (library_of R.value_of teller.session)
-        (standing_of teller.session)
+    ensures ok { IfOk result (Writes O.picks (library_of R.value_of teller.session) (told_of teller)
         (Rd.remaining (device (reader devices.old))) (W.contents (device (writer devices.old)))
         (W.contents (device (writer devices.new)))) }
     ensures err { OnErr result (WritesPrefix
         (telling O.picks (library_of R.value_of teller.session))
         (Rd.remaining (device (reader devices.old))) (W.contents (device (writer devices.old)))
-        (W.contents (device (writer devices.new))) (standing_of teller.session)) }
+        (W.contents (device (writer devices.new))) (told_of teller)) }
     ensures devices { TellsDevices result devices.old devices.new }
 {
     let counts = answer(&mut teller, devices);
@@ -126,13 +128,13 @@ fn answer<R: Rule + Drop, O: Order + Drop, Rd: Read, W: Write>(
     requires means { IsMeant R.value_of teller.old.session }
     requires sound { IsSound R.value_of teller.old.session }
     ensures ok { IfOk result (Writes O.picks (library_of R.value_of teller.old.session)
-        (standing_of teller.old.session)
+        (told_of teller.old)
         (Rd.remaining (device (reader devices.old))) (W.contents (device (writer devices.old)))
         (W.contents (device (writer devices.new)))) }
     ensures err { OnErr result (WritesPrefix
         (telling O.picks (library_of R.value_of teller.old.session))
         (Rd.remaining (device (reader devices.old))) (W.contents (device (writer devices.old)))
-        (W.contents (device (writer devices.new))) (standing_of teller.old.session)) }
+        (W.contents (device (writer devices.new))) (told_of teller.old)) }
     ensures devices { TellsDevices result devices.old devices.new }
 {
     Ok(run_session(teller, devices, READS)?)

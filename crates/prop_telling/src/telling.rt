@@ -1,10 +1,14 @@
 //! A session that tells what it does.
 ghost use Rattle.std.specs.Prelude.{◌≡◌};
+ghost use Rattle.prop_engine.specs.Answers.{answer_of};
+ghost use Rattle.prop_telling.specs.Notes.{is_done};
 
-use crate::asking::{is_how, is_step};
+use crate::asking::{is_how, is_list, is_step, may_declare};
+use crate::notes::{Note, Notes};
 use crate::texts::{call_text, cell_text, moved_text, sides_text};
 use prop_amb::{Move, Step};
 use prop_engine::Reply;
+use prop_language::read_line;
 use prop_lattice::Info;
 use prop_premises::{PremiseSet, Worldview};
 use prop_procedures::Rule;
@@ -14,31 +18,50 @@ use prop_texts::{because, print_set};
 use prop_workbench::Session;
 use std::alloc::{AllocError, Global};
 
-/// A session that tells what it does.
+/// Whether a line was carried out without a word.
+fn is_done(reply: &Reply) -> bool
+    ensures { result ≡ is_done (answer_of reply.now) }
+{
+    matches!(reply, Reply::Done)
+}
+
+/// A session that tells what it does, and what its lines declared.
 #[derive(Drop)]
 pub struct Teller<R, O> {
     pub(crate) session: Session<R, O>,
+    pub(crate) notes: Notes,
 }
 
 impl<R: Rule + Drop, O: Order + Drop> Teller<R, O> {
-    ghost use Rattle.std.specs.Prelude.{◌≡◌, ◌<◌, ◌+◌, ◌++◌, length, codes, All, IfOk};
+    ghost use Rattle.std.specs.Prelude.{◌≡◌, ◌<◌, ◌+◌, ◌++◌, length, codes, All, IfOk, OnOk, OnErr};
+    ghost use Rattle.std.specs.Prelude.{true, Some};
     ghost use Rattle.std.specs.Prelude.{string_bytes};
     ghost use Rattle.prop_numbers.specs.Sets.{set_of};
     ghost use Rattle.prop_engine.specs.Answers.{answer_of};
     ghost use Rattle.prop_texts.specs.Texts.{support_text, contradiction_text};
-    ghost use Rattle.prop_workbench.specs.Engine.{standing_of};
+    ghost use Rattle.prop_workbench.specs.Engine.{standing_of, Works};
     ghost use Rattle.prop_workbench.specs.Sessions.{library_of, state_of, work_of};
     ghost use Rattle.prop_workbench.specs.Sessions.{IsSound, IsMeant};
-    ghost use Rattle.prop_telling.specs.Telling.{telling, TellsStep, SaysStep, SaysCall, SaysValue};
+    ghost use Rattle.prop_telling.specs.Telling.{telling, DoesAsSession, IsNoted, TellsStep};
+    ghost use Rattle.prop_telling.specs.Telling.{SaysStep, SaysCall, SaysValue};
     ghost use Rattle.prop_telling.specs.Texts.{moved_text, sides_text, says_text};
     ghost use Rattle.prop_telling.specs.Texts.{two_lines, three_lines};
-    ghost use Rattle.prop_telling.specs.inner.Telling.{IsNamed};
+    ghost use Rattle.prop_telling.specs.inner.Telling.{IsNamed, told_of};
+    ghost use Rattle.prop_telling.specs.inner.Notes.{note_value, LacksMemory};
+    ghost use Rattle.prop_telling.specs.Notes.{no_notes, note_read};
+    ghost use Rattle.prop_telling.specs.Asking.{may_declare};
+    ghost use Rattle.prop_workbench.specs.Loading.{Loads};
+    ghost use Rattle.prop_language.specs.Said.{words};
+    ghost use Rattle.prop_language.specs.Reading.{AsRead};
+    ghost use Rattle.std.specs.Option.{option_map};
 
     /// A teller of a session.
     pub fn new(session: Session<R, O>) -> Teller<R, O>
-        ensures { result.session ≡ session }
+        ensures session { result.session ≡ session }
+        ensures notes { result.notes ≡ no_notes }
     {
-        Teller { session }
+        let notes = Notes::new(session.alloc());
+        Teller { session, notes }
     }
 
     /// Carries out a line: one of its own, or as its session does.
@@ -49,8 +72,7 @@ impl<R: Rule + Drop, O: Order + Drop> Teller<R, O> {
             ≡ self.old.session.live.network.library }
         ensures sound { IsSound R.value_of self.new.session }
         ensures tells { telling O.picks (library_of R.value_of self.old.session)
-            (standing_of self.old.session) line.now (answer_of result)
-            (standing_of self.new.session) }
+            (told_of self.old) line.now (answer_of result) (told_of self.new) }
     {
         if is_step(line) {
             return self.step();
@@ -58,13 +80,121 @@ impl<R: Rule + Drop, O: Order + Drop> Teller<R, O> {
         if is_how(line) {
             return self.how(line);
         }
+        if is_list(line) {
+            return self.list();
+        }
+        if may_declare(line) {
+            return self.declare(line);
+        }
+        self.pass(line)
+    }
+
+    /// Carries out a line as its session does, and notes nothing.
+    fn pass(&mut self, line: &[u8]) -> Reply
+        requires means { IsMeant R.value_of self.old.session }
+        requires sound { IsSound R.value_of self.old.session }
+        ensures same { self.new.session.live.network.library
+            ≡ self.old.session.live.network.library }
+        ensures sound { IsSound R.value_of self.new.session }
+        ensures notes { self.new.notes ≡ self.old.notes }
+        ensures works { Works O.picks (library_of R.value_of self.old.session)
+            (standing_of self.old.session) line.now (answer_of result)
+            (standing_of self.new.session) }
+    {
         self.session.command(line)
+    }
+
+    /// What a line declares, if it is carried out.
+    fn note(&self, line: &[u8]) -> Result<Option<Note>, AllocError>
+        ensures ok { IfOk result (λ note. AsRead line.now (λ read. option_map note_value note
+            ≡ note_read self.now.notes (length self.now.session.live.network.cells.kinds)
+            (length self.now.session.live.network.cells.instances) read)) }
+        ensures err { OnErr result (LacksMemory line.now) }
+    {
+        let alloc = self.session.alloc();
+        let network = self.session.live().network();
+        match read_line(alloc, line) {
+            Ok(command) => {
+                let (cells, instances) = (network.cells(), network.instances());
+                self.notes.note_of(alloc, &command, cells, instances)
+            }
+            Err(refusal) => match refusal {
+                Refusal::Memory => Err(AllocError),
+                _ => Ok(None),
+            },
+        }
+    }
+
+    /// Carries out a line as its session does, and notes what it declares.
+    fn declare(&mut self, line: &[u8]) -> Reply
+        requires means { IsMeant R.value_of self.old.session }
+        requires sound { IsSound R.value_of self.old.session }
+        requires may { may_declare line.now ≡ true }
+        ensures same { self.new.session.live.network.library
+            ≡ self.old.session.live.network.library }
+        ensures sound { IsSound R.value_of self.new.session }
+        ensures does { DoesAsSession O.picks (library_of R.value_of self.old.session)
+            (told_of self.old) line.now (answer_of result) (told_of self.new) }
+    {
+        match self.note(line) {
+            Ok(Some(note)) => self.declare_noted(line, note),
+            Ok(None) => self.pass(line),
+            Err(AllocError) => Reply::Refused(Refusal::Memory),
+        }
+    }
+
+    /// Carries out a line as its session does, which declares this.
+    fn declare_noted(&mut self, line: &[u8], note: Note) -> Reply
+        requires means { IsMeant R.value_of self.old.session }
+        requires sound { IsSound R.value_of self.old.session }
+        requires may { may_declare line.now ≡ true }
+        requires noted { AsRead line.now (λ read. Some (note_value note)
+            ≡ note_read self.old.notes (length self.old.session.live.network.cells.kinds)
+            (length self.old.session.live.network.cells.instances) read) }
+        ensures same { self.new.session.live.network.library
+            ≡ self.old.session.live.network.library }
+        ensures sound { IsSound R.value_of self.new.session }
+        ensures does { DoesAsSession O.picks (library_of R.value_of self.old.session)
+            (told_of self.old) line.now (answer_of result) (told_of self.new) }
+    {
+        let (domains, definitions, uses) = self.notes.counts();
+        match self.notes.add(note) {
+            Ok(()) => {
+                let reply = self.pass(line);
+                if !is_done(&reply) {
+                    self.notes.back(domains, definitions, uses);
+                }
+                reply
+            }
+            Err(AllocError) => Reply::Refused(Refusal::Memory),
+        }
+    }
+
+    /// Carries out the lines of a prelude, in order. The first that is refused ends it with its
+    /// refusal, and those before it stand.
+    pub(crate) fn load_prelude(&mut self, lines: &[&str]) -> Result<(), Refusal>
+        requires means { IsMeant R.value_of self.old.session }
+        requires sound { IsSound R.value_of self.old.session }
+        ensures same { self.new.session.live.network.library
+            ≡ self.old.session.live.network.library }
+        ensures sound { IsSound R.value_of self.new.session }
+        ensures ok { OnOk result (Loads
+            (telling O.picks (library_of R.value_of self.old.session)) (told_of self.old)
+            (words lines.now) (told_of self.new)) }
+    {
+        for line in lines {
+            if let Reply::Refused(refusal) = self.command(line.as_bytes()) {
+                return Err(refusal);
+            }
+        }
+        Ok(())
     }
 
     /// Takes one step of a run and tells it.
     fn step(&mut self) -> Reply
         requires means { IsMeant R.value_of self.old.session }
         requires sound { IsSound R.value_of self.old.session }
+        ensures notes { self.new.notes ≡ self.old.notes }
         ensures same { self.new.session.live.network.library
             ≡ self.old.session.live.network.library }
         ensures sound { IsSound R.value_of self.new.session }

@@ -83,6 +83,29 @@ fn push_label(text: &mut String, premises: &Premises, premise: Premise) -> Resul
     }
 }
 
+/// The label of a premise.
+pub(crate) fn label_text(
+    alloc: Global,
+    premises: &Premises,
+    premise: Premise,
+) -> Result<String, AllocError>
+    requires { premise < length premises.now }
+    ensures { IfOk result (λ text. string_bytes text ≡ label_at premises.now premise) }
+{
+    let name = premises.name(premise);
+    match premises.side(premise) {
+        Some(side) => format!(in alloc; "{name}={side}"),
+        None => String::from_str(alloc, name),
+    }
+}
+
+/// Writes a line feed and a line behind the text.
+pub(crate) fn push_text(text: &mut String, line: &str) -> Result<(), AllocError>
+    ensures { OnOk result (string_bytes text.new ≡ string_bytes text.old ++ (10 ∷ line.now)) }
+{
+    write!(text, "\n{line}")
+}
+
 /// A side of a choice, and its next one, each with one space before it.
 pub(crate) fn moved_text(
     alloc: Global,

@@ -3,6 +3,9 @@ use Rattle.std.specs.Prelude.{◌<◌, All, length, ⊤}
 use Rattle.prop_amb.specs.Going.{Work}
 use Rattle.prop_amb.specs.declared.stepping.Step.{Step}
 use Rattle.prop_amb.specs.declared.stepping.Step.TheVariants.{Called, Moved, Settled, Contradiction}
+use Rattle.prop_workbench.specs.Engine.{standing_of}
+use Rattle.prop_telling.specs.declared.telling.Teller.{Teller}
+use Rattle.prop_telling.specs.Telling.{Told}
 
 -- what it names is there
 abbrev pub IsNamed : {O : Type 0} → Work O → Step → Type 0
@@ -11,3 +14,8 @@ IsNamed w (Moved m) = (m.side < length w.search.premises)
     × All (λ p. p < length w.search.premises) m.nogood
 IsNamed w Settled = ⊤
 IsNamed w (Contradiction n) = All (λ p. p < length w.search.premises) n
+
+-- where a teller stands
+abbrev pub told_of : {R O : Type 0} {X : Type 0} {F : X → Type 0} {g : _} → Teller R O X F g
+    → Told O
+told_of t = record { standing = standing_of t.session; notes = t.notes }

@@ -32,7 +32,8 @@ returns-in_ok-new-in-Lifo-clause-told_in_part g c =
 
 pub returns-in_ok-session-in-Mixed-clause-told_in_part : goal.returns-in_ok-session-in-Mixed-clause-told_in_part
 returns-in_ok-session-in-Mixed-clause-told_in_part g c =
-    let same = ap (stored_of g.R.Rule.value_of) (c.in_ok-session-in-Mixed.ensures.library ∙ c.new-network.ensures.library)
+    let same = ap (stored_of g.R.Rule.value_of) (c.in_ok-session-in-Mixed.ensures.library
+    ∙ c.new-network.ensures.library)
     ∙ ap (λ p. map (stored_as g.R.Rule.value_of) p.items) c.new.ensures in
     rw (c.in-Mixed.is, ← c.new-in-Mixed.ensures) (told_in_part_by picks_mixed _ _ same _ _ _ c.serve-in-Mixed.result _
     _ _ _ c.in_ok-session-in-Mixed.ensures.state c.serve-in-Mixed.ensures.err)

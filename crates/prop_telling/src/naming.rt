@@ -1,0 +1,170 @@
+//! The names of cells that have none of their own, and of instances, by the uses that made them.
+ghost use Rattle.std.specs.Prelude.{◌≡◌, ◌<◌, ◌≤◌, ◌++◌, ◌∷◌, [], IfOk, IfSome, OnOk, Some, None};
+ghost use Rattle.std.specs.Prelude.{length, string_bytes, option_copied, cond};
+ghost use Rattle.std.specs.Option.{option_and_then};
+ghost use Rattle.prop_telling.specs.Naming.{uses_by_cell, uses_by_instance, use_at, local_of};
+ghost use Rattle.prop_telling.specs.Naming.{local_text, cell_name, cell_names, part_of, made_by};
+ghost use Rattle.prop_telling.specs.Naming.{made_at};
+
+use crate::notes::{Notes, Part, Use};
+use prop_vocabulary::CellNames;
+use std::alloc::{AllocError, Global};
+use std::fmt::Write;
+use std::marker::Model;
+
+/// An instance by the use that made it, and what it was given, as text.
+#[derive(Drop)]
+pub(crate) struct Made {
+    pub(crate) path: String,
+    pub(crate) by: String,
+}
+
+impl Model for Made {
+    ghost use Rattle.std.specs.Prelude.{string_bytes};
+    ghost use Rattle.prop_telling.specs.Naming as naming;
+
+    ghost Value = { naming.Made };
+
+    ghost view = { λ m. record { path = string_bytes m.path; by = string_bytes m.by } };
+}
+
+/// How many uses began where there were no more cells than these.
+fn count_by_cell(uses: &[Use], cell: usize) -> usize
+    ensures { result ≡ uses_by_cell uses.now cell }
+{
+    let mut count = 0;
+    for made in uses {
+        if made.cells <= cell {
+            count += 1;
+        }
+    }
+    count
+}
+
+/// How many uses began where there were no more instances than these.
+fn count_by_instance(uses: &[Use], instance: usize) -> usize
+    ensures { result ≡ uses_by_instance uses.now instance }
+{
+    let mut count = 0;
+    for made in uses {
+        if made.instances <= instance {
+            count += 1;
+        }
+    }
+    count
+}
+
+/// What is given to a part: what its use is given, or what it says.
+fn given<'a>(part: &'a Part, by: &'a str) -> &'a str
+    ensures { result.now ≡ cond part.now.own by.now part.now.by }
+{
+    if part.own { by } else { part.by.as_str() }
+}
+
+/// A part of a use of this number that is given this.
+fn made_by(alloc: Global, number: usize, by: &str, part: Option<&Part>) -> Result<Made, AllocError>
+    ensures { IfOk result (λ made. made ≡ made_by number by.now (option_copied part.entry)) }
+{
+    match part {
+        Some(part) => {
+            let path = &part.path;
+            let path = format!(in alloc; "{number}.{path}")?;
+            let by = String::from_str(alloc, given(part, by))?;
+            Ok(Made { path, by })
+        }
+        None => {
+            let path = format!(in alloc; "{number}")?;
+            let by = String::from_str(alloc, by)?;
+            Ok(Made { path, by })
+        }
+    }
+}
+
+impl Notes {
+    /// The use of a number from 1 on.
+    fn use_at(&self, number: usize) -> Option<&Use>
+        ensures { option_copied result ≡ use_at self.now number }
+    {
+        self.uses.get(number.checked_sub(1)?)
+    }
+
+    /// The path of a cell within the use of this number.
+    fn local(&self, number: usize, cell: usize) -> Option<&str>
+        ensures some { IfSome result (λ local.
+            option_and_then (local_of self.now cell) (use_at self.now number) ≡ Some local.now) }
+        ensures none { result ≡ None
+            → option_and_then (local_of self.now cell) (use_at self.now number) ≡ None }
+    {
+        let made = self.use_at(number)?;
+        let inner = self.inner_at(made.of)?;
+        let local = inner.locals.get(cell.saturating_sub(made.cells))?;
+        Some(local.as_str())
+    }
+
+    /// A cell by the use that made it, or `#` and its number.
+    fn local_text(&self, alloc: Global, cell: usize) -> Result<String, AllocError>
+        ensures { IfOk result (λ text. string_bytes text ≡ local_text self.now cell) }
+    {
+        let number = count_by_cell(&self.uses, cell);
+        match self.local(number, cell) {
+            Some(local) => format!(in alloc; "{number}.{local}"),
+            None => format!(in alloc; "#{cell}"),
+        }
+    }
+
+    /// A cell by its name, by the use that made it, or by `#` and its number.
+    pub(crate) fn cell_name(
+        &self,
+        alloc: Global,
+        names: &CellNames,
+        cell: usize,
+    ) -> Result<String, AllocError>
+        ensures { IfOk result (λ text. string_bytes text ≡ cell_name self.now names.now cell) }
+    {
+        match names.name_of(cell) {
+            Some(name) => String::from_str(alloc, name),
+            None => self.local_text(alloc, cell),
+        }
+    }
+
+    /// Cells, each with one space before it.
+    pub(crate) fn cell_names(
+        &self,
+        alloc: Global,
+        names: &CellNames,
+        cells: &[usize],
+    ) -> Result<String, AllocError>
+        ensures { IfOk result (λ text.
+            string_bytes text ≡ cell_names self.now names.now cells.now) }
+    {
+        let mut text = String::new(alloc);
+        for cell in cells {
+            let name = self.cell_name(alloc, names, *cell)?;
+            write!(text, " {name}")?;
+        }
+        Ok(text)
+    }
+
+    /// The part that an instance is of a use.
+    fn part(&self, made: &Use, instance: usize) -> Option<&Part>
+        ensures { option_copied result ≡ part_of self.now instance made.now }
+    {
+        let inner = self.inner_at(made.of)?;
+        inner.parts.get(instance.saturating_sub(made.instances))
+    }
+
+    /// An instance by the use that made it, or `#` and its number.
+    pub(crate) fn made_at(&self, alloc: Global, instance: usize) -> Result<Made, AllocError>
+        ensures { IfOk result (λ made. made ≡ made_at self.now instance) }
+    {
+        let number = count_by_instance(&self.uses, instance);
+        match self.use_at(number) {
+            Some(made) => made_by(alloc, number, &made.by, self.part(made, instance)),
+            None => {
+                let path = format!(in alloc; "#{instance}")?;
+                let by = String::new(alloc);
+                Ok(Made { path, by })
+            }
+        }
+    }
+}
