@@ -31,7 +31,9 @@ def is_command(line: str) -> bool:
     """Whether it is no reply: those to `nogoods`, `step` and `how` begin with the word too, and a
     number."""
     word, *rest = line.split(" ")
-    return word in (*COMMANDS, *TOLD) and not (word in ("nogoods", *TOLD) and "".join(rest).isdigit())
+    if word == "how":
+        return not "".join(rest).isdigit()
+    return word in (*COMMANDS, *TOLD) and not (word in ("nogoods", *TOLD) and rest)
 
 
 def blocks(text: str) -> Iterator[list[str]]:
