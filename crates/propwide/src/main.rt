@@ -28,9 +28,8 @@ Reads commands from standard input, one on each line, and writes a reply or a re
   networks    domain, relation, define, cell, attach
   statements  fix, tell, choose, forget
   premises    kick, bring, worldview, nogoods
-  questions   ask, why, core, settle, how
+  questions   ask, why, core, settle, how, list
   steps       limit, step
-  told        how, list
 
 WIDE.md lists what there is beside the kit, and LANGUAGE.md describes each command: in docs/ of the
 sources, and in /usr/share/doc/propbench of the Debian package.",
