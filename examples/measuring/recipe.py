@@ -26,4 +26,4 @@ w.show(flour, water, salt)
 
 # Backward the laws tell a little less than there is to know. The ends of the flour, tried out:
 print(w.shave(flour))
-bread.picture().save("recipe.svg")
+flour.picture().save("recipe.svg")

@@ -247,8 +247,11 @@ def test_what_bears_is_told_and_enough(wide: str, options: dict[str, Any]) -> No
             seen = watched.see()
             shown = [each for each in seen.values.values() if each.is_known]
             found = [(each, bears(watched, seen, each), watched.how(each.cell)) for each in shown]
+            drawn = [picture_of(watched, each.cell).dot for each in shown]
         attached = [line for line in lines if line.startswith("attach")]
-        for each, lit, claim in found:
+        for (each, lit, claim), dot in zip(found, drawn):
+            boxes = len(re.findall('shape=box, style="rounded', dot))
+            assert boxes >= sum(cell in seen.values for cell in lit.cells)
             assert claim.says == each.text
             names = {reason.premise or reason.choice for reason in each.because}
             assert lit.premises | lit.choices <= names and lit.says[each.cell] == each.text
@@ -399,9 +402,10 @@ def test_what_a_workbench_tells_is_enough(wide: str) -> None:
                 continue
             for cell in w.cells:
                 claim = cell.how()
+                names = {each.cell for each in claim.claims()}
+                assert names <= set(NAMES) and cell.picture().dot.count("rounded") == len(names)
                 sources = [it for each in claim.claims() for way in each.ways for it in way.sources]
                 texts = {source.text for source in sources}
-                assert {each.cell for each in claim.claims()} <= set(NAMES)
                 assert not re.search(r"(?<!\w)_\w|#\d", str(claim))
                 with numbers(wide, highs) as kept:
                     for each in drawn:

@@ -5,7 +5,7 @@ for markup.
 """
 
 from collections.abc import Iterable, Iterator, Mapping
-from dataclasses import dataclass, field
+from dataclasses import dataclass, field, replace
 
 from propbench.pictures.folding import MOST_CELLS, MOST_INSTANCES, folded
 from propbench.showing import printable
@@ -66,12 +66,30 @@ def dot_of(network: Network, seen: Seen = NOTHING_SEEN, look: Look = Look()) -> 
 
 def restricted(network: Network, lit: Bearing) -> Network:
     """What is lit of a network, with the premises and choices that speak of it."""
+    uses = [use for use in network.uses if use.name in lit.uses]
+    drawn = lit.cells.union(cell.name for use in uses for cell in use.inner_cells())
     return Network(
         tuple(cell for cell in network.cells if cell.name in lit.cells),
-        tuple(use for use in network.uses if use.name in lit.uses),
+        tuple(_among(use, drawn) for use in uses),
         tuple(premise for premise in network.premises if premise.name in lit.premises),
         tuple(choice for choice in network.choices if choice.name in lit.choices),
         tuple(said for said in network.fixed if said.cell in lit.cells),
+    )
+
+
+def _among(use: Use, cells: frozenset[str]) -> Use:
+    """A use with those of its cells, and the parts between those, that are among these."""
+    parts = tuple(
+        _among(part, cells)
+        for part in use.parts
+        if any(cells.issuperset(leaf.cells) for leaf in part.leaves())
+    )
+    joined = {cell for part in parts for leaf in part.leaves() for cell in leaf.cells}
+    return replace(
+        use,
+        cells=tuple(cell for cell in use.cells if cell in cells),
+        parts=parts,
+        locals=tuple(cell for cell in use.locals if cell.name in joined),
     )
 
 
