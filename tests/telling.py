@@ -256,7 +256,8 @@ class Looked:
         return (
             len(lines) == 4
             and choice.index(taken) == choice.index(left) + 1
-            and {left} <= nogood <= self.session.believed | set(sides)
+            # (a side that is passed over wasn't believed)
+            and {left} <= nogood <= self.session.believed | set(sides) | {left}
             and self.session.refutes(nogood)
         )
 
