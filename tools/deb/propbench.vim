@@ -6,7 +6,7 @@ endif
 syntax case match
 " a name may have any letters, and a word ends at a blank or a mark
 syntax match propbenchNote /^\s*#.*$/
-syntax match propbenchCommand /^\s*\%(domain\|relation\|cell\|define\|attach\|fix\|tell\|kick\|bring\|forget\|choose\|limit\|ask\|why\|core\|settle\|worldview\|nogoods\|step\)\ze\%([[:blank:]{};=*]\|$\)/
+syntax match propbenchCommand /^\s*\%(domain\|relation\|cell\|define\|attach\|fix\|tell\|kick\|bring\|forget\|choose\|limit\|ask\|why\|core\|settle\|worldview\|nogoods\|step\|how\|list\)\ze\%([[:blank:]{};=*]\|$\)/
 syntax match propbenchNumber /\%(^\|[[:blank:]{};=*]\)\zs-\?\d\+\%(\.\.-\?\d\+\)\?\ze\%([[:blank:]{};=*]\|$\)/
 syntax match propbenchWord /\%([[:blank:]{};=*]\)\zs\%(by\|local\|like\|or\|span\|truth\|symbol\)\ze\%([[:blank:]{};=*]\|$\)/
 syntax match propbenchValue /\%([[:blank:]{};=*]\)\zs\%(yes\|no\)\ze\%([[:blank:]{};=*]\|$\)/
