@@ -22,18 +22,27 @@ domain relation cell attach define fix tell choose kick bring forget limit ask w
 worldview nogoods
 """.split()
 # What propwide has more.
-TOLD = ["step", "how"]
+TOLD = ["step", "how", "list"]
 # Documents whose sessions are run over propwide, where it is built.
 WIDE = {"docs/WIDE.md"}
 
 
 def is_command(line: str) -> bool:
-    """Whether it is no reply: those to `nogoods`, `step` and `how` begin with the word too, and a
-    number."""
+    """Whether it is no reply: those to `nogoods`, `step`, `how` and `list` begin with the word too,
+    and a number."""
     word, *rest = line.split(" ")
     if word == "how":
         return not "".join(rest).isdigit()
     return word in (*COMMANDS, *TOLD) and not (word in ("nogoods", *TOLD) and rest)
+
+
+def told_apart(block: list[str]) -> Iterator[tuple[str, bool]]:
+    """Each line of a block, and whether it is a command: none is of those that a reply counts."""
+    left = 0
+    for line in block:
+        yield line, left == 0 and is_command(line)
+        counted = re.fullmatch(r"(?:nogoods|step|how|list) (\d+)", line)
+        left = int(counted[1]) if counted and not left else max(left - 1, 0)
 
 
 def blocks(text: str) -> Iterator[list[str]]:
@@ -49,9 +58,10 @@ def session(text: str) -> tuple[list[str], list[str]]:
     sent: list[str] = []
     wanted: list[str] = []
     for block in blocks(text):
-        for line, behind in zip(block, [*block[1:], "settle"]):
-            (sent if is_command(line) else wanted).append(line)
-            if is_command(line) and is_command(behind):
+        lines = list(told_apart(block))
+        for (line, is_sent), (_, is_next_sent) in zip(lines, [*lines[1:], ("", True)]):
+            (sent if is_sent else wanted).append(line)
+            if is_sent and is_next_sent:
                 wanted.append("ok")
     return sent, wanted
 
