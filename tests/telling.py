@@ -256,7 +256,8 @@ class Looked:
         return (
             len(lines) == 4
             and choice.index(taken) == choice.index(left) + 1
-            and {left} <= nogood <= self.session.believed | set(sides)
+            # (the side that was left may have been passed over before it was believed)
+            and {left} <= nogood <= self.session.believed | set(sides) | {left}
             and self.session.refutes(nogood)
         )
 
