@@ -203,7 +203,7 @@ class SessionWatched:
 
     def _named(self, name: str) -> str:
         """A premise, or what a side of a choice says."""
-        side = self._lines.told.side(name)
+        side = self._told.side(name)
         return f"{name.partition('=')[0]}: {side}" if side else name
 
 
