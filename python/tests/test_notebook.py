@@ -159,5 +159,5 @@ def test_a_question_shows_a_bar(kernel: Kernel) -> None:
         "xs = [w.number(f'x{i}', 0, 10**6) for i in range(30)]\n"
         "for a, b in zip(xs, xs[1:]):\n    w.require(a * b % 1009 == 17)\n"
     )
-    shown = kernel.run("w.plans(seconds=6)")
+    shown = kernel.run("w.plans(seconds=4, most=10**6)")
     assert any("<progress>" in each for each in shown) and "<progress>" not in shown[-1]
