@@ -1,7 +1,8 @@
 //! What is believed.
 ghost use Rattle.std.specs.Prelude.{◌≡◌, List, [], ◌∷◌, ◌++◌, ℕ, nat_lt, filter, IsOk, IfOk, OnOk};
 ghost use Rattle.std.specs.Prelude.{◌≢◌, false, IsTrue, OnErr};
-ghost use Rattle.prop_numbers.specs.Sets.{set_of, union, without, is_within, IsSame, IsBelow};
+ghost use Rattle.prop_numbers.specs.Sets.{set_of, union, without, is_within, is_alike, IsSame};
+ghost use Rattle.prop_numbers.specs.Sets.{IsBelow};
 ghost use Rattle.prop_numbers.specs.Signatures.{remainders, AreRemainders, CoversChange};
 
 use crate::premise_set::{Premise, PremiseSet};
@@ -72,6 +73,14 @@ impl Worldview {
     {
         let beliefs = self.beliefs.copy(self.beliefs.alloc())?;
         Ok(Worldview { beliefs })
+    }
+
+    /// Whether the same premises are believed in both worldviews. It takes no memory.
+    #[inline]
+    pub fn is_same(&self, other: &Worldview) -> bool
+        ensures { result ≡ is_alike self.now other.now }
+    {
+        self.beliefs.is_part_of(&other.beliefs) && other.beliefs.is_part_of(&self.beliefs)
     }
 
     /// Only the premises with a number below this one stay believed. It takes no memory.
