@@ -1,6 +1,6 @@
 //! The entries of cells, in one worldview.
 ghost use Rattle.std.specs.Prelude.{◌≡◌, ◌↔◌, ◌≢◌, ◌<◌, ◌≤◌, ◌⊎◌, ℕ, List, [], length, filter, not};
-ghost use Rattle.std.specs.Prelude.{map};
+ghost use Rattle.std.specs.Prelude.{◌+◌, map, Some};
 ghost use Rattle.std.specs.Prelude.{All, Contains, IsTrue, IsOk, IfOk, IfSome, OnOk, OnErr, None};
 ghost use Rattle.std.specs.Prelude.{false};
 ghost use Rattle.std.specs.List.{list_any};
@@ -9,8 +9,10 @@ ghost use Rattle.prop_tms.specs.Beliefs.{AreNeeded};
 ghost use Rattle.prop_numbers.specs.Sets.{set_of, union, is_within, is_at_most_one_of, IsSame};
 ghost use Rattle.prop_cells.specs.Data.{beliefs, support_of, IsSupport, IsLeanAt, AddsAt, TrimsAt};
 ghost use Rattle.prop_cells.specs.Data.{Entry, content_of, derived_of, most_derived};
+ghost use Rattle.prop_cells.specs.Knowing.{AreBeliefs, ArePassed, known_at};
 ghost use Rattle.prop_cells.specs.inner.Sides.{StandsAt, entries_below};
 
+use crate::known::Known;
 use prop_lattice::{Info, Partial};
 use prop_premises::{Premise, PremiseSet, Worldview};
 use prop_tms::{Supported, Tms};
@@ -25,35 +27,70 @@ pub(crate) fn belief_of(contents: &[Tms<Info>], cell: usize, worldview: &Worldvi
     contents[cell].believed_value(worldview)
 }
 
-/// Whether what is believed of a cell says as much as this. It takes no memory.
-pub(crate) fn is_known(
+/// What is believed of a cell. It is worked out only where it isn't known, and known from then on
+/// where there is room. It takes no memory.
+#[inline]
+pub(crate) fn known_belief(
     contents: &[Tms<Info>],
     cell: usize,
-    value: Info,
     worldview: &Worldview,
-) -> bool
-    requires { cell < length contents.now }
-    ensures { IsTrue result ↔ Below value (beliefs (set_of worldview.now) contents.now cell) }
+    known: &mut Known,
+) -> Info
+    requires cell { cell < length contents.now }
+    requires known { AreBeliefs (set_of worldview.now) contents.now known.old }
+    ensures value { result ≡ beliefs (set_of worldview.now) contents.now cell }
+    ensures known { AreBeliefs (set_of worldview.now) contents.now known.new }
 {
-    contents[cell].says(value, worldview)
+    if let Some(info) = known.get(cell) {
+        return info;
+    }
+    let info = belief_of(contents, cell, worldview);
+    known.put(cell, info);
+    info
 }
 
-/// Whether what is believed of a cell differs between two worldviews. It takes no memory.
+/// What is believed of a cell before a walk has come to it. It is worked out only where it isn't
+/// known. It takes no memory.
+fn belief_ahead(contents: &[Tms<Info>], cell: usize, before: &Worldview, known: &Known) -> Info
+    requires cell { cell < length contents.now }
+    requires known { (info : Info) → known_at known.now cell ≡ Some info
+        → beliefs (set_of before.now) contents.now cell ≡ info }
+    ensures { result ≡ beliefs (set_of before.now) contents.now cell }
+{
+    match known.get(cell) {
+        Some(info) => info,
+        None => belief_of(contents, cell, before),
+    }
+}
+
+/// Whether what is believed of a cell differs between two worldviews. What is known of the cells is
+/// believed in the second where they are below this one, and in the first else; then it is so below
+/// the next. It takes no memory.
 pub(crate) fn is_shifted(
     contents: &[Tms<Info>],
     cell: usize,
     before: &Worldview,
     after: &Worldview,
+    known: &mut Known,
 ) -> bool
-    requires { cell < length contents.now }
+    requires cell { cell < length contents.now }
+    requires known { ArePassed cell (set_of before.now) (set_of after.now) contents.now known.old }
     ensures shifted { IsTrue result
         → beliefs (set_of before.now) contents.now cell ≢ beliefs (set_of after.now) contents.now
         cell }
     ensures stays { result ≡ false
         → beliefs (set_of before.now) contents.now cell ≡ beliefs (set_of after.now) contents.now
         cell }
+    ensures known { ArePassed (cell + 1) (set_of before.now) (set_of after.now) contents.now
+        known.new }
 {
-    contents[cell].shifted(before, after)
+    if !contents[cell].may_shift(before, after) {
+        return false;
+    }
+    let was = belief_ahead(contents, cell, before, known);
+    let is = belief_of(contents, cell, after);
+    known.put(cell, is);
+    was != is
 }
 
 /// What is believed of a cell, with a lean support.
@@ -98,20 +135,23 @@ pub(crate) fn has_contradiction(infos: &[Info]) -> bool
     )
 }
 
-/// What is believed of these cells. Up to 4 of them take no memory.
+/// What is believed of these cells, which is then known. Up to 4 of them take no memory.
 pub(crate) fn gather(
     alloc: Global,
     contents: &[Tms<Info>],
     cells: &[usize],
     worldview: &Worldview,
+    known: &mut Known,
 ) -> Result<SmallVec<Info, 4>, AllocError>
-    requires { All (λ c. c < length contents.now) cells.now }
-    ensures { IfOk result (λ v. v.items ≡ map (beliefs (set_of worldview.now) contents.now)
+    requires cells { All (λ c. c < length contents.now) cells.now }
+    requires known { AreBeliefs (set_of worldview.now) contents.now known.old }
+    ensures args { IfOk result (λ v. v.items ≡ map (beliefs (set_of worldview.now) contents.now)
         cells.now) }
+    ensures known { AreBeliefs (set_of worldview.now) contents.now known.new }
 {
     let mut args = SmallVec::new(alloc);
     for c in cells {
-        args.push(belief_of(contents, *c, worldview))?;
+        args.push(known_belief(contents, *c, worldview, known))?;
     }
     Ok(args)
 }

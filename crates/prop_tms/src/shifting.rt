@@ -1,14 +1,11 @@
-//! What the believed entries say, from one worldview to another.
-ghost use Rattle.std.specs.Prelude.{◌≡◌, ◌≢◌, IsTrue, false};
+//! Which entries are believed in just one of two worldviews.
+ghost use Rattle.std.specs.Prelude.{◌≡◌};
 ghost use Rattle.std.specs.List.{list_any};
 ghost use Rattle.prop_numbers.specs.Sets.{set_of};
 ghost use Rattle.prop_numbers.specs.Signatures.{remainders, CoversChange};
-ghost use Rattle.prop_tms.specs.Beliefs.{belief_of};
-ghost use Rattle.prop_tms.specs.Values.{entries_of};
 ghost use Rattle.prop_tms.specs.inner.Values.{is_in_one};
 
-use crate::strongest::belief;
-use crate::values::{Valued, is_same};
+use crate::values::Valued;
 use prop_lattice::Partial;
 use prop_premises::{PremiseSet, Signature, Worldview};
 
@@ -41,8 +38,12 @@ fn differs_at(
     )
 }
 
-/// Whether some entry is believed in just one of the worldviews.
-fn differs<V: Partial>(values: &[Valued<V>], before: &Worldview, after: &Worldview) -> bool
+/// Whether some entry is believed in just one of the worldviews. No values are merged.
+pub(crate) fn may_shift<V: Partial>(
+    values: &[Valued<V>],
+    before: &Worldview,
+    after: &Worldview,
+) -> bool
     ensures { result ≡ list_any (λ x.
         list_any (is_in_one (set_of before.now) (set_of after.now)) x.supports.items) values.now }
 {
@@ -55,21 +56,4 @@ fn differs<V: Partial>(values: &[Valued<V>], before: &Worldview, after: &Worldvi
                 valued.now.supports.items }
         { differs_at(&valued.supports, before, after, change) },
     )
-}
-
-/// Whether what the believed entries say together differs between the worldviews. Where the same
-/// are believed no values are merged.
-pub(crate) fn shifted<V: Partial>(
-    values: &[Valued<V>],
-    before: &Worldview,
-    after: &Worldview,
-) -> bool
-    ensures shifted { IsTrue result
-        → belief_of V.bottom V.join (set_of before.now) (entries_of values.now) ≢ belief_of V.bottom
-        V.join (set_of after.now) (entries_of values.now) }
-    ensures stays { result ≡ false
-        → belief_of V.bottom V.join (set_of before.now) (entries_of values.now) ≡ belief_of V.bottom
-        V.join (set_of after.now) (entries_of values.now) }
-{
-    differs(values, before, after) && !is_same(belief(values, before), belief(values, after))
 }

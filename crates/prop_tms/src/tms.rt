@@ -1,6 +1,6 @@
 //! The entries of one value.
 ghost use Rattle.std.specs.Prelude.{◌≡◌, ◌≢◌, ◌↔◌, ◌≤◌, ◌+◌, false, not, List, [], length, filter};
-ghost use Rattle.std.specs.Prelude.{IsTrue, Ok, IsOk, IfOk, IfSome, OnOk, OnErr};
+ghost use Rattle.std.specs.Prelude.{Any, IsTrue, Ok, IsOk, IfOk, IfSome, OnOk, OnErr};
 ghost use Rattle.std.specs.List.{list_any};
 ghost use Rattle.prop_numbers.specs.Sets.{Members, set_of, is_within, is_below, is_at_most_one_of};
 ghost use Rattle.prop_numbers.specs.Sets.{IsBelow};
@@ -13,7 +13,7 @@ ghost use Rattle.prop_tms.specs.inner.Values.{AreKept};
 ghost use Rattle.prop_tms.specs.declared.supported.Supported.{Supported};
 
 use crate::purging::drop_resting;
-use crate::shifting::shifted;
+use crate::shifting::may_shift;
 use crate::strongest::{belief, says, sole_support, strongest};
 use crate::supported::Supported;
 use crate::trimming::{count_derived, trim};
@@ -125,17 +125,16 @@ impl<V: Partial> Tms<V> {
         says(&self.values, worldview, value)
     }
 
-    /// Whether what the believed entries say together differs between two worldviews. It takes no
-    /// memory.
-    pub fn shifted(&self, before: &Worldview, after: &Worldview) -> bool
-        ensures shifted { IsTrue result
-            → belief_of V.bottom V.join (set_of before.now) self.now ≢ belief_of V.bottom V.join
-            (set_of after.now) self.now }
+    /// Whether some entry is believed in just one of two worldviews. Where none is, what the
+    /// believed entries say together is the same in both. It takes no memory.
+    pub fn may_shift(&self, before: &Worldview, after: &Worldview) -> bool
+        ensures some { IsTrue result ↔ Any (λ e. is_within (set_of before.now) e.support
+            ≢ is_within (set_of after.now) e.support) self.now }
         ensures stays { result ≡ false
             → belief_of V.bottom V.join (set_of before.now) self.now ≡ belief_of V.bottom V.join
             (set_of after.now) self.now }
     {
-        shifted(&self.values, before, after)
+        may_shift(&self.values, before, after)
     }
 
     /// What the believed entries say together, with the support of believed entries that say so,

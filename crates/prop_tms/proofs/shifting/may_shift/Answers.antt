@@ -4,7 +4,7 @@ use Rattle.std.proofs.lemmas.Iterator.{YieldsList-from_slice}
 use Rattle.std.proofs.lemmas.Iterator.Search.{any_from_yields_List}
 use Rattle.prop_numbers.specs.Sets.{set_of}
 use Rattle.prop_tms.specs.inner.Values.{is_in_one}
-use Rattle.prop_tms.proofs.shifting.differs.Goals as goal
+use Rattle.prop_tms.proofs.shifting.may_shift.Goals as goal
 
 pub returns : goal.returns
 returns g c =
