@@ -1,14 +1,16 @@
 -- Entries that are believed in both of two worldviews or in neither.
 use Rattle.std.proofs.Common.{if◌then◌else◌, ◌≡◌, ◌∙◌, ℕ, Bool, true, false, not, ◌&&◌, ◌||◌, List, [], ◌∷◌, ◌++◌, map}
-use Rattle.std.proofs.Common.{refl, sym, ap, ◌≢◌, ◌⊎◌, ◌%◌, inl, inr}
+use Rattle.std.proofs.Common.{refl, sym, ap, ◌≢◌, ◌⊎◌, ◌%◌, ◌↔◌, inl, inr, Any}
 use Rattle.std.specs.List.{list_any}
 use Rattle.std.proofs.lemmas.List.Elements.{filter-append}
+use Rattle.std.proofs.lemmas.List.Folds.{Any-from_list_any, list_any-append, list_any-from_Any}
 use Rattle.prop_numbers.specs.Sets.{Members, set_of, is_within}
 use Rattle.prop_numbers.specs.Signatures.{CoversChange}
 use Rattle.prop_numbers.proofs.WithinLemmas.{within_has, within_from}
 use Rattle.prop_tms.specs.Beliefs.{merge_of_all, belief_of, believed_of}
 use Rattle.prop_tms.specs.Values.{entries_of, entries_of_one}
 use Rattle.prop_tms.specs.inner.Values.{is_in_one}
+use Rattle.prop_tms.specs.declared.supported.Supported.{Supported}
 use Rattle.prop_tms.specs.declared.values.Valued.{Valued}
 
 or_none : (a b : Bool) → (a || b) ≡ false → (a ≡ false) × (b ≡ false)
@@ -54,6 +56,57 @@ pub belief_alike : {V : Type 0} (bottom : V) (join : V → V → V) (w z : Membe
     list_any (λ x. list_any (is_in_one w z) x.supports.items) xs ≡ false
     → belief_of bottom join w (entries_of xs) ≡ belief_of bottom join z (entries_of xs)
 belief_alike bottom join w z xs h = ap (merge_of_all bottom join) (believed_alike w z xs h)
+
+-- ---- entries that are believed in just one of two worldviews
+
+abbrev in_one : {V : Type 0} → Members → Members → Supported V → Bool
+in_one w z e = is_in_one w z e.support
+
+abbrev Apart : {V : Type 0} → Members → Members → Supported V → Type 0
+Apart w z e = is_within w e.support ≢ is_within z e.support
+
+one_any : {V : Type 0} (w z : Members) (v : V) (ss : List (List ℕ)) → list_any (is_in_one w z) ss
+    ≡ list_any (in_one w z) (map (λ s. record { value = v; support = s }) ss)
+one_any w z v [] = refl
+one_any w z v (s ∷ ss) = ap (λ b. is_in_one w z s || b) (one_any w z v ss)
+
+all_any : {V : Type 0} (w z : Members) (xs : List (Valued V))
+    → list_any (λ x. list_any (is_in_one w z) x.supports.items) xs
+    ≡ list_any (in_one w z) (entries_of xs)
+all_any w z [] = refl
+all_any w z (x ∷ xs) =
+    ap (λ b. b || list_any (λ y. list_any (is_in_one w z) y.supports.items) xs)
+    (one_any w z x.value x.supports.items)
+    ∙ ap (λ b. list_any (in_one w z) (entries_of_one x) || b) (all_any w z xs)
+    ∙ sym (list_any-append (in_one w z) (entries_of_one x) (entries_of xs))
+
+apart : (a b : Bool) → ((a && not b) || (b && not a)) ≡ true → a ≢ b
+apart true true h = cc h
+apart true false h = λ e. cc e
+apart false true h = λ e. cc e
+apart false false h = cc h
+
+differ : (a b : Bool) → a ≢ b → ((a && not b) || (b && not a)) ≡ true
+differ true true h = absurd (h refl)
+differ true false h = refl
+differ false true h = refl
+differ false false h = absurd (h refl)
+
+any_weaker : {X : Type 0} (P Q : X → Type 0) (xs : List X) → ((x : X) → P x → Q x) → Any P xs → Any Q xs
+any_weaker P Q xs f (k, x, l, at, p) = (k, x, l, at, f x p)
+
+-- the test on the values finds whether some entry is
+pub some_in_one : {V : Type 0} (w z : Members) (xs : List (Valued V))
+    → (list_any (λ x. list_any (is_in_one w z) x.supports.items) xs ≡ true)
+    ↔ Any (λ e. is_within w e.support ≢ is_within z e.support) (entries_of xs)
+some_in_one w z xs = (
+  λ h. any_weaker (λ e. in_one w z e ≡ true) (Apart w z)
+  (entries_of xs) (λ e t. apart (is_within w e.support) (is_within z e.support) t)
+  (Any-from_list_any (in_one w z) (entries_of xs) (sym (all_any w z xs) ∙ h)),
+  λ h. all_any w z xs ∙ list_any-from_Any (in_one w z) (entries_of xs)
+  (any_weaker (Apart w z) (λ e. in_one w z e ≡ true)
+  (entries_of xs) (λ e t. differ (is_within w e.support) (is_within z e.support) t) h),
+)
 
 -- ---- premises that both worldviews have or lack alike
 
