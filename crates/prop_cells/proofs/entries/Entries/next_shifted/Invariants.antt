@@ -1,12 +1,14 @@
 use Rattle.std.proofs.Common.{◌≡◌, ◌<◌, ◌≤◌, ◌-◌, ℕ, length}
 use Rattle.prop_numbers.specs.Sets.{set_of}
 use Rattle.prop_cells.specs.Data.{beliefs}
+use Rattle.prop_cells.specs.Knowing.{ArePassed}
 use Rattle.prop_cells.proofs.entries.Entries.next_shifted.Given as goal
 
 abbrev pub invariant-loop-cell : goal.invariant-loop-cell
 invariant-loop-cell l = record {
   low : l.from ≤ l.cell;
   passed : (k : ℕ) → l.from ≤ k → k < l.cell → beliefs (set_of l.before) l.self k ≡ beliefs (set_of l.after) l.self k;
+  known : ArePassed l.cell (set_of l.before) (set_of l.after) l.self l.known;
 }
 
 abbrev pub decreases-loop-cell : goal.decreases-loop-cell
