@@ -63,6 +63,14 @@ fn belief_ahead(contents: &[Tms<Info>], cell: usize, before: &Worldview, known: 
     }
 }
 
+/// Whether two informations say the same.
+#[inline]
+fn is_same(a: Info, b: Info) -> bool
+    ensures { IsTrue result ↔ (a ≡ b) }
+{
+    a.implies(b) && b.implies(a)
+}
+
 /// Whether what is believed of a cell differs between two worldviews. What is known of the cells is
 /// believed in the second where they are below this one, and in the first else; then it is so below
 /// the next. It takes no memory.
@@ -90,7 +98,7 @@ pub(crate) fn is_shifted(
     let was = belief_ahead(contents, cell, before, known);
     let is = belief_of(contents, cell, after);
     known.put(cell, is);
-    was != is
+    !is_same(was, is)
 }
 
 /// What is believed of a cell, with a lean support.

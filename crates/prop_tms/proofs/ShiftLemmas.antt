@@ -101,11 +101,11 @@ pub some_in_one : {V : Type 0} (w z : Members) (xs : List (Valued V))
     ↔ Any (λ e. is_within w e.support ≢ is_within z e.support) (entries_of xs)
 some_in_one w z xs = (
   λ h. any_weaker (λ e. in_one w z e ≡ true) (Apart w z)
-  (entries_of xs) (λ e t. apart (is_within w e.support) (is_within z e.support) t)
-  (Any-from_list_any (in_one w z) (entries_of xs) (sym (all_any w z xs) ∙ h)),
+      (entries_of xs) (λ e t. apart (is_within w e.support) (is_within z e.support) t)
+      (Any-from_list_any (in_one w z) (entries_of xs) (sym (all_any w z xs) ∙ h)),
   λ h. all_any w z xs ∙ list_any-from_Any (in_one w z) (entries_of xs)
-  (any_weaker (Apart w z) (λ e. in_one w z e ≡ true)
-  (entries_of xs) (λ e t. differ (is_within w e.support) (is_within z e.support) t) h),
+      (any_weaker (Apart w z) (λ e. in_one w z e ≡ true)
+      (entries_of xs) (λ e t. differ (is_within w e.support) (is_within z e.support) t) h),
 )
 
 -- ---- premises that both worldviews have or lack alike

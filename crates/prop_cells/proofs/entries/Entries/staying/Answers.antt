@@ -1,7 +1,8 @@
-use Rattle.std.proofs.Common.{◌≡◌, ◌/◌, ℕ, List, [], slice_index_or, subst, arith}
+use Rattle.std.proofs.Common.{◌≡◌, ◌+◌, ◌/◌, ℕ, List, [], slice_index_or, subst, arith}
 use Rattle.prop_numbers.specs.Sets.{set_of}
 use Rattle.prop_cells.specs.Data.{Entry, beliefs}
 use Rattle.prop_cells.proofs.BearingLemmas.{Agree, stays}
+use Rattle.prop_cells.proofs.KnowingLaws.{passed_on}
 use Rattle.prop_cells.proofs.entries.Entries.staying.Goals as goal
 
 pub returns-then-agree_at-clause-same : goal.returns-then-agree_at-clause-same
@@ -29,3 +30,13 @@ returns-then-agree_at-2-clause-same c = λ k low high.
     c.deref-then-cell-eq0-2.ensures.value (c.agree_at-then-cell-eq0-2.ensures c.if-agree_at-2.true) in
     subst (λ (e : List (List Entry)). beliefs w e k ≡ beliefs z e k) c.self.view_is
     (stays 64 w z n.cells.items n.blocks.items k (c.args.cell / 64) c.self.invariant.0 at agree)
+
+pub returns-then-agree_at-clause-known : goal.returns-then-agree_at-clause-known
+returns-then-agree_at-clause-known c =
+    passed_on (set_of c.args.before.now) (set_of c.args.after.now) c.args.self.now c.args.known.now c.args.cell
+    (c.args.cell + 4_096) (omega arith) (returns-then-agree_at-clause-same c) c.requires.known
+
+pub returns-then-agree_at-2-clause-known : goal.returns-then-agree_at-2-clause-known
+returns-then-agree_at-2-clause-known c =
+    passed_on (set_of c.args.before.now) (set_of c.args.after.now) c.args.self.now c.args.known.now c.args.cell
+    (c.args.cell + 64) (omega arith) (returns-then-agree_at-2-clause-same c) c.requires.known
