@@ -3,7 +3,7 @@ ghost use Rattle.std.specs.Prelude.{◌≡◌, ◌↔◌, ◌≤◌, ◌+◌, �
 ghost use Rattle.std.specs.Prelude.{All, option_to_list};
 ghost use Rattle.std.specs.Prelude.{Contains, IsTrue, IsOk, IfOk, IfSome, IsSomeAnd};
 ghost use Rattle.std.specs.List.{list_any};
-ghost use Rattle.prop_numbers.specs.Sets.{Members, set_of, is_within};
+ghost use Rattle.prop_numbers.specs.Sets.{Members, set_of, is_within, union, IsSame};
 ghost use Rattle.prop_tms.specs.Beliefs.{belief_of, believed_of, merge_of_all, IsLean, IsShort};
 ghost use Rattle.prop_tms.specs.inner.Gains.{AreGains, AreRanked, entry_of, gained_of};
 ghost use Rattle.prop_tms.specs.Values.{entries_of};
@@ -168,6 +168,19 @@ fn enough<V: Partial>(gains: &[Gain<'_, V>], other: V, value: V) -> usize
     low
 }
 
+/// The premises of both sets. Where the first has none the second is copied.
+#[inline]
+fn with_support(mut support: PremiseSet, more: &PremiseSet) -> Result<PremiseSet, AllocError>
+    ensures { IfOk result (λ s. IsSame (set_of s)
+        (union (set_of more.now) (set_of support))) }
+{
+    if support.is_empty() {
+        return more.copy();
+    }
+    support.unite(more)?;
+    Ok(support)
+}
+
 /// The premises of entries of the row that say this together, as all of them do, and of which none
 /// can be left out. From the last back, an entry goes where those before it and those kept say as
 /// much.
@@ -189,7 +202,7 @@ fn thinned<V: Partial>(
     gains.truncate(enough(&gains, after, value));
     while let Some(gain) = gains.pop() {
         after = gain.entry.value.merge(after);
-        support = gain.entry.support.union(&support)?;
+        support = with_support(support, gain.entry.support)?;
         gains.truncate(enough(&gains, after, value));
     }
     Ok(support)
