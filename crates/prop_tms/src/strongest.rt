@@ -237,7 +237,7 @@ fn sole<'a, V: Partial>(
 /// What the believed entries say together, with the support of entries of which none can be left
 /// out. Entries of few premises come first, and no believed entry that says as much alone has fewer
 /// premises.
-fn strongest_of_many<V: Partial>(
+pub(crate) fn strongest<V: Partial>(
     alloc: Global,
     values: &[Valued<V>],
     worldview: &Worldview,
@@ -261,38 +261,6 @@ fn strongest_of_many<V: Partial>(
         _ => together,
     };
     Ok(Supported { value, support })
-}
-
-/// What the believed entries say together, with the support of entries of which none can be left
-/// out. No believed entry that says as much alone has fewer premises. Where just one entry is
-/// believed, only its support is copied.
-pub(crate) fn strongest<V: Partial>(
-    alloc: Global,
-    values: &[Valued<V>],
-    worldview: &Worldview,
-) -> Result<Supported<V>, AllocError>
-    ensures nothing { belief_of V.bottom V.join (set_of worldview.now)
-        (entries_of values.now) ≡ V.bottom → IsOk result }
-    ensures value { IfOk result (λ e.
-        e.value ≡ belief_of V.bottom V.join (set_of worldview.now) (entries_of values.now)) }
-    ensures lean { IfOk result (λ e.
-        IsLean V.bottom V.join (entries_of values.now) (set_of worldview.now) e.value e.support) }
-    ensures short { IfOk result (λ e.
-        IsShort (entries_of values.now) (set_of worldview.now) e.value e.support) }
-{
-    match sole(values, worldview) {
-        Some(Some(entry)) if !V::nothing().implies(entry.value) => {
-            let value = entry.value;
-            let support = entry.support.copy()?;
-            Ok(Supported { value, support })
-        }
-        Some(_) => {
-            let value = V::nothing();
-            let support = PremiseSet::empty(alloc);
-            Ok(Supported { value, support })
-        }
-        None => strongest_of_many(alloc, values, worldview),
-    }
 }
 
 /// The support of the only believed entry, where there is just one and it says something.

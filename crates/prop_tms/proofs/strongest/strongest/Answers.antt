@@ -1,24 +1,76 @@
-use Rattle.std.proofs.Common.{ap, length, arith}
-use Rattle.prop_numbers.specs.Sets.{set_of}
-use Rattle.prop_tms.specs.inner.Gains.{entry_of}
+use Rattle.std.proofs.Common.{◌≡◌, ◌≢◌, ◌∙◌, true, [], sym, inl, inr, arith, Contains}
+use Rattle.std.proofs.lemmas.List.Elements.{All-contains}
+use Rattle.prop_numbers.specs.Sets.{set_of, is_within}
+use Rattle.prop_tms.specs.inner.Gains.{entry_of, gained_of}
 use Rattle.prop_tms.specs.Values.{entries_of}
-use Rattle.prop_tms.specs.declared.supported.Supported.{Supported}
-use Rattle.prop_tms.proofs.GainLemmas.{sole_lean, sole_only}
+use Rattle.prop_tms.proofs.GainLemmas.{merged_said, lean_alone, lean_among, none_gained}
 use Rattle.prop_tms.proofs.strongest.strongest.Goals as goal
+use Rattle.prop_tms.proofs.strongest.strongest.Goals.{in-Some+in_ok-support-in-Some, in_default}
+use Rattle.prop_tms.proofs.strongest.strongest.Goals.{in_default-via-in-Some+else-count-premises}
+use Rattle.prop_tms.proofs.strongest.strongest.Goals.{in_default-via-in_default}
 
-pub returns-in_ok-support-in-Some-Some-clause-lean : goal.returns-in_ok-support-in-Some-Some-clause-lean
-returns-in_ok-support-in-Some-Some-clause-lean g c =
-    let only = rw c.in-Some-Some.field-0-is at c.in-Some-Some.ensures in
-    let some : ¬ (g.V.Partial.below c.in-Some-Some.entry.value g.V.Partial.bottom) =
-    λ h. cc (c.implies.ensures.1 (rw c.nothing.ensures h), c.if-not-implies.true) in
-    sole_lean g.met.V.Partial.laws (set_of c.args.worldview.now) (entries_of c.args.values.now)
-    (entry_of c.in-Some-Some.entry) c.in_ok-support-in-Some-Some.support only some
-    c.in_ok-support-in-Some-Some.ensures
+pub returns-clause-value : goal.returns-clause-value
+returns-clause-value g c =
+    let found = c.in_ok-gains.ensures in
+    rw c.deref.ensures.value at c.said_together-value.ensures ∙
+    sym (merged_said g.met.V.Partial.laws (set_of c.args.worldview.now) (entries_of c.args.values.now)
+    (gained_of c.in_ok-gains.gains.items) found.among found.believed found.said)
 
-pub returns-in_ok-support-in-Some-Some-clause-short : goal.returns-in_ok-support-in-Some-Some-clause-short
-returns-in_ok-support-in-Some-Some-clause-short g c x here on is =
-    let only = rw c.in-Some-Some.field-0-is at c.in-Some-Some.ensures in
-    let same = sole_only (set_of c.args.worldview.now) (entries_of c.args.values.now) (entry_of c.in-Some-Some.entry) x
-    only here on in
-    let few = ap (λ (e : Supported _). length e.support) same in
-    omega (arith, few, ap length c.in_ok-support-in-Some-Some.ensures)
+pub returns-clause-lean : goal.returns-clause-lean
+returns-clause-lean g c =
+    let laws = g.met.V.Partial.laws in
+    let w = set_of c.args.worldview.now in
+    let es = (entries_of c.args.values.now) in
+    let v = c.said_together-value.result in
+    let whole = returns-clause-value g c in
+    let gains = c.in_ok-gains.gains.items in
+    let found = c.in_ok-gains.ensures in
+    elim c.match-alone.branch [
+      | in-Some+in_ok-support-in-Some t ↦
+          (let e = (entry_of t.in-Some.entry) in
+          let gained : Contains (gained_of gains) e = rw c.deref-2.ensures.value at t.in-Some.ensures.among in
+          let some : v ≢ g.V.Partial.bottom = λ is. none_gained gains e ((found.nothing (sym whole ∙ is)).0) gained in
+          lean_alone laws w es e v c.match-alone.support
+          (All-contains (Contains es) (gained_of gains) e found.among gained)
+          (All-contains (λ x. is_within w x.support ≡ true) (gained_of gains) e found.believed gained)
+          whole t.in-Some.ensures.says some (t.support-is ∙ t.in_ok-support-in-Some.ensures))
+      | in_default t ↦ rw t.support-is (lean_among laws w es (gained_of gains) v c.in_ok-together.together found.among
+          (c.in_ok-together.ensures.lean w found.believed))
+    ]
+
+pub returns-clause-short : goal.returns-clause-short
+returns-clause-short g c x here on is =
+    let whole = returns-clause-value g c in
+    let gains = c.in_ok-gains.gains.items in
+    let found = c.in_ok-gains.ensures in
+    elim (found.said x here on) [
+      | inl none ↦
+          (let nothing : gains ≡ [] = (found.nothing (sym whole ∙ sym is ∙ none)).0 in
+          elim c.match-alone.branch [
+            | in-Some+in_ok-support-in-Some t ↦
+                absurd (none_gained gains (entry_of t.in-Some.entry) nothing
+                (rw c.deref-2.ensures.value at t.in-Some.ensures.among))
+            | in_default t ↦ rw (t.support-is, c.in_ok-together.ensures.none nothing) (omega arith)
+          ])
+      | inr gained ↦ elim c.match-alone.branch [
+        | in-Some+in_ok-support-in-Some t ↦
+            rw (t.support-is, t.in_ok-support-in-Some.ensures)
+            ((rw c.deref-2.ensures.value at t.in-Some.ensures.few) x gained
+            (rw is (g.met.V.Partial.laws.reflexive c.said_together-value.result)))
+        | in_default t ↦ elim t.in_default.branch [
+          | in_default-via-in-Some+else-count-premises u ↦
+              (let few = (rw c.deref-2.ensures.value at u.in-Some.ensures.few) x gained
+              (rw is (g.met.V.Partial.laws.reflexive c.said_together-value.result)) in
+              rw t.support-is (omega (
+                arith,
+                few,
+                u.if-count-premises.false,
+                u.count.ensures,
+                c.count-premises.ensures,
+              )))
+          | in_default-via-in_default u ↦ absurd
+              ((rw c.deref-2.ensures.value at u.in_default.ensures.few) x gained
+              (rw is (g.met.V.Partial.laws.reflexive c.said_together-value.result)))
+        ]
+      ]
+    ]
