@@ -97,14 +97,6 @@ fn has_same(supports: &[PremiseSet], support: &PremiseSet) -> bool
     supports.iter().any(|other| other.is_same(support))
 }
 
-/// What both say. It is rare that there is more to say, so it stands apart from the loop.
-#[inline(never)]
-fn with_more<V: Partial>(said: V, value: V) -> V
-    ensures { result ≡ V.join said value }
-{
-    said.merge(value)
-}
-
 /// The value of an entry with this value and support, with what the entries that rest on the same
 /// premises say.
 pub(crate) fn joined<V: Partial>(values: &[Valued<V>], value: V, support: &PremiseSet) -> V
@@ -114,7 +106,7 @@ pub(crate) fn joined<V: Partial>(values: &[Valued<V>], value: V, support: &Premi
     let mut said = V::nothing();
     for valued in values {
         if has_same(&valued.supports, support) {
-            said = with_more(said, valued.value);
+            said = said.merge(valued.value);
         }
     }
     value.merge(said)

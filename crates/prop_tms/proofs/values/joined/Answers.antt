@@ -23,7 +23,7 @@ loop-valued-preserved g c =
           (let on : list_any u x.supports.items ≡ true = sym has ∙ t.if-has_same.true in
           rw (
             t.said-is,
-            t.with_more-said.ensures,
+            t.merge-said.ensures,
             said_more laws u xs i x true l c.valued-item.is on,
             ← c.loop-valued.invariant,
           ) refl)
