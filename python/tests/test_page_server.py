@@ -5,6 +5,7 @@ import json
 import re
 import signal
 import socket
+import struct
 import subprocess
 import sys
 import threading
@@ -14,7 +15,7 @@ from pathlib import Path
 from typing import Any
 
 import pytest
-from conftest import REPOSITORY
+from conftest import ENDLESS, REPOSITORY
 
 import propbench.page
 from propbench import Session, Workbench
@@ -246,6 +247,52 @@ def test_what_is_asked_is_what_the_program_says(page: Page) -> None:
     assert replayed["same"] and replayed["seen"]["plan"] == {"pace": 0}
 
 
+def sent_whole(page: Page, path: str, body: bytes = b"", method: str = "POST") -> bytes:
+    """What a browser sends for a request."""
+    host, _, token = place(page)
+    lines = [f"{method} {path.replace('/TOKEN/', token)} HTTP/1.1", f"Host: {host}"]
+    lines += [f"Origin: http://{host}", "Content-Type: application/json"]
+    lines += [f"Content-Length: {len(body)}"]
+    return "\r\n".join([*lines, "", ""]).encode() + body
+
+
+def dropped(page: Page, data: bytes, at_once: bool) -> None:
+    """Sends this, and drops the connection: at once, or as one does that takes no more."""
+    with socket.create_connection(("127.0.0.1", place(page)[1]), timeout=90) as link:
+        if at_once:
+            # (closed by a reset, not by an orderly end)
+            link.setsockopt(socket.SOL_SOCKET, socket.SO_LINGER, struct.pack("ii", 1, 0))
+        link.sendall(data)
+
+
+def test_a_dropped_connection_ends_quietly(page: Page, capsys: pytest.CaptureFixture[str]) -> None:
+    """Whatever a browser was at when its tab is closed, nothing is told of it, and others are
+    answered."""
+    look = sent_whole(page, "/TOKEN/do", b'{"what": "look"}')
+    pieces = [
+        b"",
+        look[:9],
+        look[:-5],
+        look,
+        look + look,
+        sent_whole(page, "/TOKEN/state", method="GET"),
+        sent_whole(page, "/TOKEN/do", b"no question"),
+        sent_whole(page, "/elsewhere/do"),
+        sent_whole(page, "/TOKEN/state", method="PUT"),
+    ]
+    # (nothing is answered before all of them are gone)
+    with page.held():
+        for piece in pieces:
+            dropped(page, piece, at_once=True)
+            dropped(page, piece, at_once=False)
+    assert request(page, "GET", "/TOKEN/state").status == 200
+    for each in threading.enumerate():
+        if "process_request_thread" in each.name:
+            each.join(90)
+            assert not each.is_alive()
+    assert capsys.readouterr() == ("", "")
+
+
 def test_texts_are_never_markup() -> None:
     """No script of the page makes markup of a text, or code, or asks another address."""
     banned = r"innerHTML|outerHTML|insertAdjacent|document\.write|\beval\b|Function\(|DOMParser"
@@ -288,8 +335,7 @@ def test_the_desk_serves_a_file(program: str) -> None:
 
 def test_long_questions_are_stopped(program: str) -> None:
     """Without a or b the rest creeps on and on: looking for repairs is stopped, and all goes on."""
-    lines = ["cell x span", "cell one span", "fix one 1", "attach adder x one x", "cell y span"]
-    lines += ["tell start x 0..1000000000000000000", "tell a y 1", "tell b y 2"]
+    lines = [*ENDLESS, "cell y span", "tell a y 1", "tell b y 2"]
     with Session(program) as session:
         session.send_all(lines)
         with Page(SessionWatched(session), "endless") as page:

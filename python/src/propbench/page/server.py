@@ -9,6 +9,7 @@ import json
 import secrets
 import socketserver
 from collections.abc import Callable, Mapping
+from contextlib import suppress
 from http import HTTPStatus
 from http.server import BaseHTTPRequestHandler, ThreadingHTTPServer
 from importlib.resources import files
@@ -108,6 +109,12 @@ class Handler(BaseHTTPRequestHandler):
     # A connection that says nothing for so many seconds is closed.
     timeout = 60
 
+    def handle(self) -> None:
+        """Answers what comes over a connection. One that the browser drops, at whatever moment, has
+        come to its end."""
+        with suppress(ConnectionError):
+            super().handle()
+
     def do_GET(self) -> None:
         """A file of the page, its state, or its lines."""
         self._answered(self._get)
@@ -125,8 +132,6 @@ class Handler(BaseHTTPRequestHandler):
         except Refusal as refusal:
             self.close_connection = True
             self._send(refusal.status, _TEXT, f"{refusal}\n".encode())
-        except (BrokenPipeError, ConnectionResetError):
-            self.close_connection = True
 
     def _path(self) -> str:
         """The path behind the token. Raises Refusal for what is not asked by the page itself."""
