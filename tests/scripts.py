@@ -50,7 +50,7 @@ TYPED_TESTS += ["versions", "wide_puzzles", "wide_rules"]
 TYPED = {
     "tools/start": ["*.py", "../../propbench", "../../propwide"],
     "tools/deb": ["*.py", "../package"],
-    "tools": ["pipe_speed", "python_gate", "release"],
+    "tools": ["pipe_speed", "python_gate", "release", "steps"],
     "tests": [f"{it}.py" for it in TYPED_TESTS],
 }
 # (older modules of tests/ have no types)
@@ -80,8 +80,27 @@ def layout_holds() -> Optional[str]:
     return found_by("black", BLACK)
 
 
+def steps_tells() -> Optional[str]:
+    """tools/steps says in a line why it can measure nothing."""
+    nowhere = {**os.environ, "PATH": "/nowhere"}
+    for words, env, wanted in (
+        ([f"{TOP}/out/none"], None, "there is no program "),
+        (["/bin/true"], None, "/bin/true has no symbol prop_scheduler::runs::turn: "),
+        (["/bin/true"], nowhere, "there is no nm: it is in Debian's package binutils"),
+        (["/bin/true", "--only", "zzz"], None, "no session has 'zzz' in its name"),
+    ):
+        ran = subprocess.run(
+            [f"{TOP}/tools/steps", *words], env=env, capture_output=True, text=True
+        )
+        says = ran.stderr.removeprefix("tools/steps: ")
+        if ran.returncode != 1 or not says.startswith(wanted) or says.count("\n") != 1:
+            return f"{words}: {ran.returncode}, {ran.stdout}{ran.stderr}"
+    return None
+
+
 def cases() -> Iterator[Check]:
     # (whatever the program is)
     yield Check("scripts: /usr/bin/python3 runs them", lambda _: first_lines())
     yield Check("scripts: their types", lambda _: types_hold())
     yield Check("scripts: their layout", lambda _: layout_holds())
+    yield Check("scripts: what steps says", lambda _: steps_tells())
