@@ -79,9 +79,12 @@ def test_what_is_kept_is_in_no_conflict() -> None:
         mended = w.repairs(keep=["a"])
         assert mended == [{"c", "d"}] and mended.certificate.check()
         assert w.conflicts(keep=["a", "c"]) == [frozenset()] and w.repairs(keep=["a", "c"]) == []
-        assert str(w.conflicts(keep="ac")).startswith("What always holds with what is kept can't")
+        assert str(w.conflicts(keep=["a", "c"])).startswith(
+            "What always holds with what is kept can't"
+        )
         assert (
-            w.conflicts(keep="ac").certificate.check() and w.repairs(keep="ac").certificate.check()
+            w.conflicts(keep=["a", "c"]).certificate.check()
+            and w.repairs(keep=["a", "c"]).certificate.check()
         )
 
 

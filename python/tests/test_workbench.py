@@ -297,16 +297,40 @@ def _wrong(w: Workbench) -> dict[str, Any]:
         ("element(d, {'mon': 3})", ValueError, "has nothing for tue"),
         ("maximum()", ValueError, "of no numbers none is the greatest"),
         ("x.ask(over='plans')", ValueError, 'over="all plans"'),
+        ("element(x, {1: 3})", TypeError, "for an element of a domain, and `x` is none"),
+        ("pairs(d, d, [('mon',)])", ValueError, "('mon',) has 1, not two"),
+        ("w.choose('way', x, 3)", TypeError, "between a list of values of a cell"),
+        ("w.choose('way', [x == 3, x == 4])", TypeError, "by name, as in a dict"),
+        ("w.choose('way', {'a': 3, 'b': 4})", TypeError, "states constraints, and 3 is none"),
+        ("w.choose('way', {'a': x, 'b': x < 4})", TypeError, "`x` is a number, where a truth is"),
+        ("w.cell(3)", TypeError, "a cell is named by a text: 3"),
+        ("w.domain('d2', 3)", TypeError, "or a list of texts: 3"),
+        ("w.plan(days=9, people=3)", TypeError, "or a list of texts: 3"),
+        ("w.measured('q', low=0, high=1, step='x')", ValueError, "'x' is no number, as 5"),
+        ("w.conflicts(keep='anna')", ValueError, "no premise `anna`. Did you mean ana?"),
+        ("w.scenarios([{}], [x])", TypeError, "a dict, each by its name: [{}] is none"),
+        ("w.scenarios({'a': 3}, [x])", TypeError, "kick, bring and tell: 3 is none"),
+        ("w.scenarios({'a': dict(tell=('bob', x, 3))}, [x])", ValueError, "'bob' is none of these"),
+        ("w.diff(w)", TypeError, "is no snapshot, as `w.snapshot()` gives one"),
+        ("w.compare(3)", TypeError, "3 is no workbench"),
     ],
 )
 def test_errors_say_what_to_write(w: Workbench, code: str, error: type, says: str) -> None:
-    names = _wrong(w) | {"element": element, "maximum": maximum}
+    names = _wrong(w) | {"element": element, "maximum": maximum, "pairs": pairs}
     before = w.model.base()
     with pytest.raises(error) as caught:
         exec(code, names)
     assert says in str(caught.value)
     assert not INNER.search(str(caught.value))
     assert w.model.base() == before and w.settle()
+
+
+def test_one_premise_to_keep_is_named_by_a_text(w: Workbench) -> None:
+    x = w.number("x", 0, 9)
+    w.tell("ana", x, 3)
+    w.tell("ben", x, 4)
+    assert w.repairs(keep="ana") == w.repairs(keep=["ana"]) == [{"ben"}]
+    assert w.conflicts(keep="ana") == [{"ben"}]
 
 
 texts = st.text(st.characters(blacklist_categories=["Cs"]), min_size=1, max_size=8)

@@ -20,7 +20,10 @@ _MAY_BE_SILENT = frozenset(("", " ", "\t", "\r", "#"))
 
 
 def as_lines(lines: Iterable[str | bytes]) -> list[str]:
-    """The texts of lines. Raises ValueError where a line feed stands within one."""
+    """The texts of lines. Raises ValueError where a line feed stands within one, and TypeError for
+    one text, of which each letter would be a line."""
+    if isinstance(lines, str | bytes):
+        raise TypeError("lines are given one by one: those of a text are its `.splitlines()`")
     given = list(lines)
     # (Lines of bytes make `join` raise TypeError: so 10^6 of them are told apart in one call. The
     # checker of types can't know that behind it all are strings, hence what it is told to ignore.)

@@ -54,8 +54,10 @@ def _encoded_character(character: str) -> bytes:
 def as_line(line: str | bytes) -> str:
     """The text of a line, without the line feed that may end it.
 
-    Raises ValueError where a line feed stands within.
+    Raises ValueError where a line feed stands within, and TypeError for what is no text.
     """
+    if not isinstance(line, str | bytes):
+        raise TypeError(f"a line is a text: {line!r}")
     text = line if isinstance(line, str) else line.decode("utf-8", "surrogateescape")
     if "\n" in text:
         text = text.removesuffix("\n")

@@ -11,7 +11,7 @@
 """
 
 import os
-from collections.abc import Iterable, Iterator, Mapping, Sequence
+from collections.abc import Collection, Iterable, Iterator, Mapping, Sequence
 from datetime import date
 from typing import TYPE_CHECKING, TypeVar, overload
 
@@ -173,6 +173,8 @@ class Workbench(Measuring, Closing):
 
     def cell(self, name: str) -> Cell:
         """The cell of this name. Raises ValueError where there is none."""
+        if not isinstance(name, str):
+            raise TypeError(f"a cell is named by a text: {name!r}")
         if name not in self._network.cells:
             near = near_names(name, self._network.cells)
             hint = f" Did you mean {' or '.join(map(repr, near))}?" if near else ""
@@ -276,10 +278,14 @@ class Workbench(Measuring, Closing):
         """
         self._network.premises.check_choice(name)
         given = cell if isinstance(cell, Mapping) else alternatives
-        if given is None or not 2 <= len(given) <= MOST_ALTERNATIVES:
-            count = 0 if given is None else len(given)
+        if not isinstance(given, Collection):
+            raise TypeError(
+                f"{name!r} is a choice between a list of values of a cell, as `w.choose(name, price, "
+                "[1400, 2000])`, or between constraints by name, as in a dict"
+            )
+        if not 2 <= len(given) <= MOST_ALTERNATIVES:
             raise ValueError(
-                f"a choice has two to {MOST_ALTERNATIVES} alternatives, and {name!r} has {count}"
+                f"a choice has two to {MOST_ALTERNATIVES} alternatives, and {name!r} has {len(given)}"
             )
         event: Choice
         if isinstance(cell, Mapping):
@@ -594,7 +600,9 @@ class Workbench(Measuring, Closing):
 
     def _constraints(self, stated: Stated) -> tuple[Node, ...]:
         """The constraints of an alternative."""
-        several = [stated] if isinstance(stated, (Truth, bool)) else list(stated)
+        if not isinstance(stated, Expression | bool | Iterable):
+            raise TypeError(f"an alternative states constraints, and {stated!r} is none")
+        several = [stated] if isinstance(stated, (Expression, bool)) else list(stated)
         nodes = tuple(node_of(each, Plain.TRUTH) for each in several)
         for node in nodes:
             self._check_own(node)

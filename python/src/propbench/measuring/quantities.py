@@ -120,7 +120,11 @@ def measure_of(
 
 
 def _number(given: Exact | str) -> Fraction:
-    return Fraction(given) if isinstance(given, str) else exact_of(given)
+    """An end or a step, exact. Raises ValueError for a text that is no number."""
+    try:
+        return Fraction(given) if isinstance(given, str) else exact_of(given)
+    except (ValueError, ZeroDivisionError):
+        raise ValueError(f"{given!r} is no number, as 5, 0.1 and 1/3 are") from None
 
 
 def _usual_step(most: Fraction) -> Fraction:

@@ -99,5 +99,8 @@ class SymbolCell(Cell, Symbol):
 
 
 def words_of(given: "str | Iterable[str]") -> tuple[str, ...]:
-    """Names given as one text with spaces between them, or one by one."""
+    """Names given as one text with spaces between them, or one by one. Raises TypeError for what
+    is neither."""
+    if not isinstance(given, Iterable):
+        raise TypeError(f"names are one text with spaces between, or a list of texts: {given!r}")
     return tuple(given.split() if isinstance(given, str) else given)

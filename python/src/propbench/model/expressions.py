@@ -131,7 +131,8 @@ class Number(Expression):
     def __ge__(self, other: "Number | int") -> "Truth":
         return _compared(Op.AT_LEAST, self, other)
 
-    # (object's `==` gives a bool; here it states a constraint, which is the point of the class)
+    # (object's `==` gives a bool; here and in the classes below it states a constraint, which is what
+    # they are there for)
     def __eq__(self, other: "Number | int") -> "Truth":  # type: ignore[override]
         return _compared(Op.EQUAL, self, other)
 
@@ -375,6 +376,8 @@ def element(cell: Element, table: "Mapping[str, int]") -> Number:
 
     The table has a number for each element of the domain.
     """
+    if not isinstance(cell, Element):
+        raise TypeError(f"a table is for an element of a domain, and `{cell!r}` is none")
     domain = domain_of_element(cell)
     missing = [name for name in domain.elements if name not in table]
     unknown = [name for name in table if name not in domain.elements]
@@ -395,9 +398,13 @@ def pairs(
     if not isinstance(first, Element) or not isinstance(second, Element):
         raise TypeError("pairs are of two elements: of cells, or what is made of them")
     left, right = domain_of_element(first), domain_of_element(second)
-    kept = {
-        (_checked_element(one, left), _checked_element(other, right)) for one, other in relation
-    }
+    given = [tuple(pair) for pair in relation]
+    for pair in given:
+        if len(pair) != 2:
+            raise ValueError(
+                f"a relation is a list of pairs, and {pair!r} has {len(pair)}, not two"
+            )
+    kept = {(_checked_element(one, left), _checked_element(other, right)) for one, other in given}
     if not kept or len(kept) == len(left.elements) * len(right.elements):
         return Truth(TRUE if kept else FALSE)
     ordered = tuple(

@@ -4,11 +4,11 @@ from collections.abc import Iterable, Mapping, Sequence
 from datetime import date
 from typing import TYPE_CHECKING, SupportsIndex
 
-from propbench.model.cells import NumberCell
+from propbench.model.cells import NumberCell, words_of
 from propbench.model.expressions import Truth, maximum, total
 from propbench.nearby import near_names
 from propbench.planning.calendar import Calendar
-from propbench.planning.tasks import Option, Task, Way, checked_ways, names_in, tasks_in
+from propbench.planning.tasks import Option, Task, Way, checked_ways, tasks_in
 from propbench.questions.model import Plan
 
 if TYPE_CHECKING:
@@ -39,7 +39,7 @@ class Project:
         if days < 1:
             raise ValueError(f"a plan has one day or more, and not {days}")
         self.workbench, self.days, self.calendar = workbench, days, calendar
-        self.people = names_in(people)
+        self.people = words_of(people)
         self.tasks: dict[str, Task] = {}
         self._away: list[tuple[str, int, int, str]] = []
         self._facts: dict[str, None] = {}
@@ -165,7 +165,7 @@ class Project:
             raise ValueError(f"there is a task {name!r}")
         if any(cell is not None and self._has(cell) for cell in (self._end, self._total)):
             raise ValueError(f"{name}: add tasks before the end or the total cost is asked for")
-        people = names_in(who)
+        people = words_of(who)
         for person in people:
             self._person(person)
         return people

@@ -75,8 +75,3 @@ def tasks_in(name: str, after: Iterable[Task]) -> tuple[Task, ...]:
     if isinstance(after, Task) or not all(isinstance(task, Task) for task in tasks):
         raise TypeError(f"{name}: `after` is a list of what p.task gave, as after=[venue]")
     return tasks
-
-
-def names_in(given: str | Sequence[str]) -> tuple[str, ...]:
-    """Names, in one text with spaces between them or one by one."""
-    return tuple(given.split()) if isinstance(given, str) else tuple(given)

@@ -50,7 +50,7 @@ class Questions:
     def conflicts(
         self,
         *,
-        keep: Iterable[str] = (),
+        keep: str | Iterable[str] = (),
         most: int = 100,
         seconds: float | None = None,
         progress: Progress | None = None,
@@ -66,7 +66,7 @@ class Questions:
         self,
         weight: Mapping[str, float] | None = None,
         *,
-        keep: Iterable[str] = (),
+        keep: str | Iterable[str] = (),
         most: int = 100,
         seconds: float | None = None,
         progress: Progress | None = None,
@@ -213,10 +213,14 @@ class Questions:
     def diff(self: Bench, snapshot: Snapshot) -> Differences:
         """In what the statements and answers differ from those of a snapshot, and because of what
         premises."""
+        if not isinstance(snapshot, Snapshot):
+            raise TypeError(f"{snapshot!r} is no snapshot, as `w.snapshot()` gives one")
         return differences(snapshot, snapshot_of(self))
 
     def compare(self: Bench, other: Bench) -> Differences:
         """In what the statements and answers of another workbench differ from those of this one."""
+        if not isinstance(other, Questions):
+            raise TypeError(f"{other!r} is no workbench that could be compared")
         return differences(snapshot_of(self), snapshot_of(other))
 
 

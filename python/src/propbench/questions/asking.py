@@ -83,9 +83,14 @@ def whole_named(model: Model, cell: CellLike) -> str:
     return name
 
 
-def premises_named(model: Model, names: Iterable[str]) -> list[str]:
+def several(given: str | Iterable[str]) -> tuple[str, ...]:
+    """Names that are given one by one; a text is the one name."""
+    return (given,) if isinstance(given, str) else tuple(given)
+
+
+def premises_named(model: Model, names: str | Iterable[str]) -> list[str]:
     """The names of premises of the model. Raises NoSuchName for another."""
-    found, known = list(names), model.premises()
+    found, known = list(several(names)), model.premises()
     for name in found:
         _demand(name, known, "premise")
     return found

@@ -2,6 +2,7 @@
 
 from typing import Any, Protocol
 
+from propbench.model.answers import Answer
 from propbench.questions.model import Model
 from propbench.replies import Value
 
@@ -16,7 +17,8 @@ class AskedCell(Protocol):
 
 
 class Bench(Protocol):
-    """A workbench. What stands in for a cell, a value or an answer is the workbench's own."""
+    """A workbench. What stands in for a cell or a value, and what is set aside, is the workbench's
+    own, which questions only pass on: that is what is Any here."""
 
     @property
     def model(self) -> Model:
@@ -45,5 +47,5 @@ class Bench(Protocol):
     def _put_back(self, kept: Any) -> None:
         ...
 
-    def _read(self, cell: str, reply: Value, inside: tuple[str, ...]) -> Any:
+    def _read(self, cell: str, reply: Value, inside: tuple[str, ...]) -> Answer:
         ...

@@ -13,6 +13,7 @@ from propbench.questions.rooms import Numbers
 from propbench.questions.shown import NOT_REFUTED, Shown
 from propbench.questions.searching import decided
 from propbench.questions.trial import Trial
+from propbench.showing import quoted
 
 LEAST, GREATEST = "least", "greatest"
 
@@ -172,5 +173,5 @@ def bounding_in(trial: Trial, premises: Sequence[str], cell: str, sort: str) -> 
     ValueError."""
     if not isinstance(trial.rooms[cell], Numbers):
         trial.close()
-        raise ValueError(f"{cell} is not for numbers, and only of these one is the {sort}")
+        raise ValueError(f"{quoted(cell)} is not for numbers, and only of these one is the {sort}")
     return Bounding(trial, premises, cell, sort)

@@ -4,7 +4,7 @@ from collections.abc import Iterable, Mapping, Sequence
 from dataclasses import dataclass
 
 from propbench.nearby import near_names
-from propbench.questions.asking import cell_named, premises_named
+from propbench.questions.asking import cell_named, premises_named, several
 from propbench.questions.model import Model
 from propbench.showing import quoted
 
@@ -26,6 +26,10 @@ class Change:
         TypeError where it has anything else."""
         if isinstance(said, Change):
             return said
+        if not isinstance(said, Mapping):
+            raise TypeError(
+                f"a what-if is a dict of what to kick, bring and tell: {said!r} is none"
+            )
         for key in said:
             if key not in ("kick", "bring", "tell"):
                 near = near_names(key, ("kick", "bring", "tell"))
@@ -41,17 +45,19 @@ def changed(
 ) -> Change:
     """The change; a text stands for the one premise of that name. Raises TypeError and ValueError
     where it has another form."""
-    told = tuple(tuple(each) for each in tell)
-    for each in told:
-        if len(each) not in (3, 4) or not isinstance(each[0], str):
-            raise ValueError(
-                f"what is told is a premise, a cell and a value, or its two ends: {each!r}"
-            )
-    return Change(_names(kick), _names(bring), told)
+    told = tuple(map(_told, tell))
+    return Change(several(kick), several(bring), told)
 
 
-def _names(given: str | Iterable[str]) -> tuple[str, ...]:
-    return (given,) if isinstance(given, str) else tuple(given)
+def _told(given: object) -> tuple[object, ...]:
+    """One of the statements that are told. Raises ValueError where it has another form."""
+    parts = tuple(given) if isinstance(given, tuple | list) else ()
+    if len(parts) not in (3, 4) or not isinstance(parts[0], str):
+        raise ValueError(
+            "what is told is a list, each a premise, a cell and a value, or its two ends, as "
+            f'[("guess", x, 3), ("Ben", y, 4, 6)]: {given!r} is none of these'
+        )
+    return parts
 
 
 @dataclass(frozen=True)

@@ -2,8 +2,8 @@
 
 from collections.abc import Iterable, Mapping, Sequence
 from dataclasses import dataclass
-from typing import Any
 
+from propbench.model.answers import Answer
 from propbench.questions.bench import Bench
 from propbench.questions.certificate import Certificate
 from propbench.questions.clock import Clock
@@ -19,7 +19,7 @@ class Snapshot:
 
     says: Mapping[str, str]
     believed: frozenset[str]
-    answers: Mapping[str, Any]
+    answers: Mapping[str, Answer]
     conflict: tuple[str, ...] | None
     certificate: Certificate
 
@@ -101,5 +101,5 @@ def _fit(snapshot: Snapshot) -> str:
     return "fits" if snapshot.conflict is None else f"conflict: {listed(snapshot.conflict)}"
 
 
-def _value(answer: Any) -> object:
+def _value(answer: Answer | None) -> object:
     return None if answer is None else said(answer.value)

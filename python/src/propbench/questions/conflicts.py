@@ -118,7 +118,7 @@ def _given(kept: Sequence[str]) -> str:
 
 def find_conflicts(
     model: Model,
-    keep: Iterable[str],
+    keep: str | Iterable[str],
     most: int,
     seconds: float | None,
     progress: Progress | None,
@@ -137,7 +137,7 @@ def find_conflicts(
 def find_both(
     model: Model,
     texts: Mapping[str, str],
-    keep: Iterable[str],
+    keep: str | Iterable[str],
     most: int,
     seconds: float | None,
     progress: Progress | None = None,
@@ -156,7 +156,7 @@ def find_both(
 def find_repairs(
     model: Model,
     weight: Mapping[str, float],
-    keep: Iterable[str],
+    keep: str | Iterable[str],
     most: int,
     seconds: float | None,
     progress: Progress | None,
@@ -217,7 +217,7 @@ _KNOWN = "conflicts"
 
 
 def _explore(
-    model: Model, weight: Mapping[str, float], keep: Iterable[str], clock: Clock
+    model: Model, weight: Mapping[str, float], keep: str | Iterable[str], clock: Clock
 ) -> Exploring:
     """The search for conflicts and repairs: a new one, or the last one of the same, which goes on.
     Its trial may have ended."""

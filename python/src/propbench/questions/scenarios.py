@@ -8,8 +8,8 @@ from collections.abc import Iterable, Iterator, Mapping, Sequence
 from concurrent.futures import Executor, Future, ThreadPoolExecutor
 from dataclasses import dataclass, replace
 from functools import partial
-from typing import Any
 
+from propbench.model.answers import Answer
 from propbench.model.shrinking import shrunk
 from propbench.questions.asking import CellLike, answered, cell_named
 from propbench.questions.bench import Bench
@@ -65,7 +65,7 @@ def run_job(job: Job) -> Heard:
         return Heard(tuple(map(str, replies)), kinds, inside)
 
 
-class Row(dict[str, Any]):
+class Row(dict[str, Answer]):
     """The answers of a scenario by the names of cells. Where what is believed then can't all hold,
     there are none, and `conflict` has premises of which none can be left out."""
 
@@ -236,7 +236,9 @@ def find_scenarios(
     seconds: float | None,
     progress: Progress | None,
 ) -> Scenarios:
-    """A table of what-ifs, asked one after the other."""
+    """A table of what-ifs, asked one after the other. Raises TypeError for rows without names."""
+    if not isinstance(rows, Mapping):
+        raise TypeError(f"the rows of scenarios are a dict, each by its name: {rows!r} is none")
     asking = Asking(bench, rows, columns, Clock(seconds, progress))
     return answered(asking.here, asking.result)
 
