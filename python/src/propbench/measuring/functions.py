@@ -1,6 +1,7 @@
 """The greatest, the least, the sum and the mean: of measured quantities, or of whole numbers."""
 
-from collections.abc import Iterable
+from collections.abc import Callable, Iterable
+from functools import partial
 from typing import overload
 
 from propbench.measuring.readings import Exact
@@ -27,10 +28,7 @@ def maximum(*numbers: Real | Iterable[Term]) -> Term:
 def maximum(*numbers: object) -> Number | Term:
     """The greatest of these numbers, or of these quantities and what is made of them, given one by
     one or as one list."""
-    given = _several(numbers)
-    if _are_measured(given):
-        return extreme(Sort.GREATEST, given)
-    return expressions.maximum(given)  # type: ignore[arg-type]  # (looked at there)
+    return _over(numbers, partial(extreme, Sort.GREATEST), expressions.maximum)
 
 
 # (of nothing but numbers both fit: the first is meant)
@@ -47,10 +45,7 @@ def minimum(*numbers: Real | Iterable[Term]) -> Term:
 def minimum(*numbers: object) -> Number | Term:
     """The least of these numbers, or of these quantities and what is made of them, given one by one
     or as one list."""
-    given = _several(numbers)
-    if _are_measured(given):
-        return extreme(Sort.LEAST, given)
-    return expressions.minimum(given)  # type: ignore[arg-type]  # (looked at there)
+    return _over(numbers, partial(extreme, Sort.LEAST), expressions.minimum)
 
 
 # (of nothing but numbers both fit: the first is meant)
@@ -67,23 +62,21 @@ def total(*numbers: Real | Iterable[Term]) -> Term:
 def total(*numbers: object) -> Number | Term:
     """The sum of these numbers, or of these quantities and what is made of them, given one by one or
     as one list."""
-    given = _several(numbers)
-    if _are_measured(given):
-        return sum_of(given)
-    return expressions.total(given)  # type: ignore[arg-type]  # (looked at there)
+    return _over(numbers, sum_of, expressions.total)
 
 
-def _several(given: tuple[object, ...]) -> list[object]:
-    """What was given one by one, or as one list."""
+def _over(
+    numbers: tuple[object, ...],
+    of_terms: Callable[[list[object]], Term],
+    of_wholes: Callable[..., Number],
+) -> Number | Term:
+    """What one of two functions makes of what was given one by one, or as one list: the first where
+    anything of it is measured. (Either looks at what it is given.)"""
+    given = list(numbers)
     if len(given) == 1 and not isinstance(given[0], Term | Number | int | str):
         [several] = given
-        if isinstance(several, Iterable):
-            return list(several)
-    return list(given)
-
-
-def _are_measured(given: list[object]) -> bool:
-    return any(isinstance(each, Term) for each in given)
+        given = list(several) if isinstance(several, Iterable) else given
+    return of_terms(given) if any(isinstance(each, Term) for each in given) else of_wholes(given)
 
 
 __all__ = ["maximum", "mean", "minimum", "total"]

@@ -10,7 +10,6 @@ from dataclasses import dataclass
 from fractions import Fraction
 from functools import cache
 from importlib import import_module
-from typing import Any
 
 # Powers of base units by name, those that are not zero, in order of the names.
 Dimension = tuple[tuple[str, Fraction], ...]
@@ -112,7 +111,7 @@ def _unknown(written: str, word: str) -> str:
 def _of_pint(word: str) -> tuple[Dimension, Fraction] | None:
     """The same by pint; None where it isn't there, or knows none that is exact."""
     try:
-        pint: Any = import_module("pint")
+        pint = import_module("pint")
     except ImportError:
         return None
     try:

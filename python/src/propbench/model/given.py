@@ -1,7 +1,6 @@
 """Values as a user gives them, and what is stated by them."""
 
 from collections.abc import Iterable, Sequence
-
 from typing import Any
 
 from propbench.measuring.readings import Reading, reading_of
@@ -48,8 +47,9 @@ def cells_of(measure: Measure, reading: Reading) -> tuple[int, int]:
     return min(max(low, -MOST), MOST), min(max(high, -MOST), MOST)
 
 
+# (Any, for what a user gives may be anything: `reading_of` looks at what it is)
 def given_of(value: object, high: object = None) -> Any:
-    """A reading that is given as such, or by two ends. (`reading_of` looks at what it is.)"""
+    """A reading that is given as such, or by two ends."""
     return value if high is None else (value, high)
 
 

@@ -29,8 +29,10 @@ from propbench.model.nodes import Declared, Node, Op, cell, constant, node
 # A comment begins so, and goes on so where a line is too short for it.
 BEGINS, GOES_ON = "#: ", "#+ "
 _LONGEST = 4000
-# What JSON gives: its parts are read by what stands there.
+# What JSON gives may be anything: its parts are read by what stands there, and what has another form
+# than an event raises.
 Record = Mapping[str, Any]
+Nested = Sequence[Any]
 
 
 def comments(event: Mapping[str, object]) -> Iterator[str]:
@@ -40,7 +42,7 @@ def comments(event: Mapping[str, object]) -> Iterator[str]:
         yield (GOES_ON if first else BEGINS) + text[first : first + _LONGEST]
 
 
-def records(lines: Iterable[str]) -> list[dict[str, Any]]:
+def records(lines: Iterable[str]) -> list[Record]:
     """The records that comments hold. Raises ValueError where one can't be read."""
     texts: list[str] = []
     for line in lines:
@@ -156,7 +158,7 @@ class Records:
         )
         return ConstraintChoice(record["choose"], sides)
 
-    def _node(self, parts: list[Any]) -> Node:
+    def _node(self, parts: Nested) -> Node:
         op, first, *more = parts
         if op == "CELL":
             return cell(self.cells[first])

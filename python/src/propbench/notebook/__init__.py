@@ -144,6 +144,7 @@ def how(session: Session, cell: str) -> Claim:
     return SessionWatched(session).how(cell)
 
 
+# (the shell is IPython's, which tells no types)
 def load_ipython_extension(shell: Any) -> None:
     """Has a notebook know `%%propbench`, and shows a bar for questions that take long."""
 

@@ -2,7 +2,6 @@
 
 import time
 from html import escape
-from typing import Any
 
 from IPython.display import HTML, DisplayHandle
 
@@ -18,7 +17,7 @@ class Bar:
     """A bar, which is shown where what it tells of takes long."""
 
     def __init__(self) -> None:
-        self._shown: Any = None
+        self._shown: DisplayHandle | None = None
         self._next = time.monotonic() + _FIRST
 
     def steps(self, steps: int, reply: Reply) -> None:

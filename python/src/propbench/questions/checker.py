@@ -13,7 +13,7 @@ import sys
 from collections.abc import Callable, Iterable, Sequence
 from functools import partial
 from itertools import zip_longest
-from typing import Any
+from typing import Any  # (what JSON gives: each use fails where it is of another form)
 
 HEAD, MOST, SIDES = "propbench certificate 1", 10**18, 8
 Room = Sequence[Any]  # what is left for a cell: the lowest and the highest number, or names

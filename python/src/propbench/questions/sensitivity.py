@@ -2,7 +2,6 @@
 
 from collections.abc import Iterator, Sequence
 from dataclasses import dataclass
-from typing import Any
 
 from propbench.listing import told_by
 from propbench.questions.asking import CellLike, answered, cell_named, tried, whole_named
@@ -91,7 +90,7 @@ def of_answers(
     return answered(asking.here, result)
 
 
-def _value(row: Row, cell: str) -> Any:
+def _value(row: Row, cell: str) -> object:
     return f"conflict: {row.conflict}" if row.conflict is not None else row[cell].value
 
 

@@ -60,6 +60,7 @@ class Shown:
         head = f"<thead><tr>{heads}</tr></thead>"
         return f"{told}<table>{head}<tbody>{rows}</tbody></table>" if rows else told
 
+    # (a DataFrame, which has no type here: pandas need not be there)
     def to_pandas(self) -> Any:
         """The table as a DataFrame. Raises ImportError where pandas isn't there."""
         try:
