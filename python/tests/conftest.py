@@ -38,6 +38,15 @@ settings.register_profile(
 )
 settings.load_profile("small")
 
+# A network that takes 10^18 steps: each rules out one number.
+ENDLESS = [
+    "cell x span",
+    "cell one span",
+    "fix one 1",
+    "attach adder x one x",
+    "tell start x 0..1000000000000000000",
+]
+
 Bare = Callable[[Iterable[str | bytes], list[str]], str]
 
 

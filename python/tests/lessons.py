@@ -21,6 +21,8 @@ from nbclient import NotebookClient
 LESSONS = Path(__file__).resolve().parents[2] / "notebooks"
 UNPROVED = "The program that answers is not known to be proved."
 _MOST_SECONDS = 60
+# So many seconds its kernel has to start, which takes long on a busy machine.
+_START_SECONDS = 900
 
 
 def paths() -> list[Path]:
@@ -40,6 +42,7 @@ def ran(book: Any, may_fail: bool = False) -> Any:
     client = NotebookClient(
         made,
         timeout=_MOST_SECONDS,
+        startup_timeout=_START_SECONDS,
         kernel_name="python3",
         allow_errors=may_fail,
         record_timing=False,

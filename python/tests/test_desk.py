@@ -14,7 +14,7 @@ from pathlib import Path
 from typing import Any
 
 import pytest
-from conftest import REPOSITORY
+from conftest import ENDLESS, REPOSITORY
 
 from propbench import Reply, Session
 from propbench.completion import completions
@@ -25,6 +25,9 @@ from propbench.overview import overview
 from propbench.shell import ASIDES, Quit, Shell
 from propbench.tables import table
 
+# So many seconds a conversation is waited for, far longer than it takes on a busy machine.
+PATIENCE = 300
+
 FIRST = """\
 cell x span
 cell y span
@@ -33,13 +36,6 @@ attach sum x y z
 tell morning x 3..5
 tell evening y 10
 why z
-"""
-ENDLESS = """\
-cell x span
-cell one span
-fix one 1
-attach adder x one x
-tell start x 0..1000000000000000000
 """
 
 
@@ -194,7 +190,7 @@ def test_run_is_cut_after_seconds(
     program: str, file: Write, capsys: pytest.CaptureFixture[str]
 ) -> None:
     begun = time.monotonic()
-    assert main(["run", file(ENDLESS), "--seconds", "0.2", "--program", program]) == 0
+    assert main(["run", file("\n".join(ENDLESS)), "--seconds", "0.2", "--program", program]) == 0
     assert time.monotonic() - begun < 10
     assert "This is not settled" in capsys.readouterr().out
 
@@ -332,7 +328,7 @@ def test_shell_saves_and_loads(talk: Talk, tmp_path: Path, program: str) -> None
 
 def test_shell_steps(program: str) -> None:
     with Session(program) as session:
-        session.send_all(ENDLESS.split("\n"))
+        session.send_all(ENDLESS)
         talk = Talk(session)
         assert talk(":step").split("\n") == [
             "cell  before                  now",
@@ -355,7 +351,7 @@ def test_shell_helps(talk: Talk) -> None:
 
 def test_ctrl_c_ends_a_run_and_not_the_shell(program: str, monkeypatch: pytest.MonkeyPatch) -> None:
     with Session(program) as session:
-        session.send_all(ENDLESS.split("\n"))
+        session.send_all(ENDLESS)
         talk = Talk(session)
 
         def stop(steps: int, reply: Reply) -> None:
@@ -481,9 +477,9 @@ def test_an_overview_leaves_no_trace(talk: Talk) -> None:
 
 
 def status_of(pid: int) -> int | None:
-    """The exit status of a child that ends soon, None where it doesn't."""
+    """The exit status of a child that ends, None where it doesn't in time."""
     begun = time.monotonic()
-    while time.monotonic() - begun < 20:
+    while time.monotonic() - begun < PATIENCE:
         ended, status = os.waitpid(pid, os.WNOHANG)
         if ended:
             return os.waitstatus_to_exitcode(status)
@@ -506,7 +502,7 @@ def test_a_conversation_at_a_terminal(program: str, tmp_path: Path) -> None:
         nonlocal seen
         begun = time.monotonic()
         while wanted not in seen:
-            assert time.monotonic() - begun < 20, f"{wanted!r} is not in {seen!r}"
+            assert time.monotonic() - begun < PATIENCE, f"{wanted!r} is not in {seen!r}"
             if select.select([terminal], [], [], 0.1)[0]:
                 seen += os.read(terminal, 65536).decode(errors="replace")
         before, seen = seen.split(wanted, 1)
@@ -517,7 +513,7 @@ def test_a_conversation_at_a_terminal(program: str, tmp_path: Path) -> None:
 
     try:
         until(">")
-        for line in ENDLESS.strip().split("\n"):
+        for line in ENDLESS:
             type_in(f"{line}\r")
             until("ok")
             until(">")

@@ -7,18 +7,15 @@ from typing import Any
 
 import nbformat
 import pytest
-from conftest import REPOSITORY
+from conftest import ENDLESS, REPOSITORY
 from jupyter_client.manager import start_new_kernel
 from nbclient import NotebookClient
 
-ENDLESS = """%%propbench
-cell x span
-cell one span
-fix one 1
-attach adder x one x
-tell start x 0..1000000000000000000
-ask x
-"""
+# So many seconds a kernel has to start, and to say something more: it is waited for what comes, and
+# far longer than that takes on a busy machine.
+PATIENCE = 900
+
+LONG = "\n".join(["%%propbench", *ENDLESS, "ask x"])
 
 
 @pytest.fixture
@@ -32,7 +29,13 @@ def environment(program: str, monkeypatch: pytest.MonkeyPatch) -> None:
 def outputs(cells: list[str]) -> list[list[dict[str, Any]]]:
     """What each cell of a notebook shows, by its kinds."""
     book = nbformat.v4.new_notebook(cells=[nbformat.v4.new_code_cell(cell) for cell in cells])
-    NotebookClient(book, timeout=120, kernel_name="python3", allow_errors=True).execute()
+    NotebookClient(
+        book,
+        timeout=PATIENCE,
+        startup_timeout=PATIENCE,
+        kernel_name="python3",
+        allow_errors=True,
+    ).execute()
     return [
         [output.get("data") or {output.output_type: output} for output in cell.outputs]
         for cell in book.cells
@@ -101,7 +104,9 @@ class Kernel:
     """A kernel in which cells are run one by one."""
 
     def __init__(self) -> None:
-        self.manager, self.client = start_new_kernel(kernel_name="python3", env=dict(os.environ))
+        self.manager, self.client = start_new_kernel(
+            startup_timeout=PATIENCE, kernel_name="python3", env=dict(os.environ)
+        )
 
     def close(self) -> None:
         self.client.stop_channels()
@@ -111,9 +116,9 @@ class Kernel:
         """What a cell shows, as texts; it is interrupted once it shows something with this."""
         asked = self.client.execute(code)
         found = []
-        end = time.monotonic() + 120
+        end = time.monotonic() + PATIENCE
         while time.monotonic() < end:
-            message = self.client.get_iopub_msg(timeout=120)
+            message = self.client.get_iopub_msg(timeout=PATIENCE)
             if message["parent_header"].get("msg_id") != asked:
                 continue
             content = message["content"]
@@ -140,7 +145,7 @@ def kernel(environment: None) -> Iterator[Kernel]:
 
 def test_a_stop_keeps_the_session(kernel: Kernel) -> None:
     kernel.run("%load_ext propbench.notebook")
-    shown = kernel.run(ENDLESS, interrupt_at="<progress>")
+    shown = kernel.run(LONG, interrupt_at="<progress>")
     bars = [each for each in shown if "<progress>" in each]
     assert bars and "steps so far (the stop button ends it, and the session goes on)" in bars[0]
     assert shown[-1] == "KeyboardInterrupt"
@@ -159,5 +164,7 @@ def test_a_question_shows_a_bar(kernel: Kernel) -> None:
         "xs = [w.number(f'x{i}', 0, 10**6) for i in range(30)]\n"
         "for a, b in zip(xs, xs[1:]):\n    w.require(a * b % 1009 == 17)\n"
     )
-    shown = kernel.run("w.plans(seconds=4, most=10**6)")
-    assert any("<progress>" in each for each in shown) and "<progress>" not in shown[-1]
+    shown = kernel.run("w.plans(most=10**6)", interrupt_at="<progress>")
+    assert "<progress>" in shown[0]
+    # (the bar goes)
+    assert shown[-2:] == ["<span></span>", "Interrupted"]

@@ -15,7 +15,7 @@ from typing import Any
 
 import pytest
 from browsing import SWITCH, Shown, new_browser, shown
-from conftest import REPOSITORY, Bare
+from conftest import ENDLESS, REPOSITORY, Bare
 
 from propbench import Session, Workbench, find_program
 from propbench.page import Page
@@ -463,15 +463,6 @@ def test_the_browser_keeps_to_the_policy(example: Shown) -> None:
         assert any(part in each for each in said), (part, said)
     # (what was refused stands in the log all the same)
     example.browser.get_log("performance")
-
-
-ENDLESS = [
-    "cell x span",
-    "cell one span",
-    "fix one 1",
-    "attach adder x one x",
-    "tell start x 0..1000000000000000000",
-]
 
 
 def test_what_takes_long_is_stopped(program: str, browser: Any) -> None:

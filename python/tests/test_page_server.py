@@ -324,13 +324,13 @@ def test_the_desk_serves_a_file(program: str) -> None:
         state = json.loads(link.getresponse().read())
         assert state["title"] == "talks.prop" and len(state["network"]["cells"]) == 3
         served.send_signal(signal.SIGINT)
-        assert served.wait(timeout=30) == 0
+        assert served.wait(timeout=300) == 0
     finally:
         served.kill()
         served.wait()
     for wrong, status in (("none.prop", 3), ("talks.out", 1)):
         words[4] = str(REPOSITORY / "examples/planning" / wrong)
-        assert subprocess.run(words, capture_output=True, timeout=60).returncode == status
+        assert subprocess.run(words, capture_output=True, timeout=300).returncode == status
 
 
 def test_long_questions_are_stopped(program: str) -> None:

@@ -3,7 +3,6 @@
 import os
 import random
 import signal
-import time
 from collections.abc import Iterable
 from pathlib import Path
 
@@ -141,14 +140,21 @@ def test_examples(program: str, path: Path) -> None:
     assert "".join(texts) == path.with_suffix(".out").read_text(encoding="utf-8")
 
 
+def worked() -> float:
+    """The seconds of one processor that this process has used, and its children that ended: what
+    else the machine is at makes no difference."""
+    times = os.times()
+    return sum(times[:4])
+
+
 def test_a_million_lines_at_once(program: str) -> None:
     lines = ["cell x span", "attach sum x x x"]
     lines += [("ask x", "# a note", "kick nobody", "nogoods")[i % 4] for i in range(1_000_000)]
-    begun = time.monotonic()
+    begun = worked()
     with Session(program) as session:
         replies = session.send_all(lines, keep_refused=True)
         assert str(session.send("ask x")) == "x = nothing"
-    assert time.monotonic() - begun < 100
+    assert worked() - begun < 60
     assert [said(reply) for reply in replies[2:6]] == [
         "x = nothing\n",
         "",
@@ -180,6 +186,16 @@ def test_a_line_feed_stands_in_no_line(program: str) -> None:
         assert session.lines == []
         session.send_all(["cell x span\n", b"ask x\n"])
         assert session.lines == ["cell x span", "ask x"]
+
+
+def test_lines_are_texts_one_by_one(program: str) -> None:
+    with Session(program) as session:
+        for one in ("cell x span\ncell y span", b"cell x span"):
+            with pytest.raises(TypeError, match="one by one: those of a text are its `.splitlines"):
+                session.send_all(one)  # type: ignore[arg-type]  # (wrong on purpose)
+        with pytest.raises(TypeError, match="a line is a text: 3"):
+            session.send(3)  # type: ignore[arg-type]  # (wrong on purpose)
+        assert session.lines == [] and str(session.send("settle")) == "settled"
 
 
 def test_as_line_keeps_what_is_no_text() -> None:

@@ -9,7 +9,7 @@ from collections.abc import Iterator
 from contextlib import contextmanager
 
 import pytest
-from conftest import Bare
+from conftest import ENDLESS, Bare
 from drawing import Drawer
 from hypothesis import given
 from hypothesis import strategies as st
@@ -25,15 +25,6 @@ from propbench import (
     Value,
     runs,
 )
-
-# A network that takes 10^18 steps: each rules out one number.
-ENDLESS = [
-    "cell x span",
-    "cell one span",
-    "fix one 1",
-    "attach adder x one x",
-    "tell start x 0..1000000000000000000",
-]
 
 
 def chain(length: int, premises: int) -> list[str]:
