@@ -13,14 +13,15 @@ import resource
 import subprocess
 import sys
 import tempfile
+from collections.abc import Callable, Iterable
 from dataclasses import dataclass
 from functools import cache
 from pathlib import Path
 
 import pytest
 from conftest import PROGRAMS, REPOSITORY
-from plainly import Names
-from test_workbench_page import without_notes
+from page_examples import without_notes
+from plainly import Names, conflicts_and_repairs
 
 EXAMPLES = REPOSITORY / "examples"
 
@@ -116,6 +117,23 @@ def repairs_in(printed: str) -> list[dict[Names, float]]:
         {frozenset(re.split(", | and ", row["give up"])): float(row["cost"]) for row in rows}
         for rows in tables(printed, "cost", "give up")
     ]
+
+
+def repairs_told(
+    printed: str,
+    premises: Iterable[str],
+    fit: Callable[[Names], bool],
+    cost: Callable[[str], float],
+) -> list[Names]:
+    """The repairs that an example printed, in order. Its one table of conflicts and its one of
+    repairs have to be all that there are, by asking of every set of premises whether it fits, and
+    the repairs come the cheapest first, by what each premise costs."""
+    conflicts, repairs = conflicts_and_repairs(premises, fit)
+    assert conflicts_in(printed) == [conflicts]
+    [told] = repairs_in(printed)
+    assert told == {each: sum(map(cost, each)) for each in repairs}
+    assert [*told.values()] == sorted(told.values())
+    return [*told]
 
 
 def replies(name: str) -> dict[str, list[str]]:

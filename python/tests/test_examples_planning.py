@@ -5,8 +5,8 @@ from collections.abc import Iterator
 from datetime import date
 from itertools import combinations, product
 
-from examples import conflicts_in, ran, repairs_in, replies, tables
-from plainly import Names, Rule, Values, conflicts_and_repairs, differing, fits, solutions
+from examples import ran, repairs_told, replies, tables
+from plainly import Names, Rule, Values, differing, fits, solutions
 
 # --- a conference ---
 
@@ -61,13 +61,11 @@ def week(some: Names) -> tuple[dict[str, list[str]], list[Rule]]:
 
 def test_a_week() -> None:
     printed = ran("planning/week").printed
-    conflicts, repairs = conflicts_and_repairs(WISHES, lambda some: fits(*week(some)))
-    assert conflicts_in(printed) == [conflicts]
     weight = {"Dan is away on Sunday": 5, "Ana has her weekend": 2}
-    costs = {each: sum(weight.get(wish, 1) for wish in each) for each in repairs}
-    [shown] = repairs_in(printed)
-    assert shown == costs and [*shown.values()] == sorted(shown.values())
-    left = frozenset(WISHES) - next(iter(shown))
+    repairs = repairs_told(
+        printed, WISHES, lambda some: fits(*week(some)), lambda wish: weight.get(wish, 1)
+    )
+    left = frozenset(WISHES) - repairs[0]
     rooms, rules = week(left)
     said = re.findall(r"^(\w{3}): (\w+) early, (\w+) late$", printed, re.M)
     plan = {
@@ -133,13 +131,11 @@ def timetable(some: Names) -> tuple[dict[str, list[tuple[str, str]]], list[Rule]
 def test_a_timetable() -> None:
     printed = ran("planning/timetable").printed
     wishes = [*PRESENT, LABORATORY, ART]
-    conflicts, repairs = conflicts_and_repairs(wishes, lambda some: fits(*timetable(some)))
-    assert conflicts_in(printed) == [conflicts]
     weight = {"Ott comes on Monday": 3, "Liu leaves on Tuesday noon": 2}
-    costs = {each: sum(weight.get(wish, 1) for wish in each) for each in repairs}
-    [shown] = repairs_in(printed)
-    assert shown == costs and [*shown.values()] == sorted(shown.values())
-    rooms, rules = timetable(frozenset(wishes) - next(iter(shown)))
+    repairs = repairs_told(
+        printed, wishes, lambda some: fits(*timetable(some)), lambda wish: weight.get(wish, 1)
+    )
+    rooms, rules = timetable(frozenset(wishes) - repairs[0])
     plan: Values = {}
     for hour, lessons in re.findall(r"^(\w+): (.*)$", printed, re.M):
         for lesson, room in re.findall(r"(\w+ \w+) \((\w+)\)", lessons):
@@ -191,12 +187,12 @@ def hosts(played: Values) -> tuple[dict[str, list[str]], list[Rule]]:
 
 def test_a_tournament() -> None:
     printed = ran("planning/tournament").printed
-    conflicts, repairs = conflicts_and_repairs(
-        ASKED, lambda some: next(rounds(some), None) is not None
+    repairs_told(
+        printed,
+        ASKED,
+        lambda some: next(rounds(some), None) is not None,
+        lambda wish: 3 if "derby" in wish else 1,
     )
-    assert conflicts_in(printed) == [conflicts]
-    costs = {each: sum(3 if "derby" in wish else 1 for wish in each) for each in repairs}
-    assert repairs_in(printed) == [costs]
     left = [
         each
         for each in rounds(frozenset(ASKED) - {"the favourites meet last"})
@@ -271,10 +267,7 @@ def test_a_release() -> None:
             for end, cost, days in ways()
         )
 
-    conflicts, repairs = conflicts_and_repairs(wishes, fit)
-    assert conflicts_in(printed) == [conflicts]
-    costs = {each: sum(2 if wish == wishes[1] else 1 for wish in each) for each in repairs}
-    assert repairs_in(printed) == [costs]
+    repairs_told(printed, wishes, fit, lambda wish: 2 if wish == wishes[1] else 1)
     least = min(end for end, cost, days in ways() if cost <= 3500 and days[0] == 9)
     assert least == 20 and "\n2026-03-30 ('design takes 3', 'engine after design'," in printed
     # (the chain of the critical path is as long as that: design, engine, audit, mending, release)

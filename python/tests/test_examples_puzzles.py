@@ -5,7 +5,7 @@ from collections.abc import Callable
 from itertools import combinations, permutations
 from typing import Any
 
-from examples import conflicts_in, ran, repairs_in, replies, tables
+from examples import conflicts_in, ran, repairs_in, repairs_told, replies, tables
 from plainly import Names, Rule, conflicts_and_repairs, differing, fits, solutions
 from wide_puzzles import EASY, HARD
 from wide_puzzles import solutions as filled
@@ -44,10 +44,12 @@ def test_the_tenants() -> None:
         told: int(count) for count, told in re.findall(r"^(\d+) without: (.*)$", printed, re.M)
     }
     assert shown == {told: len(floors(every - {told})) for told in TOLD}
-    conflicts, repairs = conflicts_and_repairs([*TOLD, *POSTMAN], lambda some: bool(floors(some)))
-    assert conflicts_in(printed) == [conflicts]
-    costs = {each: sum(0.5 if name in POSTMAN else 1 for name in each) for each in repairs}
-    assert repairs_in(printed) == [costs]
+    repairs_told(
+        printed,
+        [*TOLD, *POSTMAN],
+        lambda some: bool(floors(some)),
+        lambda name: 0.5 if name in POSTMAN else 1,
+    )
 
 
 def test_the_tenants_by_choices() -> None:

@@ -2,9 +2,7 @@
 
 import pytest
 from conftest import REPOSITORY
-from test_workbench_page import examples
-
-from propbench.overview import UNPROVED
+from page_examples import carried_out
 
 PAGE = REPOSITORY / "docs/MEASURING.md"
 MOST_BYTES = 7_000
@@ -16,9 +14,4 @@ def test_the_page(
     monkeypatch.setenv("PROPBENCH", program)
     text = PAGE.read_text(encoding="utf-8")
     assert len(text.encode()) <= MOST_BYTES
-    names: dict[str, object] = {}
-    found = examples(text)
-    assert len(found) == 3
-    for code, wanted in found:
-        exec(code, names)
-        assert capsys.readouterr().out.replace(f"{UNPROVED}\n", "") == wanted
+    carried_out(text, 3, capsys)

@@ -4,7 +4,7 @@ from pathlib import Path
 
 import pytest
 from conftest import REPOSITORY
-from test_workbench_page import examples, without_notes
+from page_examples import carried_out
 
 from propbench.desk import main
 
@@ -19,11 +19,5 @@ def test_the_page(
 ) -> None:
     monkeypatch.setenv("PROPBENCH", program)
     monkeypatch.chdir(tmp_path)
-    text = PAGE.read_text(encoding="utf-8")
-    names: dict[str, object] = {}
-    found = examples(text)
-    assert len(found) == 4
-    for code, wanted in found:
-        exec(code, names)
-        assert without_notes(capsys.readouterr().out) == wanted
+    carried_out(PAGE.read_text(encoding="utf-8"), 4, capsys)
     assert main(["check", "least.claim", "--base", "plan.prop"]) == 0

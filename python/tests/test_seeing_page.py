@@ -1,14 +1,11 @@
 """The examples of the page on seeing do what they say."""
 
 import re
-
 from pathlib import Path
 
 import pytest
 from conftest import REPOSITORY
-from test_workbench_page import examples
-
-from propbench.overview import UNPROVED
+from page_examples import carried_out, examples
 
 PAGE = REPOSITORY / "docs/SEEING.md"
 MOST_BYTES = 6_000
@@ -22,12 +19,7 @@ def test_the_page(
 ) -> None:
     monkeypatch.setenv("PROPBENCH", program)
     monkeypatch.chdir(tmp_path)
-    names: dict[str, object] = {}
-    found = examples(without_how(PAGE.read_text(encoding="utf-8")))
-    assert len(found) == 1
-    for code, wanted in found:
-        exec(code, names)
-        assert capsys.readouterr().out.replace(f"{UNPROVED}\n", "") == wanted
+    carried_out(without_how(PAGE.read_text(encoding="utf-8")), 1, capsys)
     assert (tmp_path / "plan.svg").read_text().count("</svg>") == 1
     assert "Ana&#39;s wish" in (tmp_path / "days.svg").read_text()
 

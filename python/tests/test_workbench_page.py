@@ -4,47 +4,20 @@ import re
 
 import pytest
 from conftest import REPOSITORY
+from page_examples import carried_out
 
 import propbench.workbench
-from propbench.overview import UNPROVED
 
 PAGE = REPOSITORY / "docs/WORKBENCH.md"
 # What the pages for who uses a workbench may take together.
 PAGES, MOST_BYTES = [PAGE, REPOSITORY / "docs/QUESTIONS.md"], 9_000
-OUTPUT = "This prints"
-
-
-def examples(text: str) -> list[tuple[str, str]]:
-    """The blocks of code, each with what it prints; blocks without are joined to the next."""
-    found: list[tuple[str, str]] = []
-    code = ""
-    for before, block in re.findall(r"(.*)\n\n((?:    .*\n|\n(?=    ))+)", text):
-        lines = re.sub(r"^    ", "", block, flags=re.M)
-        if before == OUTPUT:
-            found.append((code, lines))
-            code = ""
-        else:
-            code += lines
-    return [*found, (code, "")] if code else found
-
-
-def without_notes(printed: str) -> str:
-    """What was printed, but for what is said of the program."""
-    lines = printed.splitlines(keepends=True)
-    told = (UNPROVED, "The program has no rule of its own for ")
-    return "".join(line for line in lines if not line.startswith(told))
 
 
 def test_the_page(
     program: str, monkeypatch: pytest.MonkeyPatch, capsys: pytest.CaptureFixture[str]
 ) -> None:
     monkeypatch.setenv("PROPBENCH", program)
-    names: dict[str, object] = {}
-    found = examples(PAGE.read_text(encoding="utf-8"))
-    assert len(found) >= 4
-    for code, wanted in found:
-        exec(code, names)
-        assert without_notes(capsys.readouterr().out) == wanted
+    carried_out(PAGE.read_text(encoding="utf-8"), 4, capsys)
 
 
 def test_they_are_short() -> None:
