@@ -1,4 +1,5 @@
 pub mod AdvancingLaws
+pub mod AheadLaws
 pub mod BelievingLaws
 pub mod Blocked
 pub mod Consistent

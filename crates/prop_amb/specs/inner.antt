@@ -1,3 +1,4 @@
+pub mod Ahead
 pub mod Joined
 pub mod Refuting
 pub mod Settling

@@ -43,6 +43,7 @@ impl Search {
         self.restart();
         self.premises.kick(premise);
         self.worldview.disbelieve(premise);
+        self.ahead = None;
         Ok(Some(before))
     }
 
@@ -73,6 +74,7 @@ impl Search {
         let before = self.worldview.copy()?;
         self.worldview.believe(premise)?;
         self.from = 0;
+        self.ahead = None;
         self.premises.bring(premise);
         Ok(Some(before))
     }
@@ -90,5 +92,6 @@ impl Search {
         forget(&mut self.reasons);
         self.level = level;
         self.from = 0;
+        self.ahead = None;
     }
 }

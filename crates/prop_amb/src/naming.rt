@@ -48,6 +48,7 @@ impl Search {
         match self.worldview.believe(premise) {
             Ok(()) => {
                 self.from = 0;
+                self.ahead = None;
                 Ok(premise)
             }
             Err(AllocError) => {
@@ -74,6 +75,7 @@ impl Search {
         self.premises.back(usize::from(premise));
         self.worldview.back(premise);
         self.from = 0;
+        self.ahead = None;
     }
 
     /// Declares a choice with this many sides, which stands on the first. None of them is believed
@@ -135,6 +137,7 @@ impl Search {
         };
         self.list.push(1)?;
         self.reasons.push(Reasons::none(alloc))?;
+        self.ahead = None;
         Ok(choice)
     }
 
@@ -155,5 +158,6 @@ impl Search {
         self.premises.back(usize::from(choice.first));
         self.worldview.back(choice.first);
         self.from = 0;
+        self.ahead = None;
     }
 }

@@ -87,6 +87,7 @@ impl Search {
         move_on(&mut self.list, place);
         self.level = place + 1;
         self.from = self.from.min(choices[place].first);
+        self.ahead = None;
         Ok(replace(&mut self.worldview, worldview))
     }
 
@@ -103,6 +104,7 @@ impl Search {
     {
         advance_reasons(&mut self.reasons, self.level, reason)?;
         move_on(&mut self.list, self.level);
+        self.ahead = None;
         Ok(())
     }
 

@@ -1,14 +1,16 @@
 //! Where the search for the first consistent list of choices stands, and what it has learned.
 ghost use Rattle.std.specs.Prelude.{◌≡◌, ◌<◌, ◌↔◌, ◌⊎◌, ℕ, List, [], Contains, IsTrue, None, Ok};
-ghost use Rattle.std.specs.Prelude.{false, length, IfOk, IfSome, OnOk, OnErr};
-ghost use Rattle.prop_numbers.specs.Sets.{set_of, is_within, IsPart, IsSame};
-ghost use Rattle.prop_premises.specs.ChoiceLists.{worldview};
+ghost use Rattle.std.specs.Prelude.{◌∷◌, false, length, slice_get, Some, IfOk, IfSome, OnOk, OnErr};
+ghost use Rattle.prop_numbers.specs.Sets.{set_of, union, is_within, IsPart, IsSame};
+ghost use Rattle.prop_premises.specs.declared.choice.Choice.{Choice};
+ghost use Rattle.prop_premises.specs.ChoiceLists.{hypothetical, worldview};
 ghost use Rattle.prop_cells.specs.Problems.{Problem};
 ghost use Rattle.prop_nogoods.specs.Stores.{has_part, NoneEndsBelow, AddsSet};
 ghost use Rattle.prop_amb.specs.Refuted.{IsNogood};
 ghost use Rattle.prop_amb.specs.Search.{Stand, no_stand, users_of, choices_in, IsStand, IsSearch};
 ghost use Rattle.prop_amb.specs.Moving.{deepened};
 ghost use Rattle.prop_amb.specs.Going.{MaySkip};
+ghost use Rattle.prop_amb.specs.inner.Ahead.{IsAhead};
 ghost use Rattle.prop_amb.specs.inner.Refuting.{IsNext};
 
 use crate::reasons::Reasons;
@@ -16,6 +18,7 @@ use prop_nogoods::Store;
 use prop_premises::{Premise, PremiseSet, Premises, Worldview};
 use std::alloc::{AllocError, Global};
 use std::marker::Model;
+use std::mem::replace;
 
 /// The premises, the side on which each choice stands, of how many choices it is believed, why each
 /// left the sides before, the nogoods, and what is believed.
@@ -29,6 +32,9 @@ pub struct Search {
     pub(crate) worldview: Worldview,
     /// Each noted nogood that is believed ends with this premise or a later one, or has none.
     pub(crate) from: Premise,
+    /// What would be believed with the side of one choice more, where that was looked at and no noted
+    /// nogood would be.
+    pub(crate) ahead: Option<Worldview>,
 }
 
 impl Model for Search {
@@ -52,7 +58,15 @@ impl Model for Search {
           listed = s.store;
           worldview = s.worldview;
         })
-        × NoneEndsBelow s.store (set_of s.worldview) s.from };
+        × NoneEndsBelow s.store (set_of s.worldview) s.from
+        × IfSome s.ahead (IsAhead (record {
+          premises = s.premises;
+          list = s.list.items;
+          level = s.level;
+          reasons = s.reasons.items;
+          listed = s.store;
+          worldview = s.worldview;
+        })) };
 }
 
 impl Search {
@@ -68,6 +82,7 @@ impl Search {
             store: Store::new(alloc),
             worldview: Worldview::empty(alloc),
             from: 0,
+            ahead: None,
         }
     }
 
@@ -144,39 +159,66 @@ impl Search {
         ensures search { (problem : Problem) → IsSearch problem self.old
             → IsSearch problem self.new }
     {
-        let choice = self.premises.choices()[self.level];
-        let side = self.list[self.level];
-        let premise = choice.first + Premise::from(side - 1);
-        let before = self.worldview.copy()?;
-        self.worldview.believe(premise)?;
-        self.from = premise;
+        let (deeper, from) = self.deeper()?;
         self.level += 1;
-        Ok(before)
+        self.from = from;
+        self.ahead = None;
+        Ok(replace(&mut self.worldview, deeper))
+    }
+
+    /// What is believed with the side of one choice more, where no noted nogood is, and a premise
+    /// below which none ends that is believed then. It isn't made again where it was looked at.
+    fn deeper(&mut self) -> Result<(Worldview, Premise), AllocError>
+        requires left { self.old.level < length self.old.list }
+        requires unblocked { has_part self.old.listed (set_of self.old.worldview) ≡ false }
+        ensures same { self.new ≡ self.old }
+        ensures more { IfOk result (λ d. IsPart (set_of self.old.worldview) (set_of d.0)) }
+        ensures stand { IfOk result
+            (λ d. IsStand (record (deepened self.old) { worldview = d.0 })) }
+        ensures from { IfOk result (λ d. NoneEndsBelow self.old.listed (set_of d.0) d.1) }
+    {
+        if let Some(deeper) = replace(&mut self.ahead, None) {
+            return Ok((deeper, Premise::MAX));
+        }
+        let side = self.side_at(self.level);
+        let deeper = with_premise(&self.worldview, side)?;
+        Ok((deeper, side))
+    }
+
+    /// The side on which the choice at a place stands.
+    pub(crate) fn side_at(&self, place: usize) -> Premise
+        requires { place < length self.now.list }
+        ensures side { (choice : Choice) (side : ℕ)
+            → slice_get (choices_in self.now) place ≡ Some choice
+            → slice_get self.now.list place ≡ Some side → result ≡ hypothetical choice side }
+    {
+        let choice = self.premises.choices()[place];
+        choice.first + Premise::from(self.list[place] - 1)
     }
 
     /// A noted nogood of which every premise would be believed if the side of one choice more were,
     /// where none is believed now. None only where there is no such choice or nogood, or the side
-    /// is the choice's last.
-    pub(crate) fn refuted_next(&self) -> Result<Option<PremiseSet>, AllocError>
-        requires { has_part self.now.listed (set_of self.now.worldview) ≡ false }
-        ensures next { IfOk result (λ found. IfSome found (IsNext self.now)) }
-        ensures none { result ≡ Ok None → (nogood : List ℕ) → MaySkip self.now nogood → ⊥ }
+    /// is the choice's last. Where there is none, what would be believed then is kept for `deepen`.
+    pub(crate) fn refuted_next(&mut self) -> Result<Option<PremiseSet>, AllocError>
+        requires { has_part self.old.listed (set_of self.old.worldview) ≡ false }
+        ensures same { self.new ≡ self.old }
+        ensures next { IfOk result (λ found. IfSome found (IsNext self.old)) }
+        ensures none { result ≡ Ok None → (nogood : List ℕ) → MaySkip self.old nogood → ⊥ }
     {
-        if self.is_whole() {
+        if self.ahead.is_some() || self.is_whole() {
             return Ok(None);
         }
         let choice = self.premises.choices()[self.level];
-        let side = self.list[self.level];
-        if side >= choice.sides {
+        if self.list[self.level] >= choice.sides {
             return Ok(None);
         }
-        let ahead = choice.first + Premise::from(side - 1);
-        let mut deeper = self.worldview.copy()?;
-        deeper.believe(ahead)?;
-        match self.store.blocks_from(&deeper, ahead) {
-            Some(nogood) => Ok(Some(nogood.copy()?)),
-            None => Ok(None),
+        let side = self.side_at(self.level);
+        let deeper = with_premise(&self.worldview, side)?;
+        if let Some(nogood) = self.store.blocks_from(&deeper, side) {
+            return Ok(Some(nogood.copy()?));
         }
+        self.ahead = Some(deeper);
+        Ok(None)
     }
 
     /// Notes a nogood, of which no part was noted. After want of memory nothing has changed.
@@ -193,6 +235,7 @@ impl Search {
         let from = self.from.min(last_of(&nogood));
         self.store.add_new(nogood)?;
         self.from = from;
+        self.ahead = None;
         Ok(())
     }
 
@@ -216,6 +259,16 @@ impl Search {
     {
         self.from = Premise::MAX;
     }
+}
+
+/// What is believed in a worldview, and one premise more.
+fn with_premise(worldview: &Worldview, premise: Premise) -> Result<Worldview, AllocError>
+    ensures { IfOk result (λ w. IsSame (set_of w)
+        (union (set_of worldview.now) (set_of (premise ∷ [])))) }
+{
+    let mut more = worldview.copy()?;
+    more.believe(premise)?;
+    Ok(more)
 }
 
 /// The last premise of a set, or 0 where it has none.

@@ -20,7 +20,7 @@ ghost use Rattle.prop_amb.specs.Going.{work_on, MayCall, MayPass, Passes, Goes};
 ghost use Rattle.prop_amb.specs.Settling.{IfContradiction, IsResting, Learns, HasSettled, HasUsed};
 ghost use Rattle.prop_amb.specs.Moving.{deepened};
 ghost use Rattle.prop_amb.specs.Resolving.{IsResolved};
-ghost use Rattle.prop_amb.specs.inner.Refuting.{IsNext, IsFound, MayStep, IfStep, IfRuledOut};
+ghost use Rattle.prop_amb.specs.inner.Refuting.{IsFound, MayStep, IfStep, IfRuledOut};
 ghost use Rattle.prop_amb.specs.inner.Trying.{Attempted};
 
 use crate::outcome::Outcome;
@@ -31,18 +31,6 @@ use prop_procedures::Rule;
 use prop_scheduler::{Ended, Live, Order, Run, alert_grown, alert_shifted, run};
 use std::alloc::AllocError;
 
-/// A noted nogood that would be believed with the side of one choice more, where it wasn't looked
-/// for already.
-fn ahead(search: &Search, looked: bool) -> Result<Option<PremiseSet>, AllocError>
-    requires { has_part search.now.listed (set_of search.now.worldview) ≡ false }
-    ensures { IfOk result (λ found. IfSome found (IsNext search.now)) }
-{
-    if looked {
-        return Ok(None);
-    }
-    search.refuted_next()
-}
-
 /// Looks whether a noted nogood is believed, or would be with the side of one choice more, and else
 /// runs the network with the sides that are believed; a clash is noted. Where the list is refuted,
 /// the clash is a noted nogood.
@@ -51,7 +39,6 @@ fn attempt<R: Rule + Drop, O: Order>(
     search: &mut Search,
     order: &mut O,
     budget: u64,
-    looked: bool,
 ) -> Result<Ended<Run>, AllocError>
     requires means { AllMean R.value_of live.old.network.library.procedures.items }
     requires alive { IsLiveIn R.value_of (set_of search.old.worldview) live.old }
@@ -92,11 +79,7 @@ fn attempt<R: Rule + Drop, O: Order>(
         ⊎ (potential_in R.value_of (set_of search.old.worldview) live.old
         ≤ most_steps (problem_in R.value_of live.old))) }
 {
-    if let Some(nogood) = search.blocked() {
-        let end = Run::Clash(nogood.copy()?);
-        return Ok(Ended { end, steps: 0 });
-    }
-    if let Some(nogood) = ahead(search, looked)? {
+    if let Some(nogood) = found(search)? {
         let end = Run::Clash(nogood);
         return Ok(Ended { end, steps: 0 });
     }
@@ -153,7 +136,6 @@ fn try_list<R: Rule + Drop, O: Order>(
     search: &mut Search,
     order: &mut O,
     budget: u64,
-    looked: bool,
 ) -> Result<Ended<Run>, AllocError>
     requires means { AllMean R.value_of live.old.network.library.procedures.items }
     requires alive { IsLiveIn R.value_of (set_of search.old.worldview) live.old }
@@ -175,9 +157,8 @@ fn try_list<R: Rule + Drop, O: Order>(
         (cells_of live.new) (line_of live.new) order.new) }
 {
     let mut steps: u64 = 0;
-    let mut looked = looked;
     loop {
-        let tried = attempt(live, search, order, budget - steps, looked)?;
+        let tried = attempt(live, search, order, budget - steps)?;
         steps += tried.steps;
         match tried.end {
             Run::Quiet => {
@@ -186,7 +167,6 @@ fn try_list<R: Rule + Drop, O: Order>(
                     return Ok(Ended { end, steps });
                 }
                 believe_more(live, search)?;
-                looked = false;
             }
             end => return Ok(Ended { end, steps }),
         }
@@ -194,11 +174,13 @@ fn try_list<R: Rule + Drop, O: Order>(
 }
 
 /// A noted nogood that is believed, or where there is none, one that would be with the side of one
-/// choice more: none where no choice may go on. It changes nothing.
+/// choice more: none where no choice may go on. It changes nothing of what the search knows.
 pub(crate) fn found(search: &mut Search) -> Result<Option<PremiseSet>, AllocError>
     ensures same { search.new ≡ search.old }
     ensures found { IfOk result (λ nogood. IfSome nogood (IsFound search.old)) }
     ensures none { result ≡ Ok None → MayPass search.old → ⊥ }
+    ensures unblocked { result ≡ Ok None
+        → has_part search.old.listed (set_of search.old.worldview) ≡ false }
     ensures stand { IsStand search.old }
 {
     let Some(nogood) = search.blocked() else {
@@ -390,7 +372,7 @@ pub fn settle<R: Rule + Drop, O: Order>(
         let Ended {
             end: tried,
             steps: calls,
-        } = try_list(live, search, order, budget - steps, steps > 0)?;
+        } = try_list(live, search, order, budget - steps)?;
         steps += calls;
         let Ended { end, steps: moves } = decide(live, search, tried, budget - steps)?;
         match end {

@@ -1,13 +1,11 @@
 //! One step of settling, told.
-ghost use Rattle.std.specs.Prelude.{◌≡◌, ◌<◌, ℕ, IsTrue, IfOk, Some, length, slice_get};
+ghost use Rattle.std.specs.Prelude.{◌≡◌, IsTrue, IfOk};
 ghost use Rattle.prop_numbers.specs.Sets.{Members, set_of};
 ghost use Rattle.prop_procedures.specs.Kept.{AllMean};
 ghost use Rattle.prop_scheduler.specs.Live.{cells_of, line_of, library_of, problem_in};
 ghost use Rattle.prop_scheduler.specs.Live.{IsLiveIn, OnlyRan};
 ghost use Rattle.prop_nogoods.specs.Stores.{has_part};
-ghost use Rattle.prop_premises.specs.declared.choice.Choice.{Choice};
-ghost use Rattle.prop_premises.specs.ChoiceLists.{hypothetical};
-ghost use Rattle.prop_amb.specs.Search.{choices_in, IsStand, IsSearch};
+ghost use Rattle.prop_amb.specs.Search.{IsStand, IsSearch};
 ghost use Rattle.prop_amb.specs.Going.{work_on, MayGoOn};
 ghost use Rattle.prop_amb.specs.Stepping.{IsStepTo, Steps};
 ghost use Rattle.prop_amb.specs.inner.Refuting.{IsFound};
@@ -105,19 +103,6 @@ fn take_step<R: Rule + Drop, O: Order>(
     match found(search)? {
         Some(nogood) => move_for(live, search, nogood),
         None => Ok(Step::Called(call_next(live, search.worldview(), order)?)),
-    }
-}
-
-impl Search {
-    /// The side on which the choice at a place stands.
-    fn side_at(&self, place: usize) -> Premise
-        requires { place < length self.now.list }
-        ensures side { (choice : Choice) (side : ℕ)
-            → slice_get (choices_in self.now) place ≡ Some choice
-            → slice_get self.now.list place ≡ Some side → result ≡ hypothetical choice side }
-    {
-        let choice = self.premises.choices()[place];
-        choice.first + Premise::from(self.list[place] - 1)
     }
 }
 

@@ -27,5 +27,6 @@ impl Search {
     {
         self.restart();
         self.store.purge(premise);
+        self.ahead = None;
     }
 }

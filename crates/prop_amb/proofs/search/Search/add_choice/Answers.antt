@@ -18,6 +18,7 @@ invariant_of-self-2 c = (
       (stand_declared (the_view c.self.inside) c.args.name.now c.args.sides c.self.invariant.0 c.requires.sides.0
       c.requires.sides.1 (rw (← c.self.view_is) at c.requires.room)),
   c.self.invariant.1,
+  tt,
 )
 
 pub returns-clause-last : goal.returns-clause-last

@@ -83,6 +83,7 @@ invariant_of-self-2 c =
           c.in_ok-believe.ensures.has
           (omega (arith, few, c.min-self-inside.ensures)) (omega (arith, low, c.min-self-inside.ensures))
           c.self.invariant.1),
+      tt,
     )
 
 pub returns-clause-search : goal.returns-clause-search

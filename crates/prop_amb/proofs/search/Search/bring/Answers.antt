@@ -23,6 +23,7 @@ invariant_of-self-2 c =
           (brought_believes (the_view c.self.inside) c.bring.new.self c.believe.new.self c.args.premise
           c.self.invariant.0 same c.bring.ensures.beliefs c.in_ok-believe.ensures.has),
       none_below_zero c.self.inside.store (set_of c.believe.new.self),
+      tt,
     )
 
 pub returns-clause-search : goal.returns-clause-search

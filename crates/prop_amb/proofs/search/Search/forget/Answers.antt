@@ -22,6 +22,7 @@ invariant_of-self c =
       },
       rw c.purge.ensures (none_below_lacking c.self.inside.store (set_of c.self.inside.worldview) c.self.inside.from
           c.args.premise c.self.invariant.1),
+      tt,
     )
 
 pub returns-clause-stand : goal.returns-clause-stand

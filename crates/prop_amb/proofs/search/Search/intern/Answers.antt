@@ -13,29 +13,31 @@ pub back-requires : goal.back-requires
 back-requires c = rw c.in_ok-premise.ensures.ok
     (is_start-with_name c.self.inside.premises c.args.name.now c.len-count.result c.len-count.ensures.len)
 
--- what was believed has smaller numbers
-believed_last : (c : goal.After-self-1) → c.believe.new.self ≡ c.self.inside.worldview ++ c.in_ok-premise.premise ∷ []
-believed_last c =
-    let known = c.in_ok-premise.ensures in
-    c.in-Ok.ensures.last
-    (interned_below (the_view c.self.inside) c.args.name.now c.intern.new.self c.in_ok-premise.premise
-    c.self.invariant.0 known.ok known.number
-    (λ e. c.if-len-count.false (c.len.ensures.len ∙ e ∙ sym c.len-count.ensures.len)))
-
 pub invariant_of-self-in-Ok : goal.invariant_of-self-in-Ok
 invariant_of-self-in-Ok c =
-    let known = c.in_ok-premise.ensures in (
-      rw (believed_last c) (interned_stand (the_view c.self.inside) c.args.name.now c.intern.new.self
+    let known = c.in_ok-premise.ensures in
+    -- what was believed has smaller numbers
+    let last : c.believe.new.self ≡ c.self.inside.worldview ++ c.in_ok-premise.premise ∷ [] = c.in-Ok.ensures.last
+    (interned_below (the_view c.self.inside) c.args.name.now c.intern.new.self c.in_ok-premise.premise
+    c.self.invariant.0 known.ok known.number
+    (λ e. c.if-len-count.false (c.len.ensures.len ∙ e ∙ sym c.len-count.ensures.len))) in (
+      rw last (interned_stand (the_view c.self.inside) c.args.name.now c.intern.new.self
           c.in_ok-premise.premise c.self.invariant.0 known.ok known.number
           (λ e. c.if-len-count.false (c.len.ensures.len ∙ e ∙ sym c.len-count.ensures.len))
           (omega (arith, c.len.ensures.len, c.len.ensures.bound))),
       none_below_zero c.self.inside.store (set_of c.believe.new.self),
+      tt,
     )
 
 pub returns-in-Ok-clause-ok : goal.returns-in-Ok-clause-ok
 returns-in-Ok-clause-ok c =
     let known = c.in_ok-premise.ensures in
-    rw (believed_last c)
+    -- what was believed has smaller numbers
+    let last : c.believe.new.self ≡ c.self.inside.worldview ++ c.in_ok-premise.premise ∷ [] = c.in-Ok.ensures.last
+    (interned_below (the_view c.self.inside) c.args.name.now c.intern.new.self c.in_ok-premise.premise
+    c.self.invariant.0 known.ok known.number
+    (λ e. c.if-len-count.false (c.len.ensures.len ∙ e ∙ sym c.len-count.ensures.len))) in
+    rw last
     (interned_new_is (the_view c.self.inside) c.args.self.now c.args.name.now c.intern.new.self c.in_ok-premise.premise
     c.self.view_is known.ok known.number
     (λ e. c.if-len-count.false (c.len.ensures.len ∙ e ∙ sym c.len-count.ensures.len)))

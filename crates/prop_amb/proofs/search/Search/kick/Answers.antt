@@ -25,6 +25,7 @@ invariant_of-self c =
           c.self-2.invariant.0 user same c.kick.ensures.beliefs c.disbelieve.ensures),
       none_below_kicked c.self-2.inside.store c.self-2.inside.worldview c.disbelieve.new.self c.self-2.inside.from
           c.args.premise c.disbelieve.ensures c.self-2.invariant.1,
+      tt,
     )
 
 pub returns-clause-search : goal.returns-clause-search

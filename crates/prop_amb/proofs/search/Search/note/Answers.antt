@@ -17,6 +17,7 @@ invariant_of-self-2 c = (
       (let few = min-le_left c.self.inside.from c.last_of.result in omega (arith, few, c.min-from.ensures))
       (let few = min-le_right c.self.inside.from c.last_of.result in omega (arith, few, c.min-from.ensures))
       c.last_of.ensures c.self.invariant.1,
+  tt,
 )
 
 pub returns-clause-stand : goal.returns-clause-stand

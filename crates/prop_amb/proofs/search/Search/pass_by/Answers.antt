@@ -51,6 +51,7 @@ invariant_of-self-2 c =
           c.self.inside.reasons.len c.self.invariant.0 may list_is reasons_are
           (omega (arith, c.advance_reasons.auto.reasons, c.deref_mut.ensures.len))),
       c.self.invariant.1,
+      tt,
     )
 
 pub returns-clause-stand : goal.returns-clause-stand

@@ -33,6 +33,7 @@ invariant_of-self c =
           (left (users_of (the_view c.self.inside)) (users_no_sides (the_view c.self.inside) c.self.invariant.0)
           c.self.invariant.0.believes)),
       none_below_zero c.self.inside.store (set_of c.leave.new.believed),
+      tt,
     )
 
 pub returns-clause-search : goal.returns-clause-search

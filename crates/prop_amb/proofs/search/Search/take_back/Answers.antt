@@ -14,6 +14,7 @@ invariant_of-self c = (
       (stand_taken_back _ c.args.premise c.self.invariant.0 (rw (← c.self.view_is) at c.requires.user)
       (rw (← c.self.view_is) at c.requires.last)),
   none_below_zero c.self.inside.store (set_of c.back-2.new.self),
+  tt,
 )
 
 pub returns-clause-undoes : goal.returns-clause-undoes

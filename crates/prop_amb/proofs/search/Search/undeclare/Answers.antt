@@ -20,6 +20,7 @@ invariant_of-self c = (
       (omega (arith, rw (← c.self.view_is) at c.requires.end)) c.pop.ensures.rest c.self.inside.list.ok.0
       c.pop-2.ensures.rest c.self.inside.reasons.ok.0),
   none_below_zero c.self.inside.store (set_of c.back-2.new.self),
+  tt,
 )
 
 pub returns-clause-undoes : goal.returns-clause-undoes
