@@ -8,3 +8,4 @@ pub mod PairLaws
 pub mod CellLookups
 pub mod Halving
 pub mod Choosing
+pub mod Places

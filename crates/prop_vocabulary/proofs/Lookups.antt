@@ -1,7 +1,8 @@
 -- Names and their numbers.
 use Rattle.std.proofs.Common.{◌≡◌, ◌∙◌, ◌<◌, ℕ, Bool, true, false, ◌||◌, List, [], ◌∷◌, ◌++◌, Option, Some, None, All}
 use Rattle.std.proofs.Common.{map, length, take, position, bytes_eq, get_or, ◌+◌, refl, sym, ap, arith, is_none}
-use Rattle.std.proofs.Common.{unwrap_or, string_bytes, cond, nat_lt, ◌≤◌}
+use Rattle.std.proofs.Common.{unwrap_or, string_bytes, cond, nat_lt, ◌≤◌, ◌-◌, suc}
+use Rattle.std.specs.Option.{IfSome, option_map}
 use Rattle.std.specs.Borrow.{Bor}
 use Rattle.std.specs.List.{list_any}
 use Rattle.std.specs.List.{position_or_len}
@@ -12,15 +13,60 @@ use Rattle.std.proofs.lemmas.List.Sums.{fails_before_first}
 use borrow.Author.Tests.{ltb-false}
 use Rattle.std.specs.declared.string.String.{String}
 use Rattle.std.proofs.lemmas.List.Elements.{All-cons}
-use Rattle.std.proofs.lemmas.List.{take_more, map-append}
+use Rattle.std.proofs.lemmas.List.{take_more, map-append, length-append, length-map}
 use Rattle.std.proofs.lemmas.List.Quantifiers.{position-Some}
 use Rattle.prop_sets.proofs.NameLemmas.{position-names}
 use Rattle.prop_vocabulary.specs.Names.{number_in, numbers_in, is_missing}
+use Rattle.prop_vocabulary.proofs.Places.{placed_before, placed_behind}
 
 -- the number of a name among strings
 pub number_of_name : {Z : Type 0} (names : List (String Z)) (name : List ℕ) (r : Option ℕ)
     → r ≡ position (λ other. bytes_eq name (string_bytes other)) names → r ≡ number_in (map string_bytes names) name
 number_of_name names name r e = e ∙ sym (position-names name names)
+
+-- among those that a set keeps, and more behind them
+pub found_first : {Z : Type 0} (keys : List (String Z)) (more : List (List ℕ)) (name : List ℕ) (r : Option ℕ) (n : ℕ)
+    → r ≡ position (λ other. bytes_eq name (string_bytes other)) keys → r ≡ Some n
+    → Some n ≡ number_in (map string_bytes keys ++ more) name
+found_first keys more name r n e is = sym (placed_before (bytes_eq name) (map string_bytes keys) more n
+    (sym (number_of_name keys name r e) ∙ is))
+
+pub found_behind : {Z : Type 0} (keys : List (String Z)) (more : List (List ℕ)) (name : List ℕ) (r o : Option ℕ)
+    → r ≡ position (λ other. bytes_eq name (string_bytes other)) keys → r ≡ None → o ≡ number_in more name
+    → option_map (λ n. length keys + n) o ≡ number_in (map string_bytes keys ++ more) name
+found_behind keys more name r o e is found =
+    ap (option_map (λ n. length keys + n)) found
+    ∙ ap (λ k. option_map (λ n. k + n) (number_in more name)) (sym (length-map keys string_bytes))
+    ∙ sym (placed_behind (bytes_eq name) (map string_bytes keys) more (sym (number_of_name keys name r e) ∙ is))
+
+-- what is not among all of them is not among the first, nor among the others
+pub absent_first : (names more : List (List ℕ)) (name : List ℕ) → number_in (names ++ more) name ≡ None
+    → number_in names name ≡ None
+absent_first names more name none = at (number_in names name) refl
+  where
+    at : (o : Option ℕ) → number_in names name ≡ o → number_in names name ≡ None
+    at None e = e
+    at (Some n) e = let s : Some n ≡ None = sym (placed_before (bytes_eq name) names more n e) ∙ none in cc
+
+pub absent_behind : (names more : List (List ℕ)) (name : List ℕ) → number_in (names ++ more) name ≡ None
+    → number_in more name ≡ None
+absent_behind names more name none = at (number_in more name) refl
+  where
+    at : (o : Option ℕ) → number_in more name ≡ o → number_in more name ≡ None
+    at None e = e
+    at (Some n) e =
+        let s : Some (length names + n) ≡ None = sym (placed_behind (bytes_eq name) names more
+        (absent_first names more name none) ∙ ap (option_map (λ k. length names + k)) e) ∙ none in cc
+
+-- the last of all is the last of the others
+pub shorter_behind : (names more : List (List ℕ)) → 0 < length more
+    → names ++ take (length more - 1) more ≡ take (length (names ++ more) - 1) (names ++ more)
+shorter_behind [] more l = refl
+shorter_behind (x ∷ names) more l =
+    let e : suc (length (names ++ more)) - 1 ≡ suc (length (names ++ more) - 1) =
+    omega (arith, l, length-append names more) in
+    ap (λ t. x ∷ t) (shorter_behind names more l)
+    ∙ ap (λ k. take k (x ∷ (names ++ more))) (sym e)
 
 pub list_any-map : {X Y : Type 0} (f : X → Y) (p : Y → Bool) (xs : List X)
     → list_any p (map f xs) ≡ list_any (λ x. p (f x)) xs
@@ -35,6 +81,11 @@ missing_among names cells r e = e ∙ sym
 -- a name that is there has a number below the length
 pub number_below : (names : List (List ℕ)) (name : List ℕ) (n : ℕ) → number_in names name ≡ Some n → n < length names
 number_below names name n e = (position-Some (bytes_eq name) names n [] e).0
+
+pub found_within : (names : List (List ℕ)) (name : List ℕ) (o : Option ℕ) → o ≡ number_in names name
+    → IfSome o (λ n. n < length names)
+found_within names name None e = tt
+found_within names name (Some n) e = number_below names name n (sym e)
 
 found_below : (names : List (List ℕ)) (name : List ℕ) (o : Option ℕ) → number_in names name ≡ o → is_none o ≡ false
     → unwrap_or o 0 < length names

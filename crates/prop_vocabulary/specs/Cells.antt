@@ -1,6 +1,6 @@
 -- The cells that have a name.
 use Rattle.std.specs.Prelude.{ℕ, ◌-◌, List, [], ◌∷◌, ◌++◌, Bool, Option, length, map, take, is_none}
-use Rattle.std.specs.Prelude.{slice_get, unwrap_or, position, ◌==◌}
+use Rattle.std.specs.Prelude.{◌≡◌, slice_get, slice_index_or, unwrap_or, position, ◌==◌, None}
 use Rattle.std.specs.List.{list_any}
 use Rattle.std.specs.Option.{option_and_then}
 use Rattle.prop_vocabulary.specs.Names.{number_in}
@@ -39,3 +39,8 @@ without_last_cell_name c = record {
   names = take (length c.names - 1) c.names;
   cells = take (length c.cells - 1) c.cells;
 }
+
+-- at each cell's number: where it stands first among the cells, if it does
+abbrev pub HasFirsts : List (Option ℕ) → List ℕ → Type 0
+HasFirsts firsts cells = (cell : ℕ)
+    → slice_index_or firsts cell None ≡ position (λ x. x == cell) cells

@@ -1,10 +1,11 @@
 //! The names of cells. A cell may have none.
 ghost use Rattle.std.specs.Prelude.{◌≡◌, ◌∷◌, ◌<◌, ◌==◌, [], ℕ, map, length, is_none, unwrap_or};
 ghost use Rattle.std.specs.Prelude.{None, Some, OnOk, OnErr, IfOk, IfSome, Contains, position};
+ghost use Rattle.std.specs.Prelude.{slice_index_or, false, take, ◌-◌, ◌++◌};
 ghost use Rattle.std.specs.List.{list_any};
 ghost use Rattle.prop_vocabulary.specs.Cells.{no_cell_names, cell_named, cells_named, name_at};
 ghost use Rattle.prop_vocabulary.specs.Cells.{is_cell_missing, with_cell_name};
-ghost use Rattle.prop_vocabulary.specs.Cells.{without_last_cell_name};
+ghost use Rattle.prop_vocabulary.specs.Cells.{without_last_cell_name, HasFirsts};
 
 use crate::names::Names;
 use std::alloc::{AllocError, Global};
@@ -14,18 +15,98 @@ use std::marker::Model;
 #[derive(Drop)]
 pub struct CellNames {
     names: Names,
+    /// By name: its cell.
     cells: Vec<usize>,
+    /// By cell: the number of its first name.
+    firsts: Vec<Option<usize>>,
 }
 
 impl Model for CellNames {
     ghost use Rattle.std.specs.Prelude.{◌≡◌, length};
+    ghost use Rattle.prop_vocabulary.specs.Cells.{HasFirsts};
     ghost use Rattle.prop_vocabulary.specs.Cells as named;
 
     ghost Value = { named.CellNames };
 
     ghost view = { λ c. record { names = c.names; cells = c.cells.items } };
 
-    ghost invariant = { λ c. length c.cells.items ≡ length c.names };
+    ghost invariant = { λ c. (length c.cells.items ≡ length c.names)
+        × HasFirsts c.firsts.items c.cells.items };
+}
+
+/// Makes room for what is said of this cell, of which nothing is said yet.
+#[tactic(auto, using(crate::proofs::Places::blank_last))]
+fn make_room(firsts: &mut Vec<Option<usize>>, cell: usize) -> Result<(), AllocError>
+    ensures there { OnOk result (cell < length firsts.new.items) }
+    ensures same { (other : ℕ) → slice_index_or firsts.new.items other None
+        ≡ slice_index_or firsts.old.items other None }
+{
+    while firsts.len() <= cell {
+        firsts.push(None)?;
+    }
+    Ok(())
+}
+
+/// Says that a name of this number is the cell's, where it is its first.
+fn note(firsts: &mut Vec<Option<usize>>, cell: usize, number: usize)
+    requires { cell < length firsts.old.items }
+    ensures first { slice_index_or firsts.old.items cell None ≡ None
+        → slice_index_or firsts.new.items cell None ≡ Some number }
+    ensures again { (first : ℕ) → slice_index_or firsts.old.items cell None ≡ Some first
+        → slice_index_or firsts.new.items cell None ≡ Some first }
+    ensures others { (other : ℕ) → (cell == other) ≡ false
+        → slice_index_or firsts.new.items other None
+        ≡ slice_index_or firsts.old.items other None }
+{
+    if firsts[cell].is_none() {
+        firsts[cell] = Some(number);
+    }
+}
+
+/// Takes back that a name of this number is the cell's first.
+fn forget(firsts: &mut Vec<Option<usize>>, cell: usize, number: usize)
+    ensures gone { slice_index_or firsts.old.items cell None ≡ Some number
+        → slice_index_or firsts.new.items cell None ≡ None }
+    ensures others { (other : ℕ) → (cell == other) ≡ false
+        → slice_index_or firsts.new.items other None
+        ≡ slice_index_or firsts.old.items other None }
+    ensures kept { (slice_index_or firsts.old.items cell None ≡ Some number → ⊥) → (other : ℕ)
+        → slice_index_or firsts.new.items other None
+        ≡ slice_index_or firsts.old.items other None }
+{
+    if let Some(Some(first)) = firsts.get(cell).copied() {
+        if first == number {
+            firsts[cell] = None;
+        }
+    }
+}
+
+/// The cell of one name more. After an error the cells are as they were.
+fn push_cell(
+    cells: &mut Vec<usize>,
+    firsts: &mut Vec<Option<usize>>,
+    cell: usize,
+) -> Result<(), AllocError>
+    requires { HasFirsts firsts.old.items cells.old.items }
+    ensures ok { OnOk result (cells.new.items ≡ cells.old.items ++ cell ∷ []) }
+    ensures err { OnErr result (cells.new.items ≡ cells.old.items) }
+    ensures firsts { HasFirsts firsts.new.items cells.new.items }
+{
+    make_room(firsts, cell)?;
+    cells.push(cell)?;
+    note(firsts, cell, cells.len() - 1);
+    Ok(())
+}
+
+/// Takes the cell of the last name back.
+fn pop_cell(cells: &mut Vec<usize>, firsts: &mut Vec<Option<usize>>)
+    requires { HasFirsts firsts.old.items cells.old.items }
+    ensures cells { cells.new.items ≡ take (length cells.old.items - 1) cells.old.items }
+    ensures firsts { HasFirsts firsts.new.items cells.new.items }
+{
+    if let Some(cell) = cells.pop() {
+        forget(firsts, cell, cells.len());
+    }
 }
 
 impl CellNames {
@@ -36,6 +117,7 @@ impl CellNames {
         CellNames {
             names: Names::new(alloc),
             cells: Vec::new(alloc),
+            firsts: Vec::new(alloc),
         }
     }
 
@@ -48,7 +130,7 @@ impl CellNames {
         self.cells.get(number).copied()
     }
 
-    /// The name of the cell with this number, of several the first. It looks at each name.
+    /// The name of the cell with this number, of several the first.
     pub fn name_of(&self, cell: usize) -> Option<&str>
         ensures some { IfSome result (λ name. name_at self.now cell ≡ Some name.now) }
         ensures none { result ≡ None → name_at self.now cell ≡ None }
@@ -62,11 +144,7 @@ impl CellNames {
         ensures place { result ≡ position (λ c. c == cell) self.now.cells }
         ensures within { IfSome result (λ n. n < length self.now.names) }
     {
-        self.cells.iter().position(
-            |c: &usize| -> bool
-                ensures { result ≡ c.now == cell }
-            { *c == cell },
-        )
+        *self.firsts.get(cell)?
     }
 
     /// Whether one of the words names no cell.
@@ -112,7 +190,7 @@ impl CellNames {
         ensures err { OnErr result (self.new ≡ self.old) }
     {
         self.names.push(alloc, name)?;
-        match self.cells.push(cell) {
+        match push_cell(&mut self.cells, &mut self.firsts, cell) {
             Ok(()) => Ok(()),
             Err(_) => {
                 self.names.pop();
@@ -125,7 +203,7 @@ impl CellNames {
     pub fn pop(&mut self)
         ensures { self.new ≡ without_last_cell_name self.old }
     {
-        let _ = self.cells.pop();
+        pop_cell(&mut self.cells, &mut self.firsts);
         self.names.pop();
     }
 }

@@ -14,12 +14,14 @@
 #![tactic(auto)]
 
 pub mod cells;
+mod crowd;
 pub mod domains;
 mod growth;
 pub mod names;
 mod numbered;
 mod pairs;
 pub mod relations;
+mod sorted;
 pub mod symbols;
 pub mod texts;
 pub mod values;

@@ -5,6 +5,8 @@ ghost use Rattle.std.specs.Prelude.{OnErr, IfOk, IfSome};
 ghost use Rattle.std.specs.List.{list_any};
 ghost use Rattle.prop_vocabulary.specs.Names.{number_in, numbers_in, is_missing};
 
+use crate::crowd::Crowd;
+use crate::sorted::SortedNames;
 use indexmap::IndexSet;
 use std::alloc::{AllocError, Global};
 use std::marker::Model;
@@ -12,13 +14,31 @@ use std::marker::Model;
 /// The names of one space, each with its number: the first has 0.
 #[derive(Drop)]
 pub struct Names {
-    names: IndexSet<String>,
+    /// Those that came first, by their hashes.
+    hashed: IndexSet<String>,
+    /// Those from the first on with whose hash too many of them had a part in common.
+    sorted: SortedNames,
+    crowd: Crowd,
 }
 
 impl Model for Names {
+    ghost use Rattle.std.specs.Prelude.{ℕ, List, map, string_bytes, ◌++◌};
+
     ghost Value = { List (List ℕ) };
 
-    ghost view = { λ n. map string_bytes n.names.keys };
+    ghost view = { λ n. map string_bytes n.hashed.keys ++ n.sorted };
+}
+
+/// A new name behind those in the set. After an error they are as they were.
+fn push_hashed(names: &mut IndexSet<String>, alloc: Global, name: &str) -> Result<(), AllocError>
+    requires { number_in (map string_bytes names.old.keys) name.now ≡ None }
+    ensures ok { OnOk result (map string_bytes names.new.keys
+        ≡ map string_bytes names.old.keys ++ name.now ∷ []) }
+    ensures err { OnErr result (names.new.keys ≡ names.old.keys) }
+{
+    let owned = String::from_str(alloc, name)?;
+    names.insert(owned)?;
+    Ok(())
 }
 
 impl Names {
@@ -27,7 +47,9 @@ impl Names {
         ensures { result ≡ [] }
     {
         Names {
-            names: IndexSet::new(alloc),
+            hashed: IndexSet::new(alloc),
+            sorted: SortedNames::new(alloc),
+            crowd: Crowd::new(alloc),
         }
     }
 
@@ -35,7 +57,7 @@ impl Names {
     pub fn len(&self) -> usize
         ensures { result ≡ length self.now }
     {
-        self.names.len()
+        self.hashed.len() + self.sorted.len()
     }
 
     /// The name with this number.
@@ -43,19 +65,25 @@ impl Names {
         requires { number < length self.now }
         ensures { slice_get self.now number ≡ Some result.now }
     {
-        prove!(number < self.len());
-        match self.names.get_index(number) {
+        match self.hashed.get_index(number) {
             Some(name) => name.as_str(),
-            None => unreachable!(),
+            None => self.sorted.name(number - self.hashed.len()),
         }
     }
 
-    /// The number of the name, looked up by its hash.
+    /// The number of the name, looked up by its hash, or in the order of the names where it is one
+    /// that stands behind too many with the like.
     pub fn find(&self, name: &str) -> Option<usize>
         ensures number { result ≡ number_in self.now name.now }
         ensures within { IfSome result (λ n. n < length self.now) }
     {
-        self.names.get_index_of(name)
+        match self.hashed.get_index_of(name) {
+            Some(number) => Some(number),
+            None => {
+                let number = self.sorted.find(name)?;
+                Some(self.hashed.len() + number)
+            }
+        }
     }
 
     /// Whether one of the words is no name.
@@ -100,22 +128,33 @@ impl Names {
         ensures ok { OnOk result (self.new ≡ self.old ++ name.now ∷ []) }
         ensures err { OnErr result (self.new ≡ self.old) }
     {
-        let owned = String::from_str(alloc, name)?;
-        self.names.insert(owned)?;
-        Ok(())
+        if self.sorted.len() > 0 {
+            return self.sorted.push(alloc, name);
+        }
+        if self.crowd.admits(alloc, name)? {
+            push_hashed(&mut self.hashed, alloc, name)
+        } else {
+            self.sorted.push(alloc, name)
+        }
     }
 
     /// Leaves out the last name. Takes no memory.
     pub fn pop(&mut self)
         ensures { self.new ≡ take (length self.old - 1) self.old }
     {
-        let _ = self.names.pop();
+        if self.sorted.len() > 0 {
+            self.sorted.pop();
+        } else if let Some(name) = self.hashed.pop() {
+            self.crowd.leave(name.as_str());
+        }
     }
 
     /// Leaves out all names but the first `count`. Takes no memory.
     pub fn truncate(&mut self, count: usize)
         ensures { self.new ≡ take count self.old }
     {
-        self.names.truncate(count);
+        while self.len() > count {
+            self.pop();
+        }
     }
 }

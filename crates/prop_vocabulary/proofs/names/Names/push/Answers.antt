@@ -1,7 +1,7 @@
-use Rattle.prop_vocabulary.proofs.Lookups.{pushed}
+use Rattle.std.proofs.Common.{map, string_bytes}
+use Rattle.prop_vocabulary.proofs.Lookups.{absent_behind}
 use Rattle.prop_vocabulary.proofs.names.Names.push.Goals as goal
 
-pub returns-clause-ok : goal.returns-clause-ok
-returns-clause-ok c = rw (← c.self.view_is)
-    (pushed c.self.inside.names.keys c.insert.new.self.keys c.args.name.now c.in_ok-owned.owned c.in_ok-owned.ensures.ok
-    (rw c.self.view_is c.requires) c.in_ok-insert.ensures.keys)
+pub push-requires : goal.push-requires
+push-requires c = absent_behind (map string_bytes c.self.inside.hashed.keys) c.self.inside.sorted c.args.name.now
+    (rw c.self.view_is c.requires)
