@@ -14,7 +14,8 @@ use crate::walk::{Walk, flat_behind, kind_at, param_at};
 use prop_lattice::Refusal;
 use prop_procedures::fitting::{are_right, is_scale, sides_of};
 use prop_procedures::{Flat, Kinded, Library, Need, Param, Placed, Rule, Shape};
-use std::alloc::{AllocError, Global};
+use smallvec::SmallVec;
+use std::alloc::Global;
 
 /// Whether a procedure with this need does not take a parameter.
 fn rejects(need: Need, param: &Param) -> bool
@@ -38,45 +39,46 @@ fn is_param_wrong(need: Need, params: &[Param], place: Option<usize>) -> bool
     }
 }
 
-/// The shapes of a procedure's places, each with the kind of its cell.
+/// The shapes of a procedure's places, each with the kind of its cell. It takes no memory.
 fn places(
     alloc: Global,
     ins: &[Shape],
     out: Shape,
     kinds: &[Kinded],
     instance: &Placed,
-) -> Result<Vec<(Shape, Kinded)>, AllocError>
-    requires { length instance.now.inputs.items ≡ length ins.now }
-    ensures { IfOk result (λ v. v.items ≡ zip (ins.now ++ out ∷ [])
-        (map (kind_at kinds.now) (instance.now.inputs.items ++ instance.now.output ∷ []))) }
+) -> SmallVec<(Shape, Kinded), 9>
+    requires few { length ins.now ≤ 8 }
+    requires count { length instance.now.inputs.items ≡ length ins.now }
+    ensures { result.items ≡ zip (ins.now ++ out ∷ [])
+        (map (kind_at kinds.now) (instance.now.inputs.items ++ instance.now.output ∷ [])) }
 {
-    let mut places = Vec::new(alloc);
+    let mut places = SmallVec::new(alloc);
     for (i, cell) in instance.inputs.iter().enumerate() {
-        places.push((ins[i], kind_at(kinds, *cell)))?;
+        places.push_reserved((ins[i], kind_at(kinds, *cell)));
     }
-    places.push((out, kind_at(kinds, instance.output)))?;
-    Ok(places)
+    places.push_reserved((out, kind_at(kinds, instance.output)));
+    places
 }
 
-/// Whether the kinds of the instance's cells do not fit its procedure.
+/// Whether the kinds of the instance's cells do not fit its procedure. It takes no memory.
 fn is_kind_wrong<R: Rule + Drop>(
     alloc: Global,
     library: &Library<R>,
     params: &[Param],
     kinds: &[Kinded],
     instance: &Placed,
-) -> Result<bool, AllocError>
+) -> bool
     requires { IsInstanceOver (stored_of R.value_of library.now) (length kinds.now) instance.now }
-    ensures { IfOk result (λ b. b ≡ is_kind_wrong (stored_of R.value_of library.now) kinds.now
-        (placed_of params.now instance.now)) }
+    ensures { result ≡ is_kind_wrong (stored_of R.value_of library.now) kinds.now
+        (placed_of params.now instance.now) }
 {
     let p = library.get(instance.procedure);
-    let places = places(alloc, p.ins(), p.out(), kinds, instance)?;
+    let places = places(alloc, p.ins(), p.out(), kinds, instance);
     let sides = match param_at(params, instance.param) {
         Some(param) => sides_of(param),
         None => None,
     };
-    Ok(!are_right(p.need(), sides, &places))
+    !are_right(p.need(), sides, &places)
 }
 
 /// Whether the kinds of some instance's cells do not fit.
@@ -86,19 +88,19 @@ fn has_kind_wrong<R: Rule + Drop>(
     params: &[Param],
     kinds: &[Kinded],
     instances: &[Placed],
-) -> Result<bool, AllocError>
+) -> bool
     requires { All (IsInstanceOver (stored_of R.value_of library.now) (length kinds.now))
         instances.now }
-    ensures { IfOk result (λ b. b ≡ list_any
+    ensures { result ≡ list_any
         (λ x. is_kind_wrong (stored_of R.value_of library.now) kinds.now (placed_of params.now x))
-        instances.now) }
+        instances.now }
 {
     for instance in instances {
-        if is_kind_wrong(alloc, library, params, kinds, instance)? {
-            return Ok(true);
+        if is_kind_wrong(alloc, library, params, kinds, instance) {
+            return true;
         }
     }
-    Ok(false)
+    false
 }
 
 /// Whether some instance is given what its procedure does not take.
@@ -120,19 +122,17 @@ fn has_param_wrong<R: Rule + Drop>(
     false
 }
 
-/// Refuses what a use stands for where its cells or parameters do not fit: with 13 and 14, and with
-/// 90.
+/// Refuses what a use stands for where its cells or parameters do not fit: with 13 and 14. It takes
+/// no memory.
 fn judge<R: Rule + Drop>(alloc: Global, library: &Library<R>, walk: &Walk) -> Result<(), Refusal>
     requires { AreRight (stored_of R.value_of library.now) walk.now }
     ensures fits { OnOk result (fit_refusal (stored_of R.value_of library.now)
         (walk_of walk.now) ≡ None) }
-    ensures err { IfErr result (IsReason
-        (fit_refusal (stored_of R.value_of library.now) (walk_of walk.now))) }
+    ensures err { IfErr result (λ e. fit_refusal (stored_of R.value_of library.now)
+        (walk_of walk.now) ≡ Some e) }
 {
-    match has_kind_wrong(alloc, library, &walk.params, &walk.kinds, &walk.instances) {
-        Ok(false) => {}
-        Ok(true) => return Err(Refusal::WrongKind),
-        Err(AllocError) => return Err(Refusal::Memory),
+    if has_kind_wrong(alloc, library, &walk.params, &walk.kinds, &walk.instances) {
+        return Err(Refusal::WrongKind);
     }
     if walk.spare || has_param_wrong(library, &walk.params, &walk.instances) {
         return Err(Refusal::WrongParameter);

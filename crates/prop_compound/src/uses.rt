@@ -150,12 +150,12 @@ impl Definitions {
         alloc: Global,
         words: &Vocabulary,
         used: Used,
-        cells: &[Kinded],
+        cells: Vec<Kinded>,
         given: Option<Param>,
     ) -> Result<Walk, AllocError>
-        requires { IsUseThere self.now.definitions used (length cells.now) }
+        requires { IsUseThere self.now.definitions used (length cells.items) }
         ensures walk { IfOk result (λ walk.
-            walk_of walk ≡ stands_for words.now self.now.definitions used cells.now given) }
+            walk_of walk ≡ stands_for words.now self.now.definitions used cells.items given) }
     {
         let spare = match used {
             Used::Procedure(_) => false,
@@ -165,7 +165,7 @@ impl Definitions {
         let mut params = Vec::new(alloc);
         let own = first_place(&mut params, given)?;
         let mut walk = Walk {
-            kinds: Vec::from_slice(alloc, cells)?,
+            kinds: cells,
             params,
             instances: Vec::new(alloc),
             spare,
@@ -193,28 +193,29 @@ impl Definitions {
         library: &Library<R>,
         words: &Vocabulary,
         name: &str,
-        cells: &[Kinded],
+        cells: Vec<Kinded>,
         given: Option<Param>,
     ) -> Result<Flat, Refusal>
         requires over { IsDefinedOver (stored_of R.value_of library.now) self.now }
         ensures fits { OnOk result (expand_refusal (stored_of R.value_of library.now) words.now
-            self.now name.now cells.now given ≡ None) }
+            self.now name.now cells.items given ≡ None) }
         ensures ok { IfOk result (λ flat.
-            expansion_of_flat cells.now flat ≡ expanded (stored_of R.value_of library.now) words.now
-            self.now name.now cells.now given) }
+            expansion_of_flat cells.items flat ≡ expanded (stored_of R.value_of library.now)
+            words.now self.now name.now cells.items given) }
         ensures safe { IfOk result (λ flat.
-            IsFlatOver (stored_of R.value_of library.now) (length cells.now) flat) }
+            IsFlatOver (stored_of R.value_of library.now) (length cells.items) flat) }
         ensures err { IfErr result (IsReason
-            (expand_refusal (stored_of R.value_of library.now) words.now self.now name.now cells.now
-            given)) }
+            (expand_refusal (stored_of R.value_of library.now) words.now self.now name.now
+            cells.items given)) }
         ensures at_once { IfSome (refused_at_once (stored_of R.value_of library.now) words.now
-            self.now name.now cells.now given) (λ e. result ≡ Err e) }
+            self.now name.now cells.items given) (λ e. result ≡ Err e) }
     {
         let _ = &self.names;
         let Some(used) = self.used(library, name) else {
             return Err(Refusal::NoSuchProcedure);
         };
-        if self.is_miscounted(library, used, cells.len()) {
+        let count = cells.len();
+        if self.is_miscounted(library, used, count) {
             return Err(Refusal::WrongCount);
         }
         if let Some(refusal) = self.size_refusal(used, library.len()) {
@@ -223,6 +224,6 @@ impl Definitions {
         let Ok(walk) = self.walk(alloc, words, used, cells, given) else {
             return Err(Refusal::Memory);
         };
-        fitted(alloc, library, walk, cells.len())
+        fitted(alloc, library, walk, count)
     }
 }

@@ -14,17 +14,17 @@ is_kind_wrong-requires g c =
     c.instance-item.is (IsInstanceOver (stored_of g.R.Rule.value_of c.args.library.now) (length c.args.kinds.now))
     c.requires
 
-pub returns-then-branch : goal.returns-then-branch
-returns-then-branch g c =
+pub returns-then-is_kind_wrong : goal.returns-then-is_kind_wrong
+returns-then-is_kind_wrong g c =
     found_here c.args.instances.now c.loop-instance.instance-index c.instance-item.result c.loop-instance-test.true
     c.instance-item.is (λ x. is_kind_wrong (stored_of g.R.Rule.value_of c.args.library.now) c.args.kinds.now
-    (placed_of c.args.params.now x)) c.in_ok-is_kind_wrong.field-0 c.in_ok-is_kind_wrong.ensures c.if-branch.true
+    (placed_of c.args.params.now x)) c.is_kind_wrong.result c.is_kind_wrong.ensures c.if-is_kind_wrong.true
 
 pub loop-instance-preserved : goal.loop-instance-preserved
 loop-instance-preserved g c =
     not_yet c.args.instances.now c.loop-instance.instance-index c.instance-item.result c.loop-instance-test.true
     c.instance-item.is (λ x. is_kind_wrong (stored_of g.R.Rule.value_of c.args.library.now) c.args.kinds.now
-    (placed_of c.args.params.now x)) c.in_ok-is_kind_wrong.field-0 c.in_ok-is_kind_wrong.ensures c.if-branch.false
+    (placed_of c.args.params.now x)) c.is_kind_wrong.result c.is_kind_wrong.ensures c.if-is_kind_wrong.false
     c.loop-instance.invariant
 
 pub returns : goal.returns
