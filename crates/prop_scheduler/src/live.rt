@@ -1,20 +1,26 @@
 //! A network under way: a network with the agenda of what is to be done in it.
 ghost use Rattle.std.specs.Prelude.{◌≤◌, length};
+ghost use Rattle.prop_numbers.specs.Sets.{set_of};
+ghost use Rattle.prop_cells.specs.Knowing.{AreBeliefs};
 
 use crate::agenda::Agenda;
+use crate::seen::Seen;
 use prop_cells::Network;
 use prop_procedures::Rule;
 use std::alloc::Global;
 
 /// A network, the instances that wait in it and the cells to look at. The type keeps that there is
-/// room for each instance to wait and for each cell to be watched, so neither takes memory.
+/// room for each instance to wait and for each cell to be watched, so neither takes memory, and
+/// that what is known of beliefs is what is believed in the worldview that was seen last.
 #[derive(Drop)]
 pub struct Live<R> {
     pub(crate) alloc: Global,
     pub(crate) network: Network<R>,
     pub(crate) agenda: Agenda,
+    pub(crate) seen: Seen,
     pub ghost room: { length network.cells.instances ≤ agenda.room },
     pub ghost cells: { length network.cells.kinds ≤ agenda.cells },
+    pub ghost beliefs: { AreBeliefs (set_of seen.worldview) network.cells.contents seen.known },
 }
 
 impl<R: Rule + Drop> Live<R> {
@@ -31,6 +37,7 @@ impl<R: Rule + Drop> Live<R> {
             alloc,
             network,
             agenda: Agenda::new(alloc),
+            seen: Seen::new(alloc),
         }
     }
 

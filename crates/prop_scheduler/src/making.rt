@@ -9,6 +9,7 @@ ghost use Rattle.prop_procedures.specs.Flats.{cell_placed};
 ghost use Rattle.prop_procedures.specs.Kept.{stored_of};
 ghost use Rattle.prop_cells.specs.Data.{Data as Held, IsKept, IsWellMade};
 ghost use Rattle.prop_cells.specs.Problems.{Premises};
+ghost use Rattle.prop_cells.specs.Knowing.{known_at};
 ghost use Rattle.prop_cells.specs.inner.Back.{GoesBackTo};
 ghost use Rattle.prop_cells.specs.Refusing.{cell_refusal};
 ghost use Rattle.prop_scheduler.specs.Making.{room_refusal, made_of, with_fresh_cells, with_flat};
@@ -19,7 +20,7 @@ ghost use Rattle.prop_scheduler.specs.Live.{cells_of, line_of, library_of, IsLiv
 
 use crate::agenda::Agenda;
 use crate::live::Live;
-use prop_cells::Network;
+use prop_cells::{Known, Network};
 use prop_lattice::{Limit, Refusal};
 use prop_procedures::{Flat, Kinded, Param, Placed, Rule};
 use std::alloc::{AllocError, Global};
@@ -38,14 +39,19 @@ pub fn new_cell<R: Rule + Drop>(live: &mut Live<R>, kind: Kinded) -> Result<(), 
         ⊎ (e ≡ Refusal.Memory)) }
     ensures err_same { OnErr result (cells_of live.new ≡ cells_of live.old) }
 {
-    room_for_cell(&live.network, &mut live.agenda)?;
+    room_for_cell(&live.network, &mut live.agenda, &mut live.seen.known)?;
     let Kinded { kind, size } = kind;
     live.network.new_cell(kind, size)
 }
 
-/// Makes room to watch one more cell, where there can be one more. Refused with 90, it changes
-/// nothing.
-fn room_for_cell<R: Rule + Drop>(network: &Network<R>, agenda: &mut Agenda) -> Result<(), Refusal>
+/// Makes room to watch one more cell and to know what is believed of it, where there can be one
+/// more. Refused with 90, it changes nothing.
+fn room_for_cell<R: Rule + Drop>(
+    network: &Network<R>,
+    agenda: &mut Agenda,
+    known: &mut Known,
+) -> Result<(), Refusal>
+    ensures known { (cell : ℕ) → known_at known.new cell ≡ known_at known.old cell }
     ensures line { agenda.new.line ≡ agenda.old.line }
     ensures room { agenda.new.room ≡ agenda.old.room }
     ensures watched { agenda.new.watched ≡ agenda.old.watched }
@@ -59,6 +65,7 @@ fn room_for_cell<R: Rule + Drop>(network: &Network<R>, agenda: &mut Agenda) -> R
         return Ok(());
     }
     agenda.room_to_watch(count + 1)?;
+    known.room(count + 1)?;
     Ok(())
 }
 
@@ -310,8 +317,10 @@ fn alert_between(agenda: &mut Agenda, first: usize, end: usize)
 fn make_room<R: Rule + Drop>(
     network: &Network<R>,
     agenda: &mut Agenda,
+    known: &mut Known,
     flat: &Flat,
 ) -> Result<(), Refusal>
+    ensures known { (cell : ℕ) → known_at known.new cell ≡ known_at known.old cell }
     ensures line { agenda.new.line ≡ agenda.old.line }
     ensures more { agenda.old.room ≤ agenda.new.room }
     ensures watched { agenda.new.watched ≡ agenda.old.watched }
@@ -339,6 +348,7 @@ fn make_room<R: Rule + Drop>(
     if agenda.room_to_watch(cells).is_err() || agenda.room(count).is_err() {
         return Err(Refusal::Memory);
     }
+    known.room(cells)?;
     Ok(())
 }
 
@@ -365,7 +375,7 @@ pub fn make<R: Rule + Drop>(live: &mut Live<R>, cells: &[usize], flat: Flat) -> 
         (cells_of live.new) (line_of live.old) (line_of live.new)) }
     ensures err_line { OnErr result (line_of live.new ≡ line_of live.old) }
 {
-    if let Err(refusal) = make_room(&live.network, &mut live.agenda, &flat) {
+    if let Err(refusal) = make_room(&live.network, &mut live.agenda, &mut live.seen.known, &flat) {
         drop(flat);
         return Err(refusal);
     }

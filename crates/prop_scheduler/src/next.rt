@@ -30,6 +30,7 @@ pub fn call_next<R: Rule + Drop, O: Order>(
         (set_of worldview.now) called (cells_of live.old) (line_of live.old) order.old
         (cells_of live.new) (line_of live.new) order.new) }
 {
+    live.seen.look(&live.network, worldview)?;
     let place = order.pick(live.agenda.waiting());
     let called = live.agenda.at(place);
     turn(live, worldview, place)?;

@@ -52,6 +52,7 @@ pub fn state_sides<R: Rule + Drop>(
 {
     let before = live.network.belief(cell, worldview);
     live.network.state_sides(first, cell, infos)?;
+    live.seen.known.forget(cell);
     let after = live.network.belief(cell, worldview);
     if !before.implies(after) {
         live.agenda.alert_all(live.network.readers(cell));

@@ -55,6 +55,7 @@ pub fn state<R: Rule + Drop>(
 {
     let before = live.network.belief(cell, worldview);
     live.network.state_under(premise, cell, info)?;
+    live.seen.known.forget(cell);
     if says_more(before, premise, info, worldview) {
         live.agenda.alert_all(live.network.readers(cell));
         if before.merge(info).is_contradiction() {

@@ -37,12 +37,14 @@ pub fn purge<R: Rule + Drop>(live: &mut Live<R>, premise: Premise)
         → Contains (line_of live.new) j }
 {
     live.network.purge(premise);
+    live.seen.known.clear();
     wake_all(live);
 }
 
 /// Each cell that the second worldview believes something else of than the first is watched, and
 /// its readers and writers wait, so a network that was under way in the first is so in the second.
-/// It takes no memory.
+/// What is known of beliefs in the first is known of the second after it; where memory is refused,
+/// nothing is, which costs time alone.
 pub fn alert_shifted<R: Rule + Drop>(live: &mut Live<R>, before: &Worldview, after: &Worldview)
     requires alive { IsLiveIn R.value_of (set_of before.now) live.old }
     ensures network { live.new.network ≡ live.old.network }
@@ -50,21 +52,23 @@ pub fn alert_shifted<R: Rule + Drop>(live: &mut Live<R>, before: &Worldview, aft
     ensures shifted { AreShifted (set_of before.now) (set_of after.now) (cells_of live.old)
         (length (cells_of live.old).kinds) (line_of live.old) (line_of live.new) }
 {
+    let mut known = live.seen.take(live.alloc, before);
     let network = &live.network;
     let agenda = &mut live.agenda;
     let count = network.cells();
-    let mut cell = network.next_shifted(0, before, after);
+    let mut cell = network.next_shifted(0, before, after, &mut known);
     while cell < count {
         agenda.alert_all(network.readers(cell));
         agenda.alert_all(network.writers(cell));
         agenda.watch(cell);
-        cell = network.next_shifted(cell + 1, before, after);
+        cell = network.next_shifted(cell + 1, before, after, &mut known);
     }
+    live.seen.keep(after, known);
 }
 
 /// The same where the second worldview believes all that the first does: each cell that it believes
 /// more of is watched, and its readers wait. Those that write it need not: what they said is still
-/// said. So the potential doesn't rise. It takes no memory.
+/// said. So the potential doesn't rise. Memory that is refused costs time alone.
 pub fn alert_grown<R: Rule + Drop>(live: &mut Live<R>, before: &Worldview, after: &Worldview)
     requires more { IsPart (set_of before.now) (set_of after.now) }
     requires alive { IsLiveIn R.value_of (set_of before.now) live.old }
@@ -75,13 +79,15 @@ pub fn alert_grown<R: Rule + Drop>(live: &mut Live<R>, before: &Worldview, after
     ensures falls { potential_in R.value_of (set_of after.now) live.new
         ≤ potential_in R.value_of (set_of before.now) live.old }
 {
+    let mut known = live.seen.take(live.alloc, before);
     let network = &live.network;
     let agenda = &mut live.agenda;
     let count = network.cells();
-    let mut cell = network.next_shifted(0, before, after);
+    let mut cell = network.next_shifted(0, before, after, &mut known);
     while cell < count {
         agenda.alert_all(network.readers(cell));
         agenda.watch(cell);
-        cell = network.next_shifted(cell + 1, before, after);
+        cell = network.next_shifted(cell + 1, before, after, &mut known);
     }
+    live.seen.keep(after, known);
 }

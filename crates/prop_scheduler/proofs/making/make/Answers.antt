@@ -1,10 +1,12 @@
 use Rattle.std.proofs.Common.{◌≡◌, ◌<◌, ◌≤◌, ◌⊎◌, ◌++◌, map, length, ap, arith, inl}
 use Rattle.std.proofs.lemmas.List.{length-append}
 use Rattle.std.proofs.lemmas.List.Elements.{All-weaker}
+use Rattle.prop_numbers.specs.Sets.{set_of}
 use Rattle.prop_procedures.specs.Kept.{stored_of}
 use Rattle.prop_scheduler.specs.Making.{made_of}
 use Rattle.prop_scheduler.specs.Shifts.{IsTouched}
 use Rattle.prop_scheduler.proofs.Behind.{behind_weaker}
+use Rattle.prop_scheduler.proofs.KnownLaws.{as_known, fresh_known}
 use Rattle.prop_scheduler.proofs.UnderWay.{under_way_made}
 use Rattle.prop_scheduler.proofs.WatchLaws.{watched_fresh}
 use Rattle.prop_scheduler.proofs.making.make.Goals as goal
@@ -54,3 +56,24 @@ returns-clause-stirred g c = λ s t.
     behind_weaker (λ i. c.instances-first.result ≤ i) (λ j. (length old.instances ≤ j) ⊎ IsTouched s t old new j)
     c.args.live.now.agenda.line c.alert_between.new.agenda.line (λ j l. inl (omega (arith, l, first)))
     (rw c.in_default.ensures.line at c.alert_between.ensures.behind)
+
+pub invariant_of-live : goal.invariant_of-live
+invariant_of-live g c =
+    let room = c.args.live.now.room in
+    let cells = c.args.live.now.cells in
+    let more = c.make_room.ensures.more in
+    let more_cells = c.make_room.ensures.more_cells in
+    record {
+      room = omega (arith, room, more);
+      cells = omega (arith, cells, more_cells);
+      beliefs = as_known (set_of c.args.live.now.seen.worldview) c.args.live.now.network.cells.contents
+          c.args.live.now.seen.known c.make_room.new.known c.make_room.ensures.known c.args.live.now.beliefs;
+    }
+
+pub invariant_of-live-2-clause-beliefs : goal.invariant_of-live-2-clause-beliefs
+invariant_of-live-2-clause-beliefs g c =
+    let s = set_of c.args.live.now.seen.worldview in
+    let contents = c.args.live.now.network.cells.contents in
+    rw (ap (λ x. x.contents) c.in_ok-make_all.ensures.ok) (fresh_known s contents c.args.flat.fresh.items
+    c.make_room.new.known (as_known s contents c.args.live.now.seen.known c.make_room.new.known
+    c.make_room.ensures.known c.args.live.now.beliefs))

@@ -11,6 +11,7 @@ use Rattle.prop_scheduler.specs.Turns.{Interrupted, Turn}
 use Rattle.prop_scheduler.specs.Turns.Turns.{none, more}
 use Rattle.prop_scheduler.specs.Potential.{most_steps}
 use Rattle.prop_scheduler.proofs.Steps.{settled}
+use Rattle.prop_scheduler.proofs.KnownLaws.{same_known}
 use Rattle.prop_scheduler.proofs.Ending.{no_turns, under_way_within}
 use Rattle.prop_scheduler.proofs.runs.run.Goals as goal
 
@@ -151,6 +152,7 @@ loop-steps-init g c =
         watched =
             c.first_clash.ensures.watched;
       };
+      seen = c.in_ok-look.ensures.same;
       free = c.first_clash.ensures.free c.in-None.is;
       turns = rw c.first_clash.ensures.line none;
       waiting = c.waiting-waiting.ensures.waiting ∙ ap length (sym c.first_clash.ensures.line);
@@ -363,6 +365,7 @@ loop-steps-preserved g c =
           c.turn.new.live.agenda.line turn
           c.loop-steps.invariant.rest;
       alive = record { under_way = c.turn.ensures.alive.under_way; watched = c.turn.ensures.alive.watched };
+      seen = c.turn.ensures.sees;
       free = c.in_ok-clash.ensures.free c.in-None-clash.is;
       waiting = c.waiting-waiting-in-loop-steps.ensures.waiting;
       turns = more c.loop-steps.steps c.pick-place.result c.loop-steps.live.network.cells _
@@ -617,3 +620,21 @@ pub returns-clause-most : goal.returns-clause-most
 returns-clause-most g c =
     under_way_within (stored_of g.R.Rule.value_of c.args.live.now.network.library) (set_of c.args.worldview.now)
     c.args.live.now.network.cells c.args.live.now.agenda c.waiting-waiting.ensures.line c.requires.alive.under_way
+
+pub returns-in_err-look-clause-err : goal.returns-in_err-look-clause-err
+returns-in_err-look-clause-err g c =
+    let stopped : Interrupted g.O.Order.picks (stored_of g.R.Rule.value_of c.args.live.now.network.library)
+    (set_of c.args.worldview.now) c.args.live.now.network.cells c.args.live.now.agenda.line c.args.order.now
+    c.args.live.now.network.cells c.args.live.now.agenda.line c.args.order.now =
+    record { steps = 0; last = c.args.order.now; turns = none; picked = inl refl } in
+    on_err _ stopped
+
+pub first_clash-requires-clause-known : goal.first_clash-requires-clause-known
+first_clash-requires-clause-known g c =
+    same_known (set_of c.look.new.self.worldview) (set_of c.args.worldview.now) _ _ c.in_ok-look.ensures.same
+    c.look.ensures.known
+
+pub invariant_of-live-2-clause-beliefs : goal.invariant_of-live-2-clause-beliefs
+invariant_of-live-2-clause-beliefs g c =
+    same_known (set_of c.args.worldview.now) (set_of c.look.new.self.worldview) _ _
+    (λ p. sym (c.in_ok-look.ensures.same p)) c.first_clash.ensures.known

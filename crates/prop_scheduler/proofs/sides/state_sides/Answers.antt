@@ -12,6 +12,7 @@ use Rattle.prop_scheduler.specs.Shifts.{IsTouched}
 use Rattle.prop_scheduler.proofs.Behind.{behind_none, behind_then, readers_behind, writers_behind, touched_stirred}
 use Rattle.prop_scheduler.proofs.Steps.{all_after_alerts}
 use Rattle.prop_lattice.specs.laws.OrderLaws.{info_laws}
+use Rattle.prop_scheduler.proofs.KnownLaws.{forgotten_known}
 use Rattle.prop_scheduler.proofs.UnderWay.{under_way_sides, grown_sides}
 use Rattle.prop_scheduler.proofs.WatchLaws.{watched_at, watched_same, same_but}
 use Rattle.prop_scheduler.proofs.sides.state_sides.Goals as goal
@@ -128,3 +129,21 @@ returns-then-not-implies-clause-stirred g c =
 pub returns-else-not-implies-clause-stirred : goal.returns-else-not-implies-clause-stirred
 returns-else-not-implies-clause-stirred g c =
     behind_none _ c.args.live.now.agenda.line
+
+pub invariant_of-live-then-not-implies-clause-beliefs : goal.invariant_of-live-then-not-implies-clause-beliefs
+invariant_of-live-then-not-implies-clause-beliefs g c =
+    let s = set_of c.args.live.now.seen.worldview in
+    let old = c.args.live.now.network.cells in
+    let new = c.state_sides.new.self.cells in
+    rw c.forget.ensures (forgotten_known s old.contents new.contents c.args.live.now.seen.known c.args.cell
+    (grown_sides s old new c.args.first c.args.cell c.args.infos.now c.in_ok-state_sides.ensures.ok).others
+    c.args.live.now.beliefs)
+
+pub invariant_of-live-else-not-implies-clause-beliefs : goal.invariant_of-live-else-not-implies-clause-beliefs
+invariant_of-live-else-not-implies-clause-beliefs g c =
+    let s = set_of c.args.live.now.seen.worldview in
+    let old = c.args.live.now.network.cells in
+    let new = c.state_sides.new.self.cells in
+    rw c.forget.ensures (forgotten_known s old.contents new.contents c.args.live.now.seen.known c.args.cell
+    (grown_sides s old new c.args.first c.args.cell c.args.infos.now c.in_ok-state_sides.ensures.ok).others
+    c.args.live.now.beliefs)

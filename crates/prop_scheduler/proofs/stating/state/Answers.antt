@@ -8,6 +8,7 @@ use Rattle.prop_cells.specs.Data.{IsKept, beliefs}
 use Rattle.prop_cells.proofs.Reading.{readers_are}
 use Rattle.prop_scheduler.specs.Agendas.{all_alerted}
 use Rattle.prop_scheduler.proofs.Behind.{behind_none, readers_behind, touched_stirred, states_more}
+use Rattle.prop_scheduler.proofs.KnownLaws.{forgotten_known}
 use Rattle.prop_scheduler.proofs.UnderWay.{under_way_same, under_way_grown, states_merge, states_same, states_clear}
 use Rattle.prop_scheduler.proofs.WatchLaws.{watched_at, watched_same, watched_clear, same_but}
 use Rattle.prop_scheduler.proofs.stating.state.Goals as goal
@@ -120,3 +121,34 @@ returns-else-is_contradiction-clause-stirred g c =
 pub returns-else-says_more-clause-stirred : goal.returns-else-says_more-clause-stirred
 returns-else-says_more-clause-stirred g c =
     behind_none _ c.args.live.now.agenda.line
+
+pub invariant_of-live : goal.invariant_of-live
+invariant_of-live g c = record {
+  room = rw c.in_err-state_under.ensures.err_same c.args.live.now.room;
+  cells = rw c.in_err-state_under.ensures.err_same c.args.live.now.cells;
+  beliefs = rw c.in_err-state_under.ensures.err_same c.args.live.now.beliefs;
+}
+
+pub invariant_of-live-then-is_contradiction-clause-beliefs : goal.invariant_of-live-then-is_contradiction-clause-beliefs
+invariant_of-live-then-is_contradiction-clause-beliefs g c =
+    let s = set_of c.args.live.now.seen.worldview in
+    let old = c.args.live.now.network.cells in
+    let new = c.state_under.new.self.cells in
+    rw c.forget.ensures (forgotten_known s old.contents new.contents c.args.live.now.seen.known c.args.cell
+    (states_merge s old new _ c.in_ok-state_under.ensures.ok).1.others c.args.live.now.beliefs)
+
+pub invariant_of-live-else-is_contradiction-clause-beliefs : goal.invariant_of-live-else-is_contradiction-clause-beliefs
+invariant_of-live-else-is_contradiction-clause-beliefs g c =
+    let s = set_of c.args.live.now.seen.worldview in
+    let old = c.args.live.now.network.cells in
+    let new = c.state_under.new.self.cells in
+    rw c.forget.ensures (forgotten_known s old.contents new.contents c.args.live.now.seen.known c.args.cell
+    (states_merge s old new _ c.in_ok-state_under.ensures.ok).1.others c.args.live.now.beliefs)
+
+pub invariant_of-live-else-says_more-clause-beliefs : goal.invariant_of-live-else-says_more-clause-beliefs
+invariant_of-live-else-says_more-clause-beliefs g c =
+    let s = set_of c.args.live.now.seen.worldview in
+    let old = c.args.live.now.network.cells in
+    let new = c.state_under.new.self.cells in
+    rw c.forget.ensures (forgotten_known s old.contents new.contents c.args.live.now.seen.known c.args.cell
+    (states_merge s old new _ c.in_ok-state_under.ensures.ok).1.others c.args.live.now.beliefs)

@@ -8,6 +8,7 @@ use Rattle.prop_cells.specs.Instances.{readers_of}
 use Rattle.prop_cells.proofs.Reading.{readers_are}
 use Rattle.prop_scheduler.specs.Agendas.{AllAlerted}
 use Rattle.prop_scheduler.specs.Shifts.{AreGrown}
+use Rattle.prop_scheduler.proofs.KnownLaws.{all_passed}
 use Rattle.prop_scheduler.proofs.GrownLaws.{grown_none, grown_on, grown_more, under_way_grown, potential_at_first}
 use Rattle.prop_scheduler.proofs.GrownLaws.{potential_on, potential_falls, potential_at_last}
 use Rattle.prop_scheduler.proofs.WatchLaws.{AreLooked, looked_none, looked_on, looked_more, watched_shifted}
@@ -35,6 +36,7 @@ loop-cell-init g c =
       looked = looked_on s t d 0 c.next_shifted-cell.result c.args.live.now.agenda.watched
           c.args.live.now.agenda.watched
           (looked_none s t d c.args.live.now.agenda.watched c.requires.alive.watched.below) next.passed;
+      known = next.known;
     }
 
 pub alert_all-requires : goal.alert_all-requires
@@ -89,6 +91,7 @@ loop-cell-preserved g c =
           (looked_more s t d c.loop-cell.cell c.args.live.now.agenda.watched c.loop-cell.agenda.watched
           c.watch.new.self.watched h.looked within (rw c.alert_all.ensures.watched at c.watch.ensures.watched))
           next.passed;
+      known = next.known;
     }
 
 -- every cell was looked at
@@ -145,3 +148,12 @@ returns-clause-falls g c =
     c.loop-cell.agenda.line
     c.cells-count.ensures.contents in
     omega (arith, so_far, last)
+
+pub invariant_of-live-clause-beliefs : goal.invariant_of-live-clause-beliefs
+invariant_of-live-clause-beliefs g c =
+    let d = c.args.live.now.network.cells in
+    let count = c.cells-count.ensures.count in
+    let contents = c.cells-count.ensures.contents in
+    let done = c.loop-cell-test.false in
+    c.keep.ensures d.contents (all_passed (set_of c.args.before.now) (set_of c.args.after.now) d.contents
+    c.loop-cell.known (c.loop-cell.cell + 1) (omega (arith, count, contents, done)) c.loop-cell.invariant.known)

@@ -8,6 +8,7 @@ use Rattle.prop_cells.specs.Instances.{readers_of, writers_of}
 use Rattle.prop_cells.proofs.Reading.{readers_are, writers_below}
 use Rattle.prop_scheduler.specs.Agendas.{AllAlerted}
 use Rattle.prop_scheduler.specs.Shifts.{AreShifted}
+use Rattle.prop_scheduler.proofs.KnownLaws.{all_passed}
 use Rattle.prop_scheduler.proofs.ShiftLaws.{shifted_none, shifted_on, shifted_more, under_way_shifted}
 use Rattle.prop_scheduler.proofs.WatchLaws.{AreLooked, looked_none, looked_on, looked_more, watched_shifted}
 use Rattle.prop_scheduler.proofs.waking.alert_shifted.Goals as goal
@@ -28,6 +29,7 @@ loop-cell-init g c =
       looked = looked_on s t d 0 c.next_shifted-cell.result c.args.live.now.agenda.watched
           c.args.live.now.agenda.watched
           (looked_none s t d c.args.live.now.agenda.watched c.requires.alive.watched.below) next.passed;
+      known = next.known;
     }
 
 pub alert_all-requires : goal.alert_all-requires
@@ -89,6 +91,7 @@ loop-cell-preserved g c =
           c.watch.new.self.watched h.looked within
           (rw (c.alert_all-in-loop-cell.ensures.watched, c.alert_all.ensures.watched) at c.watch.ensures.watched))
           next.passed;
+      known = next.known;
     }
 
 -- every cell was looked at
@@ -130,3 +133,12 @@ pub returns-clause-shifted : goal.returns-clause-shifted
 returns-clause-shifted g c =
     all_shifted _ _ _ c.cells-count.result c.loop-cell.cell _ _
     c.cells-count.ensures.count c.loop-cell-test.false c.loop-cell.invariant.within c.loop-cell.invariant.shifted
+
+pub invariant_of-live-clause-beliefs : goal.invariant_of-live-clause-beliefs
+invariant_of-live-clause-beliefs g c =
+    let d = c.args.live.now.network.cells in
+    let count = c.cells-count.ensures.count in
+    let contents = c.cells-count.ensures.contents in
+    let done = c.loop-cell-test.false in
+    c.keep.ensures d.contents (all_passed (set_of c.args.before.now) (set_of c.args.after.now) d.contents
+    c.loop-cell.known (c.loop-cell.cell + 1) (omega (arith, count, contents, done)) c.loop-cell.invariant.known)

@@ -1,6 +1,7 @@
-use Rattle.std.proofs.Common.{◌≡◌, ◌≢◌, ◌<◌, ◌≤◌, ◌-◌, length}
+use Rattle.std.proofs.Common.{◌≡◌, ◌≢◌, ◌<◌, ◌≤◌, ◌+◌, ◌-◌, length}
 use Rattle.prop_numbers.specs.Sets.{set_of}
 use Rattle.prop_cells.specs.Data.{beliefs}
+use Rattle.prop_cells.specs.Knowing.{ArePassed}
 use Rattle.prop_scheduler.specs.Shifts.{AreShifted}
 use Rattle.prop_scheduler.proofs.WatchLaws.{AreLooked}
 use Rattle.prop_scheduler.proofs.waking.alert_shifted.Given as goal
@@ -16,6 +17,7 @@ invariant-loop-cell g l = record {
   cells : l.agenda.cells ≡ l.initial.agenda.cells;
   looked : AreLooked (set_of l.before) (set_of l.after) l.network.cells l.cell l.initial.agenda.watched
       l.agenda.watched;
+  known : ArePassed (l.cell + 1) (set_of l.before) (set_of l.after) l.network.cells.contents l.known;
 }
 
 abbrev pub decreases-loop-cell : goal.decreases-loop-cell
