@@ -54,6 +54,11 @@ forgotten_known s old new known cell others h k info at = elim (eqb_tells k cell
   | inr e ↦ others k e.1 ∙ h k info (sym (get_or-set_other known cell k None None e.1) ∙ at)
 ]
 
+-- where the same is believed of each cell
+pub kept_known : (s : Premises) (old new : List (List Entry)) (known : List (Option Info))
+    → ((k : ℕ) → beliefs s new k ≡ beliefs s old k) → AreBeliefs s old known → AreBeliefs s new known
+kept_known s old new known same h cell info at = same cell ∙ h cell info at
+
 -- where the same is known of each cell
 pub as_known : (s : Premises) (contents : List (List Entry)) (known new : List (Option Info))
     → ((cell : ℕ) → known_at new cell ≡ known_at known cell) → AreBeliefs s contents known → AreBeliefs s contents new

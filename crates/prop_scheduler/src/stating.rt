@@ -53,12 +53,15 @@ pub fn state<R: Rule + Drop>(
         (cells_of live.new) (line_of live.old) (line_of live.new)) }
     ensures err_line { OnErr result (live.new.agenda ≡ live.old.agenda) }
 {
-    let before = live.network.belief(cell, worldview);
+    live.seen.look(&live.network, worldview)?;
+    let known = &mut live.seen.known;
+    let before = live.network.known_belief(cell, worldview, known);
     live.network.state_under(premise, cell, info)?;
-    live.seen.known.forget(cell);
     if says_more(before, premise, info, worldview) {
+        let after = before.merge(info);
+        known.merge(cell, info);
         live.agenda.alert_all(live.network.readers(cell));
-        if before.merge(info).is_contradiction() {
+        if after.is_contradiction() {
             live.agenda.watch(cell);
         }
     }

@@ -1,4 +1,4 @@
-use Rattle.std.proofs.Common.{◌≡◌, ◌∙◌, ◌<◌, ap, length, arith}
+use Rattle.std.proofs.Common.{◌≡◌, ◌∙◌, ◌<◌, ap, sym, length, arith}
 use Rattle.std.proofs.lemmas.List.Elements.{All-weaker}
 use Rattle.prop_lattice.specs.Order.{merge_of}
 use Rattle.prop_numbers.specs.Sets.{set_of}
@@ -6,10 +6,11 @@ use Rattle.prop_procedures.specs.Kept.{stored_of}
 use Rattle.prop_cells.specs.Instances.{readers_of}
 use Rattle.prop_cells.specs.Data.{IsKept, beliefs}
 use Rattle.prop_cells.proofs.Reading.{readers_are}
+use Rattle.prop_cells.proofs.KnowingLaws.{known_merged}
 use Rattle.prop_scheduler.specs.Agendas.{all_alerted}
 use Rattle.prop_scheduler.proofs.Behind.{behind_none, readers_behind, touched_stirred, states_more}
-use Rattle.prop_scheduler.proofs.KnownLaws.{forgotten_known}
-use Rattle.prop_scheduler.proofs.UnderWay.{under_way_same, under_way_grown, states_merge, states_same, states_clear}
+use Rattle.prop_scheduler.proofs.KnownLaws.{same_known, kept_known}
+use Rattle.prop_scheduler.proofs.UnderWay.{under_way_same, under_way_grown, states_merge, states_same, states_clear, states_believed}
 use Rattle.prop_scheduler.proofs.WatchLaws.{watched_at, watched_same, watched_clear, same_but}
 use Rattle.prop_scheduler.proofs.stating.state.Goals as goal
 
@@ -56,8 +57,8 @@ returns-else-is_contradiction-clause-alive g c =
           let old = c.args.live.now.network.cells in
           let new = c.state_under.new.self.cells in
           let states = c.in_ok-state_under.ensures.ok in
-          let both : c.merge.result ≡ merge_of (beliefs s old.contents c.args.cell) c.args.info =
-          rw c.belief-before.ensures at c.merge.ensures in
+          let both : c.merge-after.result ≡ merge_of (beliefs s old.contents c.args.cell) c.args.info =
+          rw c.known_belief-before.ensures.value at c.merge-after.ensures in
           let clear = states_clear s old new _ states
           (λ clash. cc (c.is_contradiction.ensures.1 (both ∙ clash), c.if-is_contradiction.false)) in
           rw c.alert_all.ensures.watched (watched_clear s old new c.args.live.now.agenda.watched c.args.cell
@@ -74,7 +75,7 @@ returns-else-says_more-clause-alive g c =
           let new = c.state_under.new.self.cells in
           let kept : IsKept library new = rw c.state_under.ensures.same at c.state_under.ensures.kept in
           let same = states_same s old new _ c.in_ok-state_under.ensures.ok
-          (rw c.belief-before.ensures at (c.says_more.ensures.less c.if-says_more.false)) in
+          (rw c.known_belief-before.ensures.value at (c.says_more.ensures.less c.if-says_more.false)) in
           rw c.state_under.ensures.same (under_way_same library s old new c.args.live.now.agenda.line _
           c.requires.alive.under_way kept
           c.in_ok-state_under.ensures.ok same));
@@ -84,7 +85,7 @@ returns-else-says_more-clause-alive g c =
           let kinds = ap (λ d. length d.kinds) c.in_ok-state_under.ensures.ok.rest in
           let merge = states_merge s old new _ c.in_ok-state_under.ensures.ok in
           let here = states_same s old new _ c.in_ok-state_under.ensures.ok
-          (rw c.belief-before.ensures at (c.says_more.ensures.less c.if-says_more.false)) in
+          (rw c.known_belief-before.ensures.value at (c.says_more.ensures.less c.if-says_more.false)) in
           watched_same s old new c.args.live.now.agenda.watched (omega (arith, kinds))
           (same_but s old new c.args.cell here merge.1.others) c.requires.alive.watched);
     }
@@ -99,7 +100,7 @@ returns-then-is_contradiction-clause-stirred g c =
     rw c.readers.ensures at c.alert_all.ensures.line in
     let said = c.says_more.ensures.more c.if-says_more.true in
     let more = states_more s old new (record { premise = c.args.premise; cell = c.args.cell; info = c.args.info })
-    c.in_ok-state_under.ensures.ok said.0 (rw c.belief-before.ensures at said.1) in
+    c.in_ok-state_under.ensures.ok said.0 (rw c.known_belief-before.ensures.value at said.1) in
     touched_stirred s s old new c.args.live.now.agenda.line c.watch.new.self.line
     (readers_behind s s old new c.args.cell c.args.live.now.agenda.line c.watch.new.self.line more
     (c.watch.ensures.line ∙ line))
@@ -114,7 +115,7 @@ returns-else-is_contradiction-clause-stirred g c =
     rw c.readers.ensures at c.alert_all.ensures.line in
     let said = c.says_more.ensures.more c.if-says_more.true in
     let more = states_more s old new (record { premise = c.args.premise; cell = c.args.cell; info = c.args.info })
-    c.in_ok-state_under.ensures.ok said.0 (rw c.belief-before.ensures at said.1) in
+    c.in_ok-state_under.ensures.ok said.0 (rw c.known_belief-before.ensures.value at said.1) in
     touched_stirred s s old new c.args.live.now.agenda.line c.alert_all.new.self.line
     (readers_behind s s old new c.args.cell c.args.live.now.agenda.line c.alert_all.new.self.line more line)
 
@@ -122,33 +123,53 @@ pub returns-else-says_more-clause-stirred : goal.returns-else-says_more-clause-s
 returns-else-says_more-clause-stirred g c =
     behind_none _ c.args.live.now.agenda.line
 
-pub invariant_of-live : goal.invariant_of-live
-invariant_of-live g c = record {
+-- ---- what is known
+
+pub known_belief-before-requires-clause-known : goal.known_belief-before-requires-clause-known
+known_belief-before-requires-clause-known g c =
+    same_known (set_of c.look.new.self.worldview) (set_of c.args.worldview.now) _ _ c.in_ok-look.ensures.same
+    c.look.ensures.known
+
+pub invariant_of-live-in-Break-branch-2 : goal.invariant_of-live-in-Break-branch-2
+invariant_of-live-in-Break-branch-2 g c = record {
   room = rw c.in_err-state_under.ensures.err_same c.args.live.now.room;
   cells = rw c.in_err-state_under.ensures.err_same c.args.live.now.cells;
-  beliefs = rw c.in_err-state_under.ensures.err_same c.args.live.now.beliefs;
+  beliefs = rw c.in_err-state_under.ensures.err_same
+      (same_known (set_of c.args.worldview.now) (set_of c.look.new.self.worldview) _ _
+      (λ p. sym (c.in_ok-look.ensures.same p)) c.known_belief-before.ensures.known);
 }
 
 pub invariant_of-live-then-is_contradiction-clause-beliefs : goal.invariant_of-live-then-is_contradiction-clause-beliefs
 invariant_of-live-then-is_contradiction-clause-beliefs g c =
-    let s = set_of c.args.live.now.seen.worldview in
+    let s = set_of c.args.worldview.now in
     let old = c.args.live.now.network.cells in
     let new = c.state_under.new.self.cells in
-    rw c.forget.ensures (forgotten_known s old.contents new.contents c.args.live.now.seen.known c.args.cell
-    (states_merge s old new _ c.in_ok-state_under.ensures.ok).1.others c.args.live.now.beliefs)
+    same_known s (set_of c.look.new.self.worldview) _ _ (λ p. sym (c.in_ok-look.ensures.same p))
+    (known_merged s old.contents new.contents c.known_belief-before.new.known c.merge.new.self c.args.cell c.args.info
+    c.known_belief-before.ensures.known
+    (states_believed s old new _ c.in_ok-state_under.ensures.ok (c.says_more.ensures.more c.if-says_more.true).0)
+    c.merge.ensures.known c.merge.ensures.unknown)
 
 pub invariant_of-live-else-is_contradiction-clause-beliefs : goal.invariant_of-live-else-is_contradiction-clause-beliefs
 invariant_of-live-else-is_contradiction-clause-beliefs g c =
-    let s = set_of c.args.live.now.seen.worldview in
+    let s = set_of c.args.worldview.now in
     let old = c.args.live.now.network.cells in
     let new = c.state_under.new.self.cells in
-    rw c.forget.ensures (forgotten_known s old.contents new.contents c.args.live.now.seen.known c.args.cell
-    (states_merge s old new _ c.in_ok-state_under.ensures.ok).1.others c.args.live.now.beliefs)
+    same_known s (set_of c.look.new.self.worldview) _ _ (λ p. sym (c.in_ok-look.ensures.same p))
+    (known_merged s old.contents new.contents c.known_belief-before.new.known c.merge.new.self c.args.cell c.args.info
+    c.known_belief-before.ensures.known
+    (states_believed s old new _ c.in_ok-state_under.ensures.ok (c.says_more.ensures.more c.if-says_more.true).0)
+    c.merge.ensures.known c.merge.ensures.unknown)
 
 pub invariant_of-live-else-says_more-clause-beliefs : goal.invariant_of-live-else-says_more-clause-beliefs
 invariant_of-live-else-says_more-clause-beliefs g c =
-    let s = set_of c.args.live.now.seen.worldview in
+    let s = set_of c.args.worldview.now in
     let old = c.args.live.now.network.cells in
     let new = c.state_under.new.self.cells in
-    rw c.forget.ensures (forgotten_known s old.contents new.contents c.args.live.now.seen.known c.args.cell
-    (states_merge s old new _ c.in_ok-state_under.ensures.ok).1.others c.args.live.now.beliefs)
+    let states = c.in_ok-state_under.ensures.ok in
+    let here = states_same s old new _ states
+    (rw c.known_belief-before.ensures.value at (c.says_more.ensures.less c.if-says_more.false)) in
+    same_known s (set_of c.look.new.self.worldview) _ _ (λ p. sym (c.in_ok-look.ensures.same p))
+    (kept_known s old.contents new.contents _
+    (same_but s old new c.args.cell here (states_merge s old new _ states).1.others)
+    c.known_belief-before.ensures.known)
