@@ -35,18 +35,6 @@ pub some_ahead : (s : Stand) (o : Option (List ℕ)) → is_some o ≡ true → 
 some_ahead s None some ahead = cc some
 some_ahead s (Some w) some ahead = not_ahead s w ahead
 
--- the stand once it is believed
-pub stand_ahead : (s : Stand) (w : List ℕ) → IsStand s → IsAhead s w → IsStand (record (deepened s) { worldview = w })
-stand_ahead s w stand ahead = record {
-  numbered = stand.numbered;
-  few = stand.few;
-  is_list = stand.is_list;
-  reasoned = stand.reasoned;
-  level = (let left = ahead.left in omega (arith, left));
-  believes = ahead.believes;
-  minimal = stand.minimal;
-}
-
 -- the first choice of which no side is believed stands on its last
 pub none_last : (s : Stand) (cs : List Choice) (d : Choice) (e : ℕ) → IsStand s → cs ≡ choices_in s
     → s.level < length s.list → (slice_index_or cs s.level d).sides ≤ slice_index_or s.list s.level e → (n : List ℕ)

@@ -168,6 +168,7 @@ impl Search {
 
     /// What is believed with the side of one choice more, where no noted nogood is, and a premise
     /// below which none ends that is believed then. It isn't made again where it was looked at.
+    #[inline]
     fn deeper(&mut self) -> Result<(Worldview, Premise), AllocError>
         requires left { self.old.level < length self.old.list }
         requires unblocked { has_part self.old.listed (set_of self.old.worldview) ≡ false }
@@ -177,8 +178,8 @@ impl Search {
             (λ d. IsStand (record (deepened self.old) { worldview = d.0 })) }
         ensures from { IfOk result (λ d. NoneEndsBelow self.old.listed (set_of d.0) d.1) }
     {
-        if let Some(deeper) = replace(&mut self.ahead, None) {
-            return Ok((deeper, Premise::MAX));
+        if let Some(ahead) = replace(&mut self.ahead, None) {
+            return Ok((ahead, Premise::MAX));
         }
         let side = self.side_at(self.level);
         let deeper = with_premise(&self.worldview, side)?;
@@ -186,6 +187,7 @@ impl Search {
     }
 
     /// The side on which the choice at a place stands.
+    #[inline]
     pub(crate) fn side_at(&self, place: usize) -> Premise
         requires { place < length self.now.list }
         ensures side { (choice : Choice) (side : ℕ)
@@ -198,7 +200,7 @@ impl Search {
 
     /// A noted nogood of which every premise would be believed if the side of one choice more were,
     /// where none is believed now. None only where there is no such choice or nogood, or the side
-    /// is the choice's last. Where there is none, what would be believed then is kept for `deepen`.
+    /// is the choice's last. Where there is no nogood, what would be believed is kept for `deepen`.
     pub(crate) fn refuted_next(&mut self) -> Result<Option<PremiseSet>, AllocError>
         requires { has_part self.old.listed (set_of self.old.worldview) ≡ false }
         ensures same { self.new ≡ self.old }
@@ -262,6 +264,7 @@ impl Search {
 }
 
 /// What is believed in a worldview, and one premise more.
+#[inline]
 fn with_premise(worldview: &Worldview, premise: Premise) -> Result<Worldview, AllocError>
     ensures { IfOk result (λ w. IsSame (set_of w)
         (union (set_of worldview.now) (set_of (premise ∷ [])))) }
