@@ -191,7 +191,7 @@ def test_run_is_cut_after_seconds(
 ) -> None:
     begun = time.monotonic()
     assert main(["run", file("\n".join(ENDLESS)), "--seconds", "0.2", "--program", program]) == 0
-    assert time.monotonic() - begun < 10
+    assert time.monotonic() - begun < 60
     assert "This is not settled" in capsys.readouterr().out
 
 
@@ -337,7 +337,7 @@ def test_shell_steps(program: str) -> None:
         ]
         assert "6..1000000000000000000" in talk(":step 5")
         assert session.limit == 10**9
-        assert "invalid literal" in talk(":step many")
+        assert talk(":step many") == talk(":step -1") == "Say how many: :step N"
 
 
 def test_shell_helps(talk: Talk) -> None:

@@ -293,6 +293,13 @@ def test_a_dropped_connection_ends_quietly(page: Page, capsys: pytest.CaptureFix
     assert capsys.readouterr() == ("", "")
 
 
+@pytest.mark.parametrize("port", [-1, 65_536])
+def test_a_number_that_no_port_has(page: Page, port: int) -> None:
+    with Workbench() as workbench:
+        with pytest.raises(ValueError, match=f"a port is a number from 0 to 65535: {port}"):
+            workbench.serve(port=port, wait=False)
+
+
 def test_texts_are_never_markup() -> None:
     """No script of the page makes markup of a text, or code, or asks another address."""
     banned = r"innerHTML|outerHTML|insertAdjacent|document\.write|\beval\b|Function\(|DOMParser"

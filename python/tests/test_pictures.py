@@ -250,6 +250,9 @@ def test_draw(program: str, tmp_path: Path, capsys: pytest.CaptureFixture[str]) 
     assert (tmp_path / "t.dot").read_text().startswith("digraph {")
     assert main(["draw", example, "--cell", "tim", "--program", program]) == 2
     assert "there is no cell `tim`" in capsys.readouterr().err
+    assert main(["draw", example, "--out", f"{tmp_path}/t.png", "--program", program]) == 2
+    assert "as .svg or .dot, and not as .png" in capsys.readouterr().err
+    assert not (tmp_path / "t.png").exists()
     assert main(["draw", f"{tmp_path}/none.prop", "--program", program]) == 3
     (tmp_path / "bad.prop").write_text("cell x span\nask y\n")
     assert main(["draw", f"{tmp_path}/bad.prop", "--program", program]) == 1

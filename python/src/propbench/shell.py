@@ -219,7 +219,11 @@ class Shell:
         self._write(f"Taken back: {printable(taken.strip())}")
 
     def _step(self, words: list[str]) -> None:
-        steps = int(words[0]) if words else 1
+        number, *more = words or ["1"]
+        if more or not number.isdecimal():
+            self._write("Say how many: :step N")
+            return
+        steps = int(number)
         cells = list(self.session.known.cells)
         before = self._looked(cells)
         self._take(steps)

@@ -16,6 +16,7 @@ from importlib.resources import files
 from typing import Protocol
 
 LOCAL = "127.0.0.1"
+_MOST_PORT = 65_535
 # A question has so many bytes at the most.
 _MOST_BYTES = 65_536
 _POLICY = (
@@ -79,7 +80,10 @@ class Server(ThreadingHTTPServer):
     daemon_threads = True
 
     def __init__(self, asked: Asked, port: int) -> None:
-        """At this port of this machine, at any that is free where that is 0. Raises OSError."""
+        """At this port of this machine, at any that is free where that is 0. Raises OSError, and
+        ValueError for a number that no port has."""
+        if not 0 <= port <= _MOST_PORT:
+            raise ValueError(f"a port is a number from 0 to {_MOST_PORT}: {port}")
         self.asked = asked
         self.token = secrets.token_urlsafe(24)
         super().__init__((LOCAL, port), Handler)

@@ -8,7 +8,7 @@ from dataclasses import replace
 from propbench.pictures.dot import Look, dot_of
 from propbench.pictures.film import Film
 from propbench.pictures.graphviz import NoGraphviz, svgs_of
-from propbench.showing import quoted
+from propbench.showing import printable, quoted
 from propbench.watching import Frame, Shown, Watched, bears
 
 # A film looks at so many steps at the most.
@@ -36,8 +36,14 @@ class Picture:
         return self.svg
 
     def save(self, path: str | os.PathLike[str]) -> None:
-        """Writes the picture to a file: as DOT where its name ends so, else as SVG."""
-        text = self.dot if os.fspath(path).endswith(".dot") else f"{self.svg}\n"
+        """Writes the picture to a file: as DOT where its name ends in `.dot`, else as SVG. Raises
+        ValueError for a name that ends as if it were something else, and NoGraphviz."""
+        ending = os.path.splitext(path)[1]
+        if ending not in (".dot", ".svg", ""):
+            raise ValueError(
+                f"a picture is written as .svg or .dot, and not as {printable(ending)}"
+            )
+        text = self.dot if ending == ".dot" else f"{self.svg}\n"
         with open(path, "w", encoding="utf-8") as file:
             file.write(text)
 
