@@ -36,7 +36,8 @@ fitted-requires-clause-right g c =
     walk_right (stored_of g.R.Rule.value_of c.args.library.now) c.args.words.now c.args.self.now c.args.name.now
     c.args.cells.items c.args.given c.in-Some.used (sym c.used.ensures.used ∙ c.in-Some.is) c.in-Ok.walk
     c.in-Ok.ensures.walk ks c.self.invariant.1 (ap (λ (d : Definitions). d.definitions) (sym c.self.view_is))
-    c.requires.over c.in-Some.ensures.there c.is_miscounted.result (rw n at c.is_miscounted.ensures) c.if-is_miscounted.false
+    c.requires.over c.in-Some.ensures.there c.is_miscounted.result (rw n at c.is_miscounted.ensures)
+    c.if-is_miscounted.false
 
 pub fitted-requires-clause-count : goal.fitted-requires-clause-count
 fitted-requires-clause-count g c =
@@ -84,7 +85,8 @@ returns-clause-safe g c =
     (walk_right (stored_of g.R.Rule.value_of c.args.library.now) c.args.words.now c.args.self.now c.args.name.now
     c.args.cells.items c.args.given c.in-Some.used (sym c.used.ensures.used ∙ c.in-Some.is) c.in-Ok.walk
     c.in-Ok.ensures.walk ks c.self.invariant.1 (ap (λ (d : Definitions). d.definitions) (sym c.self.view_is))
-    c.requires.over c.in-Some.ensures.there c.is_miscounted.result (rw n at c.is_miscounted.ensures) c.if-is_miscounted.false)
+    c.requires.over c.in-Some.ensures.there c.is_miscounted.result (rw n at c.is_miscounted.ensures)
+    c.if-is_miscounted.false)
     (rw n at c.fitted.ensures.flat)
 
 pub returns-clause-at_once : goal.returns-clause-at_once
