@@ -109,6 +109,15 @@ pub no_cell_step : (library : List Stored) (s : State) (name : List ℕ) (cells 
     → refusal_of library s (commands.Command.Attach name cells by) ≡ Some NoSuchCell
 no_cell_step library s name cells by e f = rw (e, f) refl
 
+-- a name is no cell's, or there was no memory for the numbers
+pub no_cells : (library : List Stored) (s : State) (name : List ℕ) (cells : List (List ℕ)) (by : By) (refusal : Refusal)
+    → is_unknown s.words by ≡ false
+    → (refusal ≡ Memory) ⊎ ((refusal ≡ NoSuchCell) × (is_cell_missing s.names cells ≡ true)) →
+    (refusal_of library s (commands.Command.Attach name cells by) ≡ Some refusal) ⊎ (refusal ≡ Memory)
+no_cells library s name cells by refusal e (inl m) = inr m
+no_cells library s name cells by refusal e (inr (r, f)) =
+    inl (no_cell_step library s name cells by e f ∙ sym (ap Some r))
+
 -- ---- what a use stands for, as it is handed out
 
 inputs_of-push : (f : ℕ → ℕ) (ins : List ℕ) (out : ℕ) → inputs_of (map f (ins ++ out ∷ [])) ≡ map f ins

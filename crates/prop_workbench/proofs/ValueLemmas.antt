@@ -32,7 +32,7 @@ use Rattle.prop_vocabulary.specs.Values.{Meant, Known, Name, known, value_said, 
 use Rattle.prop_vocabulary.specs.Values.{ends_value, bounded_number, halves}
 use Rattle.prop_vocabulary.specs.Texts.{elements_of_kind}
 use Rattle.prop_workbench.specs.Machine.{State}
-use Rattle.prop_workbench.specs.Refusing.{refusal_of, stating_limit_at, meaning_at, is_error}
+use Rattle.prop_workbench.specs.Refusing.{refusal_of, stating_limit, stating_limit_at, meaning_at, is_error}
 use Rattle.prop_workbench.specs.inner.Refusing.{is_choice_told}
 use Rattle.prop_workbench.specs.inner.Effects.{stating, MayMean}
 use Rattle.prop_vocabulary.specs.Cells.{cell_named}
@@ -275,3 +275,14 @@ value_refused library s premise name value cell e found said =
     value_rows (Some r) (Some cell) (is_choice_told s premise) (stating_limit_at s premise (Some r))) said
     ∙ error_rows e cell (is_choice_told s premise) None
     (value_refusal (kind_at s.kinds cell).kind (elements_of_kind s.words (kind_at s.kinds cell).kind) value e said)
+
+-- where the value means something, the name of a choice is refused
+pub choice_told : (library : List Stored) (s : State) (premise : Option (List ℕ)) (name : List ℕ) (value : Value)
+    (cell : ℕ) (meant : Meant) → cell_named s.names name ≡ Some cell
+    → meaning_at s.words (kind_at s.kinds cell).kind value ≡ Ok meant → is_choice_told s premise ≡ true →
+    refusal_of library s (stating premise name value) ≡ Some IsAChoice
+choice_told library s premise name value cell meant found said told =
+    by_rows library s premise name value cell found
+    ∙ ap (λ (r : Result Meant Refusal).
+    value_rows (Some r) (Some cell) (is_choice_told s premise) (stating_limit_at s premise (Some r))) said
+    ∙ ap (λ choice. value_rows (Some (Ok meant)) (Some cell) choice (stating_limit s premise meant)) told

@@ -1,7 +1,10 @@
 //! The command that puts procedures and definitions between cells.
-ghost use Rattle.std.specs.Prelude.{◌≡◌, ◌<◌, All, length, map, IfOk};
+ghost use Rattle.std.specs.Prelude.{◌≡◌, ◌<◌, ◌⊎◌, All, length, map, IfOk, IfErr, OnOk};
+ghost use Rattle.std.specs.Prelude.{true, false};
+ghost use Rattle.prop_vocabulary.specs.Cells.{cells_named, is_cell_missing};
+ghost use Rattle.prop_refusals.specs.declared.refusal.Refusal.TheVariants.{Memory, NoSuchCell};
 ghost use Rattle.prop_procedures.specs.Fitting.{kind_at};
-ghost use Rattle.prop_language.specs.Said.{by_of};
+ghost use Rattle.prop_language.specs.Said.{by_of, words};
 ghost use Rattle.prop_workbench.specs.Refusing.{is_unknown, given_by};
 
 use crate::session::Session;
@@ -10,7 +13,8 @@ use prop_compound::{By, Flat};
 use prop_lattice::Refusal;
 use prop_procedures::{Kinded, Param, Rule};
 use prop_scheduler::{Order, make};
-use prop_vocabulary::Vocabulary;
+use prop_vocabulary::{CellNames, Vocabulary};
+use smallvec::SmallVec;
 use std::alloc::{AllocError, Global};
 
 /// Whether a relation is named of which there is none.
@@ -35,6 +39,31 @@ fn given(alloc: Global, words: &Vocabulary, by: By) -> Result<Option<Param>, All
             None => Ok(None),
         },
     }
+}
+
+/// The numbers of the cells with these names, or `NoSuchCell` where there is none with one of them.
+/// Each name is looked up once.
+fn cells_named(
+    alloc: Global,
+    names: &CellNames,
+    cells: &[&str],
+) -> Result<SmallVec<usize, 8>, Refusal>
+    ensures ok { IfOk result (λ v. v.items ≡ cells_named names.now (words cells.now)) }
+    ensures all { OnOk result (is_cell_missing names.now (words cells.now) ≡ false) }
+    ensures err { IfErr result (λ e. (e ≡ Memory)
+        ⊎ ((e ≡ NoSuchCell) × (is_cell_missing names.now (words cells.now) ≡ true))) }
+{
+    let mut numbers = SmallVec::new(alloc);
+    for name in cells {
+        match names.find(name) {
+            Some(cell) => match numbers.push(cell) {
+                Ok(()) => {}
+                Err(_) => return Err(Refusal::Memory),
+            },
+            None => return Err(Refusal::NoSuchCell),
+        }
+    }
+    Ok(numbers)
 }
 
 /// The kinds of these cells.
@@ -77,11 +106,10 @@ impl<R: Rule + Drop, O: Order + Drop> Session<R, O> {
         if is_unknown(&self.words, by) {
             return Err(Refusal::NoSuchRelation);
         }
-        if self.names.is_missing(cells) {
-            return Err(Refusal::NoSuchCell);
+        match cells_named(self.alloc, &self.names, cells) {
+            Ok(numbers) => self.use_on(name, &numbers, by),
+            Err(refusal) => Err(refusal),
         }
-        let numbers = self.names.numbers(self.alloc, cells)?;
-        self.use_on(name, &numbers, by)
     }
 
     /// Puts the procedure or definition of a name between the cells of these numbers, whole or not
@@ -134,15 +162,13 @@ impl<R: Rule + Drop, O: Order + Drop> Session<R, O> {
             drop(kinds);
             return Err(Refusal::Memory);
         };
-        let expansion = self.definitions.expand(
+        self.definitions.expand(
             self.alloc,
             self.live.network().library(),
             &self.words,
             name,
-            &kinds,
+            kinds,
             given,
-        );
-        drop(kinds);
-        expansion
+        )
     }
 }

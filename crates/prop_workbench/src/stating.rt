@@ -35,16 +35,26 @@ pub(crate) fn meaning<'a>(
     read_value(value, kind, domain)
 }
 
+/// Under what a value is stated: under nothing, under the premise with a name, which has this
+/// number, or under a new one with a name.
+#[derive(Clone, Copy)]
+pub(crate) enum Under<'a> {
+    Nothing,
+    Known(&'a str, Premise),
+    New(&'a str),
+}
+
 impl<R: Rule + Drop, O: Order + Drop> Session<R, O> {
-    ghost use Rattle.std.specs.Prelude.{◌≡◌, ◌<◌, ◌++◌, ◌∷◌, [], ◌⊎◌, ℕ, false, None, Some, OnOk};
-    ghost use Rattle.std.specs.Prelude.{OnErr, IfErr, length};
-    ghost use Rattle.prop_refusals.specs.declared.refusal.Refusal.TheVariants.{Memory};
+    ghost use Rattle.std.specs.Prelude.{◌≡◌, ◌<◌, ◌++◌, ◌∷◌, [], ◌⊎◌, ℕ, true, false, None, Some};
+    ghost use Rattle.std.specs.Prelude.{OnOk, OnErr, IfOk, IfErr, length};
+    ghost use Rattle.prop_refusals.specs.declared.refusal.Refusal.TheVariants.{Memory, IsAChoice};
     ghost use Rattle.prop_premises.specs.Origins.{premise_number, is_choice, with_name};
     ghost use Rattle.prop_language.specs.Commands as commands;
     ghost use Rattle.prop_language.specs.Said.{value_of};
     ghost use Rattle.prop_procedures.specs.Fitting.{kind_at};
     ghost use Rattle.prop_cells.specs.Refusing.{state_refusal};
-    ghost use Rattle.prop_workbench.specs.inner.Effects.{name_of, stating, MayMean};
+    ghost use Rattle.prop_workbench.specs.inner.Effects.{name_of, name_under, stating, MayMean};
+    ghost use Rattle.prop_workbench.specs.inner.Effects.{IsUnder};
     ghost use Rattle.prop_workbench.specs.Effects.{stated, info_meant};
     ghost use Rattle.prop_vocabulary.specs.Said.{meant_of};
     ghost use Rattle.prop_vocabulary.specs.Values.{Known, Name};
@@ -80,75 +90,75 @@ impl<R: Rule + Drop, O: Order + Drop> Session<R, O> {
             Ok(meant) => meant,
             Err(refusal) => return Err(refusal),
         };
-        if self.is_choice(premise) {
-            return Err(Refusal::IsAChoice);
+        match self.under(premise) {
+            Ok(under) => self.state_meant(under, cell, meant),
+            Err(refusal) => Err(refusal),
         }
-        self.state_meant(premise, cell, meant)
     }
 
-    /// Whether the name is that of a choice, where there is one.
-    fn is_choice(&self, premise: Option<&str>) -> bool
-        ensures { result ≡ is_choice_told (state_of self.now) (name_of premise.entry) }
+    /// Under what is stated by this name, or `IsAChoice` where it is that of a choice. The name is
+    /// looked up once.
+    fn under<'a>(&self, premise: Option<&'a str>) -> Result<Under<'a>, Refusal>
+        ensures name { IfOk result (λ under. name_under under ≡ name_of premise.entry) }
+        ensures ok { IfOk result (IsUnder self.now.search.premises) }
+        ensures free { OnOk result
+            (is_choice_told (state_of self.now) (name_of premise.entry) ≡ false) }
+        ensures err { IfErr result (λ e. (e ≡ IsAChoice)
+            × (is_choice_told (state_of self.now) (name_of premise.entry) ≡ true)) }
     {
-        match premise {
-            Some(name) => self.search.premises().is_choice(name),
-            None => false,
+        let Some(name) = premise else {
+            return Ok(Under::Nothing);
+        };
+        match self.search.premises().find(name) {
+            Ok(known) => Ok(Under::Known(name, known)),
+            Err(Refusal::IsAChoice) => Err(Refusal::IsAChoice),
+            Err(_) => Ok(Under::New(name)),
         }
     }
 
     /// States what a value means at a cell. A symbol that it names is new or known.
-    fn state_meant(
-        &mut self,
-        premise: Option<&str>,
-        cell: usize,
-        meant: Meant,
-    ) -> Result<(), Refusal>
+    fn state_meant(&mut self, under: Under, cell: usize, meant: Meant) -> Result<(), Refusal>
         requires sound { IsInOrder R.value_of self.old }
-        requires told { is_choice_told (state_of self.old) (name_of premise) ≡ false }
+        requires under { IsUnder self.old.search.premises under }
         requires cell { cell < length self.old.live.network.cells.kinds }
         requires may { MayMean (kind_at self.old.live.network.cells.kinds cell) (meant_of meant) }
         ensures keeps { Keeps R.value_of self.old self.new }
-        ensures fits { OnOk result (stating_limit (state_of self.old) (name_of premise.entry)
+        ensures fits { OnOk result (stating_limit (state_of self.old) (name_under under.entry)
             (meant_of meant.entry) ≡ None) }
         ensures ok { OnOk result (state_of self.new ≡ stated (state_of self.old)
-            (name_of premise.entry) cell (with_meant self.old.words (meant_of meant.entry))
+            (name_under under.entry) cell (with_meant self.old.words (meant_of meant.entry))
             (info_meant self.old.words (meant_of meant.entry))) }
         ensures err { IfErr result (λ e.
-            (stating_limit (state_of self.old) (name_of premise.entry) (meant_of meant.entry) ≡ Some
-            e) ⊎ (e ≡ Memory)) }
+            (stating_limit (state_of self.old) (name_under under.entry) (meant_of meant.entry)
+            ≡ Some e) ⊎ (e ≡ Memory)) }
         ensures err_same { OnErr result (state_of self.new ≡ state_of self.old) }
         ensures stirred { HasStirred self.old self.old.search.list result self.new }
     {
         match meant {
-            Meant::Known(info) => self.state_said(premise, cell, info),
-            Meant::Name(symbol) => self.state_symbol(premise, cell, symbol),
+            Meant::Known(info) => self.state_said(under, cell, info),
+            Meant::Name(symbol) => self.state_symbol(under, cell, symbol),
         }
     }
 
     /// States that a cell is the symbol with a name, which may be new.
-    fn state_symbol(
-        &mut self,
-        premise: Option<&str>,
-        cell: usize,
-        symbol: &str,
-    ) -> Result<(), Refusal>
+    fn state_symbol(&mut self, under: Under, cell: usize, symbol: &str) -> Result<(), Refusal>
         requires sound { IsInOrder R.value_of self.old }
-        requires told { is_choice_told (state_of self.old) (name_of premise) ≡ false }
+        requires under { IsUnder self.old.search.premises under }
         requires cell { cell < length self.old.live.network.cells.kinds }
         requires may { (kind_at self.old.live.network.cells.kinds cell).kind ≡ Kind.Symbol }
         ensures keeps { Keeps R.value_of self.old self.new }
-        ensures fits { OnOk result (stating_limit (state_of self.old) (name_of premise.entry)
+        ensures fits { OnOk result (stating_limit (state_of self.old) (name_under under.entry)
             (Name symbol.now) ≡ None) }
         ensures ok { OnOk result (state_of self.new ≡ stated (state_of self.old)
-            (name_of premise.entry) cell (with_symbol self.old.words symbol.now)
+            (name_under under.entry) cell (with_symbol self.old.words symbol.now)
             (Info.Sym (symbol_number self.old.words symbol.now))) }
         ensures err { IfErr result (λ e.
-            (stating_limit (state_of self.old) (name_of premise.entry) (Name symbol.now) ≡ Some e)
+            (stating_limit (state_of self.old) (name_under under.entry) (Name symbol.now) ≡ Some e)
             ⊎ (e ≡ Memory)) }
         ensures err_same { OnErr result (state_of self.new ≡ state_of self.old) }
         ensures stirred { HasStirred self.old self.old.search.list result self.new }
     {
-        match self.statement_limit(premise) {
+        match self.statement_limit(under) {
             Some(refusal) => return Err(refusal),
             None => {}
         }
@@ -157,7 +167,7 @@ impl<R: Rule + Drop, O: Order + Drop> Session<R, O> {
             Ok(number) => number,
             Err(refusal) => return Err(refusal),
         };
-        match self.state_said(premise, cell, Info::Sym(number)) {
+        match self.state_said(under, cell, Info::Sym(number)) {
             Ok(()) => Ok(()),
             Err(refusal) => {
                 self.words.keep_symbols(count);
@@ -166,16 +176,14 @@ impl<R: Rule + Drop, O: Order + Drop> Session<R, O> {
         }
     }
 
-    /// Why one more statement is refused, under the premise with a name or under none.
-    fn statement_limit(&self, premise: Option<&str>) -> Option<Refusal>
+    /// Why one more statement under this is refused.
+    fn statement_limit(&self, under: Under) -> Option<Refusal>
         requires sound { IsInOrder R.value_of self.now }
-        requires told { is_choice_told (state_of self.now) (name_of premise) ≡ false }
-        ensures { result ≡ statement_limit (state_of self.now) (name_of premise.entry) }
+        requires under { IsUnder self.now.search.premises under }
+        ensures { result ≡ statement_limit (state_of self.now) (name_under under.entry) }
     {
-        match premise {
-            Some(name)
-                if self.search.premises().find(name).is_err()
-                    && self.search.premises().len() >= Limit::Premises.most() => {
+        match under {
+            Under::New(_) if self.search.premises().len() >= Limit::Premises.most() => {
                 Some(Refusal::LimitReached(Limit::Premises))
             }
             _ if self.live.network().data().statement_count() >= Limit::Statements.most() => {
@@ -185,48 +193,28 @@ impl<R: Rule + Drop, O: Order + Drop> Session<R, O> {
         }
     }
 
-    /// Makes a statement under the premise with a name, which may be new, or under none.
-    fn state_said(&mut self, premise: Option<&str>, cell: usize, info: Info) -> Result<(), Refusal>
+    /// Makes a statement under this.
+    fn state_said(&mut self, under: Under, cell: usize, info: Info) -> Result<(), Refusal>
         requires sound { IsInOrder R.value_of self.old }
-        requires told { is_choice_told (state_of self.old) (name_of premise) ≡ false }
+        requires under { IsUnder self.old.search.premises under }
         requires cell { cell < length self.old.live.network.cells.kinds }
         requires may { MayMean (kind_at self.old.live.network.cells.kinds cell) (Known info) }
         ensures keeps { Keeps R.value_of self.old self.new }
         ensures words { self.new.words ≡ self.old.words }
         ensures fits { OnOk result (statement_limit (state_of self.old)
-            (name_of premise.entry) ≡ None) }
+            (name_under under.entry) ≡ None) }
         ensures ok { OnOk result (state_of self.new ≡ stated (state_of self.old)
-            (name_of premise.entry) cell self.old.words info) }
+            (name_under under.entry) cell self.old.words info) }
         ensures err { IfErr result (λ e.
-            (statement_limit (state_of self.old) (name_of premise.entry) ≡ Some e) ⊎ (e ≡ Memory)) }
-        ensures err_same { OnErr result (state_of self.new ≡ state_of self.old) }
-        ensures stirred { HasStirred self.old self.old.search.list result self.new }
-    {
-        match premise {
-            Some(premise) => self.state_told(premise, cell, info),
-            None => self.state(None, cell, info),
-        }
-    }
-
-    /// Makes a statement under the premise with a name, which may be new.
-    fn state_told(&mut self, premise: &str, cell: usize, info: Info) -> Result<(), Refusal>
-        requires sound { IsInOrder R.value_of self.old }
-        requires told { is_choice self.old.search.premises premise.now ≡ false }
-        requires cell { cell < length self.old.live.network.cells.kinds }
-        requires may { MayMean (kind_at self.old.live.network.cells.kinds cell) (Known info) }
-        ensures keeps { Keeps R.value_of self.old self.new }
-        ensures words { self.new.words ≡ self.old.words }
-        ensures fits { OnOk result (telling_limit (state_of self.old) premise.now ≡ None) }
-        ensures ok { OnOk result (state_of self.new ≡ stated (state_of self.old) (Some premise.now)
-            cell self.old.words info) }
-        ensures err { IfErr result (λ e. (telling_limit (state_of self.old) premise.now ≡ Some e)
+            (statement_limit (state_of self.old) (name_under under.entry) ≡ Some e)
             ⊎ (e ≡ Memory)) }
         ensures err_same { OnErr result (state_of self.new ≡ state_of self.old) }
         ensures stirred { HasStirred self.old self.old.search.list result self.new }
     {
-        match self.search.premises().find(premise) {
-            Ok(known) => self.state(Some(known), cell, info),
-            Err(_) => self.state_under_new(premise, cell, info),
+        match under {
+            Under::Nothing => self.state(None, cell, info),
+            Under::Known(_, premise) => self.state(Some(premise), cell, info),
+            Under::New(name) => self.state_under_new(name, cell, info),
         }
     }
 

@@ -1,13 +1,16 @@
 -- What a command that isn't refused does to the state.
-use Rattle.std.specs.Prelude.{◌≡◌, ℕ, IsTrue, List, Option, Some, None}
+use Rattle.std.specs.Prelude.{◌≡◌, ℕ, false, IsTrue, List, Option, Some, None, ⊤}
 use Rattle.std.specs.Borrow.{Bor}
 use Rattle.std.specs.Option.{option_map}
 use Rattle.prop_lattice.specs.declared.info.Kind.TheVariants as kinds
 use Rattle.prop_procedures.specs.declared.shape.Kinded.{Kinded}
 use Rattle.prop_language.specs.Commands.{Value, Command}
 use Rattle.prop_vocabulary.specs.Values.{Meant, Known, Name}
+use Rattle.prop_premises.specs.Origins.{Origin, premise_number, is_choice}
 use Rattle.prop_nogoods.specs.Stores.{lacking}
 use Rattle.prop_cells.specs.Refusing.{may_be_stated}
+use Rattle.prop_workbench.specs.declared.stating.Under.{Under}
+use Rattle.prop_workbench.specs.declared.stating.Under.TheVariants.{Nothing, Known as Found, New}
 use Rattle.prop_workbench.specs.Machine.{State}
 use Rattle.prop_workbench.specs.Effects.{number_given}
 
@@ -19,6 +22,19 @@ MayMean k (Name symbol) = k.kind ≡ kinds.Symbol
 -- the name of a premise, where one is given
 abbrev pub name_of : Option (Bor (List ℕ)) → Option (List ℕ)
 name_of premise = option_map (λ (name : Bor (List ℕ)). name.now) premise
+
+-- the same, where it was looked up
+abbrev pub name_under : Under → Option (List ℕ)
+name_under Nothing = None
+name_under (Found name premise) = Some name.now
+name_under (New name) = Some name.now
+
+-- so the name was looked up among these premises and choices
+abbrev pub IsUnder : List Origin → Under → Type 0
+IsUnder premises Nothing = ⊤
+IsUnder premises (Found name premise) = premise_number premises name.now ≡ Some premise
+IsUnder premises (New name) = (premise_number premises name.now ≡ None)
+    × (is_choice premises name.now ≡ false)
 
 -- the command that states so
 abbrev pub stating : Option (List ℕ) → List ℕ → Value → Command

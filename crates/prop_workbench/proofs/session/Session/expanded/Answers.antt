@@ -37,59 +37,55 @@ returns-in_default-given-clause-safe g c = tt
 pub returns-in_default-given-clause-err : goal.returns-in_default-given-clause-err
 returns-in_default-given-clause-err g c = inr refl
 
-pub expand-expansion-requires : goal.expand-expansion-requires
-expand-expansion-requires g c = record { over = rw (c.library.ensures, c.network-2.ensures) c.requires.sound.defined }
+pub expand-requires : goal.expand-requires
+expand-requires g c = record { over = rw (c.library.ensures, c.network-2.ensures) c.requires.sound.defined }
 
 pub returns-clause-fits : goal.returns-clause-fits
 returns-clause-fits g c =
     let s = c.args.self.now in
     let cells = c.args.cells.now in
-    let kinds : c.deref.result.now ≡ map (kind_at s.live.network.cells.kinds) cells = c.deref.ensures.value ∙
-    c.in-Ok.ensures
+    let kinds : c.in-Ok.kinds.items ≡ map (kind_at s.live.network.cells.kinds) cells = c.in-Ok.ensures
     ∙ ap (λ (d : Data). map (kind_at d.kinds) cells) (c.data.ensures ∙ ap (λ n. n.cells) c.network.ensures) in
     still_fits s.words s.definitions c.args.name.now (stored_of g.R.Rule.value_of c.library.result.now)
-    (stored_of g.R.Rule.value_of s.live.network.library) c.deref.result.now (map (kind_at s.live.network.cells.kinds)
+    (stored_of g.R.Rule.value_of s.live.network.library) c.in-Ok.kinds.items (map (kind_at s.live.network.cells.kinds)
     cells)
     c.in-Ok-given.given (given_by s.words (by_of c.args.by)) (λ i. stored_of g.R.Rule.value_of ((c.library.ensures ∙
     ap (λ n. n.library) c.network-2.ensures) i))
-    kinds c.in-Ok-given.ensures c.expand-expansion.result c.expand-expansion.ensures.fits
+    kinds c.in-Ok-given.ensures c.expand.result c.expand.ensures.fits
 
 pub returns-clause-ok : goal.returns-clause-ok
 returns-clause-ok g c =
     let s = c.args.self.now in
     let cells = c.args.cells.now in
-    let kinds : c.deref.result.now ≡ map (kind_at s.live.network.cells.kinds) cells = c.deref.ensures.value ∙
-    c.in-Ok.ensures
+    let kinds : c.in-Ok.kinds.items ≡ map (kind_at s.live.network.cells.kinds) cells = c.in-Ok.ensures
     ∙ ap (λ (d : Data). map (kind_at d.kinds) cells) (c.data.ensures ∙ ap (λ n. n.cells) c.network.ensures) in
     still_expanded s.words s.definitions c.args.name.now (stored_of g.R.Rule.value_of c.library.result.now)
-    (stored_of g.R.Rule.value_of s.live.network.library) c.deref.result.now (map (kind_at s.live.network.cells.kinds)
+    (stored_of g.R.Rule.value_of s.live.network.library) c.in-Ok.kinds.items (map (kind_at s.live.network.cells.kinds)
     cells)
     c.in-Ok-given.given (given_by s.words (by_of c.args.by)) (λ i. stored_of g.R.Rule.value_of ((c.library.ensures ∙
     ap (λ n. n.library) c.network-2.ensures) i))
-    kinds c.in-Ok-given.ensures c.expand-expansion.result c.expand-expansion.ensures.ok
+    kinds c.in-Ok-given.ensures c.expand.result c.expand.ensures.ok
 
 pub returns-clause-safe : goal.returns-clause-safe
 returns-clause-safe g c =
     let s = c.args.self.now in
     let cells = c.args.cells.now in
-    let kinds : c.deref.result.now ≡ map (kind_at s.live.network.cells.kinds) cells = c.deref.ensures.value ∙
-    c.in-Ok.ensures
+    let kinds : c.in-Ok.kinds.items ≡ map (kind_at s.live.network.cells.kinds) cells = c.in-Ok.ensures
     ∙ ap (λ (d : Data). map (kind_at d.kinds) cells) (c.data.ensures ∙ ap (λ n. n.cells) c.network.ensures) in
     still_over (stored_of g.R.Rule.value_of c.library.result.now) (stored_of g.R.Rule.value_of s.live.network.library)
-    (length c.deref.result.now) (length cells) c.expand-expansion.result
+    (length c.in-Ok.kinds.items) (length cells) c.expand.result
     (λ i. stored_of g.R.Rule.value_of ((c.library.ensures ∙ ap (λ n. n.library) c.network-2.ensures) i))
-    (ap length kinds ∙ length-map cells (kind_at s.live.network.cells.kinds)) c.expand-expansion.ensures.safe
+    (ap length kinds ∙ length-map cells (kind_at s.live.network.cells.kinds)) c.expand.ensures.safe
 
 pub returns-clause-err : goal.returns-clause-err
 returns-clause-err g c =
     let s = c.args.self.now in
     let cells = c.args.cells.now in
-    let kinds : c.deref.result.now ≡ map (kind_at s.live.network.cells.kinds) cells = c.deref.ensures.value ∙
-    c.in-Ok.ensures
+    let kinds : c.in-Ok.kinds.items ≡ map (kind_at s.live.network.cells.kinds) cells = c.in-Ok.ensures
     ∙ ap (λ (d : Data). map (kind_at d.kinds) cells) (c.data.ensures ∙ ap (λ n. n.cells) c.network.ensures) in
     still_refused s.words s.definitions c.args.name.now (stored_of g.R.Rule.value_of c.library.result.now)
-    (stored_of g.R.Rule.value_of s.live.network.library) c.deref.result.now (map (kind_at s.live.network.cells.kinds)
+    (stored_of g.R.Rule.value_of s.live.network.library) c.in-Ok.kinds.items (map (kind_at s.live.network.cells.kinds)
     cells)
     c.in-Ok-given.given (given_by s.words (by_of c.args.by)) (λ i. stored_of g.R.Rule.value_of ((c.library.ensures ∙
     ap (λ n. n.library) c.network-2.ensures) i))
-    kinds c.in-Ok-given.ensures c.expand-expansion.result c.expand-expansion.ensures.err
+    kinds c.in-Ok-given.ensures c.expand.result c.expand.ensures.err

@@ -1,5 +1,5 @@
-use Rattle.std.proofs.Common.{◌≡◌, ◌<◌, Ok, Err, refl, sym, length}
-use Rattle.prop_refusals.specs.declared.refusal.Refusal.TheVariants.{NoSuchCell, IsAChoice}
+use Rattle.std.proofs.Common.{◌≡◌, ◌∙◌, ◌<◌, Some, Ok, Err, refl, sym, ap, length}
+use Rattle.prop_refusals.specs.declared.refusal.Refusal.TheVariants.{NoSuchCell}
 use Rattle.prop_procedures.specs.Kept.{stored_of}
 use Rattle.prop_procedures.specs.Stored.{span_kind}
 use Rattle.prop_procedures.specs.Fitting.{kind_at}
@@ -11,7 +11,7 @@ use Rattle.prop_workbench.specs.Sessions.{state_of}
 use Rattle.prop_vocabulary.proofs.CellLookups.{of_named}
 use Rattle.prop_vocabulary.specs.Texts.{elements_of_kind}
 use Rattle.prop_workbench.proofs.StepLemmas.{refuses}
-use Rattle.prop_workbench.proofs.ValueLemmas.{value_refused, value_may_be}
+use Rattle.prop_workbench.proofs.ValueLemmas.{value_refused, choice_told, value_may_be}
 use Rattle.prop_workbench.proofs.WakingLemmas.{left_stating}
 use Rattle.prop_workbench.proofs.session.Session.say.Goals as goal
 
@@ -56,13 +56,28 @@ returns-in-Err-clause-wakes g c =
     let s = c.args.self.now in
     left_stating s s (name_of c.args.premise) c.args.name.now (value_of c.args.value.now) (Err c.in-Err.refusal) refl
 
-pub returns-then-is_choice-clause-wakes : goal.returns-then-is_choice-clause-wakes
-returns-then-is_choice-clause-wakes g c =
+pub returns-in-Err-under-clause-step : goal.returns-in-Err-under-clause-step
+returns-in-Err-under-clause-step g c =
     let s = c.args.self.now in
-    left_stating s s (name_of c.args.premise) c.args.name.now (value_of c.args.value.now) (Err IsAChoice) refl
+    let library = stored_of g.R.Rule.value_of s.live.network.library in
+    let kind : kind_at s.live.network.cells.kinds c.in-Some.cell ≡ c.kind-kind.result =
+    sym (rw (c.data.ensures, c.network.ensures) at c.kind-kind.ensures) in
+    let said : meaning_at s.words (kind_at s.live.network.cells.kinds c.in-Some.cell).kind (value_of c.args.value.now)
+    ≡ Ok (meant_of c.in-Ok.meant) = rw (← kind) at c.in-Ok.ensures.ok in
+    let why = c.in-Err-under.ensures.err in
+    refuses library (state_of s) (state_of s)
+    (stating (name_of c.args.premise) c.args.name.now (value_of c.args.value.now)) c.in-Err-under.refusal
+    (choice_told library (state_of s) (name_of c.args.premise) c.args.name.now (value_of c.args.value.now)
+    c.in-Some.cell (meant_of c.in-Ok.meant) (sym c.in-Some.ensures.number) said why.1 ∙ sym (ap Some why.0)) refl
 
-pub returns-clause-wakes : goal.returns-clause-wakes
-returns-clause-wakes g c =
+pub returns-in-Err-under-clause-wakes : goal.returns-in-Err-under-clause-wakes
+returns-in-Err-under-clause-wakes g c =
+    let s = c.args.self.now in
+    left_stating s s (name_of c.args.premise) c.args.name.now (value_of c.args.value.now) (Err c.in-Err-under.refusal)
+    refl
+
+pub returns-in-Ok-under-clause-wakes : goal.returns-in-Ok-under-clause-wakes
+returns-in-Ok-under-clause-wakes g c =
     let s = c.args.self.now in
     left_stating s c.state_meant.new.self (name_of c.args.premise) c.args.name.now (value_of c.args.value.now)
     c.state_meant.result c.state_meant.ensures.stirred
