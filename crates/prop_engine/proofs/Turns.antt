@@ -4,7 +4,7 @@ use Rattle.std.specs.Prelude.{◌||◌, ltb}
 use Rattle.std.proofs.lemmas.Bool.{le-ltb}
 use Rattle.std.proofs.lemmas.List.{take_rest, length-drop}
 use Rattle.prop_engine.specs.declared.watched.Devices.{Devices}
-use Rattle.prop_engine.specs.Watched.{owed, writer, waits, IsPassedOn}
+use Rattle.prop_engine.specs.Watched.{waits, IsPassedOn}
 
 -- no reply waits where each was passed on
 pub none_waits : {Rd W : Type 0} (d : Devices Rd W) → IsPassedOn d → waits d ≡ false
@@ -19,7 +19,7 @@ pub in_turn : {Rd W : Type 0} (d : Devices Rd W) (old new : Bool) → IsPassedOn
 in_turn d old new p e = e ∙ or_false old (waits d) (none_waits d p)
 
 -- a call that left the writer alone and wrote nothing of what is owed
-pub still_passed_on : {Rd W : Type 0} (d d' : Devices Rd W) → writer d' ≡ writer d → owed d' ≡ owed d → IsPassedOn d
+pub still_passed_on : {Rd W : Type 0} (d d' : Devices Rd W) → d'.writer ≡ d.writer → d'.owed ≡ d.owed → IsPassedOn d
     → IsPassedOn d'
 still_passed_on d d' w o p = record { fresh = rw w p.fresh; paid = o ∙ p.paid }
 

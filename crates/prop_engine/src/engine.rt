@@ -3,9 +3,7 @@ ghost use Rattle.std.specs.Prelude.{◌≡◌, ◌≢◌, ◌↔◌, ◌⊎◌, 
 ghost use Rattle.std.specs.Prelude.{max, true, false};
 ghost use Rattle.std.specs.Prelude.{OnOk, OnErr, IfOk, IfErr, MatchResult, IsErrOf};
 ghost use Rattle.std.specs.Io.KnownBytes.{Appends, Consumes};
-ghost use Rattle.prop_engine.specs.Watched.{reader, writer, has_gone_ahead, device, has_failed};
-ghost use Rattle.prop_engine.specs.Watched.{has_stopped, has_flushed_idly, calls, widest};
-ghost use Rattle.prop_engine.specs.Watched.{narrowest, AppendsFront, IsFaulty, IsFresh, IsPassedOn};
+ghost use Rattle.prop_engine.specs.Watched.{AppendsFront, IsFaulty, IsFresh, IsPassedOn};
 ghost use Rattle.prop_engine.specs.Answers.{Answer, Silent, text_written};
 ghost use Rattle.prop_engine.specs.inner.Progress.{CountsAnswer, Advances, Stops, GrowsAtMost};
 ghost use Rattle.prop_engine.specs.Endings.{Tells, WritesTranscript, WritesPrefix};
@@ -34,16 +32,16 @@ fn answer<M: Interpreter, Rd: Read, W: Write>(
     ensures step { (answer : Answer)
         × M.machine (M.setting interpreter.old) (M.state interpreter.old) line.now answer
         (M.state interpreter.new) × MatchResult result
-        (λ _. Appends (W.contents (device (writer devices.old)))
-        (W.contents (device (writer devices.new))) (text_written answer)
+        (λ _. Appends (W.contents devices.old.writer.device)
+        (W.contents devices.new.writer.device) (text_written answer)
         × CountsAnswer counts.old counts.new answer)
-        (λ _. AppendsFront (W.contents (device (writer devices.old)))
-        (W.contents (device (writer devices.new))) (text_written answer) × (answer ≢ Silent)) }
-    ensures fault { IfErr result (λ e. (e ≡ EngineFault.Write) × IsFaulty (writer devices.new)) }
-    ensures reader { reader devices.new ≡ reader devices.old }
-    ensures in_turn { has_gone_ahead devices.new ≡ has_gone_ahead devices.old }
+        (λ _. AppendsFront (W.contents devices.old.writer.device)
+        (W.contents devices.new.writer.device) (text_written answer) × (answer ≢ Silent)) }
+    ensures fault { IfErr result (λ e. (e ≡ EngineFault.Write) × IsFaulty devices.new.writer) }
+    ensures reader { devices.new.reader ≡ devices.old.reader }
+    ensures in_turn { devices.new.has_gone_ahead ≡ devices.old.has_gone_ahead }
     ensures passed_on { OnOk result (IsPassedOn devices.new) }
-    ensures needed { has_flushed_idly (writer devices.new) ≡ has_flushed_idly (writer devices.old) }
+    ensures needed { devices.new.writer.has_flushed_idly ≡ devices.old.writer.has_flushed_idly }
 {
     let reply = devices.carry_out(interpreter, line);
     write_reply(devices, &reply)?;
@@ -68,23 +66,23 @@ fn feed<M: Interpreter, Rd: Read, W: Write>(
     requires refused { counts.old.refused + length piece.now < 2 ^ 127 }
     ensures ready { M.is_ready interpreter.new }
     ensures same { M.setting interpreter.new ≡ M.setting interpreter.old }
-    ensures ok { OnOk result ((output : List ℕ) × Appends (W.contents (device (writer devices.old)))
-        (W.contents (device (writer devices.new))) output
+    ensures ok { OnOk result ((output : List ℕ) × Appends (W.contents devices.old.writer.device)
+        (W.contents devices.new.writer.device) output
         × Advances (M.machine (M.setting interpreter.old))
         (M.state interpreter.old) pending.old counts.old piece.now output
         (M.state interpreter.new) pending.new counts.new) }
     ensures err { OnErr result
-        ((output : List ℕ) × Appends (W.contents (device (writer devices.old)))
-        (W.contents (device (writer devices.new))) output
+        ((output : List ℕ) × Appends (W.contents devices.old.writer.device)
+        (W.contents devices.new.writer.device) output
         × Stops (M.machine (M.setting interpreter.old))
         (M.state interpreter.old) pending.old counts.old piece.now output
         (M.state interpreter.new)) }
     ensures bounded { OnOk result (GrowsAtMost counts.old counts.new (length piece.now)) }
-    ensures fault { IfErr result (λ e. (e ≡ EngineFault.Write) × IsFaulty (writer devices.new)) }
-    ensures reader { reader devices.new ≡ reader devices.old }
-    ensures in_turn { has_gone_ahead devices.new ≡ has_gone_ahead devices.old }
+    ensures fault { IfErr result (λ e. (e ≡ EngineFault.Write) × IsFaulty devices.new.writer) }
+    ensures reader { devices.new.reader ≡ devices.old.reader }
+    ensures in_turn { devices.new.has_gone_ahead ≡ devices.old.has_gone_ahead }
     ensures passed_on { OnOk result (IsPassedOn devices.new) }
-    ensures needed { has_flushed_idly (writer devices.new) ≡ has_flushed_idly (writer devices.old) }
+    ensures needed { devices.new.writer.has_flushed_idly ≡ devices.old.writer.has_flushed_idly }
 {
     for byte in piece {
         if *byte == b'\n' {
@@ -106,7 +104,7 @@ pub fn run_session<M: Interpreter, Rd: Read, W: Write>(
     reads: u64,
 ) -> Result<Counts, EngineFault>
     requires ready { M.is_ready interpreter.old }
-    requires reader { IsFresh (reader devices.old) }
+    requires reader { IsFresh devices.old.reader }
     requires writer { IsPassedOn devices.old }
     ensures ready { M.is_ready interpreter.new }
     ensures same { M.setting interpreter.new ≡ M.setting interpreter.old }
@@ -114,40 +112,39 @@ pub fn run_session<M: Interpreter, Rd: Read, W: Write>(
     // What was written is a transcript of all that the reader had left.
     ensures transcript { IfOk result
         (λ counts. WritesTranscript (M.machine (M.setting interpreter.old))
-        (Rd.remaining (device (reader devices.old)))
-        (W.contents (device (writer devices.old))) (W.contents (device (writer devices.new))) counts
+        (Rd.remaining devices.old.reader.device)
+        (W.contents devices.old.writer.device) (W.contents devices.new.writer.device) counts
         (M.state interpreter.old) (M.state interpreter.new)) }
     // At a fault it is the prefix of an allowed one.
     ensures prefix { OnErr result (WritesPrefix (M.machine (M.setting interpreter.old))
-        (Rd.remaining (device (reader devices.old)))
-        (W.contents (device (writer devices.old))) (W.contents (device (writer devices.new)))
+        (Rd.remaining devices.old.reader.device)
+        (W.contents devices.old.writer.device) (W.contents devices.new.writer.device)
         (M.state interpreter.old)) }
     // Which lines were carried out, by what the reads gave.
     ensures told { (input : List ℕ) × (output : List ℕ)
-        × Consumes (Rd.remaining (device (reader devices.old)))
-        (Rd.remaining (device (reader devices.new))) input
-        × Appends (W.contents (device (writer devices.old)))
-        (W.contents (device (writer devices.new))) output
+        × Consumes (Rd.remaining devices.old.reader.device)
+        (Rd.remaining devices.new.reader.device) input
+        × Appends (W.contents devices.old.writer.device)
+        (W.contents devices.new.writer.device) output
         × Tells (M.machine (M.setting interpreter.old)) result
-        (Rd.remaining (device (reader devices.new))) (has_stopped (reader devices.new))
+        (Rd.remaining devices.new.reader.device) devices.new.reader.has_stopped
         (M.state interpreter.old) input output (M.state interpreter.new) }
 
     // When each fault comes.
-    ensures read { IsErrOf result EngineFault.Read ↔ (has_failed (reader devices.new) ≡ true) }
-    ensures write { IsErrOf result EngineFault.Write → IsFaulty (writer devices.new) }
-    ensures reads { IsErrOf result EngineFault.Reads → (has_stopped (reader devices.new) ≡ false)
-        × (calls (reader devices.new) ≡ min (calls (reader devices.old) + reads) u64.MAX) }
+    ensures read { IsErrOf result EngineFault.Read ↔ (devices.new.reader.has_failed ≡ true) }
+    ensures write { IsErrOf result EngineFault.Write → IsFaulty devices.new.writer }
+    ensures reads { IsErrOf result EngineFault.Reads → (devices.new.reader.has_stopped ≡ false)
+        × (devices.new.reader.calls ≡ min (devices.old.reader.calls + reads) u64.MAX) }
     // No read came and no line was carried out before each reply so far was written whole and
     // passed on.
-    ensures in_turn { has_gone_ahead devices.new ≡ has_gone_ahead devices.old }
+    ensures in_turn { devices.new.has_gone_ahead ≡ devices.old.has_gone_ahead }
     // Where no write stopped it, so was the last.
     ensures passed_on { IsErrOf result EngineFault.Write ⊎ IsPassedOn devices.new }
     // No flush had nothing to pass on, as one at a silent line would.
-    ensures needed { has_flushed_idly (writer devices.new) ≡ has_flushed_idly (writer devices.old) }
-    ensures at_most { calls (reader devices.new) ≤ calls (reader devices.old) + reads }
-    ensures pieces { widest (reader devices.new) ≤ max (widest (reader devices.old)) 4096 }
-    ensures no_smaller { min (narrowest (reader devices.old)) 4096 ≤ narrowest
-        (reader devices.new) }
+    ensures needed { devices.new.writer.has_flushed_idly ≡ devices.old.writer.has_flushed_idly }
+    ensures at_most { devices.new.reader.calls ≤ devices.old.reader.calls + reads }
+    ensures pieces { devices.new.reader.widest ≤ max devices.old.reader.widest 4096 }
+    ensures no_smaller { min devices.old.reader.narrowest 4096 ≤ devices.new.reader.narrowest }
 {
     run(interpreter, devices, reads)
 }
@@ -158,29 +155,28 @@ fn run<M: Interpreter, Rd: Read, W: Write>(
     reads: u64,
 ) -> Result<Counts, EngineFault>
     requires ready { M.is_ready interpreter.old }
-    requires reader { IsFresh (reader devices.old) }
+    requires reader { IsFresh devices.old.reader }
     requires writer { IsPassedOn devices.old }
     ensures ready { M.is_ready interpreter.new }
     ensures same { M.setting interpreter.new ≡ M.setting interpreter.old }
     ensures told { (input : List ℕ) × (output : List ℕ)
-        × Consumes (Rd.remaining (device (reader devices.old)))
-        (Rd.remaining (device (reader devices.new))) input
-        × Appends (W.contents (device (writer devices.old)))
-        (W.contents (device (writer devices.new))) output
+        × Consumes (Rd.remaining devices.old.reader.device)
+        (Rd.remaining devices.new.reader.device) input
+        × Appends (W.contents devices.old.writer.device)
+        (W.contents devices.new.writer.device) output
         × Tells (M.machine (M.setting interpreter.old)) result
-        (Rd.remaining (device (reader devices.new))) (has_stopped (reader devices.new))
+        (Rd.remaining devices.new.reader.device) devices.new.reader.has_stopped
         (M.state interpreter.old) input output (M.state interpreter.new) }
-    ensures read { IsErrOf result EngineFault.Read ↔ (has_failed (reader devices.new) ≡ true) }
-    ensures write { IsErrOf result EngineFault.Write → IsFaulty (writer devices.new) }
-    ensures reads { IsErrOf result EngineFault.Reads → (has_stopped (reader devices.new) ≡ false)
-        × (calls (reader devices.new) ≡ min (calls (reader devices.old) + reads) u64.MAX) }
-    ensures in_turn { has_gone_ahead devices.new ≡ has_gone_ahead devices.old }
+    ensures read { IsErrOf result EngineFault.Read ↔ (devices.new.reader.has_failed ≡ true) }
+    ensures write { IsErrOf result EngineFault.Write → IsFaulty devices.new.writer }
+    ensures reads { IsErrOf result EngineFault.Reads → (devices.new.reader.has_stopped ≡ false)
+        × (devices.new.reader.calls ≡ min (devices.old.reader.calls + reads) u64.MAX) }
+    ensures in_turn { devices.new.has_gone_ahead ≡ devices.old.has_gone_ahead }
     ensures passed_on { IsErrOf result EngineFault.Write ⊎ IsPassedOn devices.new }
-    ensures needed { has_flushed_idly (writer devices.new) ≡ has_flushed_idly (writer devices.old) }
-    ensures at_most { calls (reader devices.new) ≤ calls (reader devices.old) + reads }
-    ensures pieces { widest (reader devices.new) ≤ max (widest (reader devices.old)) 4096 }
-    ensures no_smaller { min (narrowest (reader devices.old)) 4096 ≤ narrowest
-        (reader devices.new) }
+    ensures needed { devices.new.writer.has_flushed_idly ≡ devices.old.writer.has_flushed_idly }
+    ensures at_most { devices.new.reader.calls ≤ devices.old.reader.calls + reads }
+    ensures pieces { devices.new.reader.widest ≤ max devices.old.reader.widest 4096 }
+    ensures no_smaller { min devices.old.reader.narrowest 4096 ≤ devices.new.reader.narrowest }
 {
     let mut piece = [0; 4096];
     let mut pending = Pending::new();

@@ -2,8 +2,7 @@
 ghost use Rattle.std.specs.Prelude.{◌≡◌, ◌<◌, ◌≤◌, ◌-◌, ◌++◌, ◌∷◌, ◌||◌, [], length, OnOk, OnErr};
 ghost use Rattle.std.specs.Prelude.{IfErr, IsOk, true, false};
 ghost use Rattle.std.specs.Io.KnownBytes.{Appends, Keeps};
-ghost use Rattle.prop_engine.specs.Watched.{reader, writer, owed, has_gone_ahead, device};
-ghost use Rattle.prop_engine.specs.Watched.{is_flushed, has_flushed_idly, AppendsFront, IsFaulty};
+ghost use Rattle.prop_engine.specs.Watched.{AppendsFront, IsFaulty};
 ghost use Rattle.prop_engine.specs.Watched.{IsFresh, IsPassedOn};
 ghost use Rattle.prop_engine.specs.inner.Watched.{IsUnharmed};
 ghost use Rattle.prop_engine.specs.Answers.{Silent, text_written, answer_of};
@@ -16,18 +15,18 @@ use std::io::{Read, Write};
 
 /// Writes all the bytes, or stops at the first write that fails or takes none.
 fn put<Rd: Read, W: Write>(devices: &mut Devices<Rd, W>, bytes: &[u8]) -> Result<(), EngineFault>
-    requires owed { length bytes.now ≤ owed devices.old }
-    ensures ok { OnOk result (Appends (W.contents (device (writer devices.old)))
-        (W.contents (device (writer devices.new))) bytes.now) }
-    ensures err { OnErr result (AppendsFront (W.contents (device (writer devices.old)))
-        (W.contents (device (writer devices.new))) bytes.now) }
-    ensures fault { IfErr result (λ e. (e ≡ EngineFault.Write) × IsFaulty (writer devices.new)) }
-    ensures unharmed { OnOk result (IsUnharmed (writer devices.old) (writer devices.new)) }
-    ensures waits { OnOk result (0 < length bytes.now → is_flushed (writer devices.new) ≡ false) }
-    ensures needed { has_flushed_idly (writer devices.new) ≡ has_flushed_idly (writer devices.old) }
-    ensures reader { reader devices.new ≡ reader devices.old }
-    ensures owed { OnOk result (owed devices.new ≡ owed devices.old - length bytes.now) }
-    ensures in_turn { has_gone_ahead devices.new ≡ has_gone_ahead devices.old }
+    requires owed { length bytes.now ≤ devices.old.owed }
+    ensures ok { OnOk result (Appends (W.contents devices.old.writer.device)
+        (W.contents devices.new.writer.device) bytes.now) }
+    ensures err { OnErr result (AppendsFront (W.contents devices.old.writer.device)
+        (W.contents devices.new.writer.device) bytes.now) }
+    ensures fault { IfErr result (λ e. (e ≡ EngineFault.Write) × IsFaulty devices.new.writer) }
+    ensures unharmed { OnOk result (IsUnharmed devices.old.writer devices.new.writer) }
+    ensures waits { OnOk result (0 < length bytes.now → devices.new.writer.is_flushed ≡ false) }
+    ensures needed { devices.new.writer.has_flushed_idly ≡ devices.old.writer.has_flushed_idly }
+    ensures reader { devices.new.reader ≡ devices.old.reader }
+    ensures owed { OnOk result (devices.new.owed ≡ devices.old.owed - length bytes.now) }
+    ensures in_turn { devices.new.has_gone_ahead ≡ devices.old.has_gone_ahead }
 {
     let mut at = 0;
     while at < bytes.len() {
@@ -45,17 +44,15 @@ fn put<Rd: Read, W: Write>(devices: &mut Devices<Rd, W>, bytes: &[u8]) -> Result
 
 /// Passes on what was written.
 fn flush<Rd: Read, W: Write>(devices: &mut Devices<Rd, W>) -> Result<(), EngineFault>
-    ensures bytes { Keeps (W.contents (device (writer devices.old)))
-        (W.contents (device (writer devices.new))) }
-    ensures fault { IfErr result (λ e. (e ≡ EngineFault.Write) × IsFaulty (writer devices.new)) }
-    ensures unharmed { OnOk result (IsUnharmed (writer devices.old) (writer devices.new)) }
-    ensures flushed { OnOk result (is_flushed (writer devices.new) ≡ true) }
-    ensures needed { has_flushed_idly
-        (writer devices.new) ≡ (has_flushed_idly (writer devices.old) || is_flushed
-        (writer devices.old)) }
-    ensures reader { reader devices.new ≡ reader devices.old }
-    ensures owed { owed devices.new ≡ owed devices.old }
-    ensures in_turn { has_gone_ahead devices.new ≡ has_gone_ahead devices.old }
+    ensures bytes { Keeps (W.contents devices.old.writer.device)
+        (W.contents devices.new.writer.device) }
+    ensures fault { IfErr result (λ e. (e ≡ EngineFault.Write) × IsFaulty devices.new.writer) }
+    ensures unharmed { OnOk result (IsUnharmed devices.old.writer devices.new.writer) }
+    ensures flushed { OnOk result (devices.new.writer.is_flushed ≡ true) }
+    ensures needed { devices.new.writer.has_flushed_idly ≡ (devices.old.writer.has_flushed_idly || devices.old.writer.is_flushed) }
+    ensures reader { devices.new.reader ≡ devices.old.reader }
+    ensures owed { devices.new.owed ≡ devices.old.owed }
+    ensures in_turn { devices.new.has_gone_ahead ≡ devices.old.has_gone_ahead }
 {
     match devices.flush() {
         Ok(()) => Ok(()),
@@ -66,18 +63,18 @@ fn flush<Rd: Read, W: Write>(devices: &mut Devices<Rd, W>) -> Result<(), EngineF
 /// Writes bytes that are owed, and passes them on.
 fn send<Rd: Read, W: Write>(devices: &mut Devices<Rd, W>, bytes: &[u8]) -> Result<(), EngineFault>
     requires some { 0 < length bytes.now }
-    requires owed { owed devices.old ≡ length bytes.now }
-    ensures ok { OnOk result (Appends (W.contents (device (writer devices.old)))
-        (W.contents (device (writer devices.new))) bytes.now) }
-    ensures err { OnErr result (AppendsFront (W.contents (device (writer devices.old)))
-        (W.contents (device (writer devices.new))) bytes.now) }
-    ensures fault { IfErr result (λ e. (e ≡ EngineFault.Write) × IsFaulty (writer devices.new)) }
-    ensures unharmed { OnOk result (IsUnharmed (writer devices.old) (writer devices.new)) }
-    ensures flushed { OnOk result (is_flushed (writer devices.new) ≡ true) }
-    ensures needed { has_flushed_idly (writer devices.new) ≡ has_flushed_idly (writer devices.old) }
-    ensures reader { reader devices.new ≡ reader devices.old }
-    ensures paid { OnOk result (owed devices.new ≡ 0) }
-    ensures in_turn { has_gone_ahead devices.new ≡ has_gone_ahead devices.old }
+    requires owed { devices.old.owed ≡ length bytes.now }
+    ensures ok { OnOk result (Appends (W.contents devices.old.writer.device)
+        (W.contents devices.new.writer.device) bytes.now) }
+    ensures err { OnErr result (AppendsFront (W.contents devices.old.writer.device)
+        (W.contents devices.new.writer.device) bytes.now) }
+    ensures fault { IfErr result (λ e. (e ≡ EngineFault.Write) × IsFaulty devices.new.writer) }
+    ensures unharmed { OnOk result (IsUnharmed devices.old.writer devices.new.writer) }
+    ensures flushed { OnOk result (devices.new.writer.is_flushed ≡ true) }
+    ensures needed { devices.new.writer.has_flushed_idly ≡ devices.old.writer.has_flushed_idly }
+    ensures reader { devices.new.reader ≡ devices.old.reader }
+    ensures paid { OnOk result (devices.new.owed ≡ 0) }
+    ensures in_turn { devices.new.has_gone_ahead ≡ devices.old.has_gone_ahead }
 {
     put(devices, bytes)?;
     flush(devices)
@@ -92,17 +89,17 @@ pub fn write_reply<Rd: Read, W: Write>(
     devices: &mut Devices<Rd, W>,
     reply: &Reply,
 ) -> Result<(), EngineFault>
-    requires owed { owed devices.old ≡ length (text_written (answer_of reply.now)) }
-    ensures ok { OnOk result (Appends (W.contents (device (writer devices.old)))
-        (W.contents (device (writer devices.new))) (text_written (answer_of reply.now))) }
-    ensures err { OnErr result (AppendsFront (W.contents (device (writer devices.old)))
-        (W.contents (device (writer devices.new))) (text_written (answer_of reply.now))) }
-    ensures fault { IfErr result (λ e. (e ≡ EngineFault.Write) × IsFaulty (writer devices.new)) }
-    ensures fresh { OnOk result (IsFresh (writer devices.old) → IsPassedOn devices.new) }
-    ensures needed { has_flushed_idly (writer devices.new) ≡ has_flushed_idly (writer devices.old) }
+    requires owed { devices.old.owed ≡ length (text_written (answer_of reply.now)) }
+    ensures ok { OnOk result (Appends (W.contents devices.old.writer.device)
+        (W.contents devices.new.writer.device) (text_written (answer_of reply.now))) }
+    ensures err { OnErr result (AppendsFront (W.contents devices.old.writer.device)
+        (W.contents devices.new.writer.device) (text_written (answer_of reply.now))) }
+    ensures fault { IfErr result (λ e. (e ≡ EngineFault.Write) × IsFaulty devices.new.writer) }
+    ensures fresh { OnOk result (IsFresh devices.old.writer → IsPassedOn devices.new) }
+    ensures needed { devices.new.writer.has_flushed_idly ≡ devices.old.writer.has_flushed_idly }
     ensures silent { answer_of reply.now ≡ Silent → (devices.new ≡ devices.old) × IsOk result }
-    ensures reader { reader devices.new ≡ reader devices.old }
-    ensures in_turn { has_gone_ahead devices.new ≡ has_gone_ahead devices.old }
+    ensures reader { devices.new.reader ≡ devices.old.reader }
+    ensures in_turn { devices.new.has_gone_ahead ≡ devices.old.has_gone_ahead }
 {
     match reply {
         Reply::Silent => Ok(()),

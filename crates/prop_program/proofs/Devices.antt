@@ -2,8 +2,7 @@
 use Rattle.std.proofs.Common.{◌≡◌, ◌↔◌, ◌⊎◌, ◌+◌, ◌-◌, ◌^◌, ◌≤◌, min, max, true, false, Result, Ok, Err, IfErr, ap, inl}
 use Rattle.std.proofs.Common.{inr, refl, arith}
 use Rattle.std.specs.Result.{IsErrOf}
-use Rattle.prop_engine.specs.Watched.{reader, writer, has_gone_ahead, has_failed, has_stopped, has_flushed_idly, calls}
-use Rattle.prop_engine.specs.Watched.{widest, narrowest, IsFresh, IsPassedOn, IsFaulty}
+use Rattle.prop_engine.specs.Watched.{IsFresh, IsPassedOn, IsFaulty}
 use Rattle.prop_engine.specs.declared.outcome.Counts.{Counts}
 use Rattle.prop_engine.specs.declared.outcome.EngineFault.{EngineFault}
 use Rattle.prop_engine.specs.declared.outcome.EngineFault.TheVariants.{Read, Write, Reads}
@@ -27,13 +26,13 @@ no_memory (Err fault) P = tt
 
 -- what the session's end told
 pub told : {Rd W : Type 0} (end : Result Counts EngineFault) (old new : Devices Rd W)
-    → (IsErrOf end Read ↔ (has_failed (reader new) ≡ true)) → (IsErrOf end Write → IsFaulty (writer new)) →
-    (IsErrOf end Reads → (has_stopped (reader new) ≡ false)
-    × (calls (reader new) ≡ min (calls (reader old) + 2 ^ 32) (2 ^ 64 - 1)))
-    → has_gone_ahead new ≡ has_gone_ahead old → (IsErrOf end Write ⊎ IsPassedOn new) →
-    calls (reader new) ≤ calls (reader old) + 2 ^ 32 → widest (reader new) ≤ max (widest (reader old)) 4_096
-    → min (narrowest (reader old)) 4_096 ≤ narrowest (reader new) →
-    has_flushed_idly (writer new) ≡ has_flushed_idly (writer old) → TellsDevices (carried end) old new
+    → (IsErrOf end Read ↔ (new.reader.has_failed ≡ true)) → (IsErrOf end Write → IsFaulty new.writer) →
+    (IsErrOf end Reads → (new.reader.has_stopped ≡ false)
+    × (new.reader.calls ≡ min (old.reader.calls + 2 ^ 32) (2 ^ 64 - 1)))
+    → new.has_gone_ahead ≡ old.has_gone_ahead → (IsErrOf end Write ⊎ IsPassedOn new) →
+    new.reader.calls ≤ old.reader.calls + 2 ^ 32 → new.reader.widest ≤ max old.reader.widest 4_096
+    → min old.reader.narrowest 4_096 ≤ new.reader.narrowest →
+    new.writer.has_flushed_idly ≡ old.writer.has_flushed_idly → TellsDevices (carried end) old new
 told end old new read write reads in_turn passed_on at_most pieces no_smaller needed = record {
   read = (λ e. read.0 (back end Read e), λ failed. ap carried (read.1 failed));
   write = λ e. write (back end Write e);
@@ -48,7 +47,7 @@ told end old new read write reads in_turn passed_on at_most pieces no_smaller ne
 }
 
 -- where memory was refused first
-pub told_first : {Rd W : Type 0} (fault : Fault) (d : Devices Rd W) → IsMemory fault → IsFresh (reader d) → IsPassedOn d
+pub told_first : {Rd W : Type 0} (fault : Fault) (d : Devices Rd W) → IsMemory fault → IsFresh d.reader → IsPassedOn d
     → TellsDevices (Err fault) d d
 told_first (Engine e) d memory fresh passed_on = absurd memory
 told_first (Memory e) d memory fresh passed_on = record {

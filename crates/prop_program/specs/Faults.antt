@@ -1,8 +1,7 @@
 -- How a program ends before its input does, and what its end tells of the devices.
 use Rattle.std.specs.Prelude.{◌≡◌, ◌↔◌, ◌⊎◌, ℕ, ◌+◌, ◌-◌, ◌^◌, ◌≤◌, min, max, true, false, Result}
 use Rattle.std.specs.Prelude.{IfErr, IsErrOf}
-use Rattle.prop_engine.specs.Watched.{reader, writer, has_gone_ahead, has_failed, has_stopped}
-use Rattle.prop_engine.specs.Watched.{has_flushed_idly, calls, widest, narrowest, IsPassedOn}
+use Rattle.prop_engine.specs.Watched.{IsPassedOn}
 use Rattle.prop_engine.specs.Watched.{IsFaulty}
 use Rattle.prop_engine.specs.declared.outcome.Counts.{Counts}
 use Rattle.prop_engine.specs.declared.outcome.EngineFault.TheVariants.{Read, Write, Reads}
@@ -33,15 +32,15 @@ IfMemory (Engine e) P = Unit {0}
 -- refused before the session began, nothing was read or written.
 pub record TellsDevices {Rd W : Type 0} (result : Result Counts Fault) (old new : Devices Rd W) :
     Type 0 where
-  pub read : IsErrOf result (Engine Read) ↔ (has_failed (reader new) ≡ true)
-  pub write : IsErrOf result (Engine Write) → IsFaulty (writer new)
+  pub read : IsErrOf result (Engine Read) ↔ (new.reader.has_failed ≡ true)
+  pub write : IsErrOf result (Engine Write) → IsFaulty new.writer
   pub passed_on : IsErrOf result (Engine Write) ⊎ IsPassedOn new
-  pub in_turn : has_gone_ahead new ≡ has_gone_ahead old
+  pub in_turn : new.has_gone_ahead ≡ old.has_gone_ahead
   pub reads : IsErrOf result (Engine Reads)
-      → (has_stopped (reader new) ≡ false)
-      × (calls (reader new) ≡ min (calls (reader old) + 2 ^ 32) (2 ^ 64 - 1))
+      → (new.reader.has_stopped ≡ false)
+      × (new.reader.calls ≡ min (old.reader.calls + 2 ^ 32) (2 ^ 64 - 1))
   pub memory : IfErr result (λ e. IfMemory e (new ≡ old))
-  pub at_most : calls (reader new) ≤ calls (reader old) + 2 ^ 32
-  pub pieces : widest (reader new) ≤ max (widest (reader old)) 4_096
-  pub no_smaller : min (narrowest (reader old)) 4_096 ≤ narrowest (reader new)
-  pub needed : has_flushed_idly (writer new) ≡ has_flushed_idly (writer old)
+  pub at_most : new.reader.calls ≤ old.reader.calls + 2 ^ 32
+  pub pieces : new.reader.widest ≤ max old.reader.widest 4_096
+  pub no_smaller : min old.reader.narrowest 4_096 ≤ new.reader.narrowest
+  pub needed : new.writer.has_flushed_idly ≡ old.writer.has_flushed_idly

@@ -2,7 +2,7 @@
 ghost use Rattle.std.specs.Prelude.{◌≡◌, IfOk, OnErr, map};
 ghost use Rattle.prop_language.specs.Said.{words};
 ghost use Rattle.prop_procedures.specs.Kept.{AllMean, stored_as};
-ghost use Rattle.prop_engine.specs.Watched.{reader, writer, device, IsFresh, IsPassedOn};
+ghost use Rattle.prop_engine.specs.Watched.{IsFresh, IsPassedOn};
 ghost use Rattle.prop_program.specs.Faults.{TellsDevices};
 ghost use Rattle.prop_program.specs.Answering.{IsAnswered, IsAnsweredBy, IsAnsweredInPart};
 ghost use Rattle.prop_program.specs.Answering.{IsAnsweredInPartBy, IsWorked};
@@ -32,28 +32,28 @@ pub fn run<R: Rule + Drop, Rd: Read, W: Write>(
     options: Options,
     devices: &mut Devices<Rd, W>,
 ) -> Result<Counts, Fault>
-    requires reader { IsFresh (reader devices.old) }
+    requires reader { IsFresh devices.old.reader }
     requires writer { IsPassedOn devices.old }
     requires means { AllMean R.value_of procedures.items }
     ensures ok { IfOk result (IsAnswered
         (stocked (map (stored_as R.value_of) procedures.items) (words prelude.now))
-        (Rd.remaining (device (reader devices.old))) (W.contents (device (writer devices.old)))
-        (W.contents (device (writer devices.new))) options.limit) }
+        (Rd.remaining devices.old.reader.device) (W.contents devices.old.writer.device)
+        (W.contents devices.new.writer.device) options.limit) }
     ensures err { OnErr result (IsAnsweredInPart
         (stocked (map (stored_as R.value_of) procedures.items) (words prelude.now))
-        (Rd.remaining (device (reader devices.old))) (W.contents (device (writer devices.old)))
-        (W.contents (device (writer devices.new))) options.limit) }
+        (Rd.remaining devices.old.reader.device) (W.contents devices.old.writer.device)
+        (W.contents devices.new.writer.device) options.limit) }
     // Each text is earned by steps that were taken, in the order that was chosen.
     ensures earned { IfOk result (IsWorked
         (stocked (map (stored_as R.value_of) procedures.items) (words prelude.now))
         options.order options.seed options.limit
-        (Rd.remaining (device (reader devices.old))) (W.contents (device (writer devices.old)))
-        (W.contents (device (writer devices.new)))) }
+        (Rd.remaining devices.old.reader.device) (W.contents devices.old.writer.device)
+        (W.contents devices.new.writer.device)) }
     ensures earned_in_part { OnErr result (IsWorkedInPart
         (stocked (map (stored_as R.value_of) procedures.items) (words prelude.now))
         options.order options.seed options.limit
-        (Rd.remaining (device (reader devices.old))) (W.contents (device (writer devices.old)))
-        (W.contents (device (writer devices.new)))) }
+        (Rd.remaining devices.old.reader.device) (W.contents devices.old.writer.device)
+        (W.contents devices.new.writer.device)) }
     ensures devices { TellsDevices result devices.old devices.new }
 {
     let network = Network::new(alloc, Library::new(procedures));
@@ -74,18 +74,18 @@ fn serve<R: Rule + Drop, O: Order + Drop, Rd: Read, W: Write>(
     prelude: &[&str],
     devices: &mut Devices<Rd, W>,
 ) -> Result<Counts, Fault>
-    requires reader { IsFresh (reader devices.old) }
+    requires reader { IsFresh devices.old.reader }
     requires writer { IsPassedOn devices.old }
     requires means { IsMeant R.value_of session }
     requires sound { IsSound R.value_of session }
     ensures ok { IfOk result (IsAnsweredBy (working_of O.picks R.value_of session)
         (standing_of session) (words prelude.now)
-        (Rd.remaining (device (reader devices.old))) (W.contents (device (writer devices.old)))
-        (W.contents (device (writer devices.new)))) }
+        (Rd.remaining devices.old.reader.device) (W.contents devices.old.writer.device)
+        (W.contents devices.new.writer.device)) }
     ensures err { OnErr result (IsAnsweredInPartBy (working_of O.picks R.value_of session)
         (standing_of session) (words prelude.now)
-        (Rd.remaining (device (reader devices.old))) (W.contents (device (writer devices.old)))
-        (W.contents (device (writer devices.new)))) }
+        (Rd.remaining devices.old.reader.device) (W.contents devices.old.writer.device)
+        (W.contents devices.new.writer.device)) }
     ensures devices { TellsDevices result devices.old devices.new }
 {
     let counts = answer(&mut session, prelude, devices);
@@ -100,18 +100,18 @@ fn answer<R: Rule + Drop, O: Order + Drop, Rd: Read, W: Write>(
     prelude: &[&str],
     devices: &mut Devices<Rd, W>,
 ) -> Result<Counts, Fault>
-    requires reader { IsFresh (reader devices.old) }
+    requires reader { IsFresh devices.old.reader }
     requires writer { IsPassedOn devices.old }
     requires means { IsMeant R.value_of session.old }
     requires sound { IsSound R.value_of session.old }
     ensures ok { IfOk result (IsAnsweredBy (working_of O.picks R.value_of session.old)
         (standing_of session.old) (words prelude.now)
-        (Rd.remaining (device (reader devices.old))) (W.contents (device (writer devices.old)))
-        (W.contents (device (writer devices.new)))) }
+        (Rd.remaining devices.old.reader.device) (W.contents devices.old.writer.device)
+        (W.contents devices.new.writer.device)) }
     ensures err { OnErr result (IsAnsweredInPartBy (working_of O.picks R.value_of session.old)
         (standing_of session.old) (words prelude.now)
-        (Rd.remaining (device (reader devices.old))) (W.contents (device (writer devices.old)))
-        (W.contents (device (writer devices.new)))) }
+        (Rd.remaining devices.old.reader.device) (W.contents devices.old.writer.device)
+        (W.contents devices.new.writer.device)) }
     ensures devices { TellsDevices result devices.old devices.new }
 {
     match session.load_prelude(prelude) {

@@ -2,7 +2,7 @@
 ghost use Rattle.std.specs.Prelude.{◌≡◌, IfOk, OnErr, map};
 ghost use Rattle.prop_language.specs.Said.{words};
 ghost use Rattle.prop_procedures.specs.Kept.{AllMean, stored_as};
-ghost use Rattle.prop_engine.specs.Watched.{reader, writer, device, IsFresh, IsPassedOn};
+ghost use Rattle.prop_engine.specs.Watched.{IsFresh, IsPassedOn};
 ghost use Rattle.prop_program.specs.Faults.{TellsDevices};
 ghost use Rattle.prop_program.specs.Answering.{stocked};
 ghost use Rattle.prop_workbench.specs.Engine.{standing_of};
@@ -37,19 +37,19 @@ pub fn run<R: Rule + Drop, Rd: Read, W: Write>(
     options: Options,
     devices: &mut Devices<Rd, W>,
 ) -> Result<Counts, Fault>
-    requires reader { IsFresh (reader devices.old) }
+    requires reader { IsFresh devices.old.reader }
     requires writer { IsPassedOn devices.old }
     requires means { AllMean R.value_of procedures.items }
     ensures told { IfOk result (IsTold
         (stocked (map (stored_as R.value_of) procedures.items) (words prelude.now))
         options.order options.seed options.limit
-        (Rd.remaining (device (reader devices.old))) (W.contents (device (writer devices.old)))
-        (W.contents (device (writer devices.new)))) }
+        (Rd.remaining devices.old.reader.device) (W.contents devices.old.writer.device)
+        (W.contents devices.new.writer.device)) }
     ensures told_in_part { OnErr result (IsToldInPart
         (stocked (map (stored_as R.value_of) procedures.items) (words prelude.now))
         options.order options.seed options.limit
-        (Rd.remaining (device (reader devices.old))) (W.contents (device (writer devices.old)))
-        (W.contents (device (writer devices.new)))) }
+        (Rd.remaining devices.old.reader.device) (W.contents devices.old.writer.device)
+        (W.contents devices.new.writer.device)) }
     ensures devices { TellsDevices result devices.old devices.new }
 {
     let network = Network::new(alloc, Library::new(procedures));
@@ -70,18 +70,18 @@ fn serve<R: Rule + Drop, O: Order + Drop, Rd: Read, W: Write>(
     prelude: &[&str],
     devices: &mut Devices<Rd, W>,
 ) -> Result<Counts, Fault>
-    requires reader { IsFresh (reader devices.old) }
+    requires reader { IsFresh devices.old.reader }
     requires writer { IsPassedOn devices.old }
     requires means { IsMeant R.value_of session }
     requires sound { IsSound R.value_of session }
     ensures ok { IfOk result (IsToldBy O.picks (library_of R.value_of session)
         (record { standing = standing_of session; notes = no_notes }) (words prelude.now)
-        (Rd.remaining (device (reader devices.old))) (W.contents (device (writer devices.old)))
-        (W.contents (device (writer devices.new)))) }
+        (Rd.remaining devices.old.reader.device) (W.contents devices.old.writer.device)
+        (W.contents devices.new.writer.device)) }
     ensures err { OnErr result (IsToldInPartBy O.picks (library_of R.value_of session)
         (record { standing = standing_of session; notes = no_notes }) (words prelude.now)
-        (Rd.remaining (device (reader devices.old))) (W.contents (device (writer devices.old)))
-        (W.contents (device (writer devices.new)))) }
+        (Rd.remaining devices.old.reader.device) (W.contents devices.old.writer.device)
+        (W.contents devices.new.writer.device)) }
     ensures devices { TellsDevices result devices.old devices.new }
 {
     let mut teller = Teller::new(session);
@@ -99,17 +99,17 @@ fn tell<R: Rule + Drop, O: Order + Drop, Rd: Read, W: Write>(
     mut teller: Teller<R, O>,
     devices: &mut Devices<Rd, W>,
 ) -> Result<Counts, Fault>
-    requires reader { IsFresh (reader devices.old) }
+    requires reader { IsFresh devices.old.reader }
     requires writer { IsPassedOn devices.old }
     requires means { IsMeant R.value_of teller.session }
     requires sound { IsSound R.value_of teller.session }
     ensures ok { IfOk result (Writes O.picks (library_of R.value_of teller.session) (told_of teller)
-        (Rd.remaining (device (reader devices.old))) (W.contents (device (writer devices.old)))
-        (W.contents (device (writer devices.new)))) }
+        (Rd.remaining devices.old.reader.device) (W.contents devices.old.writer.device)
+        (W.contents devices.new.writer.device)) }
     ensures err { OnErr result (WritesPrefix
         (telling O.picks (library_of R.value_of teller.session))
-        (Rd.remaining (device (reader devices.old))) (W.contents (device (writer devices.old)))
-        (W.contents (device (writer devices.new))) (told_of teller)) }
+        (Rd.remaining devices.old.reader.device) (W.contents devices.old.writer.device)
+        (W.contents devices.new.writer.device) (told_of teller)) }
     ensures devices { TellsDevices result devices.old devices.new }
 {
     let counts = answer(&mut teller, devices);
@@ -123,18 +123,18 @@ fn answer<R: Rule + Drop, O: Order + Drop, Rd: Read, W: Write>(
     teller: &mut Teller<R, O>,
     devices: &mut Devices<Rd, W>,
 ) -> Result<Counts, Fault>
-    requires reader { IsFresh (reader devices.old) }
+    requires reader { IsFresh devices.old.reader }
     requires writer { IsPassedOn devices.old }
     requires means { IsMeant R.value_of teller.old.session }
     requires sound { IsSound R.value_of teller.old.session }
     ensures ok { IfOk result (Writes O.picks (library_of R.value_of teller.old.session)
         (told_of teller.old)
-        (Rd.remaining (device (reader devices.old))) (W.contents (device (writer devices.old)))
-        (W.contents (device (writer devices.new)))) }
+        (Rd.remaining devices.old.reader.device) (W.contents devices.old.writer.device)
+        (W.contents devices.new.writer.device)) }
     ensures err { OnErr result (WritesPrefix
         (telling O.picks (library_of R.value_of teller.old.session))
-        (Rd.remaining (device (reader devices.old))) (W.contents (device (writer devices.old)))
-        (W.contents (device (writer devices.new))) (told_of teller.old)) }
+        (Rd.remaining devices.old.reader.device) (W.contents devices.old.writer.device)
+        (W.contents devices.new.writer.device) (told_of teller.old)) }
     ensures devices { TellsDevices result devices.old devices.new }
 {
     Ok(run_session(teller, devices, READS)?)

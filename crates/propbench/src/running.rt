@@ -1,7 +1,7 @@
 //! A session with the kit's procedures and the prelude, over a reader and a writer.
 ghost use Rattle.std.specs.Prelude.{◌≡◌, IfOk, OnErr};
 ghost use Rattle.prop_arith.specs.Values.{value_of};
-ghost use Rattle.prop_engine.specs.Watched.{reader, writer, device, IsFresh, IsPassedOn};
+ghost use Rattle.prop_engine.specs.Watched.{IsFresh, IsPassedOn};
 ghost use Rattle.prop_program.specs.Faults.{TellsDevices};
 ghost use Rattle.prop_program.specs.Answering.{IsAnswered, IsAnsweredInPart, IsWorked};
 ghost use Rattle.prop_program.specs.Answering.{IsWorkedInPart};
@@ -23,22 +23,22 @@ pub fn run<Rd: Read, W: Write>(
     options: Options,
     devices: &mut Devices<Rd, W>,
 ) -> Result<Counts, Fault>
-    requires reader { IsFresh (reader devices.old) }
+    requires reader { IsFresh devices.old.reader }
     requires writer { IsPassedOn devices.old }
-    ensures ok { IfOk result (IsAnswered kit (Rd.remaining (device (reader devices.old)))
-        (W.contents (device (writer devices.old)))
-        (W.contents (device (writer devices.new))) options.limit) }
-    ensures err { OnErr result (IsAnsweredInPart kit (Rd.remaining (device (reader devices.old)))
-        (W.contents (device (writer devices.old)))
-        (W.contents (device (writer devices.new))) options.limit) }
+    ensures ok { IfOk result (IsAnswered kit (Rd.remaining devices.old.reader.device)
+        (W.contents devices.old.writer.device)
+        (W.contents devices.new.writer.device) options.limit) }
+    ensures err { OnErr result (IsAnsweredInPart kit (Rd.remaining devices.old.reader.device)
+        (W.contents devices.old.writer.device)
+        (W.contents devices.new.writer.device) options.limit) }
     // Each text is earned by steps that were taken, in the order that was chosen.
     ensures earned { IfOk result (IsWorked kit options.order options.seed options.limit
-        (Rd.remaining (device (reader devices.old))) (W.contents (device (writer devices.old)))
-        (W.contents (device (writer devices.new)))) }
+        (Rd.remaining devices.old.reader.device) (W.contents devices.old.writer.device)
+        (W.contents devices.new.writer.device)) }
     ensures earned_in_part { OnErr result (IsWorkedInPart kit options.order options.seed
         options.limit
-        (Rd.remaining (device (reader devices.old))) (W.contents (device (writer devices.old)))
-        (W.contents (device (writer devices.new)))) }
+        (Rd.remaining devices.old.reader.device) (W.contents devices.old.writer.device)
+        (W.contents devices.new.writer.device)) }
     ensures devices { TellsDevices result devices.old devices.new }
     // So values that belong together and satisfy all that is believed lie in each answer.
     ensures points { AreSoundBy kit.library kit_related }

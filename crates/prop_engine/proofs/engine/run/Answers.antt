@@ -5,8 +5,6 @@ use Rattle.std.proofs.lemmas.Bool.{false≢true}
 use Rattle.prop_engine.specs.declared.outcome.Counts.{Counts}
 use Rattle.prop_engine.specs.declared.outcome.EngineFault.{EngineFault}
 use Rattle.prop_engine.specs.declared.outcome.EngineFault.TheVariants.{Read, Write, Reads}
-use Rattle.prop_engine.specs.Watched.{reader, has_failed, has_stopped, is_flushed, calls, widest, narrowest}
-use Rattle.prop_engine.specs.Watched.{has_flushed_idly}
 use Rattle.prop_engine.proofs.Io.{not_failed, not_stopped}
 use Rattle.prop_engine.proofs.Machines.{same_step}
 use Rattle.prop_engine.proofs.Turns.{in_turn, still_passed_on}
@@ -60,7 +58,7 @@ returns-in_err-answer-clause-told g c =
     let so_far = rw (← c.in-Ok.ensures.writer) at c.loop-turn.invariant.so_far in
     let consumed = rw (c.if-count-eq0.true, ← c.in_err-answer.ensures.reader) at c.in-Ok.ensures.bytes.0 in
     let room : 0 < length c.read.new.buffer = omega (arith, c.read.auto.buffer) in
-    let told : has_stopped (reader c.answer.new.devices) ≡ true = ap has_stopped c.in_err-answer.ensures.reader
+    let told : c.answer.new.devices.reader.has_stopped ≡ true = ap (λ w. w.has_stopped) c.in_err-answer.ensures.reader
     ∙ at_end _ _ _ _ c.if-count-eq0.true room c.in-Ok.ensures.stopped in
     let end = rw (← c.in_err-answer.ensures.reader) at c.in-Ok.ensures.bytes.1 c.if-count-eq0.true room in
     told_by _ _ _ _ _ _ _ _ _ _ p.1 (p.2 ∙ c.in_err-answer.ensures.fault.0)
@@ -77,7 +75,7 @@ returns-in_ok-answer-clause-told g c =
     let so_far = rw (← c.in-Ok.ensures.writer) at c.loop-turn.invariant.so_far in
     let consumed = rw (c.if-count-eq0.true, ← c.in_ok-answer.ensures.reader) at c.in-Ok.ensures.bytes.0 in
     let room : 0 < length c.read.new.buffer = omega (arith, c.read.auto.buffer) in
-    let told : has_stopped (reader c.answer.new.devices) ≡ true = ap has_stopped c.in_ok-answer.ensures.reader
+    let told : c.answer.new.devices.reader.has_stopped ≡ true = ap (λ w. w.has_stopped) c.in_ok-answer.ensures.reader
     ∙ at_end _ _ _ _ c.if-count-eq0.true room c.in-Ok.ensures.stopped in
     let end = rw (← c.in_ok-answer.ensures.reader) at c.in-Ok.ensures.bytes.1 c.if-count-eq0.true room in
     ended_line _ (g.met.M.Interpreter.asks_by_prefix _) _ _ _ _ _ _ _ _ _ _ _ s.0 _ _ so_far
@@ -88,7 +86,7 @@ returns-else-not-is_empty-clause-told g c =
     let so_far = rw (← c.in-Ok.ensures.writer) at c.loop-turn.invariant.so_far in
     let consumed = rw c.if-count-eq0.true at c.in-Ok.ensures.bytes.0 in
     let room : 0 < length c.read.new.buffer = omega (arith, c.read.auto.buffer) in
-    let told : has_stopped (reader c.read.new.self) ≡ true =
+    let told : c.read.new.self.reader.has_stopped ≡ true =
     at_end _ _ _ _ c.if-count-eq0.true room c.in-Ok.ensures.stopped in
     let end = c.in-Ok.ensures.bytes.1 c.if-count-eq0.true room in
     ended_plain _ _ _ _ _ _ _ _ _ _ _ so_far (c.is_empty.ensures.0 c.if-not-is_empty.false) consumed end told
@@ -100,7 +98,7 @@ returns-in_err-feed-clause-told g c =
     c.in_err-feed.ensures.err in
     let so_far = rw (← c.in-Ok.ensures.writer) at c.loop-turn.invariant.so_far in
     let consumed = rw (← c.in_err-feed.ensures.reader) at c.in-Ok.ensures.bytes.0 in
-    let goes_on = ap has_stopped c.in_err-feed.ensures.reader
+    let goes_on = ap (λ w. w.has_stopped) c.in_err-feed.ensures.reader
     ∙ not_stopped _ _ _ _ c.if-count-eq0.false c.in-Ok.ensures.stopped ∙ c.loop-turn.invariant.fresh.not_stopped in
     told_by _ _ _ _ _ _ _ _ _ _ p.1 (p.2 ∙ c.in_err-feed.ensures.fault.0)
     (feed_fault _ _ _ _ _ _ _ _ _ _ _ _ _ _ so_far goes_on consumed stopped)
@@ -132,20 +130,20 @@ loop-turn-preserved g c =
         c.read.auto.buffer,
       );
       fresh = record {
-        not_failed = ap has_failed same_reader ∙ not_failed _ _ c.in-Ok.ensures.failed
+        not_failed = ap (λ w. w.has_failed) same_reader ∙ not_failed _ _ c.in-Ok.ensures.failed
             ∙ c.loop-turn.invariant.fresh.not_failed;
-        not_stopped = ap has_stopped same_reader ∙ not_stopped _ _ _ _ c.if-count-eq0.false c.in-Ok.ensures.stopped
+        not_stopped = ap (λ w. w.has_stopped) same_reader ∙ not_stopped _ _ _ _ c.if-count-eq0.false c.in-Ok.ensures.stopped
             ∙ c.loop-turn.invariant.fresh.not_stopped;
-        flushed = ap is_flushed same_reader ∙ c.in-Ok.ensures.flushed ∙ c.loop-turn.invariant.fresh.flushed;
+        flushed = ap (λ w. w.is_flushed) same_reader ∙ c.in-Ok.ensures.flushed ∙ c.loop-turn.invariant.fresh.flushed;
       };
       passed_on = c.in_ok-feed.ensures.passed_on;
       in_turn = c.in_ok-feed.ensures.in_turn
           ∙ in_turn c.loop-turn.devices _ _ c.loop-turn.invariant.passed_on c.in-Ok.ensures.in_turn
           ∙ c.loop-turn.invariant.in_turn;
-      calls = omega (arith, ap calls same_reader, c.in-Ok.ensures.counted, c.loop-turn.invariant.calls);
-      widest = omega (arith, ap widest same_reader, c.in-Ok.ensures.widest, c.loop-turn.invariant.widest);
-      narrowest = omega (arith, ap narrowest same_reader, c.in-Ok.ensures.narrowest, c.loop-turn.invariant.narrowest);
-      needed = c.in_ok-feed.ensures.needed ∙ ap has_flushed_idly c.in-Ok.ensures.writer ∙ c.loop-turn.invariant.needed;
+      calls = omega (arith, ap (λ w. w.calls) same_reader, c.in-Ok.ensures.counted, c.loop-turn.invariant.calls);
+      widest = omega (arith, ap (λ w. w.widest) same_reader, c.in-Ok.ensures.widest, c.loop-turn.invariant.widest);
+      narrowest = omega (arith, ap (λ w. w.narrowest) same_reader, c.in-Ok.ensures.narrowest, c.loop-turn.invariant.narrowest);
+      needed = c.in_ok-feed.ensures.needed ∙ ap (λ w. w.has_flushed_idly) c.in-Ok.ensures.writer ∙ c.loop-turn.invariant.needed;
     }
 
 pub returns-clause-told : goal.returns-clause-told
@@ -171,7 +169,7 @@ pub returns-in_err-answer-clause-read : goal.returns-in_err-answer-clause-read
 returns-in_err-answer-clause-read g c =
     let p = err_from_is_err_and c.from_residual.result c.from_residual.ensures.1 in
     none_failed _ _ (write_is_no_read _ (p.1 ∙ ap Err (p.2 ∙ c.in_err-answer.ensures.fault.0)))
-    (ap has_failed c.in_err-answer.ensures.reader ∙ not_failed _ _ c.in-Ok.ensures.failed
+    (ap (λ w. w.has_failed) c.in_err-answer.ensures.reader ∙ not_failed _ _ c.in-Ok.ensures.failed
     ∙ c.loop-turn.invariant.fresh.not_failed)
 
 pub returns-in_err-answer-clause-write : goal.returns-in_err-answer-clause-write
@@ -191,7 +189,7 @@ pub returns-in_err-feed-clause-read : goal.returns-in_err-feed-clause-read
 returns-in_err-feed-clause-read g c =
     let p = err_from_is_err_and c.from_residual-in_err-feed.result c.from_residual-in_err-feed.ensures.1 in
     none_failed _ _ (write_is_no_read _ (p.1 ∙ ap Err (p.2 ∙ c.in_err-feed.ensures.fault.0)))
-    (ap has_failed c.in_err-feed.ensures.reader ∙ not_failed _ _ c.in-Ok.ensures.failed
+    (ap (λ w. w.has_failed) c.in_err-feed.ensures.reader ∙ not_failed _ _ c.in-Ok.ensures.failed
     ∙ c.loop-turn.invariant.fresh.not_failed)
 
 pub returns-in_err-feed-clause-write : goal.returns-in_err-feed-clause-write
@@ -209,7 +207,7 @@ returns-in_err-feed-clause-passed_on g c =
 
 pub returns-in_ok-answer-clause-read : goal.returns-in_ok-answer-clause-read
 returns-in_ok-answer-clause-read g c =
-    none_failed _ _ (ok_is_none _ _) (ap has_failed c.in_ok-answer.ensures.reader
+    none_failed _ _ (ok_is_none _ _) (ap (λ w. w.has_failed) c.in_ok-answer.ensures.reader
     ∙ not_failed _ _ c.in-Ok.ensures.failed ∙ c.loop-turn.invariant.fresh.not_failed)
 
 pub returns-in_ok-answer-clause-write : goal.returns-in_ok-answer-clause-write

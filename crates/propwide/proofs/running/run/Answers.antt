@@ -9,7 +9,6 @@ use Rattle.prop_program.proofs.Devices.{told_first}
 use Rattle.prop_engine.proofs.Io.{on_err}
 use Rattle.prop_procedures.specs.inner.Kept.{AllMean-push}
 use Rattle.prop_procedures.specs.Kept.{stored_as}
-use Rattle.prop_engine.specs.Watched.{device, reader, writer}
 use Rattle.propwide.specs.Kits.{answer_of, shown, wide}
 use Rattle.propwide.proofs.Making.{stored_made, stored_is, more, all_stored, entry_formed, wide_is_sound, wide_solves}
 use Rattle.propwide.proofs.Making.{with_stock}
@@ -18,8 +17,8 @@ use Rattle.propwide.proofs.running.run.Goals as goal
 pub returns-in_err-prelude-clause-told_in_part : goal.returns-in_err-prelude-clause-told_in_part
 returns-in_err-prelude-clause-told_in_part g c =
     on_err _ _ (nothing_told wide c.args.options.order c.args.options.seed c.args.options.limit
-    (g.Rd.Read.remaining (device (reader c.args.devices.now)))
-    (g.W.Write.contents (device (writer c.args.devices.now))))
+    (g.Rd.Read.remaining c.args.devices.now.reader.device)
+    (g.W.Write.contents c.args.devices.now.writer.device))
 
 pub returns-in_err-prelude-clause-points : goal.returns-in_err-prelude-clause-points
 returns-in_err-prelude-clause-points g c = wide_is_sound
@@ -36,8 +35,8 @@ returns-in_err-prelude-clause-devices g c =
 pub returns-in_err-made-clause-told_in_part : goal.returns-in_err-made-clause-told_in_part
 returns-in_err-made-clause-told_in_part g c =
     on_err _ _ (nothing_told wide c.args.options.order c.args.options.seed c.args.options.limit
-    (g.Rd.Read.remaining (device (reader c.args.devices.now)))
-    (g.W.Write.contents (device (writer c.args.devices.now))))
+    (g.Rd.Read.remaining c.args.devices.now.reader.device)
+    (g.W.Write.contents c.args.devices.now.writer.device))
 
 pub returns-in_err-made-clause-points : goal.returns-in_err-made-clause-points
 returns-in_err-made-clause-points g c = wide_is_sound
@@ -54,8 +53,8 @@ returns-in_err-made-clause-devices g c =
 pub returns-in_err-ins-clause-told_in_part : goal.returns-in_err-ins-clause-told_in_part
 returns-in_err-ins-clause-told_in_part g c =
     on_err _ _ (nothing_told wide c.args.options.order c.args.options.seed c.args.options.limit
-    (g.Rd.Read.remaining (device (reader c.args.devices.now)))
-    (g.W.Write.contents (device (writer c.args.devices.now))))
+    (g.Rd.Read.remaining c.args.devices.now.reader.device)
+    (g.W.Write.contents c.args.devices.now.writer.device))
 
 pub returns-in_err-ins-clause-points : goal.returns-in_err-ins-clause-points
 returns-in_err-ins-clause-points g c = wide_is_sound
@@ -72,8 +71,8 @@ returns-in_err-ins-clause-devices g c =
 pub returns-in_err-call-clause-told_in_part : goal.returns-in_err-call-clause-told_in_part
 returns-in_err-call-clause-told_in_part g c =
     on_err _ _ (nothing_told wide c.args.options.order c.args.options.seed c.args.options.limit
-    (g.Rd.Read.remaining (device (reader c.args.devices.now)))
-    (g.W.Write.contents (device (writer c.args.devices.now))))
+    (g.Rd.Read.remaining c.args.devices.now.reader.device)
+    (g.W.Write.contents c.args.devices.now.writer.device))
 
 pub returns-in_err-call-clause-points : goal.returns-in_err-call-clause-points
 returns-in_err-call-clause-points g c = wide_is_sound
@@ -90,8 +89,8 @@ returns-in_err-call-clause-devices g c =
 pub returns-in_err-push-clause-told_in_part : goal.returns-in_err-push-clause-told_in_part
 returns-in_err-push-clause-told_in_part g c =
     on_err _ _ (nothing_told wide c.args.options.order c.args.options.seed c.args.options.limit
-    (g.Rd.Read.remaining (device (reader c.args.devices.now)))
-    (g.W.Write.contents (device (writer c.args.devices.now))))
+    (g.Rd.Read.remaining c.args.devices.now.reader.device)
+    (g.W.Write.contents c.args.devices.now.writer.device))
 
 pub returns-in_err-push-clause-points : goal.returns-in_err-push-clause-points
 returns-in_err-push-clause-points g c = wide_is_sound
@@ -141,9 +140,9 @@ returns-clause-told g c =
     let listed = c.loop-entry.invariant.listed ∙ all_stored _ c.loop-entry.entry-index (omega (arith, past))
     (ap (map shown) c.deref-entry-items.ensures.value ∙ c.in_ok-made.ensures) in
     with_stock (λ s. IfOk c.run.result (IsTold s c.args.options.order c.args.options.seed c.args.options.limit
-    (g.Rd.Read.remaining (device (reader c.args.devices.now)))
-    (g.W.Write.contents (device (writer c.args.devices.now)))
-    (g.W.Write.contents (device (writer c.run.new.devices))))) _ _ _ _ listed
+    (g.Rd.Read.remaining c.args.devices.now.reader.device)
+    (g.W.Write.contents c.args.devices.now.writer.device)
+    (g.W.Write.contents c.run.new.devices.writer.device))) _ _ _ _ listed
     (ap words c.deref.ensures.value ∙ c.in_ok-prelude.ensures) c.run.ensures.told
 
 pub returns-clause-told_in_part : goal.returns-clause-told_in_part
@@ -152,9 +151,9 @@ returns-clause-told_in_part g c =
     let listed = c.loop-entry.invariant.listed ∙ all_stored _ c.loop-entry.entry-index (omega (arith, past))
     (ap (map shown) c.deref-entry-items.ensures.value ∙ c.in_ok-made.ensures) in
     with_stock (λ s. OnErr c.run.result (IsToldInPart s c.args.options.order c.args.options.seed c.args.options.limit
-    (g.Rd.Read.remaining (device (reader c.args.devices.now)))
-    (g.W.Write.contents (device (writer c.args.devices.now)))
-    (g.W.Write.contents (device (writer c.run.new.devices))))) _ _ _ _ listed
+    (g.Rd.Read.remaining c.args.devices.now.reader.device)
+    (g.W.Write.contents c.args.devices.now.writer.device)
+    (g.W.Write.contents c.run.new.devices.writer.device))) _ _ _ _ listed
     (ap words c.deref.ensures.value ∙ c.in_ok-prelude.ensures) c.run.ensures.told_in_part
 
 pub returns-clause-points : goal.returns-clause-points
