@@ -1,7 +1,8 @@
 -- What the end of a session tells of the devices.
-use Rattle.std.proofs.Common.{◌≡◌, ◌↔◌, ◌⊎◌, ◌+◌, ◌-◌, ◌^◌, ◌≤◌, min, max, true, false, Result, Ok, Err, IfErr, ap, inl}
+use Rattle.std.proofs.Common.{◌≡◌, ◌↔◌, ◌⊎◌, ◌+◌, ◌-◌, ◌^◌, ◌≤◌, min, max, true, false, Result, Ok, Err, ap, inl}
 use Rattle.std.proofs.Common.{inr, refl, arith}
 use Rattle.std.specs.Result.{IsErrOf}
+use Rattle.std.specs.declared.alloc.AllocError.{AllocError}
 use Rattle.prop_engine.specs.Watched.{IsFresh, IsPassedOn, IsFaulty}
 use Rattle.prop_engine.specs.declared.outcome.Counts.{Counts}
 use Rattle.prop_engine.specs.declared.outcome.EngineFault.{EngineFault}
@@ -9,7 +10,7 @@ use Rattle.prop_engine.specs.declared.outcome.EngineFault.TheVariants.{Read, Wri
 use Rattle.prop_engine.specs.declared.watched.Devices.{Devices}
 use Rattle.prop_program.specs.declared.fault.Fault.{Fault}
 use Rattle.prop_program.specs.declared.fault.Fault.TheVariants.{Engine, Memory}
-use Rattle.prop_program.specs.Faults.{IsMemory, IfMemory, TellsDevices}
+use Rattle.prop_program.specs.Faults.{IsMemory, TellsDevices}
 
 -- an end of a session as the program's
 abbrev pub carried : Result Counts EngineFault → Result Counts Fault
@@ -20,9 +21,9 @@ back : (end : Result Counts EngineFault) (fault : EngineFault) → carried end �
 back (Ok counts) fault e = cc
 back (Err other) fault e = cc
 
-no_memory : (end : Result Counts EngineFault) (P : Type 0) → IfErr (carried end) (λ e. IfMemory e P)
-no_memory (Ok counts) P = tt
-no_memory (Err fault) P = tt
+no_memory : (end : Result Counts EngineFault) (e : AllocError) → carried end ≡ Err (Memory e) → ⊥
+no_memory (Ok counts) e h = cc
+no_memory (Err fault) e h = cc
 
 -- what the session's end told
 pub told : {Rd W : Type 0} (end : Result Counts EngineFault) (old new : Devices Rd W)
@@ -39,7 +40,7 @@ told end old new read write reads in_turn passed_on at_most pieces no_smaller ne
   passed_on = elim passed_on [ inl e ↦ inl (ap carried e) | inr fresh ↦ inr fresh ];
   in_turn = in_turn;
   reads = λ e. reads (back end Reads e);
-  memory = no_memory end (new ≡ old);
+  memory = λ e h. absurd (no_memory end e h);
   at_most = at_most;
   pieces = pieces;
   no_smaller = no_smaller;
@@ -56,7 +57,7 @@ told_first (Memory e) d memory fresh passed_on = record {
   passed_on = inr passed_on;
   in_turn = refl;
   reads = λ h. cc;
-  memory = refl;
+  memory = λ e h. refl;
   at_most = omega arith;
   pieces = omega arith;
   no_smaller = omega arith;

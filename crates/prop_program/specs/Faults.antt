@@ -1,8 +1,8 @@
 -- How a program ends before its input does, and what its end tells of the devices.
 use Rattle.std.specs.Prelude.{◌≡◌, ◌↔◌, ◌⊎◌, ℕ, ◌+◌, ◌-◌, ◌^◌, ◌≤◌, min, max, true, false, Result}
-use Rattle.std.specs.Prelude.{IfErr, IsErrOf}
-use Rattle.prop_engine.specs.Watched.{IsPassedOn}
-use Rattle.prop_engine.specs.Watched.{IsFaulty}
+use Rattle.std.specs.Prelude.{IsErrOf}
+use Rattle.std.specs.declared.alloc.AllocError.{AllocError}
+use Rattle.prop_engine.specs.Watched.{IsPassedOn, IsFaulty}
 use Rattle.prop_engine.specs.declared.outcome.Counts.{Counts}
 use Rattle.prop_engine.specs.declared.outcome.EngineFault.TheVariants.{Read, Write, Reads}
 use Rattle.prop_engine.specs.declared.watched.Devices.{Devices}
@@ -20,11 +20,6 @@ abbrev pub IsMemory : Fault → Type 0
 IsMemory (Memory e) = Unit {0}
 IsMemory (Engine e) = ⊥
 
--- a condition where memory was refused before the session began
-abbrev pub IfMemory : Fault → Type 0 → Type 0
-IfMemory (Memory e) P = P
-IfMemory (Engine e) P = Unit {0}
-
 -- What the end tells of the reader and the writer. A read failed just where the end says so; a
 -- write failed or took nothing where it says so, and else each reply was written whole and passed
 -- on. No read came and no line was carried out before the replies so far were. Too many reads are
@@ -39,7 +34,7 @@ pub record TellsDevices {Rd W : Type 0} (result : Result Counts Fault) (old new 
   pub reads : IsErrOf result (Engine Reads)
       → (new.reader.has_stopped ≡ false)
       × (new.reader.calls ≡ min (old.reader.calls + 2 ^ 32) (2 ^ 64 - 1))
-  pub memory : IfErr result (λ e. IfMemory e (new ≡ old))
+  pub memory : (e : AllocError) → IsErrOf result (Memory e) → new ≡ old
   pub at_most : new.reader.calls ≤ old.reader.calls + 2 ^ 32
   pub pieces : new.reader.widest ≤ max old.reader.widest 4_096
   pub no_smaller : min old.reader.narrowest 4_096 ≤ new.reader.narrowest

@@ -56,8 +56,7 @@ is_taken_in s name = is_some (premise_number s.premises name) || is_choice s.pre
 -- the rows of the refusals that a choice can meet
 abbrev choice_rows : Bool → Bool → Bool → Bool → Bool → Bool → Bool → Option Refusal → Option Refusal
 choice_rows name number taken missing wrong outside empty limit =
-    first_of (when NotAName name ∷ when NotANumber number ∷ when NameTaken taken ∷ None ∷ when NoSuchCell
-    (missing || false) ∷ None
+    first_of (when NotAName name ∷ when NotANumber number ∷ when NameTaken taken ∷ when NoSuchCell missing
     ∷ when WrongKind wrong ∷ when NotInTheDomain outside ∷ when EmptyValue empty ∷ None ∷ limit ∷ [])
 
 abbrev value_rows : Bool → Bool → Bool → Bool → Bool → Bool → Option Refusal

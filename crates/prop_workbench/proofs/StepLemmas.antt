@@ -2,7 +2,8 @@
 use Rattle.std.proofs.Common.{◌≡◌, ◌∙◌, ◌≤◌, arith, ℕ, length, ◌++◌, ap, List, [], ◌∷◌, Option, Some, None, Result, Ok}
 use Rattle.std.proofs.Common.{Err, ◌⊎◌, inl, inr, unwrap_or, refl, sym, subst}
 use Rattle.prop_refusals.specs.declared.refusal.Refusal.{Refusal}
-use Rattle.prop_refusals.specs.declared.refusal.Refusal.TheVariants.{Memory, NameTaken, NoSuchDomain}
+use Rattle.prop_refusals.specs.declared.refusal.Refusal.TheVariants.{Memory, NameTaken, NoSuchDomain, LimitReached}
+use Rattle.prop_refusals.specs.declared.refusal.Limit.TheVariants.{Cells}
 use Rattle.prop_premises.specs.Origins.{Origin}
 use Rattle.prop_procedures.specs.declared.shape.Kinded.{Kinded}
 use Rattle.prop_cells.specs.Data.{Data}
@@ -14,11 +15,11 @@ use Rattle.prop_workbench.specs.Sessions.{state_from}
 use Rattle.prop_procedures.specs.Stored.{Stored, span_kind}
 use Rattle.prop_language.specs.Commands as commands
 use Rattle.prop_language.specs.Commands.{KindWord, Command}
-use Rattle.std.specs.Prelude.{⊤, OnOk, OnErr, IfErr}
-use Rattle.prop_refusals.specs.Refusals.{first_of}
+use Rattle.std.specs.Prelude.{⊤, OnOk, OnErr, IfErr, nat_le}
+use Rattle.prop_refusals.specs.Refusals.{first_of, most, when}
 use Rattle.prop_engine.specs.Answers.{Answer, Silent, Done, Text, Refused, answer_done}
 use Rattle.prop_workbench.specs.Machine.{State}
-use Rattle.prop_workbench.specs.Refusing.{refusal_of, limit_refusal}
+use Rattle.prop_workbench.specs.Refusing.{refusal_of}
 use Rattle.prop_workbench.specs.Steps.{Obeys, Carries, CarriesUnless, Runs, Follows}
 use Rattle.prop_vocabulary.specs.Cells.{CellNames, cell_named, with_cell_name}
 
@@ -64,9 +65,9 @@ obeys_done library old new command (Err refusal) fits carries why same =
 -- a cell of a new name is refused for the limit alone
 pub cell_rows : (library : List Stored) (s : State) (name : List ℕ) (kind : KindWord) (made : Kinded)
     → cell_named s.names name ≡ None → kind_named s.words kind ≡ Some made →
-    refusal_of library s (commands.Command.Cell name kind) ≡ limit_refusal s (commands.Command.Cell name kind)
+    refusal_of library s (commands.Command.Cell name kind) ≡ when (LimitReached Cells) (nat_le (most Cells) (length s.kinds))
 cell_rows library s name kind made none there =
-    rw (none, there) (first_of-one (limit_refusal s (commands.Command.Cell name kind)))
+    rw (none, there) (first_of-one (when (LimitReached Cells) (nat_le (most Cells) (length s.kinds))))
 
 -- a name that a cell has, and a kind whose domain there is not
 pub cell_taken : (library : List Stored) (s : State) (name : List ℕ) (kind : KindWord) (cell : ℕ)

@@ -242,11 +242,11 @@ value_may_be k names value meant same few h = by k.kind refl value meant h
 -- the rows of the refusals that a statement can meet
 abbrev value_rows : Option (Result Meant Refusal) → Option ℕ → Bool → Option Refusal → Option Refusal
 value_rows said cell choice limit =
-    first_of (when NotAName (option_map_or (is_error NotAName) said false) ∷ when NotANumber
-    (option_map_or (is_error NotANumber) said false) ∷ None ∷ None ∷ when NoSuchCell (is_none cell || false) ∷ None
-    ∷ when WrongKind (option_map_or (is_error WrongKind) said false) ∷ when NotInTheDomain
-    (option_map_or (is_error NotInTheDomain) said false) ∷ when EmptyValue
-    (option_map_or (is_error EmptyValue) said false) ∷ when IsAChoice choice ∷ limit ∷ [])
+    first_of (when NotAName (option_map_or (is_error NotAName) said false || false) ∷ when NotANumber
+    (option_map_or (is_error NotANumber) said false || false) ∷ None ∷ when NoSuchCell (is_none cell)
+    ∷ when WrongKind (option_map_or (is_error WrongKind) said false || false) ∷ when NotInTheDomain
+    (option_map_or (is_error NotInTheDomain) said false || false) ∷ when EmptyValue
+    (option_map_or (is_error EmptyValue) said false || false) ∷ when IsAChoice choice ∷ limit ∷ [])
 
 by_rows : (library : List Stored) (s : State) (premise : Option (List ℕ)) (name : List ℕ) (value : Value) (cell : ℕ)
     → cell_named s.names name ≡ Some cell →

@@ -2,7 +2,7 @@
 use Rattle.std.specs.Prelude.{ℕ, suc, List, [], ◌∷◌, ◌++◌, Option, Some, None, true, false, drop}
 use Rattle.std.specs.Prelude.{map, length, slice_get, unwrap_or}
 use Rattle.std.specs.Result.{result_unwrap_or}
-use Rattle.std.specs.Option.{option_map_or, option_and_then}
+use Rattle.std.specs.Option.{option_map, option_map_or, option_and_then}
 use Rattle.prop_lattice.specs.declared.info.Info.{Info}
 use Rattle.prop_lattice.specs.declared.info.Info.TheVariants.{Nothing, Sym}
 use Rattle.prop_premises.specs.Origins.{Origin, premise_number, with_name, with_choice}
@@ -38,19 +38,17 @@ output_of [] = 0
 output_of (cell ∷ []) = cell
 output_of (cell ∷ next ∷ cells) = output_of (next ∷ cells)
 
--- the instance that a use of the procedure of this number makes
-abbrev pub instance_made : List Stored → ℕ → Option Param → List ℕ → Instance
-instance_made library n given cells = record {
-  procedure = n;
-  param = unwrap_or (option_and_then (λ p. fitting_param p.need given) (slice_get library n)) Plain;
-  inputs = inputs_of cells;
-  output = output_of cells;
-}
-
 -- the instance that stands at places
 abbrev pub instance_placed : List Stored → List ℕ → ℕ → Placed (Option Param) → Instance
 instance_placed library cells next x =
-    instance_made library x.procedure x.given (map (cell_placed cells next) x.cells)
+    let at = map (cell_placed cells next) x.cells in
+    record {
+      procedure = x.procedure;
+      param = unwrap_or (option_and_then (λ p. fitting_param p.need x.given)
+          (slice_get library x.procedure)) Plain;
+      inputs = inputs_of at;
+      output = output_of at;
+    }
 
 -- the fresh cells and the instances that a use on these cells stands for
 abbrev pub with_use : List Stored → State → List ℕ → Expansion (Option Param) → State
@@ -69,39 +67,28 @@ abbrev pub meant_at : State → List ℕ → Value → Meant
 meant_at s cell value = option_map_or (λ meant. result_unwrap_or meant (Known Nothing))
     (value_at s cell value) (Known Nothing)
 
--- the information that the value says at the cell with the name
-abbrev pub info_at : State → List ℕ → Value → Info
-info_at s cell value = info_meant s.words (meant_at s cell value)
-
--- the vocabulary with the symbol that the value names, where it names one
-abbrev pub words_at : State → List ℕ → Value → Vocabulary
-words_at s cell value = with_meant s.words (meant_at s cell value)
-
 -- the number of the premise with the name: the next one where the name is new
 abbrev pub number_given : List Origin → List ℕ → ℕ
 number_given premises name = unwrap_or (premise_number premises name) (length premises)
-
--- the premises with the one of this name, or as they are
-abbrev pub with_told : List Origin → Option (List ℕ) → List Origin
-with_told premises None = premises
-with_told premises (Some name) = with_name premises name
-
--- the number of the premise with this name, or none
-abbrev pub premise_given : List Origin → Option (List ℕ) → Option ℕ
-premise_given premises None = None
-premise_given premises (Some name) = Some (number_given premises name)
 
 -- one statement more, in a vocabulary that may have one symbol more
 abbrev pub stated : State → Option (List ℕ) → ℕ → Vocabulary → Info → State
 stated s premise cell words info = record s {
   words = words;
-  premises = with_told s.premises premise;
+  premises = option_map_or (with_name s.premises) premise s.premises;
   statements = s.statements ++ record {
-    premise = premise_given s.premises premise;
+    premise = option_map (number_given s.premises) premise;
     cell = cell;
     info = info;
   } ∷ [];
 }
+
+-- the same, of what the value says at the cell with the name
+abbrev pub saying : State → Option (List ℕ) → List ℕ → Value → State
+saying s premise cell value =
+    let meant = meant_at s cell value in
+    stated s premise (unwrap_or (cell_named s.names cell) 0) (with_meant s.words meant)
+    (info_meant s.words meant)
 
 -- the statements of what each side says at a cell, where the first side has this number, and the
 -- words as far as they are known then
@@ -144,12 +131,8 @@ effect library s (Command.Define name params steps) =
 effect library s (Command.Attach name cells by) =
     with_use library s (cells_named s.names cells)
     (used library s name (cells_named s.names cells) by)
-effect library s (Command.Fix cell value) =
-    stated s None (unwrap_or (cell_named s.names cell) 0) (words_at s cell value)
-    (info_at s cell value)
-effect library s (Command.Tell premise cell value) =
-    stated s (Some premise) (unwrap_or (cell_named s.names cell) 0) (words_at s cell value)
-    (info_at s cell value)
+effect library s (Command.Fix cell value) = saying s None cell value
+effect library s (Command.Tell premise cell value) = saying s (Some premise) cell value
 effect library s (Command.Choose name cell values) =
     chosen s name (unwrap_or (cell_named s.names cell) 0) (unwrap_or (meants_at s cell values) [])
 effect library s (Command.Kick premise) =

@@ -1,18 +1,14 @@
 -- What loading a prelude does.
-use Rattle.std.specs.Prelude.{◌≡◌, ℕ, List, [], ◌∷◌, ◌++◌, ⊤}
+use Rattle.std.specs.Prelude.{◌≡◌, ℕ, List, [], ◌∷◌, ◌++◌, false}
 use Rattle.prop_refusals.specs.declared.refusal.Refusal.{Refusal}
-use Rattle.prop_engine.specs.Answers.{Answer, Refused}
+use Rattle.prop_engine.specs.Answers.{Answer, Refused, is_refusal}
 use Rattle.prop_engine.specs.Transcripts.{Machine}
-
-abbrev pub IsNoRefusal : Answer → Type 0
-IsNoRefusal (Refused refusal) = ⊥
-IsNoRefusal answer = ⊤
 
 -- the machine carried out the lines one after another, none of them refused
 abbrev pub Loads : {S : Type 0} → Machine S → S → List (List ℕ) → S → Type 0
 Loads machine old [] new = new ≡ old
-Loads {S = S} machine old (line ∷ lines) new = (answer : Answer) × (mid : S) × IsNoRefusal answer
-    × machine old line answer mid × Loads machine mid lines new
+Loads {S = S} machine old (line ∷ lines) new = (answer : Answer) × (mid : S)
+    × (is_refusal answer ≡ false) × machine old line answer mid × Loads machine mid lines new
 
 -- the lines were carried out up to one that was refused, and those before it stand
 abbrev pub StopsLoading : {S : Type 0} → Machine S → S → List (List ℕ) → Refusal → S → Type 0

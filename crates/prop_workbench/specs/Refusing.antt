@@ -51,60 +51,11 @@ is_error refusal (Err other) = number_of other == number_of refusal
 abbrev pub is_refused_at : State → List ℕ → Refusal → Value → Bool
 is_refused_at s cell refusal value = option_map_or (is_error refusal) (value_at s cell value) false
 
--- a value of the command is refused so at its cell
-abbrev pub is_value_refused : State → Command → Refusal → Bool
-is_value_refused s (Command.Fix cell value) refusal = is_refused_at s cell refusal value
-is_value_refused s (Command.Tell premise cell value) refusal = is_refused_at s cell refusal value
-is_value_refused s (Command.Choose choice cell values) refusal =
-    list_any (is_refused_at s cell refusal) values
-is_value_refused s command refusal = false
-
--- the declared name exists in its space
-abbrev pub is_taken : State → Command → Bool
-is_taken s (Command.Cell name kind) = is_some (cell_named s.names name)
-is_taken s (Command.Choose choice cell values) =
-    is_some (premise_number s.premises choice) || is_choice s.premises choice
-is_taken s command = false
-
--- a domain is named, of which there is none
-abbrev pub is_domain_missing : State → Command → Bool
-is_domain_missing s (Command.Cell name kind) = is_none (kind_named s.words kind)
-is_domain_missing s command = false
-
 -- what is given is a relation, of which there is none
 abbrev pub is_unknown : Vocabulary → By → Bool
 is_unknown words By.Nothing = false
 is_unknown words (By.Number k) = false
 is_unknown words (By.Relation name) = is_none (relation_named words name)
-
--- the names that stand for cells
-abbrev pub cells_in : Command → List (List ℕ)
-cells_in (Command.Fix cell value) = cell ∷ []
-cells_in (Command.Tell premise cell value) = cell ∷ []
-cells_in (Command.Choose choice cell values) = cell ∷ []
-cells_in (Command.Ask cell) = cell ∷ []
-cells_in (Command.Why cell) = cell ∷ []
-cells_in (Command.Core cell) = cell ∷ []
-cells_in command = []
-
--- neither a premise nor a choice has the name
-abbrev pub is_nobody : State → List ℕ → Bool
-is_nobody s name = is_none (premise_number s.premises name) && not (is_choice s.premises name)
-
--- a belief is to change of a premise that there is not
-abbrev pub is_premise_missing : State → Command → Bool
-is_premise_missing s (Command.Kick premise) = is_nobody s premise
-is_premise_missing s (Command.Bring premise) = is_nobody s premise
-is_premise_missing s (Command.Forget premise) = is_nobody s premise
-is_premise_missing s command = false
-
--- a choice has the name where a premise is asked for
-abbrev pub is_choice_given : State → Command → Bool
-is_choice_given s (Command.Tell premise cell value) = is_choice s.premises premise
-is_choice_given s (Command.Kick premise) = is_choice s.premises premise
-is_choice_given s (Command.Bring premise) = is_choice s.premises premise
-is_choice_given s (Command.Forget premise) = is_choice s.premises premise
-is_choice_given s command = false
 
 -- what a command gives with its procedure
 abbrev pub given_by : Vocabulary → By → Option Param
@@ -184,16 +135,6 @@ choosing_limit_at s (Some meants) =
     first_of (choosing_limit s (length meants) ∷ all_naming_limit s.words meants ∷ [])
 choosing_limit_at s None = None
 
--- there are as many already as there can be of what the command makes one more of
-abbrev pub limit_refusal : State → Command → Option Refusal
-limit_refusal s (Command.Cell name kind) =
-    when (LimitReached Cells) (nat_le (most Cells) (length s.kinds))
-limit_refusal s (Command.Fix cell value) = stating_limit_at s None (value_at s cell value)
-limit_refusal s (Command.Tell premise cell value) =
-    stating_limit_at s (Some premise) (value_at s cell value)
-limit_refusal s (Command.Choose choice cell values) = choosing_limit_at s (meants_at s cell values)
-limit_refusal s command = None
-
 -- ---- attaching
 
 -- what the use of the name on these cells stands for, the cells being counted from 0 and followed
@@ -214,36 +155,65 @@ use_refusal library s name cells by =
     ∷ []
     )
 
--- why an attachment is refused
-abbrev pub attach_refusal : List Stored → State → List ℕ → List (List ℕ) → By → Option Refusal
-attach_refusal library s name cells by =
+-- why values may not be said of the cell with the name, whether what is declared by it has a name
+-- that is taken, whether a choice has the name of the premise, and which limit is met: the first
+-- that applies
+abbrev pub saying_refusal : State → List ℕ → List Value → Bool → Bool → Option Refusal
+    → Option Refusal
+saying_refusal s cell values is_taken is_a_choice limit =
     first_of (
-    when NoSuchRelation (is_unknown s.words by)
-    ∷ when NoSuchCell (is_cell_missing s.names cells)
-    ∷ use_refusal library s name (cells_named s.names cells) by
+    when NotAName (list_any (is_refused_at s cell NotAName) values)
+    ∷ when NotANumber (list_any (is_refused_at s cell NotANumber) values)
+    ∷ when NameTaken is_taken
+    ∷ when NoSuchCell (is_none (cell_named s.names cell))
+    ∷ when WrongKind (list_any (is_refused_at s cell WrongKind) values)
+    ∷ when NotInTheDomain (list_any (is_refused_at s cell NotInTheDomain) values)
+    ∷ when EmptyValue (list_any (is_refused_at s cell EmptyValue) values)
+    ∷ when IsAChoice is_a_choice
+    ∷ limit
     ∷ []
     )
+
+-- why the belief in the premise with the name may not change: a choice has the name, or nobody
+abbrev pub belief_refusal : State → List ℕ → Option Refusal
+belief_refusal s premise =
+    first_of (when IsAChoice (is_choice s.premises premise) ∷ when NoSuchPremise
+    (is_none (premise_number s.premises premise)) ∷ [])
 
 -- why the command is refused in the state, where it is: the first that applies
 abbrev pub refusal_of : List Stored → State → Command → Option Refusal
 refusal_of library s (Command.Domain name elements) = domain_refusal s.words name elements
 refusal_of library s (Command.Relation name from to pairs) =
     relation_refusal s.words name from to pairs
-refusal_of library s (Command.Define name params steps) =
-    define_refusal library s.words s.definitions name params steps
-refusal_of library s (Command.Attach name cells by) = attach_refusal library s name cells by
-refusal_of library s command =
+refusal_of library s (Command.Cell name kind) =
     first_of (
-    when NotAName (is_value_refused s command NotAName)
-    ∷ when NotANumber (is_value_refused s command NotANumber)
-    ∷ when NameTaken (is_taken s command)
-    ∷ when NoSuchDomain (is_domain_missing s command)
-    ∷ when NoSuchCell (list_any (λ name. is_none (cell_named s.names name)) (cells_in command))
-    ∷ when NoSuchPremise (is_premise_missing s command)
-    ∷ when WrongKind (is_value_refused s command WrongKind)
-    ∷ when NotInTheDomain (is_value_refused s command NotInTheDomain)
-    ∷ when EmptyValue (is_value_refused s command EmptyValue)
-    ∷ when IsAChoice (is_choice_given s command)
-    ∷ limit_refusal s command
+    when NameTaken (is_some (cell_named s.names name))
+    ∷ when NoSuchDomain (is_none (kind_named s.words kind))
+    ∷ when (LimitReached Cells) (nat_le (most Cells) (length s.kinds))
     ∷ []
     )
+refusal_of library s (Command.Define name params steps) =
+    define_refusal library s.words s.definitions name params steps
+refusal_of library s (Command.Attach name cells by) =
+    first_of (
+    when NoSuchRelation (is_unknown s.words by)
+    ∷ when NoSuchCell (is_cell_missing s.names cells)
+    ∷ use_refusal library s name (cells_named s.names cells) by
+    ∷ []
+    )
+refusal_of library s (Command.Fix cell value) =
+    saying_refusal s cell (value ∷ []) false false (stating_limit_at s None (value_at s cell value))
+refusal_of library s (Command.Tell premise cell value) =
+    saying_refusal s cell (value ∷ []) false (is_choice s.premises premise)
+    (stating_limit_at s (Some premise) (value_at s cell value))
+refusal_of library s (Command.Choose name cell values) =
+    saying_refusal s cell values
+    (is_some (premise_number s.premises name) || is_choice s.premises name) false
+    (choosing_limit_at s (meants_at s cell values))
+refusal_of library s (Command.Kick premise) = belief_refusal s premise
+refusal_of library s (Command.Bring premise) = belief_refusal s premise
+refusal_of library s (Command.Forget premise) = belief_refusal s premise
+refusal_of library s (Command.Ask cell) = when NoSuchCell (is_none (cell_named s.names cell))
+refusal_of library s (Command.Why cell) = when NoSuchCell (is_none (cell_named s.names cell))
+refusal_of library s (Command.Core cell) = when NoSuchCell (is_none (cell_named s.names cell))
+refusal_of library s command = None
