@@ -49,7 +49,8 @@ fn flush<Rd: Read, W: Write>(devices: &mut Devices<Rd, W>) -> Result<(), EngineF
     ensures fault { IfErr result (λ e. (e ≡ EngineFault.Write) × IsFaulty devices.new.writer) }
     ensures unharmed { OnOk result (IsUnharmed devices.old.writer devices.new.writer) }
     ensures flushed { OnOk result (devices.new.writer.is_flushed ≡ true) }
-    ensures needed { devices.new.writer.has_flushed_idly ≡ (devices.old.writer.has_flushed_idly || devices.old.writer.is_flushed) }
+    ensures needed { devices.new.writer.has_flushed_idly
+        ≡ (devices.old.writer.has_flushed_idly || devices.old.writer.is_flushed) }
     ensures reader { devices.new.reader ≡ devices.old.reader }
     ensures owed { devices.new.owed ≡ devices.old.owed }
     ensures in_turn { devices.new.has_gone_ahead ≡ devices.old.has_gone_ahead }

@@ -119,8 +119,10 @@ impl<Rd: Read, W: Write> Devices<Rd, W> {
         ensures bound { ReadsAtMost result buffer.new }
         ensures bytes { ReadConsumes (Rd.remaining self.old.reader.device)
             (Rd.remaining self.new.reader.device) result buffer.new }
-        ensures failed { self.new.reader.has_failed ≡ (self.old.reader.has_failed || is_err result) }
-        ensures stopped { self.new.reader.has_stopped ≡ (self.old.reader.has_stopped || moved_none result (length buffer.new)) }
+        ensures failed { self.new.reader.has_failed
+            ≡ (self.old.reader.has_failed || is_err result) }
+        ensures stopped { self.new.reader.has_stopped
+            ≡ (self.old.reader.has_stopped || moved_none result (length buffer.new)) }
         ensures flushed { self.new.reader.is_flushed ≡ self.old.reader.is_flushed }
         ensures counted { self.new.reader.calls ≡ one_more self.old.reader.calls }
         ensures widest { self.new.reader.widest ≡ max self.old.reader.widest
@@ -163,8 +165,10 @@ impl<Rd: Read, W: Write> Devices<Rd, W> {
         ensures bound { WritesAtMost result bytes.now }
         ensures bytes { WriteAppends (W.contents self.old.writer.device)
             (W.contents self.new.writer.device) result bytes.now }
-        ensures failed { self.new.writer.has_failed ≡ (self.old.writer.has_failed || is_err result) }
-        ensures stopped { self.new.writer.has_stopped ≡ (self.old.writer.has_stopped || moved_none result (length bytes.now)) }
+        ensures failed { self.new.writer.has_failed
+            ≡ (self.old.writer.has_failed || is_err result) }
+        ensures stopped { self.new.writer.has_stopped
+            ≡ (self.old.writer.has_stopped || moved_none result (length bytes.now)) }
         ensures flushed { self.new.writer.is_flushed ≡ false }
         ensures needed { self.new.writer.has_flushed_idly ≡ self.old.writer.has_flushed_idly }
         ensures reader { self.new.reader ≡ self.old.reader }
@@ -186,10 +190,13 @@ impl<Rd: Read, W: Write> Devices<Rd, W> {
     pub fn flush(&mut self) -> io::Result<()>
         ensures bytes { Keeps (W.contents self.old.writer.device)
             (W.contents self.new.writer.device) }
-        ensures failed { self.new.writer.has_failed ≡ (self.old.writer.has_failed || is_err result) }
+        ensures failed { self.new.writer.has_failed
+            ≡ (self.old.writer.has_failed || is_err result) }
         ensures stopped { self.new.writer.has_stopped ≡ self.old.writer.has_stopped }
-        ensures flushed { self.new.writer.is_flushed ≡ (self.old.writer.is_flushed || is_ok result) }
-        ensures needed { self.new.writer.has_flushed_idly ≡ (self.old.writer.has_flushed_idly || self.old.writer.is_flushed) }
+        ensures flushed { self.new.writer.is_flushed
+            ≡ (self.old.writer.is_flushed || is_ok result) }
+        ensures needed { self.new.writer.has_flushed_idly
+            ≡ (self.old.writer.has_flushed_idly || self.old.writer.is_flushed) }
         ensures reader { self.new.reader ≡ self.old.reader }
         ensures owed { self.new.owed ≡ self.old.owed }
         ensures in_turn { self.new.has_gone_ahead ≡ self.old.has_gone_ahead }

@@ -19,7 +19,8 @@ loads_more machine old mid new (first ∷ lines) line answer (a, m, f, s, rest) 
     (a, m, f, s, loads_more machine m mid new lines line answer rest free step)
 
 -- what is not the answer of a refusal is none
-pub no_refusal : (r : Reply) → ((refusal : Refusal) → r ≡ replies.Refused refusal → ⊥) → is_refusal (answer_of r) ≡ false
+pub no_refusal : (r : Reply) → ((refusal : Refusal) → r ≡ replies.Refused refusal → ⊥)
+    → is_refusal (answer_of r) ≡ false
 no_refusal replies.Silent h = refl
 no_refusal replies.Done h = refl
 no_refusal (replies.Text text) h = refl

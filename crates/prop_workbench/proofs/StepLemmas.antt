@@ -65,7 +65,8 @@ obeys_done library old new command (Err refusal) fits carries why same =
 -- a cell of a new name is refused for the limit alone
 pub cell_rows : (library : List Stored) (s : State) (name : List ℕ) (kind : KindWord) (made : Kinded)
     → cell_named s.names name ≡ None → kind_named s.words kind ≡ Some made →
-    refusal_of library s (commands.Command.Cell name kind) ≡ when (LimitReached Cells) (nat_le (most Cells) (length s.kinds))
+    refusal_of library s (commands.Command.Cell name kind) ≡ when (LimitReached Cells)
+    (nat_le (most Cells) (length s.kinds))
 cell_rows library s name kind made none there =
     rw (none, there) (first_of-one (when (LimitReached Cells) (nat_le (most Cells) (length s.kinds))))
 

@@ -1,7 +1,7 @@
 -- For what a command is refused in a state: each condition by itself, and which of them comes
 -- first.
 use Rattle.std.specs.Prelude.{ℕ, List, [], ◌∷◌, Bool, false, ◌+◌, ◌==◌, ◌&&◌, ◌||◌, nat_le, nat_lt}
-use Rattle.std.specs.Prelude.{Option, Some, None, Result, Ok, Err, length, is_some, is_none, not}
+use Rattle.std.specs.Prelude.{Option, Some, None, Result, Ok, Err, length, is_some, is_none}
 use Rattle.std.specs.Prelude.{map, ◌-◌}
 use Rattle.std.specs.List.{list_any}
 use Rattle.std.specs.Option.{option_map, option_map_or, option_or}

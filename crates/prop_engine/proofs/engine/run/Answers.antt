@@ -132,7 +132,8 @@ loop-turn-preserved g c =
       fresh = record {
         not_failed = ap (λ w. w.has_failed) same_reader ∙ not_failed _ _ c.in-Ok.ensures.failed
             ∙ c.loop-turn.invariant.fresh.not_failed;
-        not_stopped = ap (λ w. w.has_stopped) same_reader ∙ not_stopped _ _ _ _ c.if-count-eq0.false c.in-Ok.ensures.stopped
+        not_stopped = ap (λ w. w.has_stopped) same_reader
+            ∙ not_stopped _ _ _ _ c.if-count-eq0.false c.in-Ok.ensures.stopped
             ∙ c.loop-turn.invariant.fresh.not_stopped;
         flushed = ap (λ w. w.is_flushed) same_reader ∙ c.in-Ok.ensures.flushed ∙ c.loop-turn.invariant.fresh.flushed;
       };
@@ -142,8 +143,14 @@ loop-turn-preserved g c =
           ∙ c.loop-turn.invariant.in_turn;
       calls = omega (arith, ap (λ w. w.calls) same_reader, c.in-Ok.ensures.counted, c.loop-turn.invariant.calls);
       widest = omega (arith, ap (λ w. w.widest) same_reader, c.in-Ok.ensures.widest, c.loop-turn.invariant.widest);
-      narrowest = omega (arith, ap (λ w. w.narrowest) same_reader, c.in-Ok.ensures.narrowest, c.loop-turn.invariant.narrowest);
-      needed = c.in_ok-feed.ensures.needed ∙ ap (λ w. w.has_flushed_idly) c.in-Ok.ensures.writer ∙ c.loop-turn.invariant.needed;
+      narrowest = omega (
+        arith,
+        ap (λ w. w.narrowest) same_reader,
+        c.in-Ok.ensures.narrowest,
+        c.loop-turn.invariant.narrowest,
+      );
+      needed = c.in_ok-feed.ensures.needed ∙ ap (λ w. w.has_flushed_idly) c.in-Ok.ensures.writer
+          ∙ c.loop-turn.invariant.needed;
     }
 
 pub returns-clause-told : goal.returns-clause-told
