@@ -1,5 +1,6 @@
 -- What would be believed with the side of one choice more.
-use Rattle.std.proofs.Common.{◌≡◌, ◌≢◌, ◌∙◌, ◌<◌, ◌≤◌, ◌↔◌, ℕ, Bool, List, [], ◌∷◌, false, true, length, sym, subst, arith}
+use Rattle.std.proofs.Common.{◌≡◌, ◌≢◌, ◌∙◌, ◌<◌, ◌≤◌, ◌↔◌, ℕ, Bool}
+use Rattle.std.proofs.Common.{List, [], ◌∷◌, false, true, length, sym, subst, arith}
 use Rattle.std.proofs.Common.{Contains, IsTrue, Option, Some, None, inl, inr, slice_get, slice_index_or}
 use Rattle.std.specs.Prelude.{is_some, IfSome}
 use Rattle.std.proofs.lemmas.Bool.{false≢true}
@@ -43,7 +44,8 @@ none_last s cs d e stand same below last = not_last s cs (slice_index_or cs s.le
     (slice_index_or s.list s.level e) same (taken_there cs s.list s.level d e (rw same stand.is_list) below) last
 
 -- what is believed, and the side on which that choice stands
-module _ (s : Stand) (cs : List Choice) (d : Choice) (e q : ℕ) (w : List ℕ) (stand : IsStand s) (same : cs ≡ choices_in s)
+module _ (s : Stand) (cs : List Choice) (d : Choice) (e q : ℕ) (w : List ℕ) (stand : IsStand s)
+    (same : cs ≡ choices_in s)
     (below : s.level < length s.list)
     (is_side : (choice : Choice) (side : ℕ) → slice_get (choices_in s) s.level ≡ Some choice
     → slice_get s.list s.level ≡ Some side → q ≡ hypothetical choice side)

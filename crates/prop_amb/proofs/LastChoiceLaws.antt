@@ -229,7 +229,8 @@ level_left s list level is = elim (leb_tells s.level (length list)) as (λ _. Is
   | inr h ↦ inr (
     (let past = h.1 in omega (arith, past)),
     (let few = min-le_right s.level (length list) in let past = h.1
-        in let all = le-min {k = length list} {a = s.level} {b = length list} (omega (arith, past)) (omega arith) in omega
+        in let all = le-min {k = length list} {a = s.level} {b = length list} (omega (arith, past))
+        (omega arith) in omega
         (arith, is, few, all)),
   )
 ]

@@ -68,7 +68,8 @@ taken_firsts (c ∷ cs) [] (suc n) p t = absurd (both t refl)
 taken_firsts (c ∷ cs) (s ∷ l) (suc n) p t =
     elim (or_cases (hypothetical c s == p) (hypotheticals_of cs (take n l) p) t) [
       | inl e ↦ or_true_left (hypothetical c s == p) (hypotheticals_of (take n cs) (take n l) p) e
-      | inr e ↦ or_true_right (hypothetical c s == p) (hypotheticals_of (take n cs) (take n l) p) (taken_firsts cs l n p e)
+      | inr e ↦ or_true_right (hypothetical c s == p) (hypotheticals_of (take n cs) (take n l) p)
+          (taken_firsts cs l n p e)
     ]
 
 -- one choice more takes its side

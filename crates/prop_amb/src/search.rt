@@ -32,8 +32,8 @@ pub struct Search {
     pub(crate) worldview: Worldview,
     /// Each noted nogood that is believed ends with this premise or a later one, or has none.
     pub(crate) from: Premise,
-    /// What would be believed with the side of one choice more, where that was looked at and no noted
-    /// nogood would be.
+    /// What would be believed with the side of one choice more, where that was looked at and no
+    /// noted nogood would be.
     pub(crate) ahead: Option<Worldview>,
 }
 

@@ -1,6 +1,7 @@
 -- The first place of what passes, in a list that grows and shrinks at its end.
 use Rattle.std.proofs.Common.{◌≡◌, ◌∙◌, ◌<◌, ◌+◌, ℕ, Bool, true, false, List, [], ◌∷◌, ◌++◌, Option, Some, None}
-use Rattle.std.proofs.Common.{length, position, get_or, refl, sym, ap, arith, cond, bytes_eq, unwrap_or, String, string_bytes, map}
+use Rattle.std.proofs.Common.{length, position, get_or, refl, sym, ap}
+use Rattle.std.proofs.Common.{arith, cond, bytes_eq, unwrap_or, String, string_bytes, map}
 use Rattle.std.proofs.Common.{zero, suc, inl, inr}
 use Rattle.std.specs.Prelude.{not, ◌==◌}
 use Rattle.std.specs.Map.{update}

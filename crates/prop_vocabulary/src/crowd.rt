@@ -1,5 +1,5 @@
-//! How many names share a part of their hash, so that a table of hashes gets no more of them than it
-//! finds quickly. Whoever picks names can make as many as he likes share all of it.
+//! How many names share a part of their hash, so that a table of hashes gets no more of them than
+//! it finds quickly. Whoever picks names can make as many as he likes share all of it.
 use std::alloc::{AllocError, Global};
 use std::hash::{BuildHasher, BuildHasherDefault, FoldHasher};
 

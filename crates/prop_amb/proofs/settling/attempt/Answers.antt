@@ -30,11 +30,13 @@ pub returns-in-Quiet-clause-gone : goal.returns-in-Quiet-clause-gone
 returns-in-Quiet-clause-gone g c =
     rw c.found.ensures.same (ran c.args.search.now c.worldview.result.now c.in_ok-nogood.ensures.stand
     (c.worldview.ensures.same ∙ ap (λ (x : Stand). x.worldview) c.found.ensures.same)
-    (c.in_ok-nogood.ensures.unblocked (ap Ok c.in_default.is)) g.O.Order.picks (stored_of g.R.Rule.value_of c.args.live.now.network.library) _ _ _ _ _ _ _ c.in_ok-end.ensures.turns)
+    (c.in_ok-nogood.ensures.unblocked (ap Ok c.in_default.is)) g.O.Order.picks (stored_of g.R.Rule.value_of
+    c.args.live.now.network.library) _ _ _ _ _ _ _ c.in_ok-end.ensures.turns)
 
 pub returns-in-Quiet-clause-falls : goal.returns-in-Quiet-clause-falls
 returns-in-Quiet-clause-falls g c =
-    falls_in _ _ _ _ _ _ _ (same_problem (stored_of g.R.Rule.value_of) c.args.live.now.network.library c.run.new.live.network.library
+    falls_in _ _ _ _ _ _ _ (same_problem (stored_of g.R.Rule.value_of) c.args.live.now.network.library
+    c.run.new.live.network.library
     c.args.live.now.network.cells c.run.new.live.network.cells c.in_ok-end.ensures.ran.library
     c.in_ok-end.ensures.ran.rest) (rw (c.worldview.ensures.same, c.found.ensures.same) at c.in_ok-end.ensures.falls)
 
@@ -45,11 +47,13 @@ pub returns-in-Spent-clause-gone : goal.returns-in-Spent-clause-gone
 returns-in-Spent-clause-gone g c =
     rw c.found.ensures.same (ran c.args.search.now c.worldview.result.now c.in_ok-nogood.ensures.stand
     (c.worldview.ensures.same ∙ ap (λ (x : Stand). x.worldview) c.found.ensures.same)
-    (c.in_ok-nogood.ensures.unblocked (ap Ok c.in_default.is)) g.O.Order.picks (stored_of g.R.Rule.value_of c.args.live.now.network.library) _ _ _ _ _ _ _ c.in_ok-end.ensures.turns)
+    (c.in_ok-nogood.ensures.unblocked (ap Ok c.in_default.is)) g.O.Order.picks (stored_of g.R.Rule.value_of
+    c.args.live.now.network.library) _ _ _ _ _ _ _ c.in_ok-end.ensures.turns)
 
 pub returns-in-Spent-clause-falls : goal.returns-in-Spent-clause-falls
 returns-in-Spent-clause-falls g c =
-    falls_in _ _ _ _ _ _ _ (same_problem (stored_of g.R.Rule.value_of) c.args.live.now.network.library c.run.new.live.network.library
+    falls_in _ _ _ _ _ _ _ (same_problem (stored_of g.R.Rule.value_of) c.args.live.now.network.library
+    c.run.new.live.network.library
     c.args.live.now.network.cells c.run.new.live.network.cells c.in_ok-end.ensures.ran.library
     c.in_ok-end.ensures.ran.rest) (rw (c.worldview.ensures.same, c.found.ensures.same) at c.in_ok-end.ensures.falls)
 
@@ -68,14 +72,16 @@ pub returns-in-Spent-clause-left : goal.returns-in-Spent-clause-left
 returns-in-Spent-clause-left g c = λ spent.
     rw c.found.ensures.same (ran_may c.args.search.now c.worldview.result.now c.in_ok-nogood.ensures.stand
     (c.worldview.ensures.same ∙ ap (λ (x : Stand). x.worldview) c.found.ensures.same)
-    (c.in_ok-nogood.ensures.unblocked (ap Ok c.in_default.is)) _ _ _ (c.in_ok-end.ensures.left c.in-Spent.is) (c.in_ok-end.ensures.free c.in-Spent.is))
+    (c.in_ok-nogood.ensures.unblocked (ap Ok c.in_default.is)) _ _ _ (c.in_ok-end.ensures.left c.in-Spent.is)
+    (c.in_ok-end.ensures.free c.in-Spent.is))
 
 pub returns-in_ok-note-in-Clash-clause-gone : goal.returns-in_ok-note-in-Clash-clause-gone
 returns-in_ok-note-in-Clash-clause-gone g c =
     let clash = rw c.in-Clash.is at c.in_ok-end.ensures.clash in
     ran_noting c.args.search.now c.worldview.result.now c.in_ok-nogood.ensures.stand
     (c.worldview.ensures.same ∙ ap (λ (x : Stand). x.worldview) c.found.ensures.same)
-    (c.in_ok-nogood.ensures.unblocked (ap Ok c.in_default.is)) g.O.Order.picks (stored_of g.R.Rule.value_of c.args.live.now.network.library) _ _ _ _ _ _ _ _ _ _ c.in_ok-end.ensures.turns clash c.in_ok-copy-in-Clash.ensures
+    (c.in_ok-nogood.ensures.unblocked (ap Ok c.in_default.is)) g.O.Order.picks (stored_of g.R.Rule.value_of
+    c.args.live.now.network.library) _ _ _ _ _ _ _ _ _ _ c.in_ok-end.ensures.turns clash c.in_ok-copy-in-Clash.ensures
     (rw c.found.ensures.same at c.in_ok-note-in-Clash.ensures.adds)
     (rw c.found.ensures.same at c.in_ok-note-in-Clash.ensures.only)
 
@@ -85,15 +91,18 @@ note-requires g c =
     c.args.live.now.network.cells c.run.new.live.network.cells c.in_ok-end.ensures.ran.library
     c.in_ok-end.ensures.ran.rest in
     let h = rw c.in-Clash.is at c.in_ok-end.ensures.conflict in
-    rw c.found.ensures.same (clash_is_new (problem_of (stored_of g.R.Rule.value_of c.args.live.now.network.library) c.args.live.now.network.cells)
+    rw c.found.ensures.same (clash_is_new (problem_of (stored_of g.R.Rule.value_of
+    c.args.live.now.network.library) c.args.live.now.network.cells)
     c.args.search.now c.in_ok-copy-in-Clash.field-0 c.in-Clash.support
     (conflict_in _ _ _ _ _ _ same
-    (ap set_of (c.worldview.ensures.same ∙ ap (λ (x : Stand). x.worldview) c.found.ensures.same)) refl h) c.in_ok-copy-in-Clash.ensures
+    (ap set_of (c.worldview.ensures.same ∙ ap (λ (x : Stand). x.worldview) c.found.ensures.same)) refl h)
+    c.in_ok-copy-in-Clash.ensures
     (c.in_ok-nogood.ensures.unblocked (ap Ok c.in_default.is)))
 
 pub returns-in_ok-note-in-Clash-clause-search : goal.returns-in_ok-note-in-Clash-clause-search
 returns-in_ok-note-in-Clash-clause-search g c =
-    let problem = (problem_of (stored_of g.R.Rule.value_of c.args.live.now.network.library) c.args.live.now.network.cells) in
+    let problem = (problem_of (stored_of g.R.Rule.value_of c.args.live.now.network.library)
+    c.args.live.now.network.cells) in
     let same = same_problem (stored_of g.R.Rule.value_of) c.args.live.now.network.library c.run.new.live.network.library
     c.args.live.now.network.cells c.run.new.live.network.cells c.in_ok-end.ensures.ran.library
     c.in_ok-end.ensures.ran.rest in
@@ -107,7 +116,8 @@ returns-in_ok-note-in-Clash-clause-search g c =
 
 pub returns-in_ok-note-in-Clash-clause-falls : goal.returns-in_ok-note-in-Clash-clause-falls
 returns-in_ok-note-in-Clash-clause-falls g c =
-    falls_in _ _ _ _ _ _ _ (same_problem (stored_of g.R.Rule.value_of) c.args.live.now.network.library c.run.new.live.network.library
+    falls_in _ _ _ _ _ _ _ (same_problem (stored_of g.R.Rule.value_of) c.args.live.now.network.library
+    c.run.new.live.network.library
     c.args.live.now.network.cells c.run.new.live.network.cells c.in_ok-end.ensures.ran.library
     c.in_ok-end.ensures.ran.rest) (rw (c.worldview.ensures.same, c.found.ensures.same) at c.in_ok-end.ensures.falls)
 
@@ -134,6 +144,8 @@ returns-in_ok-note-in-Clash-clause-refuted g c =
     c.args.search.now c.note.new.self.listed c.in_ok-copy-in-Clash.field-0 c.in-Clash.support c.note.new.self
     c.in_ok-nogood.ensures.stand
     (conflict_in _ _ _ _ _ _ same
-    (ap set_of (c.worldview.ensures.same ∙ ap (λ (x : Stand). x.worldview) c.found.ensures.same)) refl h) c.in_ok-copy-in-Clash.ensures
+    (ap set_of (c.worldview.ensures.same ∙ ap (λ (x : Stand). x.worldview) c.found.ensures.same)) refl h)
+    c.in_ok-copy-in-Clash.ensures
     (rw c.found.ensures.same at c.in_ok-note-in-Clash.ensures.adds)
-    (rw c.found.ensures.same at c.in_ok-note-in-Clash.ensures.only) (c.in_ok-nogood.ensures.unblocked (ap Ok c.in_default.is)))
+    (rw c.found.ensures.same at c.in_ok-note-in-Clash.ensures.only) (c.in_ok-nogood.ensures.unblocked (ap Ok
+    c.in_default.is)))

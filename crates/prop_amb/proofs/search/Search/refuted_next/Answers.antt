@@ -35,7 +35,8 @@ returns-then-index-choice-clause-none c = λ _.
     c.if-is_whole.false in
     let below : c.self.inside.level < length c.self.inside.list.items = rw (← c.self.view_is) at left in
     rw (← c.self.view_is) (none_last (the_view c.self.inside) c.choices.result.now (record { first = 0; sides = 0 })
-    c.index.result.now c.self.invariant.0 c.choices.ensures below (omega (arith, c.if-index-choice.true, c.index.ensures)))
+    c.index.result.now c.self.invariant.0 c.choices.ensures below
+    (omega (arith, c.if-index-choice.true, c.index.ensures)))
 
 pub blocks_from-requires : goal.blocks_from-requires
 blocks_from-requires c = none_below_deeper c.self.inside.store c.self.inside.worldview c.in_ok-deeper.deeper _
@@ -62,7 +63,8 @@ invariant_of-self c =
       c.self.invariant.1,
       ahead_next (the_view c.self.inside) c.choices.result.now (record { first = 0; sides = 0 }) 0 c.side_at-side.result
           c.in_ok-deeper.deeper c.self.invariant.0 c.choices.ensures below
-          (rw (← c.self.view_is) at c.side_at-side.ensures.side) c.in_ok-deeper.ensures (c.in_default.ensures.none refl),
+          (rw (← c.self.view_is) at c.side_at-side.ensures.side) c.in_ok-deeper.ensures
+          (c.in_default.ensures.none refl),
     )
 
 pub returns-clause-none : goal.returns-clause-none

@@ -5,7 +5,8 @@ use Rattle.prop_amb.proofs.search.Search.skip.Goals as goal
 
 pub deepen-requires-clause-left : goal.deepen-requires-clause-left
 deepen-requires-clause-left c =
-    rw (c.refuted_next.ensures.same, c.in_ok-pass_by.ensures.ok) (passed_left c.args.self.now c.args.reason c.requires.may)
+    rw (c.refuted_next.ensures.same, c.in_ok-pass_by.ensures.ok) (passed_left c.args.self.now c.args.reason
+    c.requires.may)
 
 pub returns-then-is_none-clause-ok : goal.returns-then-is_none-clause-ok
 returns-then-is_none-clause-ok c =
