@@ -129,8 +129,9 @@ class Refusals:
 
 
 class EachAllocation(Refusals):
-    """Each request for memory is refused in turn. Before the first line the program goes on without it, or ends with status 4; behind it the line
-    for which memory was refused says so, and all is as if it had not been given: given once more, it and all others have their replies."""
+    """Each request for memory is refused in turn. Before the first line the program goes on without it, or ends with status 4. Behind it either the
+    line for which memory was refused says so, and all is as if it had not been given: given once more, it and all others have their replies. Or no
+    line does, and all have their replies: what is kept to save time is done without."""
 
     def numbers(self, program):
         self.before, asked = requests(program, []), requests(program, self.session.lines())
@@ -146,8 +147,6 @@ class EachAllocation(Refusals):
         if refused is not None:
             lines, replies = lines[:refused] + lines[refused : refused + 1] + lines[refused:], replies[:refused] + [OUT_OF_MEMORY] + replies[refused:]
             status, output, told = run(program, lines, f"m{number}")
-        elif number in range(self.before + 1, requests(program, lines) + 1):
-            return "no line says so"
         return first_difference(output, b"".join(replies)) if (status, told) == (0, b"") else f"the status is {status}, it said {told!r}"
 
     def refused(self, output):
