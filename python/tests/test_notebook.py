@@ -114,7 +114,8 @@ class Kernel:
 
     def run(self, code: str, interrupt_at: str = "") -> list[str]:
         """What a cell shows, as texts; it is interrupted once it shows something with this."""
-        asked = self.client.execute(code)
+        # (else a kernel drops the cell that comes while it still ends an interrupted one)
+        asked = self.client.execute(code, stop_on_error=False)
         found = []
         end = time.monotonic() + PATIENCE
         while time.monotonic() < end:
