@@ -30,6 +30,7 @@ use Rattle.prop_workbench.proofs.PremiseLemmas.{set_has}
 use Rattle.prop_telling.specs.How.{part_text, parts_text, parts_of, made_text, how_text, lines_for, most_calls, AreTold}
 use Rattle.prop_telling.specs.How.{SaysHow}
 use Rattle.prop_telling.specs.Texts.{says_text, sides_text}
+use Rattle.prop_telling.specs.Notes.{Notes}
 use Rattle.prop_telling.specs.inner.How.{IsThere}
 
 -- each premise of the set has a number below n
@@ -106,14 +107,14 @@ module _ (library : List Stored) (d : Data) (s : Premises) (n : ℕ) (kept : IsK
       }) (parts_there behind f.1)
 
 -- one more part
-pub parts_text_more : (library : List Stored) (s : State) (parts : List Part) (i : ℕ) (d : Part) (before : List ℕ)
-    → i < length parts → before ≡ parts_text library s (take i parts)
-    → before ++ part_text library s (get_or parts i d) ≡ parts_text library s (take (i + 1) parts)
-parts_text_more library s parts i d before l is =
-    let f : Part → List ℕ = part_text library s in
+pub parts_text_more : (notes : Notes) (library : List Stored) (s : State) (parts : List Part) (i : ℕ) (d : Part) (before : List ℕ)
+    → i < length parts → before ≡ parts_text notes library s (take i parts)
+    → before ++ part_text notes library s (get_or parts i d) ≡ parts_text notes library s (take (i + 1) parts)
+parts_text_more notes library s parts i d before l is =
+    let f : Part → List ℕ = part_text notes library s in
     let p = get_or parts i d in
-    ap (λ t. t ++ f p) is ∙ ap (λ t. parts_text library s (take i parts) ++ t) (sym (append-nil (f p)))
-    ∙ sym (flat_map-append f (take i parts) (p ∷ [])) ∙ ap (parts_text library s) (sym (take_more parts i d l))
+    ap (λ t. t ++ f p) is ∙ ap (λ t. parts_text notes library s (take i parts) ++ t) (sym (append-nil (f p)))
+    ∙ sym (flat_map-append f (take i parts) (p ∷ [])) ∙ ap (parts_text notes library s) (sym (take_more parts i d l))
 
 -- what is whole or cut is told
 pub made_told : (library : List Stored) (d : Data) (s : Premises) (cell : ℕ) (v : Info) (made : Composition)
@@ -129,20 +130,20 @@ made_there library d s n cell v (Whole parts) kept known m = parts_there library
 made_there library d s n cell v Cut kept known m = tt
 
 -- what is told of what is believed, from a value that is what is believed
-pub how_said : {O : Type 0} (library : List Stored) (s : State) (w : Work O) (cell : ℕ) (premises : List ℕ) (v : Info)
+pub how_said : {O : Type 0} (notes : Notes) (library : List Stored) (s : State) (w : Work O) (cell : ℕ) (premises : List ℕ) (v : Info)
     (made : Composition) (text : List ℕ) → v ≡ beliefs (set_of w.search.worldview) w.cells.contents cell
     → IsLeanAt (set_of w.search.worldview) w.cells.contents cell premises
     → IfWhole made (MakeUp library w.cells (set_of premises) cell v)
     → IfCut made (most_calls < most_steps (problem_of library w.cells))
     → text ≡ how_text (lines_for (parts_of made)) (sides_text s.premises (set_of w.search.worldview))
-    (says_text s cell v premises) (made_text library s (parts_of made)) → SaysHow library s w cell text
-how_said library s w cell premises v made text is lean told cut e = record {
+    (says_text notes s cell v premises) (made_text notes library s (parts_of made)) → SaysHow notes library s w cell text
+how_said notes library s w cell premises v made text is lean told cut e = record {
   premises = premises;
   lean = lean;
   made = parts_of made;
   told = subst (λ (x : Info). AreTold library w.cells (set_of premises) cell x (parts_of made)) is
       (made_told library w.cells (set_of premises) cell v made told cut);
   text_is = e ∙ ap (λ (x : Info). how_text (lines_for (parts_of made))
-      (sides_text s.premises (set_of w.search.worldview)) (says_text s cell x premises)
-      (made_text library s (parts_of made))) is;
+      (sides_text s.premises (set_of w.search.worldview)) (says_text notes s cell x premises)
+      (made_text notes library s (parts_of made))) is;
 }

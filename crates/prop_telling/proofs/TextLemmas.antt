@@ -1,23 +1,9 @@
--- The texts of cells, one more at a time.
+-- The texts of a side and its next one.
 use Rattle.std.proofs.Common.{◌≡◌, ◌∙◌, ◌+◌, ◌<◌, ℕ, zero, suc, List, [], ◌∷◌, ◌++◌, length, take, sym, ap, refl}
-use Rattle.std.proofs.Common.{get_or}
 use Rattle.std.proofs.Common.{append-nil, slice_get, Some, None}
 use Rattle.std.specs.Option.{option_map}
 use Rattle.prop_premises.specs.Origins.{Origin, User, Side, name_of, side_at}
-use Rattle.std.proofs.lemmas.List.{take_more}
-use Rattle.std.proofs.lemmas.List.Concat.{flat_map-append}
-use Rattle.prop_vocabulary.specs.Cells.{CellNames}
-use Rattle.prop_telling.specs.Texts.{cell_text, cells_text, sides_of, moved_text}
-
--- one more cell
-pub cells_text_more : (names : CellNames) (cells : List ℕ) (i d : ℕ) (before : List ℕ) → i < length cells
-    → before ≡ cells_text names (take i cells)
-    → before ++ (32 ∷ cell_text names (get_or cells i d)) ≡ cells_text names (take (i + 1) cells)
-cells_text_more names cells i d before l is =
-    let f : ℕ → List ℕ = λ cell. 32 ∷ cell_text names cell in
-    let x = get_or cells i d in
-    ap (λ t. t ++ f x) is ∙ ap (λ t. cells_text names (take i cells) ++ t) (sym (append-nil (f x)))
-    ∙ sym (flat_map-append f (take i cells) (x ∷ [])) ∙ ap (cells_text names) (sym (take_more cells i d l))
+use Rattle.prop_telling.specs.Texts.{sides_of, moved_text}
 
 -- ---- a side and its next one
 

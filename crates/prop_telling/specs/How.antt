@@ -25,22 +25,23 @@ use Rattle.prop_texts.specs.Texts.{premises_text}
 use Rattle.prop_workbench.specs.Machine.{State}
 use Rattle.prop_workbench.specs.Engine.{Standing}
 use Rattle.prop_telling.specs.Asking.{as_why}
+use Rattle.prop_telling.specs.Notes.{Notes}
 use Rattle.prop_telling.specs.Texts.{call_text, says_text, sides_text}
 
 -- a statement by its premise, or a call
-abbrev pub origin_text : List Stored → State → List ℕ → Origin → List ℕ
-origin_text library s support (Told n) = codes "told:" ++ premises_text s.premises support
-origin_text library s support (Called n) =
-    option_map_or (call_text s.names library n) (slice_get s.instances n) []
+abbrev pub origin_text : Notes → List Stored → State → List ℕ → Origin → List ℕ
+origin_text notes library s support (Told n) = codes "told:" ++ premises_text s.premises support
+origin_text notes library s support (Called n) =
+    option_map_or (call_text notes s.names library n) (slice_get s.instances n) []
 
 -- where a part comes from, and what it says with the premises on which it rests
-abbrev pub part_text : List Stored → State → Part → List ℕ
-part_text library s p =
-    codes "\n" ++ (origin_text library s p.support p.origin ++ (codes "\n"
-    ++ says_text s p.cell p.value p.support))
+abbrev pub part_text : Notes → List Stored → State → Part → List ℕ
+part_text notes library s p =
+    codes "\n" ++ (origin_text notes library s p.support p.origin ++ (codes "\n"
+    ++ says_text notes s p.cell p.value p.support))
 
-abbrev pub parts_text : List Stored → State → List Part → List ℕ
-parts_text library s parts = flat_map (part_text library s) parts
+abbrev pub parts_text : Notes → List Stored → State → List Part → List ℕ
+parts_text notes library s parts = flat_map (part_text notes library s) parts
 
 -- ---- the parts, None where they are not known
 
@@ -61,9 +62,9 @@ abbrev pub lines_for : Option (List Part) → ℕ
 lines_for (Some parts) = 2 + 2 * length parts
 lines_for None = 3
 
-abbrev pub made_text : List Stored → State → Option (List Part) → List ℕ
-made_text library s (Some parts) = parts_text library s parts
-made_text library s None = codes "\ncut"
+abbrev pub made_text : Notes → List Stored → State → Option (List Part) → List ℕ
+made_text notes library s (Some parts) = parts_text notes library s parts
+made_text notes library s None = codes "\ncut"
 
 -- what is told, the first line of which says how many follow
 abbrev pub how_text : ℕ → List ℕ → List ℕ → List ℕ → List ℕ
@@ -73,7 +74,7 @@ how_text lines sides value made =
 
 -- The text says what is believed of the cell, with the premises of believed entries that say so,
 -- none of which can be left out, and the parts that make it up under these premises alone.
-pub record SaysHow {O : Type 0} (library : List Stored) (s : State) (w : Work O) (cell : ℕ)
+pub record SaysHow {O : Type 0} (notes : Notes) (library : List Stored) (s : State) (w : Work O) (cell : ℕ)
     (text : List ℕ) : Type 0 where
   pub premises : List ℕ
   pub lean : IsLeanAt (set_of w.search.worldview) w.cells.contents cell premises
@@ -82,22 +83,22 @@ pub record SaysHow {O : Type 0} (library : List Stored) (s : State) (w : Work O)
       (beliefs (set_of w.search.worldview) w.cells.contents cell) made
   pub text_is : text ≡ how_text (lines_for made)
       (sides_text s.premises (set_of w.search.worldview))
-      (says_text s cell (beliefs (set_of w.search.worldview) w.cells.contents cell) premises)
-      (made_text library s made)
+      (says_text notes s cell (beliefs (set_of w.search.worldview) w.cells.contents cell) premises)
+      (made_text notes library s made)
 
 -- ---- the answer
 
 -- that of a cell, or that there is none of the name
-abbrev pub SaysOf : {O : Type 0} → List Stored → Standing O → Option ℕ → Answer → Type 0
-SaysOf library at (Some cell) answer = (text : List ℕ)
-    × SaysHow library at.shown.state at.work cell text × (answer ≡ Text text)
-SaysOf library at None answer = answer ≡ Refused NoSuchCell
+abbrev pub SaysOf : {O : Type 0} → Notes → List Stored → Standing O → Option ℕ → Answer → Type 0
+SaysOf notes library at (Some cell) answer = (text : List ℕ)
+    × SaysHow notes library at.shown.state at.work cell text × (answer ≡ Text text)
+SaysOf notes library at None answer = answer ≡ Refused NoSuchCell
 
 -- that to a name, where one was asked for
-abbrev pub AnswersTo : {O : Type 0} → List Stored → Standing O → Option (List ℕ) → Answer → Type 0
-AnswersTo library at (Some name) answer =
-    SaysOf library at (cell_named at.shown.state.names name) answer
-AnswersTo library at None answer = answer ≡ Refused WrongForm
+abbrev pub AnswersTo : {O : Type 0} → Notes → List Stored → Standing O → Option (List ℕ) → Answer → Type 0
+AnswersTo notes library at (Some name) answer =
+    SaysOf notes library at (cell_named at.shown.state.names name) answer
+AnswersTo notes library at None answer = answer ≡ Refused WrongForm
 
 -- the name of which it is asked why
 abbrev pub asked : Option Command → Option (List ℕ)
@@ -105,15 +106,15 @@ asked (Some (Command.Why name)) = Some name
 asked read = None
 
 -- what a line that was read so is answered
-abbrev pub AnswersHow : {O : Type 0} → List Stored → Standing O → Result (Option Command) Refusal
+abbrev pub AnswersHow : {O : Type 0} → Notes → List Stored → Standing O → Result (Option Command) Refusal
     → Answer → Type 0
-AnswersHow library at (Ok read) answer = AnswersTo library at (asked read) answer
-AnswersHow library at (Err refusal) answer = answer ≡ Refused refusal
+AnswersHow notes library at (Ok read) answer = AnswersTo notes library at (asked read) answer
+AnswersHow notes library at (Err refusal) answer = answer ≡ Refused refusal
 
 -- The line is answered as it would be read with `why` in place of `how`, or memory was refused. No
 -- step is taken, and all stays as it was.
-pub record TellsHow {O : Type 0} (library : List Stored) (old : Standing O) (line : List ℕ)
+pub record TellsHow {O : Type 0} (notes : Notes) (library : List Stored) (old : Standing O) (line : List ℕ)
     (answer : Answer) (new : Standing O) : Type 0 where
   pub same : new ≡ old
   pub told : (answer ≡ Refused Memory)
-      ⊎ AsRead (as_why line) (λ read. AnswersHow library old read answer)
+      ⊎ AsRead (as_why line) (λ read. AnswersHow notes library old read answer)

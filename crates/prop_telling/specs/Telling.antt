@@ -27,47 +27,47 @@ use Rattle.prop_telling.specs.Texts.{two_lines, three_lines}
 
 -- The text says what is believed of the cell, with the premises of believed entries that say so,
 -- none of which can be left out.
-pub record SaysValue {O : Type 0} (s : State) (w : Work O) (cell : ℕ) (text : List ℕ) : Type 0 where
+pub record SaysValue {O : Type 0} (notes : Notes) (s : State) (w : Work O) (cell : ℕ) (text : List ℕ) : Type 0 where
   pub premises : List ℕ
   pub lean : IsLeanAt (set_of w.search.worldview) w.cells.contents cell premises
-  pub text_is : text ≡ says_text s cell
+  pub text_is : text ≡ says_text notes s cell
       (beliefs (set_of w.search.worldview) w.cells.contents cell) premises
 
 -- The text names the sides that are believed, the instance that was called, with its cells, and
 -- says what is believed of its output.
-pub record SaysCall {O : Type 0} (library : List Stored) (s : State) (w : Work O) (i : ℕ)
+pub record SaysCall {O : Type 0} (notes : Notes) (library : List Stored) (s : State) (w : Work O) (i : ℕ)
     (text : List ℕ) : Type 0 where
   pub instance : Instance
   pub at : slice_get w.cells.instances i ≡ Some instance
   pub value : List ℕ
-  pub says : SaysValue s w instance.output value
+  pub says : SaysValue notes s w instance.output value
   pub text_is : text ≡ three_lines (sides_text s.premises (set_of w.search.worldview))
-      (call_text s.names library i instance) value
+      (call_text notes s.names library i instance) value
 
 -- what is said of a step after which it stands so: the sides that were believed before it, and the
 -- call, the move with the nogood that asked for it, or the end
-abbrev pub SaysStep : {O : Type 0} → List Stored → State → Work O → Step → List ℕ → Type 0
-SaysStep library s w (Called i) text = SaysCall library s w i text
-SaysStep library s w (Moved m) text =
+abbrev pub SaysStep : {O : Type 0} → Notes → List Stored → State → Work O → Step → List ℕ → Type 0
+SaysStep notes library s w (Called i) text = SaysCall notes library s w i text
+SaysStep notes library s w (Moved m) text =
     text ≡ three_lines (sides_text s.premises (set_of m.before))
     (codes "moved:" ++ moved_text s.premises m.side)
     (codes "nogood:" ++ support_text s.premises m.nogood)
-SaysStep library s w Settled text =
+SaysStep notes library s w Settled text =
     text ≡ two_lines (sides_text s.premises (set_of w.search.worldview)) (codes "settled")
-SaysStep library s w (Contradiction n) text =
+SaysStep notes library s w (Contradiction n) text =
     text ≡ two_lines (sides_text s.premises (set_of w.search.worldview))
     (contradiction_text s.premises n)
 
 -- A step is taken and told, or memory was refused. The state stays, and what was learned still
 -- covers what it covered.
-pub record TellsStep {O : Type 0} (picks : Picks O) (library : List Stored) (old : Standing O)
+pub record TellsStep {O : Type 0} (picks : Picks O) (notes : Notes) (library : List Stored) (old : Standing O)
     (answer : Answer) (new : Standing O) : Type 0 where
   pub state : new.shown.state ≡ old.shown.state
   pub covers : (named : List (List ℕ)) → Covers old.shown named → Covers new.shown named
   pub fits : WorkFits library old → WorkFits library new
   pub told : (answer ≡ Refused Memory)
       ⊎ ((step : Step) × Steps picks library (problem_in library old.shown.state) old.work step
-      new.work × (text : List ℕ) × SaysStep library old.shown.state new.work step text
+      new.work × (text : List ℕ) × SaysStep notes library old.shown.state new.work step text
       × (answer ≡ Text text))
 
 -- what is the layer's own, or what the session does
@@ -101,8 +101,8 @@ pub record DoesAsSession {O : Type 0} (picks : Picks O) (library : List Stored) 
 abbrev pub telling : {O : Type 0} → Picks O → List Stored → Machine (Told O)
 telling picks library old line answer new =
     Own (is_step line) ((new.notes ≡ old.notes)
-    × TellsStep picks library old.standing answer new.standing)
+    × TellsStep picks old.notes library old.standing answer new.standing)
     (Own (is_how line) ((new.notes ≡ old.notes)
-    × TellsHow library old.standing line answer new.standing)
+    × TellsHow old.notes library old.standing line answer new.standing)
     (Own (is_list line) ((new ≡ old) × SaysList library old.notes old.standing answer)
     (DoesAsSession picks library old line answer new)))

@@ -1,39 +1,33 @@
 -- The texts of what is told.
-use Rattle.std.specs.Prelude.{ℕ, ◌+◌, ◌&&◌, List, [], ◌∷◌, ◌++◌, length, flat_map, filter, codes}
-use Rattle.std.specs.Prelude.{slice_get, decimal, unwrap_or, is_some}
+use Rattle.std.specs.Prelude.{ℕ, ◌+◌, ◌&&◌, List, [], ◌∷◌, ◌++◌, length, filter, codes}
+use Rattle.std.specs.Prelude.{slice_get, decimal, is_some}
 use Rattle.std.specs.List.{range_with_len}
 use Rattle.std.specs.Option.{option_map_or}
 use Rattle.prop_numbers.specs.Sets.{Members}
 use Rattle.prop_premises.specs.Origins.{Origin, User, Side, side_at}
-use Rattle.prop_vocabulary.specs.Cells.{CellNames, name_at}
+use Rattle.prop_vocabulary.specs.Cells.{CellNames}
 use Rattle.prop_procedures.specs.Stored.{Stored}
 use Rattle.prop_cells.specs.Instances.{Instance}
 use Rattle.prop_lattice.specs.declared.info.Info.{Info}
 use Rattle.prop_texts.specs.Texts.{premises_text, equation, because}
 use Rattle.prop_workbench.specs.Machine.{State, text_at}
-
--- a cell by its name, or by `#` and its number where it has none
-abbrev pub cell_text : CellNames → ℕ → List ℕ
-cell_text names cell = unwrap_or (name_at names cell) (codes "#" ++ decimal cell)
-
--- cells, each with one space before it
-abbrev pub cells_text : CellNames → List ℕ → List ℕ
-cells_text names cells = flat_map (λ cell. 32 ∷ cell_text names cell) cells
+use Rattle.prop_telling.specs.Naming.{cell_name, cell_names}
+use Rattle.prop_telling.specs.Notes.{Notes}
 
 -- the name of the procedure of a number
 abbrev pub procedure_text : List Stored → ℕ → List ℕ
 procedure_text library n = option_map_or (λ p. p.name) (slice_get library n) []
 
 -- an instance by its number, with its procedure, its inputs and its output
-abbrev pub call_text : CellNames → List Stored → ℕ → Instance → List ℕ
-call_text names library i x =
+abbrev pub call_text : Notes → CellNames → List Stored → ℕ → Instance → List ℕ
+call_text notes names library i x =
     codes "called: " ++ (decimal i ++ (codes " " ++ (procedure_text library x.procedure
-    ++ (cells_text names x.inputs ++ (codes " " ++ cell_text names x.output)))))
+    ++ (cell_names notes names x.inputs ++ (codes " " ++ cell_name notes names x.output)))))
 
 -- what is said of a cell, and the premises on which it rests
-abbrev pub says_text : State → ℕ → Info → List ℕ → List ℕ
-says_text s cell v premises =
-    equation (cell_text s.names cell) (text_at s cell v) (because s.premises [] premises)
+abbrev pub says_text : Notes → State → ℕ → Info → List ℕ → List ℕ
+says_text notes s cell v premises =
+    equation (cell_name notes s.names cell) (text_at s cell v) (because s.premises [] premises)
 
 -- the sides of choices among these premises, each with one space before it
 abbrev pub sides_text : List Origin → Members → List ℕ

@@ -65,7 +65,7 @@ impl<R: Rule + Drop, O: Order + Drop> Teller<R, O> {
     pub(crate) fn how(&self, line: &[u8]) -> Reply
         requires means { IsMeant R.value_of self.now.session }
         requires sound { IsSound R.value_of self.now.session }
-        ensures { TellsHow (library_of R.value_of self.now.session)
+        ensures { TellsHow self.now.notes (library_of R.value_of self.now.session)
             (standing_of self.now.session) line.now (answer_of result)
             (standing_of self.now.session) }
     {
@@ -87,7 +87,7 @@ impl<R: Rule + Drop, O: Order + Drop> Teller<R, O> {
     fn how_asked(&self, name: Option<&str>) -> Reply
         requires means { IsMeant R.value_of self.now.session }
         requires sound { IsSound R.value_of self.now.session }
-        ensures { (answer_of result ≡ Refused Memory) ⊎ AnswersTo
+        ensures { (answer_of result ≡ Refused Memory) ⊎ AnswersTo self.now.notes
             (library_of R.value_of self.now.session) (standing_of self.now.session)
             (option_map (λ (name : Bor (List ℕ)). name.now) name.entry) (answer_of result) }
     {
@@ -105,7 +105,7 @@ impl<R: Rule + Drop, O: Order + Drop> Teller<R, O> {
         requires means { IsMeant R.value_of self.now.session }
         requires sound { IsSound R.value_of self.now.session }
         requires cell { cell < length self.now.session.live.network.cells.kinds }
-        ensures { IfOk result (λ text. SaysHow (library_of R.value_of self.now.session)
+        ensures { IfOk result (λ text. SaysHow self.now.notes (library_of R.value_of self.now.session)
             (state_of self.now.session) (work_of self.now.session) cell (string_bytes text)) }
     {
         let alloc = self.session.alloc();
@@ -134,9 +134,9 @@ impl<R: Rule + Drop, O: Order + Drop> Teller<R, O> {
         ensures { IfOk result (λ text. string_bytes text ≡ how_text (lines_for (parts_of made.now))
             (sides_text self.now.session.search.premises
             (set_of self.now.session.search.worldview))
-            (says_text (state_of self.now.session) cell why.now.value why.now.support)
-            (made_text (library_of R.value_of self.now.session) (state_of self.now.session)
-            (parts_of made.now))) }
+            (says_text self.now.notes (state_of self.now.session) cell why.now.value why.now.support)
+            (made_text self.now.notes (library_of R.value_of self.now.session)
+            (state_of self.now.session) (parts_of made.now))) }
     {
         let sides = self.sides(self.session.search().worldview())?;
         let value = self.said(cell, why.value, &why.support)?;
@@ -150,7 +150,7 @@ impl<R: Rule + Drop, O: Order + Drop> Teller<R, O> {
         requires sound { IsSound R.value_of self.now.session }
         requires there { IfWhole made.now (All (IsThere self.now.session.live.network.cells
             (length self.now.session.search.premises))) }
-        ensures { IfOk result (λ text. string_bytes text ≡ made_text
+        ensures { IfOk result (λ text. string_bytes text ≡ made_text self.now.notes
             (library_of R.value_of self.now.session) (state_of self.now.session)
             (parts_of made.now)) }
     {
@@ -165,7 +165,7 @@ impl<R: Rule + Drop, O: Order + Drop> Teller<R, O> {
         requires sound { IsSound R.value_of self.now.session }
         requires there { All (IsThere self.now.session.live.network.cells
             (length self.now.session.search.premises)) parts.now }
-        ensures { IfOk result (λ text. string_bytes text ≡ parts_text
+        ensures { IfOk result (λ text. string_bytes text ≡ parts_text self.now.notes
             (library_of R.value_of self.now.session) (state_of self.now.session) parts.now) }
     {
         let mut text = String::new(self.session.alloc());
@@ -180,7 +180,7 @@ impl<R: Rule + Drop, O: Order + Drop> Teller<R, O> {
         requires sound { IsSound R.value_of self.now.session }
         requires there { IsThere self.now.session.live.network.cells
             (length self.now.session.search.premises) part.now }
-        ensures { OnOk result (string_bytes text.new ≡ string_bytes text.old ++ part_text
+        ensures { OnOk result (string_bytes text.new ≡ string_bytes text.old ++ part_text self.now.notes
             (library_of R.value_of self.now.session) (state_of self.now.session) part.now) }
     {
         let origin = self.origin(part)?;
@@ -193,7 +193,7 @@ impl<R: Rule + Drop, O: Order + Drop> Teller<R, O> {
         requires sound { IsSound R.value_of self.now.session }
         requires there { IsThere self.now.session.live.network.cells
             (length self.now.session.search.premises) part.now }
-        ensures { IfOk result (λ text. string_bytes text ≡ origin_text
+        ensures { IfOk result (λ text. string_bytes text ≡ origin_text self.now.notes
             (library_of R.value_of self.now.session) (state_of self.now.session)
             part.now.support part.now.origin) }
     {
@@ -201,7 +201,8 @@ impl<R: Rule + Drop, O: Order + Drop> Teller<R, O> {
             Origin::Told(_) => self.told_text(part.support()),
             Origin::Called(number) => {
                 let network = self.session.live().network();
-                call_text(self.session.alloc(), self.session.names(), network, number)
+                let (alloc, names) = (self.session.alloc(), self.session.names());
+                call_text(alloc, &self.notes, names, network, number)
             }
         }
     }

@@ -5,7 +5,7 @@ ghost use Rattle.prop_telling.specs.Notes.{is_done};
 
 use crate::asking::{is_how, is_list, is_step, may_declare};
 use crate::notes::{Note, Notes};
-use crate::texts::{call_text, cell_text, moved_text, sides_text};
+use crate::texts::{call_text, moved_text, sides_text};
 use prop_amb::{Move, Step};
 use prop_engine::Reply;
 use prop_language::read_line;
@@ -198,7 +198,7 @@ impl<R: Rule + Drop, O: Order + Drop> Teller<R, O> {
         ensures same { self.new.session.live.network.library
             ≡ self.old.session.live.network.library }
         ensures sound { IsSound R.value_of self.new.session }
-        ensures tells { TellsStep O.picks (library_of R.value_of self.old.session)
+        ensures tells { TellsStep O.picks self.old.notes (library_of R.value_of self.old.session)
             (standing_of self.old.session) (answer_of result) (standing_of self.new.session) }
     {
         match self.session.step() {
@@ -216,7 +216,7 @@ impl<R: Rule + Drop, O: Order + Drop> Teller<R, O> {
     fn told(&self, step: &Step) -> Result<String, AllocError>
         requires sound { IsSound R.value_of self.now.session }
         requires named { IsNamed (work_of self.now.session) step.now }
-        ensures { IfOk result (λ text. SaysStep (library_of R.value_of self.now.session)
+        ensures { IfOk result (λ text. SaysStep self.now.notes (library_of R.value_of self.now.session)
             (state_of self.now.session) (work_of self.now.session) step.now (string_bytes text)) }
     {
         match step {
@@ -231,13 +231,13 @@ impl<R: Rule + Drop, O: Order + Drop> Teller<R, O> {
     fn call(&self, called: usize) -> Result<String, AllocError>
         requires sound { IsSound R.value_of self.now.session }
         requires called { called < length self.now.session.live.network.cells.instances }
-        ensures { IfOk result (λ text. SaysCall (library_of R.value_of self.now.session)
+        ensures { IfOk result (λ text. SaysCall self.now.notes (library_of R.value_of self.now.session)
             (state_of self.now.session) (work_of self.now.session) called (string_bytes text)) }
     {
         let alloc = self.session.alloc();
         let network = self.session.live().network();
         let sides = self.sides(self.session.search().worldview())?;
-        let call = call_text(alloc, self.session.names(), network, called)?;
+        let call = call_text(alloc, &self.notes, self.session.names(), network, called)?;
         let value = self.value(network.output(called))?;
         format!(in alloc; "step 3\nsides:{sides}\n{call}\n{value}")
     }
@@ -246,7 +246,7 @@ impl<R: Rule + Drop, O: Order + Drop> Teller<R, O> {
     fn value(&self, cell: usize) -> Result<String, AllocError>
         requires sound { IsSound R.value_of self.now.session }
         requires cell { cell < length self.now.session.live.network.cells.kinds }
-        ensures { IfOk result (λ text. SaysValue (state_of self.now.session)
+        ensures { IfOk result (λ text. SaysValue self.now.notes (state_of self.now.session)
             (work_of self.now.session) cell (string_bytes text)) }
     {
         let network = self.session.live().network();
@@ -263,11 +263,11 @@ impl<R: Rule + Drop, O: Order + Drop> Teller<R, O> {
     ) -> Result<String, AllocError>
         requires cell { cell < length self.now.session.live.network.cells.kinds }
         requires known { All (λ p. p < length self.now.session.search.premises) support.now }
-        ensures { IfOk result (λ text. string_bytes text ≡ says_text (state_of self.now.session)
-            cell value support.now) }
+        ensures { IfOk result (λ text. string_bytes text ≡ says_text self.now.notes
+            (state_of self.now.session) cell value support.now) }
     {
         let alloc = self.session.alloc();
-        let name = cell_text(alloc, self.session.names(), cell)?;
+        let name = self.notes.cell_name(alloc, self.session.names(), cell)?;
         let kind = self.session.live().network().data().kind(cell).kind;
         let value = self.session.words().print_value(alloc, kind, value)?;
         let because = because(alloc, self.session.search().premises(), "", support)?;

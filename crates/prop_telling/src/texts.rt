@@ -7,9 +7,9 @@ ghost use Rattle.prop_procedures.specs.Kept.{stored_of};
 ghost use Rattle.prop_cells.specs.Data.{IsKept};
 ghost use Rattle.prop_cells.specs.Instances.{Instance as InstanceOf};
 ghost use Rattle.prop_texts.specs.Texts.{label_at, premises_text};
-ghost use Rattle.prop_telling.specs.Texts.{cell_text, cells_text, call_text, sides_text};
-ghost use Rattle.prop_telling.specs.Texts.{moved_text};
+ghost use Rattle.prop_telling.specs.Texts.{call_text, sides_text, moved_text};
 
+use crate::notes::Notes;
 use prop_cells::Network;
 use prop_premises::{Premise, PremiseSet, Premises, Worldview};
 use prop_procedures::Rule;
@@ -17,41 +17,10 @@ use prop_vocabulary::CellNames;
 use std::alloc::{AllocError, Global};
 use std::fmt::Write;
 
-/// Writes a space and the cell behind the text: its name, or `#` and its number.
-fn push_cell(text: &mut String, names: &CellNames, cell: usize) -> Result<(), AllocError>
-    ensures { OnOk result (string_bytes text.new ≡ string_bytes
-        text.old ++ (32 ∷ cell_text names.now cell)) }
-{
-    match names.name_of(cell) {
-        Some(name) => write!(text, " {name}"),
-        None => write!(text, " #{cell}"),
-    }
-}
-
-/// The cells, each with one space before it.
-fn cells_text(alloc: Global, names: &CellNames, cells: &[usize]) -> Result<String, AllocError>
-    ensures { IfOk result (λ text. string_bytes text ≡ cells_text names.now cells.now) }
-{
-    let mut text = String::new(alloc);
-    for cell in cells {
-        push_cell(&mut text, names, *cell)?;
-    }
-    Ok(text)
-}
-
-/// The cell's name, or `#` and its number.
-pub(crate) fn cell_text(alloc: Global, names: &CellNames, cell: usize) -> Result<String, AllocError>
-    ensures { IfOk result (λ text. string_bytes text ≡ cell_text names.now cell) }
-{
-    match names.name_of(cell) {
-        Some(name) => String::from_str(alloc, name),
-        None => format!(in alloc; "#{cell}"),
-    }
-}
-
 /// An instance by its number, with its procedure, its inputs and its output.
 pub(crate) fn call_text<R: Rule + Drop>(
     alloc: Global,
+    notes: &Notes,
     names: &CellNames,
     network: &Network<R>,
     called: usize,
@@ -59,13 +28,13 @@ pub(crate) fn call_text<R: Rule + Drop>(
     requires called { called < length network.now.cells.instances }
     requires kept { IsKept (stored_of R.value_of network.now.library) network.now.cells }
     ensures { (x : InstanceOf) → slice_get network.now.cells.instances called ≡ Some x
-        → IfOk result (λ text. string_bytes text ≡ call_text names.now
+        → IfOk result (λ text. string_bytes text ≡ call_text notes.now names.now
         (stored_of R.value_of network.now.library) called x) }
 {
     let instance = network.data().instance(called);
     let name = network.library().get(instance.procedure()).name();
-    let inputs = cells_text(alloc, names, instance.inputs())?;
-    let output = cell_text(alloc, names, instance.output())?;
+    let inputs = notes.cell_names(alloc, names, instance.inputs())?;
+    let output = notes.cell_name(alloc, names, instance.output())?;
     format!(in alloc; "called: {called} {name}{inputs} {output}")
 }
 

@@ -96,10 +96,11 @@ does_by_kept picks library old line answer new does = record {
       (new.notes ≡ old.notes)) (kept_may line) does.noted);
 }
 
-kept_tells_how : {O : Type 0} (library : List Stored) (old : Standing O) (line : List ℕ)
-    (answer : Answer) (new : Standing O) → TellsHow library old (kept_of line) answer new
-    → TellsHow library old line answer new
-kept_tells_how library old line answer new h = record {
+kept_tells_how : {O : Type 0} (notes : Notes) (library : List Stored) (old : Standing O)
+    (line : List ℕ) (answer : Answer) (new : Standing O)
+    → TellsHow notes library old (kept_of line) answer new
+    → TellsHow notes library old line answer new
+kept_tells_how notes library old line answer new h = record {
   same = h.same;
   told = elim h.told [
     | inl memory ↦ inl memory
@@ -124,7 +125,7 @@ pub telling_asks_by_prefix : {O : Type 0} (picks : Picks O) (library : List Stor
 telling_asks_by_prefix picks library old line answer new tells =
     own_from (is_step (kept_of line)) (is_step line) (kept_is_step line) (λ step. step)
     (own_from (is_how (kept_of line)) (is_how line) (kept_is_how line)
-    (λ how. (how.0, kept_tells_how library old.standing line answer new.standing how.1))
+    (λ how. (how.0, kept_tells_how old.notes library old.standing line answer new.standing how.1))
     (own_from (is_list (kept_of line)) (is_list line) (kept_is_list line) (λ list. list)
     (does_by_kept picks library old line answer new))) tells
 
@@ -230,8 +231,8 @@ rests picks library old line (Err refusal) is = (
 
 somehow : {O : Type 0} (picks : Picks O) (library : List Stored) (old : Told O)
     (line : List ℕ) (b c d : Bool) → (answer : Answer)
-    × Own b ((old.notes ≡ old.notes) × TellsStep picks library old.standing answer old.standing)
-    (Own c ((old.notes ≡ old.notes) × TellsHow library old.standing line answer old.standing)
+    × Own b ((old.notes ≡ old.notes) × TellsStep picks old.notes library old.standing answer old.standing)
+    (Own c ((old.notes ≡ old.notes) × TellsHow old.notes library old.standing line answer old.standing)
     (Own d ((old ≡ old) × SaysList library old.notes old.standing answer)
     (DoesAsSession picks library old line answer old)))
 somehow picks library old line true c d = (

@@ -12,17 +12,18 @@ use Rattle.prop_telling.proofs.telling.Teller.call.Goals as goal
 pub returns : goal.returns
 returns g c =
     let s = c.args.self.now.session in
+    let notes = c.args.self.now.notes in
     let x = there s.live.network.cells.instances c.args.called c.requires.called in
     let sides : string_bytes c.in_ok-sides.sides ≡ sides_text s.search.premises (set_of s.search.worldview) =
     c.in_ok-sides.ensures
     ∙ ap (λ (w : _). sides_text s.search.premises (set_of w))
     (c.worldview.ensures.same ∙ ap (λ u. u.worldview) c.search.ensures) in
     let texts = rw (c.names.ensures, c.network-network.ensures, c.live.ensures) at c.in_ok-call.ensures in
-    let call : string_bytes c.in_ok-call.call ≡ call_text s.names
+    let call : string_bytes c.in_ok-call.call ≡ call_text notes s.names
     (stored_of g.R.Rule.value_of s.live.network.library) c.args.called x.0 = texts x.0 x.1 in
     let outputs = rw (c.network-network.ensures, c.live.ensures) at c.output.ensures.at in
-    let says : SaysValue (state_of s) (work_of s) x.0.output (string_bytes c.in_ok-value.value) =
-    subst (λ (cell : ℕ). SaysValue (state_of s) (work_of s) cell (string_bytes c.in_ok-value.value))
+    let says : SaysValue notes (state_of s) (work_of s) x.0.output (string_bytes c.in_ok-value.value) =
+    subst (λ (cell : ℕ). SaysValue notes (state_of s) (work_of s) cell (string_bytes c.in_ok-value.value))
     (outputs x.0 x.1) c.in_ok-value.ensures in
     let written : IfOk c.format.result (λ text. string_bytes text ≡ three_lines (string_bytes c.in_ok-sides.sides)
     (string_bytes c.in_ok-call.call) (string_bytes c.in_ok-value.value)) = c.format.ensures.ok in

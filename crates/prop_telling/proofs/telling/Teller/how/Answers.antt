@@ -19,7 +19,7 @@ returns-in-Ok-read_line g c =
           Ok read,
           subst (λ bytes. IsReading bytes (Ok read)) (c.deref.ensures.value ∙ c.in-Ok.ensures)
               c.in-Ok-read_line.ensures.read,
-          subst (λ name. AnswersTo (library_of g.R.Rule.value_of s) (standing_of s) name (answer_of c.how_asked.result))
+          subst (λ name. AnswersTo c.args.self.now.notes (library_of g.R.Rule.value_of s) (standing_of s) name (answer_of c.how_asked.result))
               c.asked-name.ensures a,
         )
       ];

@@ -51,5 +51,5 @@ returns g c =
     rw (c.worldview.ensures.same, c.search.ensures, c.network-network.ensures, c.live.ensures) at
     c.in_ok-why.ensures.lean in
     IfOk-weaker c.how_text-text.result _ _
-    (λ t e. how_said library (state_of s) (work_of s) cell why.support why.value c.in_ok-made.made (string_bytes t) is
+    (λ t e. how_said c.args.self.now.notes library (state_of s) (work_of s) cell why.support why.value c.in_ok-made.made (string_bytes t) is
     lean told cut e) c.how_text-text.ensures

@@ -19,7 +19,7 @@ returns-in-Ok-clause-tells g c =
     let t = c.step.new.self in
     let e = c.step.ensures in
     let said = said_by string_bytes c.told-text.result (answer_of c.saying.result)
-    (SaysStep (library_of g.R.Rule.value_of t) (state_of t) (work_of t) c.in-Ok.step) c.saying.ensures
+    (SaysStep c.args.self.now.notes (library_of g.R.Rule.value_of t) (state_of t) (work_of t) c.in-Ok.step) c.saying.ensures
     c.told-text.ensures in
     record {
       state = e.state;
@@ -33,7 +33,7 @@ returns-in-Ok-clause-tells g c =
           c.in-Ok.ensures.told,
           x.0,
           subst (λ (P : Type 0). P)
-              (λ i. SaysStep (stored_of g.R.Rule.value_of (e.same i)) (e.state i) (work_of t) c.in-Ok.step x.0) x.1,
+              (λ i. SaysStep c.args.self.now.notes (stored_of g.R.Rule.value_of (e.same i)) (e.state i) (work_of t) c.in-Ok.step x.0) x.1,
           x.2,
         )
       ];
