@@ -59,8 +59,7 @@ impl Signature {
     pub fn is_part_of(self, other: Signature) -> bool
         ensures { IsTrue result ↔ IsPart (remainders self) (remainders other) }
     {
-        let missing = (self.even & !other.even) | (self.odd & !other.odd);
-        missing == 0
+        self.even & !other.even == 0 && self.odd & !other.odd == 0
     }
 
     /// Whether some remainder is one of the other's.
