@@ -14,6 +14,7 @@ from propbench.batch import Batch, as_lines
 from propbench.closing import Closing
 from propbench.conversation import Conversation
 from propbench.finding import find_program
+from propbench.given import seconds_given
 from propbench.grammar import FORMS, RUNNING
 from propbench.known import Known
 from propbench.refusals import Refused, UnknownCommand
@@ -137,13 +138,14 @@ class Session(Closing):
         where a line feed stands within the line.
         """
         text = line if isinstance(line, str) and "\n" not in line else as_line(line)
+        limit = seconds_given(seconds)
         if not self._talk.in_step:
             self._be_ready()
         self._sent += 1
-        if seconds is None and progress is None and text[:4] in _QUESTIONS:
+        if limit is None and progress is None and text[:4] in _QUESTIONS:
             return self._runner.ask(text, self._sent)
-        if seconds is not None or progress is not None or "core" in text:
-            return self._send_watched(text, seconds, progress)
+        if limit is not None or progress is not None or "core" in text:
+            return self._send_watched(text, limit, progress)
         self._runner.tell(text)
         # What the line asks is looked at while the program is at work.
         words = text.split()

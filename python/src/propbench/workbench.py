@@ -18,6 +18,7 @@ from typing import TYPE_CHECKING, TypeVar, overload
 
 from propbench.closing import Closing
 from propbench.finding import find_wide
+from propbench.given import path_given
 from propbench.measuring.bench import Measuring
 from propbench.measuring.quantities import Quantity, coverage_of
 from propbench.measuring.sensitivity import Improvements
@@ -475,7 +476,7 @@ class Workbench(Measuring, Closing):
         """Writes the workbench to a file.
 
         It is a session of the language, whose comments tell what its lines are for."""
-        with open(path, "w", encoding="utf-8") as file:
+        with open(path_given(path), "w", encoding="utf-8") as file:
             file.writelines(f"{line}\n" for line in saved(self._network))
 
     @classmethod
@@ -486,7 +487,7 @@ class Workbench(Measuring, Closing):
 
         Raises NotAWorkbench, a ValueError, where the file is none, or its lines were changed.
         """
-        with open(path, encoding="utf-8") as file:
+        with open(path_given(path), encoding="utf-8") as file:
             lines = file.read().split("\n")
         owner = object()
         events, kicked = read(lines, owner)

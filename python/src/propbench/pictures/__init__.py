@@ -5,6 +5,7 @@ premises, those that are out in grey.
 import os
 from dataclasses import replace
 
+from propbench.given import count_given, path_given
 from propbench.pictures.dot import Look, dot_of
 from propbench.pictures.film import Film
 from propbench.pictures.graphviz import NoGraphviz, svgs_of
@@ -38,7 +39,7 @@ class Picture:
     def save(self, path: str | os.PathLike[str]) -> None:
         """Writes the picture to a file: as DOT where its name ends in `.dot`, else as SVG. Raises
         ValueError for a name that ends as if it were something else, and NoGraphviz."""
-        ending = os.path.splitext(path)[1]
+        ending = os.path.splitext(path_given(path))[1]
         if ending not in (".dot", ".svg", ""):
             raise ValueError(
                 f"a picture is written as .svg or .dot, and not as {printable(ending)}"
@@ -67,12 +68,13 @@ def picture_of(watched: Watched, cell: str | None = None, parts: bool | None = N
 
 def film_of(watched: Watched, steps: int) -> Film:
     """The first so many steps of a run from nothing that change something, or end it."""
+    most = count_given(steps, "the number of steps")
     taken = watched.steps()
     try:
         kept: list[Frame] = []
         for number in range(_MOST_STEPS):
             frames = taken.take(number)
-            if len(frames) <= number or len(kept) > steps:
+            if len(frames) <= number or len(kept) > most:
                 break
             frame = frames[number]
             if not number or frame.changes or frame.nogoods or frame.end:

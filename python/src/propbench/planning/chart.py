@@ -1,10 +1,12 @@
 """A Gantt chart as SVG: a bar for each task, and behind it the room that it has over all plans."""
 
 import os
+from collections.abc import Mapping
 from dataclasses import dataclass
 from html import escape
 from typing import TYPE_CHECKING
 
+from propbench.given import path_given
 from propbench.questions.bounding import LEAST, GREATEST, Bounding
 from propbench.questions.clock import Clock
 from propbench.questions.critical import NothingFits
@@ -31,7 +33,7 @@ class Chart:
 
     def save(self, path: str | os.PathLike[str]) -> None:
         """Writes the chart to a file."""
-        with open(path, "w", encoding="utf-8") as file:
+        with open(path_given(path), "w", encoding="utf-8") as file:
             file.write(f"{self.svg}\n")
 
 
@@ -40,6 +42,8 @@ def chart_of(project: "Project", plan: Plan | None, has_rooms: bool) -> Chart:
     shown = plan if plan is not None else project.workbench.least(project.end).plan
     if shown is None:
         raise NothingFits("there is no plan to be drawn")
+    if not isinstance(shown, Mapping):
+        raise TypeError(f"{shown!r} is no plan, as `w.least(p.end).plan` is one")
     rooms = rooms_of(project) if has_rooms else {}
     width, height = _NAMES + project.days * _DAY + 24, _HEAD + len(project.tasks) * _ROW + 10
     parts = "\n".join(

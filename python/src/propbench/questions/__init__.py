@@ -9,6 +9,7 @@ from concurrent.futures import Executor
 from contextlib import contextmanager
 from typing import TypeVar
 
+from propbench.given import count_given
 from propbench.questions.asking import CellLike, Interrupted, NoSuchName
 from propbench.questions.bench import Bench
 from propbench.questions.bounding import GREATEST, LEAST, Optimum, find_optimum
@@ -60,7 +61,7 @@ class Questions:
         Those that are to `keep` are taken as given, and stand in no conflict. The list is empty
         where everything fits. A conflict without any premise says that what always holds can't.
         """
-        return find_conflicts(self.model, keep, most, seconds, progress)
+        return find_conflicts(self.model, keep, count_given(most, "most"), seconds, progress)
 
     def repairs(
         self,
@@ -76,7 +77,9 @@ class Questions:
         `weight` says what it costs to give up a premise, 1 where it says nothing of it. Those that
         are to `keep` are not given up.
         """
-        return find_repairs(self.model, weight or {}, keep, most, seconds, progress)
+        at_most = count_given(most, "most")
+        given = {} if weight is None else weight
+        return find_repairs(self.model, given, keep, at_most, seconds, progress)
 
     def least(
         self,
@@ -108,7 +111,7 @@ class Questions:
     ) -> Plans:
         """All plans over the cells that are shown (all but those for symbols where none are named),
         each once, `most` of them at the most."""
-        return find_plans(self.model, show, most, seconds, progress)
+        return find_plans(self.model, show, count_given(most, "most"), seconds, progress)
 
     def slack(
         self,

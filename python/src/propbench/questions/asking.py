@@ -84,7 +84,10 @@ def whole_named(model: Model, cell: CellLike) -> str:
 
 
 def several(given: str | Iterable[str]) -> tuple[str, ...]:
-    """Names that are given one by one; a text is the one name."""
+    """Names that are given one by one; a text is the one name. Raises TypeError for what is
+    neither."""
+    if not isinstance(given, Iterable):
+        raise TypeError(f"names are a text, or a list of texts: {given!r}")
     return (given,) if isinstance(given, str) else tuple(given)
 
 

@@ -7,6 +7,7 @@ from collections.abc import Iterable, Mapping, Sequence
 from dataclasses import dataclass, field
 
 from propbench.finding import find_wide
+from propbench.given import path_given
 from propbench.questions import checker
 from propbench.questions.checker import CertificateError
 from propbench.questions.model import Model
@@ -46,7 +47,7 @@ class Certificate:
 
     def save(self, path: str | os.PathLike[str]) -> None:
         """Writes the certificate into a file, for `propdesk check`. Raises OSError."""
-        with open(path, "w", encoding="utf-8", newline="\n") as file:
+        with open(path_given(path), "w", encoding="utf-8", newline="\n") as file:
             file.writelines(f"{line}\n" for line in self.lines)
 
 

@@ -4,6 +4,8 @@ import sys
 import time
 from collections.abc import Callable
 
+from propbench.given import seconds_given
+
 # What is told of a question that goes on: a line of text.
 Progress = Callable[[str], None]
 
@@ -15,12 +17,11 @@ class Clock:
     """The time that a question has."""
 
     def __init__(self, seconds: float | None, progress: Progress | None) -> None:
-        """So many seconds from now, without an end where that is None. Raises ValueError for less
-        than nothing."""
-        if seconds is not None and not seconds >= 0:
-            raise ValueError(f"a question can't take {seconds} seconds")
+        """So many seconds from now, without an end where that is None. Raises as
+        `seconds_given`."""
+        given = seconds_given(seconds)
         self._began = time.monotonic()
-        self._until = None if seconds is None else self._began + seconds
+        self._until = None if given is None else self._began + given
         self._progress = progress or _shown_by
         self._is_asked_for = progress is not None
         self._next = self._began + _FIRST

@@ -2,6 +2,7 @@
 
 from collections.abc import Callable, Iterable, Iterator, Mapping, Sequence
 from dataclasses import dataclass
+from numbers import Real
 
 from propbench.questions.asking import Result, premises_named, tried
 from propbench.questions.certificate import Certificate, Evidence
@@ -163,16 +164,24 @@ def find_repairs(
 ) -> Repairs:
     """The least sets of believed premises without which the others have a plan, by their cost;
     nothing is given up of what is kept."""
-    premises_named(model, weight)
-    for premise, value in weight.items():
-        if not value >= 0:
-            raise ValueError(f"the weight of {premise} is less than nothing: {value}")
+    _check_weight(model, weight)
     return _searched(
         model,
         _explore(model, weight, keep, Clock(seconds, progress)),
         lambda explored: len(explored.repairs) < most,
         lambda explored: _repairs(explored, weight, most),
     )
+
+
+def _check_weight(model: Model, weight: Mapping[str, float]) -> None:
+    if not isinstance(weight, Mapping):
+        raise TypeError(f"the weight is a dict of premises and numbers: {weight!r} is none")
+    premises_named(model, weight)
+    for premise, value in weight.items():
+        if isinstance(value, bool) or not isinstance(value, Real):
+            raise TypeError(f"the weight of {premise} is no number: {value!r}")
+        if not value >= 0:
+            raise ValueError(f"the weight of {premise} is less than nothing: {value}")
 
 
 def _conflicts(explored: Exploring, texts: Mapping[str, str], most: int) -> Conflicts:

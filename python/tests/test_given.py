@@ -1,0 +1,59 @@
+"""Times, counts, weights, names and paths that are none: each is told in the caller's words."""
+
+from collections.abc import Callable
+
+import pytest
+
+from propbench import Workbench
+from propbench.planning import Project
+
+
+@pytest.fixture
+def bench(program: str) -> Workbench:
+    w = Workbench(program)
+    x = w.number("x", 0, 9)
+    w.tell("Ana", x, 2, 5)
+    return w
+
+
+WRONG: list[tuple[str, Callable[[Workbench], object], type[Exception], str]] = [
+    ("an answer's seconds", lambda w: w.cell("x").ask(seconds="1"), TypeError, "seconds=10: '1'"),
+    ("seconds as a text", lambda w: w.least("x", seconds="10"), TypeError, "seconds=10: '10'"),
+    ("less than no time", lambda w: w.conflicts(seconds=-1), ValueError, "can't take -1 seconds"),
+    ("no number of seconds", lambda w: w.plans(seconds=float("nan")), ValueError, "nan seconds"),
+    ("most as a text", lambda w: w.conflicts(most="3"), TypeError, "whole number: '3'"),
+    ("most below nothing", lambda w: w.plans(most=-1), ValueError, "from 0: -1"),
+    (
+        "a weight as a text",
+        lambda w: w.repairs({"Ana": "5"}),
+        TypeError,
+        "of Ana is no number: '5'",
+    ),
+    ("weights as a list", lambda w: w.repairs(["Ana"]), TypeError, r"\['Ana'\] is none"),
+    ("keep as a number", lambda w: w.conflicts(keep=3), TypeError, "or a list of texts: 3"),
+    ("kick as a number", lambda w: w.scenarios({"a": {"kick": 3}}, ["x"]), TypeError, "texts: 3"),
+    ("a film of fewer than none", lambda w: w.film(-1), ValueError, "steps is .* from 0: -1"),
+    ("a film of a text", lambda w: w.film("a"), TypeError, "steps is a whole number: 'a'"),
+    ("a port as a text", lambda w: w.serve(port="a"), TypeError, "port is a whole number: 'a'"),
+    ("a file as a number", lambda w: w.save(3), TypeError, "named by a text: 3"),
+    ("to load a number", lambda w: Workbench.load(3), TypeError, "named by a text: 3"),
+    ("a picture's file", lambda w: w.picture().save(3), TypeError, "named by a text: 3"),
+    ("a plan as a number", lambda w: _planned(w).chart(3), TypeError, "3 is no plan"),
+]
+
+
+def _planned(w: Workbench) -> Project:
+    plan = w.plan(days=9)
+    plan.task("a", 2)
+    return plan
+
+
+@pytest.mark.parametrize(
+    "call, kind, says", [each[1:] for each in WRONG], ids=[e[0] for e in WRONG]
+)
+def test_what_is_given_wrongly(
+    bench: Workbench, call: Callable[[Workbench], object], kind: type[Exception], says: str
+) -> None:
+    with pytest.raises(kind, match=says):
+        call(bench)
+    assert str(bench.cell("x").ask()) == "x = 2..5 because of Ana"
