@@ -11,20 +11,32 @@ use std::alloc::{AllocError, Global};
 use std::marker::Model;
 use std::rc::Rc;
 
-/// A set of premises that can't all be believed, with how many they are. It stands in memory once,
-/// in however many lists it is.
+/// A set of premises that can't all be believed, and how many they are.
+#[derive(Drop)]
+struct Nogood {
+    size: u32,
+    premises: PremiseSet,
+}
+
+impl Model for Nogood {
+    ghost Value = { List ℕ };
+
+    ghost view = { λ n. n.premises };
+
+    ghost invariant = { λ n. n.size ≡ length n.premises };
+}
+
+/// A set of premises that can't all be believed, with how many they are. Both stand in memory once,
+/// in however many lists it is, and a list has a pointer to them alone.
 #[derive(Drop)]
 pub(crate) struct Counted {
-    size: u32,
-    premises: Rc<PremiseSet, Global>,
+    nogood: Rc<Nogood, Global>,
 }
 
 impl Model for Counted {
     ghost Value = { List ℕ };
 
-    ghost view = { λ c. c.premises.value };
-
-    ghost invariant = { λ c. c.size ≡ length c.premises.value };
+    ghost view = { λ c. c.nogood.value };
 }
 
 impl Counted {
@@ -36,8 +48,8 @@ impl Counted {
         for _ in premises.iter() {
             size += 1;
         }
-        let premises = Rc::new(alloc, premises)?;
-        Ok(Counted { size, premises })
+        let nogood = Rc::new(alloc, Nogood { size, premises })?;
+        Ok(Counted { nogood })
     }
 
     /// How many premises the set has.
@@ -45,16 +57,15 @@ impl Counted {
     pub(crate) fn size(&self) -> usize
         ensures { result ≡ length self.now }
     {
-        self.size as usize
+        self.nogood.size as usize
     }
 
     /// The same set for one list more.
     pub(crate) fn again(&self) -> Result<Counted, AllocError>
         ensures { IfOk result (λ c. c ≡ self.now) }
     {
-        let premises = self.premises.clone()?;
-        let size = self.size;
-        Ok(Counted { size, premises })
+        let nogood = self.nogood.clone()?;
+        Ok(Counted { nogood })
     }
 
     /// The set itself.
@@ -62,7 +73,7 @@ impl Counted {
     pub(crate) fn premises(&self) -> &PremiseSet
         ensures { result.now ≡ self.now }
     {
-        &self.premises
+        &self.nogood.premises
     }
 }
 
