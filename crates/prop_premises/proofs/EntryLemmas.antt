@@ -1,7 +1,7 @@
 -- The entry of the table that has a number: what it tells of the premise, and what a write or a cut there does.
 use Rattle.std.proofs.Common.{◌≡◌, ℕ, zero, suc, ◌+◌, ◌-◌, ◌<◌, ◌≤◌, Bool, true, false, List, [], ◌∷◌, ◌++◌, length}
 use Rattle.std.proofs.Common.{take, replicate, refl, sym, ap, subst, ◌∙◌, arith, ◌==◌, slice_get, get_or, length-append}
-use Rattle.std.proofs.Common.{Some, None, IsTrue, String, string_bytes}
+use Rattle.std.proofs.Common.{Some, None, Option, IsTrue, IfSome, String, string_bytes}
 use Rattle.std.specs.Prelude.{slice_index_or}
 use Rattle.std.specs.Option.{option_map, option_map_or}
 use Rattle.std.specs.Map.{lookup, keys_of}
@@ -301,6 +301,12 @@ pub number_is_user : (os : List Origin) (name : List ℕ) (p : ℕ) → premise_
     → IsTrue (is_user_at os p)
 number_is_user os name p e = let x =
     position-Some (is_user_called name) os p (User [] true) e in called_user os p name (User [] true) x.0 x.1
+
+-- what is found for a name
+pub found_is_user : (os : List Origin) (name : List ℕ) (found : Option ℕ) → found ≡ premise_number os name
+    → IfSome found (λ p. IsTrue (is_user_at os p))
+found_is_user os name None e = tt
+found_is_user os name (Some p) e = number_is_user os name p (sym e)
 
 -- the entry at the place that is read for a number
 pub told_at : {A : Type 0} (es : List (String A × Named)) (items : List ℕ) (p q k : ℕ) (e : String A × Named)

@@ -7,8 +7,7 @@
 //!
 //! A name is numbered when it first appears and keeps its number. A choice's sides, two to eight,
 //! have the next numbers in a row, and are no premises of the user's. `kick` and `bring` change one
-//! belief of the user's and nothing else. A refusal is the one that applies, and changes nothing
-//! (`Premises`).
+//! belief of the user's and nothing else. Want of memory changes nothing (`Premises`).
 #![tactic(auto)]
 
 pub mod choice;

@@ -111,8 +111,8 @@ impl PremiseSet {
         self.numbers.signature()
     }
 
-    /// Whether some premise of the set has a number that leaves one of these remainders. It takes no
-    /// memory.
+    /// Whether some premise of the set has a number that leaves one of these remainders. It takes
+    /// no memory.
     #[inline]
     pub fn meets(&self, change: Signature) -> bool
         ensures { result ≡ false → (p : ℕ) → IsTrue (set_of self.now p)

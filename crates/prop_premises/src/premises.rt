@@ -1,10 +1,10 @@
 //! The names of premises and choices, and which premises are believed.
 ghost use Rattle.std.specs.Prelude.{◌≡◌, ◌≤◌, ◌<◌, ◌+◌, ◌*◌, ◌↔◌, ◌⊎◌, ℕ, List, [], ◌∷◌, ◌++◌};
-ghost use Rattle.std.specs.Prelude.{length, take, Some, None, Ok, Err, true, false, unwrap_or};
+ghost use Rattle.std.specs.Prelude.{length, take, Some, None, Ok, Err, true, false};
 ghost use Rattle.std.specs.Prelude.{slice_get, option_map, IsTrue, IfOk, IfErr, OnOk, OnErr};
 ghost use Rattle.std.specs.Prelude.{MatchResult};
 ghost use Rattle.prop_refusals.specs.Refusals.{most};
-ghost use Rattle.prop_numbers.specs.Sets.{Members, set_of, union, without, IsSame};
+ghost use Rattle.prop_numbers.specs.Sets.{set_of, union, without, IsSame};
 ghost use Rattle.prop_numbers.specs.Words.{has_bit};
 ghost use Rattle.prop_premises.specs.Origins.{Origin, name_of, is_user_at, premise_number};
 ghost use Rattle.prop_premises.specs.Origins.{is_choice, believed_in, with_belief_at, with_name};
@@ -23,9 +23,6 @@ use prop_numbers::{NumberSet, Words};
 use prop_refusals::{Limit, Refusal};
 use std::alloc::{AllocError, Global};
 use std::marker::Model;
-
-/// How many numbers of premises there can be.
-const MOST: usize = 4_096;
 
 /// The premises and choices by name, and which premises are believed.
 ///
@@ -86,44 +83,16 @@ impl Premises {
         self.table.len() == 0
     }
 
-    /// The premise with this name. A name that appears for the first time gets the next number, and
-    /// is believed.
-    ///
-    /// `IsAChoice` where a choice has the name. There can be 4,096 numbers: one more is
-    /// `LimitReached`. Want of memory is `Memory`. After each of these nothing has changed.
-    pub fn intern(&mut self, name: &str) -> Result<Premise, Refusal>
-        ensures number { IfOk result
-            (λ p. p ≡ unwrap_or (premise_number self.old name.now) (length self.old)) }
-        ensures ok { OnOk result (self.new ≡ with_name self.old name.now) }
-        ensures user { IfOk result (λ p. IsTrue (is_user_at self.new p)) }
-        ensures err { OnErr result (self.new ≡ self.old) }
-        ensures choice { (result ≡ Err Refusal.IsAChoice) ↔ IsTrue (is_choice self.old name.now) }
-        ensures full { (result ≡ Err (Refusal.LimitReached Limit.Premises))
-            ↔ ((premise_number self.old name.now ≡ None) × (is_choice self.old name.now ≡ false)
-            × (most Limit.Premises ≤ length self.old)) }
-        ensures why { IfErr result (λ e. (premise_number self.old name.now ≡ None)
-            × ((e ≡ Refusal.IsAChoice) ⊎ (e ≡ Refusal.LimitReached Limit.Premises)
-            ⊎ (e ≡ Refusal.Memory))) }
-    {
-        match self.find(name) {
-            Err(Refusal::NoSuchPremise) if self.table.len() == MOST => {
-                Err(Refusal::LimitReached(Limit::Premises))
-            },
-            Err(Refusal::NoSuchPremise) => self.add(name),
-            known => known,
-        }
-    }
-
-    /// Adds a new name, which is believed.
-    fn add(&mut self, name: &str) -> Result<Premise, Refusal>
+    /// Adds a premise with a new name, where there is room: it gets the next number, and is
+    /// believed. After want of memory nothing has changed.
+    pub fn add(&mut self, name: &str) -> Result<Premise, AllocError>
         requires new { premise_number self.old name.now ≡ None }
         requires free { is_choice self.old name.now ≡ false }
-        requires room { length self.old < 4_096 }
+        requires room { length self.old < most Limit.Premises }
         ensures number { IfOk result (λ p. p ≡ length self.old) }
         ensures ok { OnOk result (self.new ≡ with_name self.old name.now) }
         ensures user { IfOk result (λ p. IsTrue (is_user_at self.new p)) }
         ensures err { OnErr result (self.new ≡ self.old) }
-        ensures why { IfErr result (λ e. e ≡ Refusal.Memory) }
     {
         let number = self.table.len() as Premise;
         self.table.add(name, Kind::User(true))?;
@@ -141,58 +110,23 @@ impl Premises {
             ↔ ((premise_number self.now name.now ≡ None) × (is_choice self.now name.now ≡ false)) }
         ensures why { IfErr result (λ e. (e ≡ Refusal.IsAChoice) ⊎ (e ≡ Refusal.NoSuchPremise)) }
     {
-        match self.table.number_of(name) {
-            Some(premise) => Ok(premise),
-            None if self.table.has_choice(name) => Err(Refusal::IsAChoice),
+        match self.table.look_up(name) {
             None => Err(Refusal::NoSuchPremise),
+            Some(named) => match named.kind {
+                Kind::User(_) => Ok(named.first),
+                Kind::Choice(_) => Err(Refusal::IsAChoice),
+            },
         }
     }
 
-    /// Whether a choice has this name. It takes no memory.
-    pub fn is_choice(&self, name: &str) -> bool
-        ensures { result ≡ is_choice self.now name.now }
-    {
-        self.table.has_choice(name)
-    }
-
-    /// A new choice with this name. Its sides get the next numbers.
-    ///
-    /// `NameTaken` where a premise or a choice has the name. There can be 4,096 numbers: more are
-    /// `LimitReached`. Want of memory is `Memory`. After each of these nothing has changed.
-    pub fn hypothetical(&mut self, name: &str, sides: u8) -> Result<Choice, Refusal>
-        requires least { 2 ≤ sides }
-        requires most { sides ≤ 8 }
-        ensures choice { IfOk result (λ c. (c.first ≡ length self.old) × (c.sides ≡ sides)) }
-        ensures ok { OnOk result (self.new ≡ with_choice self.old name.now sides) }
-        ensures choices { IfOk result (λ c. choices_of self.new ≡ choices_of self.old ++ c ∷ []) }
-        ensures err { OnErr result (self.new ≡ self.old) }
-        ensures free { OnOk result ((premise_number self.old name.now ≡ None)
-            × (is_choice self.old name.now ≡ false)) }
-        ensures taken { (result ≡ Err Refusal.NameTaken)
-            ↔ (((p : ℕ) × (premise_number self.old name.now ≡ Some p))
-            ⊎ IsTrue (is_choice self.old name.now)) }
-        ensures full { (result ≡ Err (Refusal.LimitReached Limit.Premises))
-            ↔ ((premise_number self.old name.now ≡ None) × (is_choice self.old name.now ≡ false)
-            × (most Limit.Premises < length self.old + sides)) }
-        ensures why { IfErr result (λ e. (e ≡ Refusal.NameTaken)
-            ⊎ (e ≡ Refusal.LimitReached Limit.Premises) ⊎ (e ≡ Refusal.Memory)) }
-    {
-        if !matches!(self.find(name), Err(Refusal::NoSuchPremise)) {
-            return Err(Refusal::NameTaken);
-        }
-        if self.table.len() + usize::from(sides) > MOST {
-            return Err(Refusal::LimitReached(Limit::Premises));
-        }
-        Ok(self.add_choice(name, sides)?)
-    }
-
-    /// Adds a choice with a new name.
-    fn add_choice(&mut self, name: &str, sides: u8) -> Result<Choice, AllocError>
+    /// Adds a choice with a new name, where there is room. Its sides get the next numbers. After
+    /// want of memory nothing has changed.
+    pub fn add_choice(&mut self, name: &str, sides: u8) -> Result<Choice, AllocError>
         requires new { premise_number self.old name.now ≡ None }
         requires free { is_choice self.old name.now ≡ false }
         requires least { 2 ≤ sides }
         requires most { sides ≤ 8 }
-        requires room { length self.old + sides ≤ 4_096 }
+        requires room { length self.old + sides ≤ most Limit.Premises }
         ensures choice { IfOk result (λ c. (c.first ≡ length self.old) × (c.sides ≡ sides)) }
         ensures ok { OnOk result (self.new ≡ with_choice self.old name.now sides) }
         ensures choices { IfOk result (λ c. choices_of self.new ≡ choices_of self.old ++ c ∷ []) }

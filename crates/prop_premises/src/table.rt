@@ -1,9 +1,11 @@
 //! The names of premises and choices, each with its numbers.
 ghost use Rattle.std.specs.Prelude.{◌≡◌, ◌≤◌, ◌<◌, ◌+◌, ◌*◌, ◌++◌, ℕ, List, [], Some, length, take};
-ghost use Rattle.std.specs.Prelude.{replicate, None, true, false, is_some, slice_get, option_map};
+ghost use Rattle.std.specs.Prelude.{replicate, None, true, false, slice_get, option_map};
 ghost use Rattle.std.specs.Prelude.{IsTrue, IsOk, IfSome, OnOk, OnErr};
 ghost use Rattle.std.specs.HashMap.{IsUnique};
 ghost use Rattle.std.specs.String.{string_eq};
+ghost use Rattle.prop_refusals.specs.Refusals.{most};
+ghost use Rattle.prop_refusals.specs.declared.refusal.Limit.TheVariants.{Premises};
 ghost use Rattle.prop_numbers.specs.Sets.{union, IsSame};
 ghost use Rattle.prop_numbers.specs.Words.{has_bit};
 ghost use Rattle.prop_premises.specs.Origins.{Origin, premise_number, is_choice, is_user_at};
@@ -21,7 +23,7 @@ use prop_numbers::bits::set_bit;
 use std::alloc::{AllocError, Global};
 use std::marker::Model;
 
-/// The names by number and the numbers by name, at most 4,096 numbers.
+/// The names by number and the numbers by name, no more numbers than there can be.
 #[derive(Drop)]
 pub(crate) struct Table {
     /// The names in the order in which they first appeared.
@@ -35,8 +37,8 @@ impl Model for Table {
 
     ghost view = { λ t. origins_of t.names.entries };
 
-    ghost invariant = { λ t. (length t.places.items ≤ 4_096) × AreNumberedFrom 0 t.names.entries
-        × (t.places.items ≡ places_from 0 t.names.entries) };
+    ghost invariant = { λ t. (length t.places.items ≤ most Premises)
+        × AreNumberedFrom 0 t.names.entries × (t.places.items ≡ places_from 0 t.names.entries) };
 }
 
 /// What the name stands for, `None` where it is new.
@@ -92,34 +94,20 @@ impl Table {
     /// How many numbers there are.
     pub(crate) fn len(&self) -> usize
         ensures len { result ≡ length self.now }
-        ensures bound { result ≤ 4_096 }
+        ensures bound { result ≤ most Premises }
         ensures below { (p : ℕ) → IsTrue (is_hypothetical (choices_of self.now) p)
             → p < length self.now }
     {
         self.places.len()
     }
 
-    /// The number of the user's premise with this name.
-    pub(crate) fn number_of(&self, name: &str) -> Option<Premise>
-        ensures number { result ≡ premise_number self.now name.now }
-        ensures user { IfSome result (λ p. IsTrue (is_user_at self.now p)) }
-        ensures apart { IsTrue (is_some result) → is_choice self.now name.now ≡ false }
+    /// What the name stands for, `None` where it is new.
+    pub(crate) fn look_up(&self, name: &str) -> Option<Named>
+        ensures number { number_of result ≡ premise_number self.now name.now }
+        ensures choice { is_choices result ≡ is_choice self.now name.now }
+        ensures user { IfSome (number_of result) (λ p. IsTrue (is_user_at self.now p)) }
     {
-        let named = look_up(&self.names, name)?;
-        match named.kind {
-            Kind::User(_) => Some(named.first),
-            Kind::Choice(_) => None,
-        }
-    }
-
-    /// Whether a choice has this name.
-    pub(crate) fn has_choice(&self, name: &str) -> bool
-        ensures { result ≡ is_choice self.now name.now }
-    {
-        match look_up(&self.names, name) {
-            Some(named) => matches!(named.kind, Kind::Choice(_)),
-            None => false,
-        }
+        look_up(&self.names, name)
     }
 
     /// Where the premise with this number comes from.
@@ -157,7 +145,7 @@ impl Table {
         requires user { premise_number self.old name.now ≡ None }
         requires choice { is_choice self.old name.now ≡ false }
         requires kind { IsKind kind }
-        requires room { length self.old + width kind ≤ 4_096 }
+        requires room { length self.old + width kind ≤ most Premises }
         ensures ok { OnOk result (self.new ≡ self.old ++ origins_of_kind name.now kind) }
         ensures err { OnErr result (self.new ≡ self.old) }
     {
