@@ -8,3 +8,4 @@ pub mod OneLemmas
 pub mod WithinLemmas
 pub mod SignatureLemmas
 pub mod ApartLemmas
+pub mod ChangeLemmas

@@ -1,15 +1,14 @@
 -- The remainders that the numbers of a set leave, as bits of two words.
 use Rattle.std.proofs.Common.{◌≡◌, ◌≢◌, ℕ, ◌+◌, ◌-◌, ◌*◌, ◌/◌, ◌%◌, ◌<◌, ◌≤◌, ◌^◌, Bool, true, false, ◌||◌, ◌&&◌}
 use Rattle.std.proofs.Common.{◌==◌, List, [], ◌∷◌, length, get_or, refl, sym, ap, subst, ◌∙◌, arith, inl, inr, ◌⊎◌}
-use Rattle.std.proofs.Common.{bit_or, bit_and, bit_xor, nat_lt}
+use Rattle.std.proofs.Common.{bit_or, bit_and}
 use Rattle.std.specs.Int.{bit_not, w64}
 use Rattle.std.proofs.lemmas.Bool.{cases_eq, cases_lt}
 use Rattle.std.proofs.lemmas.Bool.Decides.{nat_tests, eqb_tells}
-use Rattle.prop_numbers.specs.Sets.{Members, set_of, is_within, IsPart, IsBelow}
+use Rattle.prop_numbers.specs.Sets.{Members, set_of, is_within, IsPart}
 use Rattle.prop_numbers.specs.Words.{is_set, has_bit, numbers_from}
-use Rattle.prop_numbers.specs.Signatures.{AreRemainders, CoversChange}
-use Rattle.prop_numbers.proofs.BitLemmas.{is_set-zero, is_set-or, is_set-part, is_set-apart, is_set-ones}
-use Rattle.prop_numbers.proofs.BitLemmas.{other_out, is_set-xor}
+use Rattle.prop_numbers.specs.Signatures.{AreRemainders}
+use Rattle.prop_numbers.proofs.BitLemmas.{is_set-zero, is_set-or, is_set-part, is_set-apart}
 use Rattle.prop_numbers.proofs.OneLemmas.{one_in, one_at}
 use Rattle.prop_numbers.proofs.PlaceLemmas.{from_in, own_bit}
 use Rattle.prop_numbers.proofs.WithinLemmas.{within_has}
@@ -250,75 +249,3 @@ no_part t s rs others own its apart = by (is_within t s) refl
         let from = own.only i h in
         subst (λ j. others j ≡ true) from.2 (its.has from.0 (within_has t s from.0 w from.1)))))
     by false w = w
-
--- ---- remainders of both
-
--- two words with all bits leave all
-pub all_left : (e o : ℕ) → e ≡ 2 ^ 64 - 1 → o ≡ 2 ^ 64 - 1 → (i : ℕ) → i < 128 → has_bit (e ∷ o ∷ []) i ≡ true
-all_left e o e_all o_all i l = elim (cases_eq (i / 64) 0) [
-  | inl even ↦ first_of e o i even ∙ ap (λ w. is_set w (i % 64)) e_all ∙ on
-  | inr other ↦ (
-      let odd : i / 64 ≡ 1 = omega (arith, other, l) in
-      second_of e o i odd ∙ ap (λ w. is_set w (i % 64)) o_all ∙ on)
-]
-  where
-    low : nat_lt (i % 64) 64 ≡ true
-    low = (let small : i % 64 < 64 = omega arith in grind (arith, nat_tests))
-
-    on : is_set (2 ^ 64 - 1) (i % 64) ≡ true
-    on = is_set-ones 64 (i % 64) ∙ low
-
--- where neither word has a bit in common with another's, no remainder is one of both
-pub none_common : (e o f g : ℕ) → bit_and e f ≡ 0 → bit_and o g ≡ 0 → (i : ℕ) → has_bit (e ∷ o ∷ []) i ≡ true
-    → has_bit (f ∷ g ∷ []) i ≡ false
-none_common e o f g even odd i h = elim (cases_eq (i / 64) 0) [
-  | inl here ↦ first_of f g i here ∙ other_out e f (i % 64) even (sym (first_of e o i here) ∙ h)
-  | inr other ↦ elim (cases_eq (i / 64) 1) [
-    | inl here ↦ second_of f g i here ∙ other_out o g (i % 64) odd (sym (second_of e o i here) ∙ h)
-    | inr past ↦ past_both f g i (omega (arith, other, past))
-  ]
-]
-
--- ---- what two sets below 128 don't have in common
-
-out_of : (s : Members) → IsBelow 128 s → (p : ℕ) → 128 ≤ p → s p ≡ false
-out_of s low p high = by (s p) refl
-  where
-    by : (b : Bool) → s p ≡ b → b ≡ false
-    by true t = absurd (omega (arith, low p t, high))
-    by false t = refl
-
-module _ (s t none one two : Members) (a b c d : ℕ)
-    (a_is : (i : ℕ) → i < 64 → is_set a i ≡ s (64 * 0 + i)) (b_is : (i : ℕ) → i < 64 → is_set b i ≡ t (64 * 0 + i))
-    (c_is : (i : ℕ) → i < 64 → is_set c i ≡ s (64 * 1 + i)) (d_is : (i : ℕ) → i < 64 → is_set d i ≡ t (64 * 1 + i))
-    (one_is : (i : ℕ) → one i ≡ (none i || ((i / 64 == 0 % 2) && is_set (bit_xor a b) (i % 64))))
-    (two_is : (i : ℕ) → two i ≡ (one i || ((i / 64 == 1 % 2) && is_set (bit_xor c d) (i % 64)))) where
-  -- a word of each at a place tells of a number whether it is in both
-  apart_there : (k v w p : ℕ) → ((i : ℕ) → i < 64 → is_set v i ≡ s (64 * k + i))
-      → ((i : ℕ) → i < 64 → is_set w i ≡ t (64 * k + i)) → p / 64 ≡ k → ¬ (s p ≡ t p) → (j : ℕ) → j ≡ p
-      → is_set (bit_xor v w) (j % 64) ≡ true
-  apart_there k v w p v_is w_is here apart j at =
-      is_set-xor v w (j % 64) (λ same. (
-      let is : p ≡ 64 * k + j % 64 = omega (arith, here, at) in
-      apart (ap s is ∙ sym (v_is (j % 64) (omega arith)) ∙ same ∙ w_is (j % 64) (omega arith) ∙ ap t (sym is))))
-
-  pub change_covered : IsBelow 128 s → IsBelow 128 t → CoversChange s t two
-  change_covered s_low t_low p apart = elim (cases_lt p 128) [
-    | inl l ↦ (
-        let at : p % 128 ≡ p = omega (arith, l) in
-        elim (cases_eq (p / 64) 0) [
-          | inl here ↦ (
-              let test : p % 128 / 64 ≡ 0 % 2 = omega (arith, here, at) in
-              two_is (p % 128) ∙ or_first (one (p % 128)) _
-              (one_is (p % 128) ∙ or_last (none (p % 128)) _
-              (ap (λ x. x && is_set (bit_xor a b) (p % 128 % 64)) (same_test (p % 128 / 64) (0 % 2) test)
-              ∙ apart_there 0 a b p a_is b_is here apart (p % 128) at)))
-          | inr other ↦ (
-              let here : p / 64 ≡ 1 = omega (arith, other, l) in
-              let test : p % 128 / 64 ≡ 1 % 2 = omega (arith, here, at) in
-              two_is (p % 128) ∙ or_last (one (p % 128)) _
-              (ap (λ x. x && is_set (bit_xor c d) (p % 128 % 64)) (same_test (p % 128 / 64) (1 % 2) test)
-              ∙ apart_there 1 c d p c_is d_is here apart (p % 128) at))
-        ])
-    | inr high ↦ absurd (apart (out_of s s_low p high ∙ sym (out_of t t_low p high)))
-  ]

@@ -1,4 +1,5 @@
 pub mod Sets
 pub mod Signatures
+pub mod Changes
 pub mod Words
 pub mod inner

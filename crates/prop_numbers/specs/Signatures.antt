@@ -1,5 +1,5 @@
 -- The remainders that the numbers of a set leave.
-use Rattle.std.specs.Prelude.{◌≡◌, ◌≢◌, ℕ, ◌%◌, [], ◌∷◌, IsTrue}
+use Rattle.std.specs.Prelude.{◌≡◌, ℕ, ◌%◌, [], ◌∷◌, IsTrue}
 use Rattle.prop_numbers.specs.Sets.{Members}
 use Rattle.prop_numbers.specs.Words.{has_bit}
 use Rattle.prop_numbers.specs.declared.signature.Signature.{Signature}
@@ -12,7 +12,3 @@ remainders s = has_bit (s.even ∷ s.odd ∷ [])
 pub record AreRemainders (set rs : Members) : Type 0 where
   pub has : (p : ℕ) → IsTrue (set p) → IsTrue (rs (p % 128))
   pub only : (i : ℕ) → IsTrue (rs i) → (p : ℕ) × IsTrue (set p) × (p % 128 ≡ i)
-
--- each number that is in just one of the two sets leaves one of the remainders
-abbrev pub CoversChange : Members → Members → Members → Type 0
-CoversChange s t rs = (p : ℕ) → s p ≢ t p → IsTrue (rs (p % 128))

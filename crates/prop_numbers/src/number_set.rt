@@ -1,14 +1,17 @@
 //! Sets of numbers, of which those of one word stand in the value itself.
-ghost use Rattle.std.specs.Prelude.{◌≡◌, ◌↔◌, ◌<◌, ◌≤◌, ◌+◌, ◌*◌, ℕ, [], ◌∷◌, ◌++◌, length, nat_lt};
-ghost use Rattle.std.specs.Prelude.{◌≢◌, ◌%◌, false, filter, IsTrue, IsOk, IfOk, OnOk, OnErr};
+ghost use Rattle.std.specs.Prelude.{◌≡◌, ◌↔◌, ◌<◌, ◌≤◌, ◌+◌, ◌*◌, ◌/◌, ℕ, [], ◌∷◌, ◌++◌, length};
+ghost use Rattle.std.specs.Prelude.{◌≢◌, false, nat_lt, filter, IsTrue, None};
+ghost use Rattle.std.specs.Prelude.{IfSome, IsOk, IfOk, OnOk, OnErr};
 ghost use Rattle.std.specs.List.Sorted.{IsStrictlyIncreasing};
 ghost use Rattle.prop_numbers.specs.Sets.{set_of, union, without, is_within, is_below};
-ghost use Rattle.prop_numbers.specs.Sets.{is_at_most_one_of, IsSame, IsBelow};
-ghost use Rattle.prop_numbers.specs.Signatures.{remainders, AreRemainders, CoversChange};
+ghost use Rattle.prop_numbers.specs.Sets.{is_alike, is_at_most_one_of, IsSame, IsBelow};
+ghost use Rattle.prop_numbers.specs.Changes.{may_change, CoversChange};
+ghost use Rattle.prop_numbers.specs.Signatures.{remainders, AreRemainders};
 ghost use Rattle.prop_numbers.specs.Words.{is_set};
 ghost use Rattle.prop_numbers.specs.inner.NumberSets.{numbers_in};
 
 use crate::bits::{bit_of, place_of};
+use crate::change::Change;
 use crate::numbers::Numbers;
 use crate::one_word::OneWord;
 use crate::signature::Signature;
@@ -172,38 +175,82 @@ impl NumberSet {
         }
     }
 
-    /// Whether the words of the set are among the first two. It takes no memory.
-    #[inline]
-    fn is_low(&self) -> bool
-        ensures { IsTrue result → IsBelow 128 (set_of self.now) }
+    /// The place behind the last word that may have a bit. It takes no memory.
+    #[inline(always)]
+    fn end(&self) -> usize
+        ensures all { (p : ℕ) → IsTrue (set_of self.now p) → p / 64 < result }
+        ensures bound { result ≤ 1_024 }
     {
         match &self.form {
-            Form::One(one) => one.place < 2,
-            Form::Many(words) => words.is_low(),
+            Form::One(one) => one.place + 1,
+            Form::Many(words) => words.places().1,
         }
     }
 
-    /// Which remainders the numbers leave that are in just one of the sets; all where a number of
-    /// either may be above 127. It takes no memory.
-    #[inline]
-    pub fn change(&self, other: &NumberSet) -> Signature
-        ensures { CoversChange (set_of self.now) (set_of other.now) (remainders result) }
+    /// The place of the first word from this one on that the sets don't have in common. It takes no
+    /// memory.
+    fn apart_from(&self, other: &NumberSet, from: usize) -> Option<usize>
+        ensures place { IfSome result (λ place. place < 1_024) }
+        ensures alike { IfSome result (λ place. (p : ℕ) → from ≤ p / 64 → p / 64 < place
+            → set_of self.now p ≡ set_of other.now p) }
+        ensures none { result ≡ None → (p : ℕ) → from ≤ p / 64
+            → set_of self.now p ≡ set_of other.now p }
     {
-        if !self.is_low() || !other.is_low() {
-            return Signature::all();
+        for place in from..self.end().max(other.end()) {
+            if self.word_at(place) != other.word_at(place) {
+                return Some(place);
+            }
         }
-        let first = self.word_at(0) ^ other.word_at(0);
-        let second = self.word_at(1) ^ other.word_at(1);
-        Signature::none().with_word(0, first).with_word(1, second)
+        None
     }
 
-    /// Whether some number of the set leaves one of these remainders. It takes no memory.
+    /// Which numbers may be in just one of the sets. It takes no memory.
+    pub fn change(&self, other: &NumberSet) -> Change
+        ensures { CoversChange (set_of self.now) (set_of other.now) (may_change result) }
+    {
+        let Some(place) = self.apart_from(other, 0) else {
+            return Change::none();
+        };
+        Change {
+            place,
+            first: self.word_at(place) ^ other.word_at(place),
+            second: self.word_at(place + 1) ^ other.word_at(place + 1),
+            rest: self.apart_from(other, place + 2).is_some(),
+        }
+    }
+
+    /// Whether the same numbers are in both sets. It takes no memory.
+    pub fn is_same(&self, other: &NumberSet) -> bool
+        ensures { result ≡ is_alike self.now other.now }
+    {
+        match (&self.form, &other.form) {
+            (Form::Many(own), Form::Many(words)) if own.stand_alike(words) => true,
+            _ => self.is_part_of(other) && other.is_part_of(self),
+        }
+    }
+
+    /// The set has the numbers of the other from now on. Where both stand in as many words, it
+    /// takes no memory; after want of memory nothing has changed.
+    pub fn become_as(&mut self, other: &NumberSet) -> Result<(), AllocError>
+        ensures ok { OnOk result (self.new ≡ other.now) }
+        ensures err { OnErr result (self.new ≡ self.old) }
+    {
+        if let (Form::Many(own), Form::Many(words)) = (&mut self.form, &other.form) {
+            return own.become_as(words);
+        }
+        *self = other.copy(self.alloc)?;
+        Ok(())
+    }
+
+    /// Whether some number of the set may be one that changes. It takes no memory.
     #[inline(always)]
-    pub fn meets(&self, change: Signature) -> bool
+    pub fn meets(&self, change: &Change) -> bool
         ensures { result ≡ false → (p : ℕ) → IsTrue (set_of self.now p)
-            → remainders change (p % 128) ≡ false }
+            → may_change change.now p ≡ false }
     {
-        self.signature().meets(change)
+        let first = self.word_at(change.place) & change.first;
+        let second = self.word_at(change.place + 1) & change.second;
+        change.rest || first | second != 0
     }
 
     /// Whether some number of the set is in just one of two others. It takes no memory.

@@ -43,33 +43,12 @@ impl Signature {
         }
     }
 
-    /// All remainders.
-    #[inline]
-    pub fn all() -> Signature
-        ensures { (i : ℕ) → i < 128 → IsTrue (remainders result i) }
-    {
-        Signature {
-            even: u64::MAX,
-            odd: u64::MAX,
-        }
-    }
-
     /// Whether each remainder is one of the other's.
     #[inline(always)]
     pub fn is_part_of(self, other: Signature) -> bool
         ensures { IsTrue result ↔ IsPart (remainders self) (remainders other) }
     {
         self.even & !other.even == 0 && self.odd & !other.odd == 0
-    }
-
-    /// Whether some remainder is one of the other's.
-    #[inline(always)]
-    pub fn meets(self, other: Signature) -> bool
-        ensures { result ≡ false → (i : ℕ) → IsTrue (remainders self i)
-            → remainders other i ≡ false }
-    {
-        let common = (self.even & other.even) | (self.odd & other.odd);
-        common != 0
     }
 }
 

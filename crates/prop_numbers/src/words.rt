@@ -289,12 +289,27 @@ impl Words {
         (self.first, self.first + self.words.len())
     }
 
-    /// Whether the words are among the first two. It takes no memory.
+    /// Whether the same words stand in both. It takes no memory.
     #[inline]
-    pub fn is_low(&self) -> bool
-        ensures { IsTrue result → IsBelow 128 (set_of self.now) }
+    pub fn stand_alike(&self, other: &Words) -> bool
+        ensures { IsTrue result → self.now ≡ other.now }
     {
-        self.first + self.words.len() <= 2
+        self.first == other.first && self.words[..] == other.words[..]
+    }
+
+    /// The set has the numbers of the other from now on. Where as many words stand here, it takes
+    /// no memory; after want of memory nothing has changed.
+    pub fn become_as(&mut self, other: &Words) -> Result<(), AllocError>
+        ensures ok { OnOk result (self.new ≡ other.now) }
+        ensures err { OnErr result (self.new ≡ self.old) }
+    {
+        if self.words.len() == other.words.len() {
+            self.first = other.first;
+            self.words.copy_from_slice(&other.words);
+            return Ok(());
+        }
+        *self = other.copy(self.alloc())?;
+        Ok(())
     }
 
     /// Whether each number of the set is below the bound. It takes no memory.
