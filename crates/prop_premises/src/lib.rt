@@ -14,6 +14,7 @@ pub mod choice;
 mod named;
 pub mod premise_set;
 pub mod premises;
+pub mod shift;
 mod table;
 pub mod worldview;
 
@@ -21,4 +22,5 @@ pub use choice::Choice;
 pub use premise_set::{Premise, PremiseSet};
 pub use premises::Premises;
 pub use prop_numbers::{Numbers, Signature};
+pub use shift::Shift;
 pub use worldview::Worldview;

@@ -1,12 +1,13 @@
 //! Sets of premises.
 ghost use Rattle.std.specs.Prelude.{◌≡◌, ◌↔◌, ◌≤◌, List, ℕ, [], ◌∷◌, length, IsTrue, IfOk, OnOk};
-ghost use Rattle.std.specs.Prelude.{◌%◌, false, OnErr};
+ghost use Rattle.std.specs.Prelude.{false, OnErr};
 ghost use Rattle.std.specs.List.Sorted.{IsStrictlyIncreasing};
 ghost use Rattle.prop_numbers.specs.Sets.{set_of, union, without, is_below, is_within, is_alike};
 ghost use Rattle.prop_numbers.specs.Sets.{is_at_most_one_of, IsSame};
+ghost use Rattle.prop_numbers.specs.Changes.{may_change};
 ghost use Rattle.prop_numbers.specs.Signatures.{remainders, AreRemainders};
 
-use prop_numbers::{NumberSet, Numbers, Signature};
+use prop_numbers::{Change, NumberSet, Numbers, Signature};
 use std::alloc::{AllocError, Global};
 use std::default::MadeWith;
 use std::marker::Model;
@@ -111,12 +112,11 @@ impl PremiseSet {
         self.numbers.signature()
     }
 
-    /// Whether some premise of the set has a number that leaves one of these remainders. It takes
-    /// no memory.
-    #[inline]
-    pub fn meets(&self, change: Signature) -> bool
+    /// Whether some premise of the set may be one that changes. It takes no memory.
+    #[inline(always)]
+    pub fn meets(&self, change: &Change) -> bool
         ensures { result ≡ false → (p : ℕ) → IsTrue (set_of self.now p)
-            → remainders change (p % 128) ≡ false }
+            → may_change change.now p ≡ false }
     {
         self.numbers.meets(change)
     }

@@ -3,10 +3,11 @@ ghost use Rattle.std.specs.Prelude.{◌≡◌, List, [], ◌∷◌, ◌++◌, �
 ghost use Rattle.std.specs.Prelude.{◌≢◌, false, IsTrue, OnErr};
 ghost use Rattle.prop_numbers.specs.Sets.{set_of, union, without, is_within, is_alike, IsSame};
 ghost use Rattle.prop_numbers.specs.Sets.{IsBelow};
-ghost use Rattle.prop_numbers.specs.Signatures.{remainders, AreRemainders, CoversChange};
+ghost use Rattle.prop_numbers.specs.Changes.{may_change, CoversChange};
+ghost use Rattle.prop_numbers.specs.Signatures.{remainders, AreRemainders};
 
 use crate::premise_set::{Premise, PremiseSet};
-use prop_numbers::{NumberSet, Signature};
+use prop_numbers::{Change, NumberSet, Signature};
 use std::alloc::{AllocError, Global};
 use std::marker::Model;
 
@@ -75,12 +76,21 @@ impl Worldview {
         Ok(Worldview { beliefs })
     }
 
+    /// The worldview believes what the other does from now on. Where both stand in as many words,
+    /// it takes no memory; after want of memory nothing has changed.
+    pub fn become_as(&mut self, other: &Worldview) -> Result<(), AllocError>
+        ensures ok { OnOk result (self.new ≡ other.now) }
+        ensures err { OnErr result (self.new ≡ self.old) }
+    {
+        self.beliefs.become_as(&other.beliefs)
+    }
+
     /// Whether the same premises are believed in both worldviews. It takes no memory.
     #[inline]
     pub fn is_same(&self, other: &Worldview) -> bool
         ensures { result ≡ is_alike self.now other.now }
     {
-        self.beliefs.is_part_of(&other.beliefs) && other.beliefs.is_part_of(&self.beliefs)
+        self.beliefs.is_same(&other.beliefs)
     }
 
     /// Only the premises with a number below this one stay believed. It takes no memory.
@@ -120,11 +130,9 @@ impl Worldview {
         self.beliefs.signature()
     }
 
-    /// Which remainders the premises leave that are believed in just one of the worldviews, and
-    /// perhaps others. It takes no memory.
-    #[inline]
-    pub fn change(&self, other: &Worldview) -> Signature
-        ensures { CoversChange (set_of self.now) (set_of other.now) (remainders result) }
+    /// Which premises may be believed in just one of the worldviews. It takes no memory.
+    pub fn change(&self, other: &Worldview) -> Change
+        ensures { CoversChange (set_of self.now) (set_of other.now) (may_change result) }
     {
         self.beliefs.change(&other.beliefs)
     }
