@@ -7,5 +7,4 @@ use Rattle.prop_lattice.specs.declared.info.Info.{Info}
 
 -- the numbers from lo to hi that are in range, a contradiction where there are none
 unfoldable pub clip : ℤ → ℤ → Info
-clip lo hi =
-    span_from (int_max lo (neg_ℤ B)) (int_min hi B)
+clip lo hi = span_from (int_max lo (neg_ℤ B)) (int_min hi B)

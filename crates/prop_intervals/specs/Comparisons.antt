@@ -19,20 +19,17 @@ no_bits = 2
 
 -- whether a number of x is less than one of y
 abbrev pub less_of : spans.Span → spans.Span → Info
-less_of x y =
-    if int_lt x.hi y.lo then elements_from yes_bits
+less_of x y = if int_lt x.hi y.lo then elements_from yes_bits
     else (if int_le y.hi x.lo then elements_from no_bits else Nothing)
 
 -- the numbers of which t says whether they are less than one of y
 abbrev pub below_of : sets.Elements → spans.Span → Info
-below_of t y =
-    if t.bits == yes_bits then span_from (neg_ℤ B) (y.hi -ℤ pos 1)
+below_of t y = if t.bits == yes_bits then span_from (neg_ℤ B) (y.hi -ℤ pos 1)
     else (if t.bits == no_bits then span_from y.lo B else Nothing)
 
 -- the numbers of which t says whether one of x is less than they are
 abbrev pub above_of : sets.Elements → spans.Span → Info
-above_of t x =
-    if t.bits == yes_bits then span_from (x.lo +ℤ pos 1) B
+above_of t x = if t.bits == yes_bits then span_from (x.lo +ℤ pos 1) B
     else (if t.bits == no_bits then span_from (neg_ℤ B) x.hi else Nothing)
 
 -- v is a number of y other than x
@@ -41,6 +38,5 @@ IsOther y x v = (y.lo ≤ℤ v) × (v ≤ℤ y.hi) × (v ≢ x)
 
 -- y without x, which leaves a gap unless x is an end
 abbrev pub without_of : spans.Span → ℤ → Info
-without_of y x =
-    if int_eq y.lo x then span_from (y.lo +ℤ pos 1) y.hi
+without_of y x = if int_eq y.lo x then span_from (y.lo +ℤ pos 1) y.hi
     else (if int_eq y.hi x then span_from y.lo (y.hi -ℤ pos 1) else Span y)

@@ -18,9 +18,8 @@ root_floor (suc n) =
 
 -- the least number, not below 0, whose square is at least m
 unfoldable pub least_root : ℤ → ℕ
-least_root (pos zero) = zero
 least_root (pos (suc n)) = suc (root_floor n)
-least_root (negsuc n) = zero
+least_root m = zero
 
 -- the greatest number whose square is at most m, where that is not below 0
 unfoldable pub greatest_root : ℤ → ℕ
@@ -53,7 +52,11 @@ span_at_distance least greatest lo hi =
     (if int_le (int_max lo least) (int_min hi greatest) then int_min hi greatest else int_min hi
     (neg_ℤ least))
 
+-- of the numbers from lo to hi those whose square is in y
+abbrev pub roots_between : spans.Span → ℤ → ℤ → Info
+roots_between y lo hi = if int_lt y.hi (pos 0) then Contradiction
+    else span_at_distance (pos (least_root y.lo)) (pos (greatest_root y.hi)) lo hi
+
+-- the same of those of x, or of the whole range where there is no x
 abbrev pub root_of : spans.Span → Option spans.Span → Info
-root_of y x =
-    if int_lt y.hi (pos 0) then Contradiction else span_at_distance (pos (least_root y.lo))
-    (pos (greatest_root y.hi)) (first_of x) (last_of x)
+root_of y x = roots_between y (first_of x) (last_of x)

@@ -20,20 +20,21 @@ holds_zero x = int_le x.lo (pos 0) && int_le (pos 0) x.hi
 
 -- ---- products
 
--- the least product of an end of x and an end of y
-abbrev pub least_product : spans.Span → spans.Span → ℤ
-least_product x y =
-    int_min (int_min (x.lo *ℤ y.lo) (x.lo *ℤ y.hi)) (int_min (x.hi *ℤ y.lo) (x.hi *ℤ y.hi))
+-- of the products of an end of x and an end of y the one that is picked
+abbrev pub end_product : (ℤ → ℤ → ℤ) → spans.Span → spans.Span → ℤ
+end_product pick x y =
+    pick (pick (x.lo *ℤ y.lo) (x.lo *ℤ y.hi)) (pick (x.hi *ℤ y.lo) (x.hi *ℤ y.hi))
 
--- the greatest product of an end of x and an end of y
+abbrev pub least_product : spans.Span → spans.Span → ℤ
+least_product = end_product int_min
+
 abbrev pub greatest_product : spans.Span → spans.Span → ℤ
-greatest_product x y =
-    int_max (int_max (x.lo *ℤ y.lo) (x.lo *ℤ y.hi)) (int_max (x.hi *ℤ y.lo) (x.hi *ℤ y.hi))
+greatest_product = end_product int_max
 
 -- the products by units of 1/k, rounded outwards
 abbrev pub product_of : spans.Span → spans.Span → ℤ → Info
-product_of x y k = clip (int_div_floor (least_product x y) k)
-    (int_div_ceil (greatest_product x y) k)
+product_of x y k = clip (int_div_floor (end_product int_min x y) k)
+    (int_div_ceil (end_product int_max x y) k)
 
 -- ---- squares
 
@@ -71,10 +72,8 @@ factors_of a b lo hi = clip (least_factor a lo hi) (greatest_factor b lo hi)
 
 -- the quotients of z by y, where a product and a number of z are less than a unit of 1/k apart
 abbrev pub quotient_of : spans.Span → spans.Span → ℤ → Info
-quotient_of z y k =
-    if holds_zero y then Nothing else (
-    if int_lt (pos 0) y.lo then factors_of (least_dividend z k) (greatest_dividend z k) y.lo y.hi
-    else
-    factors_of (neg_ℤ (greatest_dividend z k)) (neg_ℤ (least_dividend z k)) (neg_ℤ y.hi)
-    (neg_ℤ y.lo)
-    )
+quotient_of z y k = if holds_zero y then Nothing
+    else (if int_lt (pos 0) y.lo
+    then factors_of (least_dividend z k) (greatest_dividend z k) y.lo y.hi
+    else factors_of (neg_ℤ (greatest_dividend z k)) (neg_ℤ (least_dividend z k)) (neg_ℤ y.hi)
+    (neg_ℤ y.lo))

@@ -16,6 +16,5 @@ param_at params place = option_and_then (λ n. slice_get params n) place
 -- the number of the cell at a place: these cells have the first places, and the fresh ones,
 -- numbered from next on, those behind
 abbrev pub cell_placed : List ℕ → ℕ → ℕ → ℕ
-cell_placed cells next place =
-    cond (nat_lt place (length cells)) (slice_index_or cells place 0)
+cell_placed cells next place = cond (nat_lt place (length cells)) (slice_index_or cells place 0)
     (next + (place - length cells))

@@ -28,20 +28,18 @@ HasForm form_of rule ins out need =
 abbrev pub HasFewInputs : Form → Type 0
 HasFewInputs form = (1 ≤ length form.ins) × (length form.ins ≤ 8)
 
+-- the procedure that has the form and answers the value
+abbrev pub stored : Form → (Param → List Info → Info) → Stored
+stored f value = record { name = f.name; ins = f.ins; out = f.out; need = f.need; value = value }
+
 -- the procedure of a rule
 abbrev pub stored_rule : {R : Type 0} → (R → Form) → (R → Param → List Info → Info) → R → Stored
-stored_rule form_of value rule = record {
-  name = (form_of rule).name;
-  ins = (form_of rule).ins;
-  out = (form_of rule).out;
-  need = (form_of rule).need;
-  value = value rule;
-}
+stored_rule form_of value rule = stored (form_of rule) (value rule)
 
 -- the procedures of rules, in order
 abbrev pub library_of : {R : Type 0} → (R → Form) → (R → Param → List Info → Info) → List R
     → List Stored
-library_of form_of value rules = map (stored_rule form_of value) rules
+library_of form_of value rules = map (λ rule. stored (form_of rule) (value rule)) rules
 
 -- the points that belong together at the procedure of this number
 abbrev pub related_in : {R : Type 0} → (R → Param → List Point → Point → Type 0) → List R → ℕ

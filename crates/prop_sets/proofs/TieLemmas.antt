@@ -5,7 +5,8 @@ use Rattle.std.specs.Int.{bit_at}
 use Rattle.std.proofs.lemmas.Bool.{cases_eq, cases_lt}
 use Rattle.std.proofs.lemmas.List.{get_or_past, get_or-set_same, get_or-set_other, get_or-replicate, length-replicate}
 use Rattle.std.proofs.lemmas.Nat.Bits.{bit_at-zero, bit_at-lt, bit_at_or, bit_at-pow_same, bit_at-pow_other}
-use Rattle.prop_sets.specs.Relation.{Relation, HasPair, with_bit, with_pair, AddsPair}
+use Rattle.prop_sets.specs.Relation.{Relation, HasPair, with_pair, AddsPair}
+use Rattle.prop_sets.specs.inner.Words.{with_bit}
 use Rattle.prop_sets.specs.inner.Ties.{Turned, AreTied}
 
 -- a word with a bit is there

@@ -1,7 +1,8 @@
 -- What the functions of truth compute is what their meaning counts up.
 use Rattle.std.proofs.Common.{◌≡◌, ℕ, zero, suc, ◌+◌, ◌*◌, Bool, true, false, cond, ◌&&◌, ◌||◌, refl}
 use Rattle.prop_sets.specs.Chosen.{bits_where, any_below}
-use Rattle.prop_sets.specs.Truth.{is_and, is_or, is_not, outputs_of_one, outputs_of}
+use Rattle.prop_sets.specs.Truth.{is_and, is_or, is_not}
+use Rattle.prop_sets.specs.inner.Truths.{outputs_of}
 
 -- a test that answers the first at 0 and the second at each other number
 abbrev pick : Bool → Bool → ℕ → Bool
@@ -110,13 +111,17 @@ pub or_back-bits : (x y : ℕ → Bool) → outputs_of (λ z y x. is_or x y z) x
 unfolding bits_where any_below
 or_back-bits x y = or_back-bits_at (x 0) (x 1) (y 0) (y 1)
 
-not-bits_at : (a b : Bool) → outputs_of_one is_not (pick a b) ≡ bits_of b a
+not-bits_at : (a b : Bool) → outputs_of (λ x u y. is_not x y) (pick a b) (pick a b) ≡ bits_of b a
 unfolding bits_where any_below
 not-bits_at true true = refl
 not-bits_at true false = refl
 not-bits_at false true = refl
 not-bits_at false false = refl
 
-pub not-bits : (x : ℕ → Bool) → outputs_of_one is_not x ≡ bits_of (x 1) (x 0)
+pub not-bits : (x : ℕ → Bool) → outputs_of (λ x u y. is_not x y) x x ≡ bits_of (x 1) (x 0)
 unfolding bits_where any_below
 not-bits x = not-bits_at (x 0) (x 1)
+
+pub twice : (b : Bool) → (b || b) ≡ b
+twice true = refl
+twice false = refl

@@ -21,25 +21,19 @@ IsInImage m x j = (i : ℕ) × HasElement x i × HasPair m i j
 abbrev pub IsInCoimage : Relation → sets.Elements → ℕ → Type 0
 IsInCoimage m y i = (j : ℕ) × HasElement y j × HasPair m i j
 
--- a word with the bits of the numbers below n that are paired with a number below m whose bit is
--- set
-abbrev pub partners_of : ℕ → ℕ → (ℕ → ℕ → Bool) → ℕ → ℕ
-partners_of n m paired bits =
-    bits_where n (λ j. any_below m (λ i. is_set bits i && paired i j))
+-- the numbers below n that are paired with an element of x below m, a contradiction where there are
+-- none
+abbrev pub partners_of : ℕ → ℕ → (ℕ → ℕ → Bool) → sets.Elements → Info
+partners_of n m paired x =
+    elements_from (bits_where n (λ j. any_below m (λ i. is_set x.bits i && paired i j)))
 
--- all elements of the second domain that are paired with an element of x, a contradiction where
--- there are none
+-- all elements of the second domain that are paired with an element of x
 abbrev pub image_of : Relation → sets.Elements → Info
-image_of m x =
-    elements_from (partners_of m.to.size m.from.size (λ i j. is_set (slice_index m.rows i) j)
-    x.bits)
+image_of m x = partners_of m.to.size m.from.size (λ i j. is_set (slice_index m.rows i) j) x
 
--- all elements of the first domain that are paired with an element of y, a contradiction where
--- there are none
+-- all elements of the first domain that are paired with an element of y
 abbrev pub coimage_of : Relation → sets.Elements → Info
-coimage_of m y =
-    elements_from (partners_of m.from.size m.to.size (λ j i. is_set (slice_index m.rows i) j)
-    y.bits)
+coimage_of m y = partners_of m.from.size m.to.size (λ j i. is_set (slice_index m.rows i) j) y
 
 -- the information holds just the elements of which P is true
 abbrev pub HoldsJust : (ℕ → Type 0) → Info → Type 0

@@ -27,13 +27,10 @@ pub record IsWhole (m : Relation) : Type 0 where
 abbrev pub no_pairs : sides.Side → sides.Side → Relation
 no_pairs a b = record { from = a; to = b; rows = replicate a.size 0 }
 
--- one bit more in one of the words
-abbrev pub with_bit : List ℕ → ℕ → ℕ → List ℕ
-with_bit words i j = slice_set words i (bit_or (slice_index words i) (2 ^ j))
-
 -- one pair more
 abbrev pub with_pair : Relation → ℕ → ℕ → Relation
-with_pair m i j = record m { rows = with_bit m.rows i j }
+with_pair m i j =
+    record m { rows = slice_set m.rows i (bit_or (slice_index m.rows i) (2 ^ j)) }
 
 -- the pairs of the second are those of the first and (i, j)
 abbrev pub AddsPair : Relation → Relation → ℕ → ℕ → Type 0

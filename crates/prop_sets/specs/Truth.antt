@@ -1,6 +1,7 @@
 -- Truth: the sets over the domain 0, of which element 0 is `yes` and element 1 is `no`.
-use Rattle.std.specs.Prelude.{◌≡◌, ◌≢◌, ◌↔◌, ◌⊎◌, ℕ, ◌<◌, Bool, true, false, not, ◌&&◌, ◌||◌, ◌==◌}
+use Rattle.std.specs.Prelude.{◌≡◌, ◌↔◌, ℕ, ◌<◌, Bool, true, false, not, ◌&&◌, ◌||◌, ◌==◌}
 use Rattle.std.specs.Prelude.{if◌then◌else◌}
+use Rattle.std.specs.Bool.{beq}
 use Rattle.prop_lattice.specs.Ends.{elements_from}
 use Rattle.prop_lattice.specs.Points.{Element, Holds}
 use Rattle.prop_lattice.specs.declared.info.Info.{Info}
@@ -11,30 +12,16 @@ use Rattle.prop_sets.specs.Images.{is_set}
 -- ---- which truths belong together
 
 -- z is x and y
-abbrev pub IsAnd : ℕ → ℕ → ℕ → Type 0
-IsAnd x y z = (z ≡ 0) ↔ ((x ≡ 0) × (y ≡ 0))
+abbrev pub is_and : ℕ → ℕ → ℕ → Bool
+is_and x y z = beq (z == 0) ((x == 0) && (y == 0))
 
 -- z is x or y
-abbrev pub IsOr : ℕ → ℕ → ℕ → Type 0
-IsOr x y z = (z ≡ 0) ↔ ((x ≡ 0) ⊎ (y ≡ 0))
+abbrev pub is_or : ℕ → ℕ → ℕ → Bool
+is_or x y z = beq (z == 0) ((x == 0) || (y == 0))
 
 -- y is not x
-abbrev pub IsNot : ℕ → ℕ → Type 0
-IsNot x y = (y ≡ 0) ↔ (x ≢ 0)
-
--- the same as tests
-abbrev pub agree : Bool → Bool → Bool
-agree true b = b
-agree false b = not b
-
-abbrev pub is_and : ℕ → ℕ → ℕ → Bool
-is_and x y z = agree (z == 0) ((x == 0) && (y == 0))
-
-abbrev pub is_or : ℕ → ℕ → ℕ → Bool
-is_or x y z = agree (z == 0) ((x == 0) || (y == 0))
-
 abbrev pub is_not : ℕ → ℕ → Bool
-is_not x y = agree (y == 0) (not (x == 0))
+is_not x y = beq (y == 0) (not (x == 0))
 
 -- ---- what is left of an output
 
@@ -48,43 +35,17 @@ abbrev pub is_nothing : Info → Bool
 is_nothing Nothing = true
 is_nothing a = false
 
--- the bits of the truths that go with a truth that an input leaves
-abbrev pub outputs_of_one : (ℕ → ℕ → Bool) → (ℕ → Bool) → ℕ
-outputs_of_one test x = bits_where 2 (λ y. any_below 2 (λ a. x a && test a y))
-
--- the bits of the truths that go with truths that two inputs leave
-abbrev pub outputs_of : (ℕ → ℕ → ℕ → Bool) → (ℕ → Bool) → (ℕ → Bool) → ℕ
-outputs_of test x y =
-    bits_where 2 (λ z. any_below 2 (λ a. any_below 2 (λ b. (x a && y b) && test a b z)))
-
 -- the truths with these bits, a contradiction where there are none; both, found where an input is
 -- unknown, are nothing
 abbrev pub told : Bool → ℕ → Info
 told unknown bits = if unknown && (bits == 3) then Nothing else elements_from bits
 
--- what two inputs tell of the output that is related to them
+-- what x and y tell of the output that is related to them: the truths z to which some truths belong
+-- that x and y leave
 abbrev pub truth_of : (ℕ → ℕ → ℕ → Bool) → Info → Info → Info
-truth_of test x y = told (is_nothing x || is_nothing y) (outputs_of test (leaves x) (leaves y))
-
--- z where it is x and y
-abbrev pub and_of : Info → Info → Info
-and_of = truth_of is_and
-
--- x where z is x and y
-abbrev pub and_back_of : Info → Info → Info
-and_back_of = truth_of (λ z y x. is_and x y z)
-
--- z where it is x or y
-abbrev pub or_of : Info → Info → Info
-or_of = truth_of is_or
-
--- x where z is x or y
-abbrev pub or_back_of : Info → Info → Info
-or_back_of = truth_of (λ z y x. is_or x y z)
-
--- y where it is not x
-abbrev pub not_of : Info → Info
-not_of x = told (is_nothing x) (outputs_of_one is_not (leaves x))
+truth_of related x y = told (is_nothing x || is_nothing y)
+    (bits_where 2 (λ z. any_below 2 (λ a. any_below 2
+    (λ b. (leaves x a && leaves y b) && related a b z))))
 
 -- ---- the same, said of each truth
 
@@ -108,3 +69,35 @@ pub record IsLeftByTwo (related : ℕ → ℕ → ℕ → Type 0) (x y : Info) (
 -- the information leaves just the truths of which P is true
 abbrev pub LeavesJust : (ℕ → Type 0) → Info → Type 0
 LeavesJust P r = (t : ℕ) → t < 2 → Holds r (Element t) ↔ P t
+
+-- z is x and y
+abbrev pub IsAnd : ℕ → ℕ → ℕ → Type 0
+IsAnd x y z = is_and x y z ≡ true
+
+-- z is x or y
+abbrev pub IsOr : ℕ → ℕ → ℕ → Type 0
+IsOr x y z = is_or x y z ≡ true
+
+-- y is not x
+abbrev pub IsNot : ℕ → ℕ → Type 0
+IsNot x y = is_not x y ≡ true
+
+-- z where it is x and y
+abbrev pub and_of : Info → Info → Info
+and_of = truth_of is_and
+
+-- x where z is x and y
+abbrev pub and_back_of : Info → Info → Info
+and_back_of = truth_of (λ z y x. is_and x y z)
+
+-- z where it is x or y
+abbrev pub or_of : Info → Info → Info
+or_of = truth_of is_or
+
+-- x where z is x or y
+abbrev pub or_back_of : Info → Info → Info
+or_back_of = truth_of (λ z y x. is_or x y z)
+
+-- y where it is not x
+abbrev pub not_of : Info → Info
+not_of x = truth_of (λ a b y. is_not a y) x x

@@ -1,7 +1,6 @@
 //! Words of bits, one for each element of a domain.
 ghost use Rattle.std.specs.Prelude.{◌≡◌, ◌<◌, IfOk, replicate, slice_index, vec_len};
-ghost use Rattle.prop_sets.specs.Relation.{with_bit};
-ghost use Rattle.prop_sets.specs.inner.Words.{IsUnionOf};
+ghost use Rattle.prop_sets.specs.inner.Words.{with_bit, IsUnionOf};
 
 use std::alloc::{AllocError, Global};
 

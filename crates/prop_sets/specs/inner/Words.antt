@@ -1,6 +1,17 @@
 -- Words of bits, by number.
-use Rattle.std.specs.Prelude.{◌≡◌, ℕ, List, slice_index}
+use Rattle.std.specs.Prelude.{◌≡◌, ℕ, ◌^◌, Bool, ◌&&◌, List, slice_index, slice_set, bit_or}
 use Rattle.std.specs.Int.{bit_at}
+use Rattle.prop_sets.specs.Chosen.{bits_where, any_below}
+use Rattle.prop_sets.specs.Images.{is_set}
+
+-- one bit more in one of the words
+abbrev pub with_bit : List ℕ → ℕ → ℕ → List ℕ
+with_bit words i j = slice_set words i (bit_or (slice_index words i) (2 ^ j))
+
+-- a word with the bits of the numbers below n that are paired with a number below m whose bit is
+-- set
+abbrev pub partner_bits : ℕ → ℕ → (ℕ → ℕ → Bool) → ℕ → ℕ
+partner_bits n m paired bits = bits_where n (λ j. any_below m (λ i. is_set bits i && paired i j))
 
 -- the bits of the words whose numbers are chosen, and no others
 pub record IsUnionOf (words : List ℕ) (chosen union : ℕ) : Type 0 where

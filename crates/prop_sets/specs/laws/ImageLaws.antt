@@ -17,8 +17,9 @@ use Rattle.prop_lattice.specs.declared.info.Kind.TheVariants as kinds
 use Rattle.prop_sets.specs.Chosen.{any_below}
 use Rattle.prop_sets.specs.laws.ChosenLaws.{bits_where-lt, bits_where-passes, bits_where-has}
 use Rattle.prop_sets.specs.laws.ChosenLaws.{any_below-Decides}
-use Rattle.prop_sets.specs.Images.{is_set, IsInImage, IsInCoimage, partners_of, image_of}
+use Rattle.prop_sets.specs.Images.{is_set, IsInImage, IsInCoimage, image_of}
 use Rattle.prop_sets.specs.Images.{coimage_of, HoldsJust}
+use Rattle.prop_sets.specs.inner.Words.{partner_bits}
 use Rattle.prop_sets.specs.Narrowest.{IsNarrowest}
 use Rattle.prop_sets.specs.laws.NarrowestLaws.{elements_hold, bit_from_held, elements_below}
 use Rattle.prop_sets.specs.laws.NarrowestLaws.{elements_of_kind, elements_narrowest}
@@ -32,7 +33,7 @@ chosen_and bits paired j i = Decides-and (is_set bits i) (paired i j)
     (Decides-eqb (bit_at bits i) 1) ((λ h. h), (λ h. h))
 
 pub partners-has : (n m : ℕ) (paired : ℕ → ℕ → Bool) (bits j : ℕ)
-    → bit_at (partners_of n m paired bits) j ≡ 1
+    → bit_at (partner_bits n m paired bits) j ≡ 1
     → (j < n) × ((i : ℕ) × (i < m) × ((bit_at bits i ≡ 1) × (paired i j ≡ true)))
 partners-has n m paired bits j h =
     let passes = bits_where-passes n (λ k. any_below m (λ i. is_set bits i && paired i k)) j h in (
@@ -42,7 +43,7 @@ partners-has n m paired bits j h =
     )
 
 pub partners-is : (n m : ℕ) (paired : ℕ → ℕ → Bool) (bits j i : ℕ) → j < n → i < m
-    → bit_at bits i ≡ 1 → paired i j ≡ true → bit_at (partners_of n m paired bits) j ≡ 1
+    → bit_at bits i ≡ 1 → paired i j ≡ true → bit_at (partner_bits n m paired bits) j ≡ 1
 partners-is n m paired bits j i l k h p =
     bits_where-has n (λ k. any_below m (λ i. is_set bits i && paired i k)) j l
     ((any_below-Decides (λ i. is_set bits i && paired i j)
@@ -51,14 +52,14 @@ partners-is n m paired bits j i l k h p =
 
 -- there are no more of them than a word has bits
 pub partners-lt : (n m : ℕ) (paired : ℕ → ℕ → Bool) (bits : ℕ) → n ≤ 64
-    → partners_of n m paired bits < 2 ^ 64
+    → partner_bits n m paired bits < 2 ^ 64
 partners-lt n m paired bits l =
     let fits = bits_where-lt n (λ k. any_below m (λ i. is_set bits i && paired i k)) in
     let most : 2 ^ n ≤ 2 ^ 64 = pow_mono l in
     omega arith
 
 partners-more : (n m : ℕ) (paired : ℕ → ℕ → Bool) (a b : ℕ) → HasBitsOf a b
-    → HasBitsOf (partners_of n m paired a) (partners_of n m paired b)
+    → HasBitsOf (partner_bits n m paired a) (partner_bits n m paired b)
 partners-more n m paired a b h j k =
     let found = partners-has n m paired b j k in
     partners-is n m paired a j found.1.0 found.0 found.1.1 (h found.1.0 found.1.2.0) found.1.2.1
@@ -69,7 +70,7 @@ is_set-true bits i h = eq-eqb (bit_at bits i) 1 h
 -- ---- images
 
 image_has : (m : Relation) (x : sets.Elements) (j : ℕ)
-    → bit_at (partners_of m.to.size m.from.size (λ i j. is_set (slice_index m.rows i) j) x.bits)
+    → bit_at (partner_bits m.to.size m.from.size (λ i j. is_set (slice_index m.rows i) j) x.bits)
     j ≡ 1 → IsInImage m x j
 image_has m x j h =
     let found = partners-has m.to.size m.from.size (λ i j. is_set (slice_index m.rows i) j) x.bits j
@@ -84,14 +85,14 @@ image_has m x j h =
     )
 
 image_is : (m : Relation) (x : sets.Elements) (j : ℕ) → IsInImage m x j
-    → bit_at (partners_of m.to.size m.from.size (λ i j. is_set (slice_index m.rows i) j) x.bits)
+    → bit_at (partner_bits m.to.size m.from.size (λ i j. is_set (slice_index m.rows i) j) x.bits)
     j ≡ 1
 image_is m x j p =
     partners-is m.to.size m.from.size (λ i j. is_set (slice_index m.rows i) j) x.bits j p.0
     p.2.second p.2.first p.1 (is_set-true _ _ p.2.partners)
 
 image_fits : (m : Relation) (x : sets.Elements)
-    → partners_of m.to.size m.from.size (λ i j. is_set (slice_index m.rows i) j) x.bits < 2 ^ 64
+    → partner_bits m.to.size m.from.size (λ i j. is_set (slice_index m.rows i) j) x.bits < 2 ^ 64
 image_fits m x = partners-lt m.to.size m.from.size (λ i j. is_set (slice_index m.rows i) j) x.bits
     m.to.fits
 
@@ -125,7 +126,7 @@ image_narrowest m x = elements_narrowest (IsInImage m x) _ (image_fits m x) (ima
 -- ---- images the other way
 
 coimage_has : (m : Relation) (y : sets.Elements) (i : ℕ)
-    → bit_at (partners_of m.from.size m.to.size (λ j i. is_set (slice_index m.rows i) j) y.bits)
+    → bit_at (partner_bits m.from.size m.to.size (λ j i. is_set (slice_index m.rows i) j) y.bits)
     i ≡ 1 → IsInCoimage m y i
 coimage_has m y i h =
     let found = partners-has m.from.size m.to.size (λ j i. is_set (slice_index m.rows i) j) y.bits i
@@ -140,14 +141,14 @@ coimage_has m y i h =
     )
 
 coimage_is : (m : Relation) (y : sets.Elements) (i : ℕ) → IsInCoimage m y i
-    → bit_at (partners_of m.from.size m.to.size (λ j i. is_set (slice_index m.rows i) j) y.bits)
+    → bit_at (partner_bits m.from.size m.to.size (λ j i. is_set (slice_index m.rows i) j) y.bits)
     i ≡ 1
 coimage_is m y i p =
     partners-is m.from.size m.to.size (λ j i. is_set (slice_index m.rows i) j) y.bits i p.0
     p.2.first p.2.second p.1 (is_set-true _ _ p.2.partners)
 
 coimage_fits : (m : Relation) (y : sets.Elements)
-    → partners_of m.from.size m.to.size (λ j i. is_set (slice_index m.rows i) j) y.bits < 2 ^ 64
+    → partner_bits m.from.size m.to.size (λ j i. is_set (slice_index m.rows i) j) y.bits < 2 ^ 64
 coimage_fits m y = partners-lt m.from.size m.to.size (λ j i. is_set (slice_index m.rows i) j) y.bits
     m.from.fits
 

@@ -21,35 +21,21 @@ use Rattle.prop_sets.specs.laws.ChosenLaws.{bits_where-lt, bits_where-passes, bi
 use Rattle.prop_sets.specs.laws.ChosenLaws.{any_below-Decides}
 use Rattle.prop_sets.specs.laws.NarrowestLaws.{elements_hold, bit_from_held, elements_below}
 use Rattle.prop_sets.specs.laws.NarrowestLaws.{elements_of_kind}
-use Rattle.prop_sets.specs.Truth.{IsAnd, IsOr, IsNot, agree, is_and, is_or, is_not, leaves}
-use Rattle.prop_sets.specs.Truth.{is_nothing, outputs_of_one, outputs_of, told, truth_of, and_of}
-use Rattle.prop_sets.specs.Truth.{and_back_of, or_of, or_back_of, not_of, IsLeftByOne, IsLeftByTwo}
-use Rattle.prop_sets.specs.Truth.{LeavesJust}
+use Rattle.prop_sets.specs.Truth.{IsAnd, IsOr, IsNot, is_and, is_or, is_not, leaves, is_nothing}
+use Rattle.prop_sets.specs.Truth.{told, truth_of, IsLeftByOne, IsLeftByTwo, LeavesJust}
+use Rattle.prop_sets.specs.Truth.{and_of, and_back_of, or_of, or_back_of, not_of}
+use Rattle.prop_sets.specs.inner.Truths.{outputs_of}
 
 -- ---- tests
 
-Decides-agree : {P Q : Type 0} → (a b : Bool) → Decides a P → Decides b Q
-    → Decides (agree a b) (P ↔ Q)
-Decides-agree true true p q = ((λ e. ((λ x. q.0 refl), (λ y. p.0 refl))), (λ h. refl))
-Decides-agree true false p q = ((λ e. absurd (cc)), (λ h. q.1 (h.0 (p.0 refl))))
-Decides-agree false true p q = ((λ e. absurd (cc)), (λ h. p.1 (h.1 (q.0 refl))))
-Decides-agree false false p q =
-    ((λ e. ((λ x. absurd (apart (p.1 x))), (λ y. absurd (apart (q.1 y))))), (λ h. refl))
-  where
-    apart : false ≡ true → ⊥
-    apart e = cc
-
 and-Decides : (x y z : ℕ) → Decides (is_and x y z) (IsAnd x y z)
-and-Decides x y z = Decides-agree (z == 0) ((x == 0) && (y == 0)) (Decides-eqb z 0)
-    (Decides-and (x == 0) (y == 0) (Decides-eqb x 0) (Decides-eqb y 0))
+and-Decides x y z = ((λ e. e), (λ h. h))
 
 or-Decides : (x y z : ℕ) → Decides (is_or x y z) (IsOr x y z)
-or-Decides x y z = Decides-agree (z == 0) ((x == 0) || (y == 0)) (Decides-eqb z 0)
-    (Decides-or (x == 0) (y == 0) (Decides-eqb x 0) (Decides-eqb y 0))
+or-Decides x y z = ((λ e. e), (λ h. h))
 
-not-Decides : (x y : ℕ) → Decides (is_not x y) (IsNot x y)
-not-Decides x y = Decides-agree (y == 0) (not (x == 0)) (Decides-eqb y 0)
-    (Decides-not (x == 0) (Decides-eqb x 0))
+not-Decides : (x b y : ℕ) → Decides (is_not x y) (IsNot x y)
+not-Decides x b y = ((λ e. e), (λ h. h))
 
 leaves-Decides : (x : Info) (t : ℕ) → Decides (leaves x t) (Holds x (Element t))
 leaves-Decides Nothing t = ((λ e. tt), (λ h. refl))
@@ -131,68 +117,6 @@ told_below u v a b l h k = by (u && (a == 3)) refl (v && (b == 3)) refl
         never : (u : Bool) (a : ℕ) → u ≡ true → a ≡ 3 → (u && (a == 3)) ≡ false → ⊥
         never u a p q e = grind (arith, p, q)
     by false e false f = elements_below a b (few a l) h
-
--- ---- one input
-
-module _ (test : ℕ → ℕ → Bool) (related : ℕ → ℕ → Type 0)
-    (each : (a y : ℕ) → Decides (test a y) (related a y)) where
-  one_input : (x : Info) (y : ℕ)
-      → Decides (any_below 2 (λ a. leaves x a && test a y))
-      ((a : ℕ) × (a < 2) × (Holds x (Element a) × related a y))
-  one_input x y =
-      any_below-Decides (λ a. leaves x a && test a y) (λ a. Holds x (Element a) × related a y)
-      (λ a. Decides-and (leaves x a) (test a y) (leaves-Decides x a) (each a y)) 2
-
-  one-has : (x : Info) (y : ℕ) → bit_at (outputs_of_one test (leaves x)) y ≡ 1
-      → (y < 2) × IsLeftByOne related x y
-  one-has x y h =
-      let passes = bits_where-passes 2 (λ y. any_below 2 (λ a. leaves x a && test a y)) y h in
-      let found = (one_input x y).0 passes.1 in (
-        passes.0,
-        record {
-          input = found.0;
-          is_truth = found.1;
-          left = found.2.0;
-          belongs = found.2.1;
-        },
-      )
-
-  one-is : (x : Info) (y : ℕ) → y < 2 → IsLeftByOne related x y
-      → bit_at (outputs_of_one test (leaves x)) y ≡ 1
-  one-is x y l p =
-      bits_where-has 2 (λ y. any_below 2 (λ a. leaves x a && test a y)) y l
-      ((one_input x y).1 (p.input, p.is_truth, (p.left, p.belongs)))
-
-  one-lt : (x : Info) → outputs_of_one test (leaves x) < 2 ^ 2
-  one-lt x = bits_where-lt 2 (λ y. any_below 2 (λ a. leaves x a && test a y))
-
-  one-just : (x : Info) → LeavesJust (IsLeftByOne related x)
-      (told (is_nothing x) (outputs_of_one test (leaves x)))
-  one-just x t l = (
-    (λ h. (one-has x t (bit_from_told (is_nothing x) _ t l h)).1),
-    (λ p. told_holds (is_nothing x) _ t (one-lt x) (one-is x t l p)),
-  )
-
-  one-kind : (x : Info) → IsOf (kinds.Set 0) 2
-      (told (is_nothing x) (outputs_of_one test (leaves x)))
-  one-kind x = told_kind (is_nothing x) _ (λ t h. (one-has x t h).0)
-
-  one-monotone : (x x' : Info) → Below x x'
-      → Below (told (is_nothing x) (outputs_of_one test (leaves x)))
-      (told (is_nothing x') (outputs_of_one test (leaves x')))
-  one-monotone x x' p = told_below (is_nothing x) (is_nothing x') _ _ (one-lt x) more
-      (still_nothing x x' p)
-    where
-      more : HasBitsOf (outputs_of_one test (leaves x)) (outputs_of_one test (leaves x'))
-      more t h =
-          let found = one-has x' t h in
-          let o = found.1 in
-          one-is x t found.0 (record {
-            input = o.input;
-            is_truth = o.is_truth;
-            left = holds_less x x' o.input p o.left;
-            belongs = o.belongs;
-          })
 
 -- ---- two inputs
 
@@ -368,13 +292,30 @@ or_back_sound = two-sound (λ z y x. is_or x y z) (λ z y x. IsOr x y z) back_or
 -- ---- not
 
 pub not_monotone : (x x' : Info) → Below x x' → Below (not_of x) (not_of x')
-not_monotone = one-monotone is_not IsNot not-Decides
+not_monotone x x' p = two-monotone (λ a b y. is_not a y) (λ a b y. IsNot a y) not-Decides x x x' x'
+    p p
 
 pub not_kind : (x : Info) → IsOf (kinds.Set 0) 2 (not_of x)
-not_kind = one-kind is_not IsNot not-Decides
+not_kind x = two-kind (λ a b y. is_not a y) (λ a b y. IsNot a y) not-Decides x x
 
 pub not_just : (x : Info) → LeavesJust (IsLeftByOne IsNot x) (not_of x)
-not_just = one-just is_not IsNot not-Decides
+not_just x t l = (
+  (λ h.
+      let p = (just t l).0 h in
+      record { input = p.first; is_truth = p.first_is_truth; left = p.first_left; belongs = p.belongs }),
+  (λ p. (just t l).1 (record {
+    first = p.input;
+    second = p.input;
+    first_is_truth = p.is_truth;
+    second_is_truth = p.is_truth;
+    first_left = p.left;
+    second_left = p.left;
+    belongs = p.belongs;
+  })),
+)
+  where
+    just : LeavesJust (IsLeftByTwo (λ a b y. IsNot a y) x x) (not_of x)
+    just = two-just (λ a b y. is_not a y) (λ a b y. IsNot a y) not-Decides x x
 
 pub not_sound : (x : Info) (a y : ℕ) → a < 2 → y < 2 → Holds x (Element a) → IsNot a y
     → Holds (not_of x) (Element y)
