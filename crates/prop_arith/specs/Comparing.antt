@@ -27,8 +27,7 @@ is_single a = false
 -- whether x is y: no where they share no point, yes where each leaves one point, which is then the
 -- same
 abbrev pub comparer_of : Info → Info → Info
-comparer_of x y =
-    if is_contradiction (merge_of x y) then elements_from no_bits
+comparer_of x y = if is_contradiction (merge_of x y) then elements_from no_bits
     else (if is_single x && is_single y then elements_from yes_bits else Nothing)
 
 -- the number of the first element

@@ -1,11 +1,11 @@
 -- Which points belong together at the rules of the kit.
-use Rattle.std.specs.Prelude.{◌≡◌, ◌≢◌, ◌↔◌, List, [], ◌∷◌}
-use Rattle.prop_intervals.specs.Relations.{IsSum, IsProduct, IsSquare, SaysLess}
+use Rattle.std.specs.Prelude.{◌≡◌, ◌≢◌, ◌↔◌, ◌+ℤ◌, ◌*ℤ◌, IsTrue, List, [], ◌∷◌}
+use Rattle.prop_intervals.specs.Relations.{IsProduct, SaysLess}
 use Rattle.prop_lattice.specs.Points.{Point, Number, Element}
 use Rattle.prop_procedures.specs.declared.shape.Param.{Param}
 use Rattle.prop_procedures.specs.declared.shape.Param.TheVariants.{Scale, Rows}
 use Rattle.prop_sets.specs.Relation.{HasPair}
-use Rattle.prop_sets.specs.Truth.{IsNot, IsAnd, IsOr}
+use Rattle.prop_sets.specs.Truth.{is_not, is_and, is_or}
 use Rattle.prop_arith.specs.declared.kit.Kit as kits
 use Rattle.prop_arith.specs.declared.kit.Kit.TheVariants.{Add, Sub, Mul, Div, Square, Root, Less}
 use Rattle.prop_arith.specs.declared.kit.Kit.TheVariants.{Below, Above, Copy, Alike, Apart, Switch}
@@ -16,12 +16,12 @@ use Rattle.prop_arith.specs.declared.kit.Kit.TheVariants.{Coimage}
 -- second input's number; y is another point than x where the truth, 0 for `yes`, is `no`, and the
 -- same where it is `yes`
 abbrev pub Related : kits.Kit → Param → List Point → Point → Type 0
-Related Add param (Number x ∷ Number y ∷ []) (Number z) = IsSum x y z
-Related Sub param (Number z ∷ Number x ∷ []) (Number y) = IsSum x y z
+Related Add param (Number x ∷ Number y ∷ []) (Number z) = z ≡ x +ℤ y
+Related Sub param (Number z ∷ Number x ∷ []) (Number y) = z ≡ x +ℤ y
 Related Mul (Scale k) (Number x ∷ Number y ∷ []) (Number z) = IsProduct k x y z
 Related Div (Scale k) (Number z ∷ Number y ∷ []) (Number x) = IsProduct k x y z
-Related Square param (Number x ∷ []) (Number y) = IsSquare x y
-Related Root param (Number y ∷ Number x ∷ []) (Number v) = (v ≡ x) × IsSquare x y
+Related Square param (Number x ∷ []) (Number y) = y ≡ x *ℤ x
+Related Root param (Number y ∷ Number x ∷ []) (Number v) = (v ≡ x) × (y ≡ x *ℤ x)
 Related Less param (Number x ∷ Number y ∷ []) (Element t) = SaysLess x y t
 Related Below param (Element t ∷ Number y ∷ []) (Number x) = SaysLess x y t
 Related Above param (Element t ∷ Number x ∷ []) (Number y) = SaysLess x y t
@@ -29,11 +29,11 @@ Related Copy param (x ∷ []) y = y ≡ x
 Related Alike param (x ∷ y ∷ []) (Element t) = (t ≡ 0) ↔ (x ≡ y)
 Related Apart param (Element t ∷ x ∷ y ∷ []) z = (z ≡ y) × (t ≡ 1 → z ≢ x)
 Related Switch param (Element t ∷ x ∷ []) y = t ≡ 0 → y ≡ x
-Related Not param (Element x ∷ []) (Element y) = IsNot x y
-Related And param (Element x ∷ Element y ∷ []) (Element z) = IsAnd x y z
-Related AndBack param (Element z ∷ Element y ∷ []) (Element x) = IsAnd x y z
-Related Or param (Element x ∷ Element y ∷ []) (Element z) = IsOr x y z
-Related OrBack param (Element z ∷ Element y ∷ []) (Element x) = IsOr x y z
+Related Not param (Element x ∷ []) (Element y) = IsTrue (is_not x y)
+Related And param (Element x ∷ Element y ∷ []) (Element z) = IsTrue (is_and x y z)
+Related AndBack param (Element z ∷ Element y ∷ []) (Element x) = IsTrue (is_and x y z)
+Related Or param (Element x ∷ Element y ∷ []) (Element z) = IsTrue (is_or x y z)
+Related OrBack param (Element z ∷ Element y ∷ []) (Element x) = IsTrue (is_or x y z)
 Related Image (Rows m) (Element x ∷ []) (Element y) = HasPair m x y
 Related Coimage (Rows m) (Element y ∷ []) (Element x) = HasPair m x y
 Related rule param points point = ⊥

@@ -15,8 +15,8 @@ use Rattle.prop_procedures.specs.declared.shape.Param.{Param}
 use Rattle.prop_procedures.specs.declared.shape.Param.TheVariants.{Scale, Rows}
 use Rattle.prop_sets.specs.Images.{image_of, coimage_of}
 use Rattle.prop_sets.specs.Relation.{Relation, HasPair}
-use Rattle.prop_sets.specs.Truth.{IsNot, IsAnd, IsOr, and_of, and_back_of, or_of, or_back_of}
-use Rattle.prop_sets.specs.Truth.{not_of}
+use Rattle.prop_sets.specs.Truth.{IsNot, IsAnd, IsOr}
+use Rattle.prop_sets.specs.Truth.{and_of, and_back_of, or_of, or_back_of, not_of}
 use Rattle.prop_arith.specs.Comparing.{is_just, comparer_of, others_of}
 use Rattle.prop_arith.specs.declared.kit.Kit as kits
 use Rattle.prop_arith.specs.declared.kit.Kit.TheVariants.{Add, Sub, Mul, Div, Square, Root, Less}

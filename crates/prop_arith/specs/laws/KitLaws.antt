@@ -26,8 +26,8 @@ use Rattle.prop_sets.specs.laws.ImageLaws.{image_monotone, image_sound, coimage_
 use Rattle.prop_sets.specs.laws.ImageLaws.{coimage_sound}
 use Rattle.prop_sets.specs.Images.{image_of, coimage_of}
 use Rattle.prop_sets.specs.Relation.{HasPair}
-use Rattle.prop_sets.specs.Truth.{IsNot, IsAnd, IsOr, not_of, and_of, and_back_of, or_of}
-use Rattle.prop_sets.specs.Truth.{or_back_of}
+use Rattle.prop_sets.specs.Truth.{IsNot, IsAnd, IsOr}
+use Rattle.prop_sets.specs.Truth.{not_of, and_of, and_back_of, or_of, or_back_of}
 use Rattle.prop_sets.specs.laws.TruthLaws.{not_monotone, not_kind, not_sound, and_monotone}
 use Rattle.prop_sets.specs.laws.TruthLaws.{and_kind, and_sound, and_back_monotone, and_back_kind}
 use Rattle.prop_sets.specs.laws.TruthLaws.{and_back_sound, or_monotone, or_kind, or_sound}
