@@ -14,7 +14,7 @@ use Rattle.prop_language.specs.Commands.{Value, KindWord, By, Passed, Step, Comm
 use Rattle.prop_language.specs.inner.Forms.{join, only_words, domain, pairs, relation, kind_word, cell, tell, values}
 use Rattle.prop_language.specs.inner.Forms.{in_braces, one_value, only_value, cells_by, by_form, attach, with_cell}
 use Rattle.prop_language.specs.inner.Forms.{passed_form, use_step}
-use Rattle.prop_language.specs.Reading.{kind_names, by_names, is_by_in_range, passed_names, is_passed_in_range}
+use Rattle.prop_language.specs.inner.Grammar.{kind_names, by_names, is_by_in_range, passed_names, is_passed_in_range}
 use Rattle.prop_language.specs.inner.Parsing.{command_in_form}
 use Rattle.prop_language.specs.inner.Parts.{front, one_word, are_words, front_words, before_pairs, behind_by, given}
 use Rattle.prop_language.specs.inner.Parts.{before_by, judged, step_in_form, BeginsOpen}

@@ -4,5 +4,6 @@ pub mod Forming
 pub mod Choosing
 pub mod StepLaws
 pub mod ValueLaws
+pub mod PartLaws
 pub mod SpellingLaws
 pub mod ReadingLaws

@@ -11,14 +11,16 @@ use Rattle.prop_refusals.specs.declared.refusal.Refusal.TheVariants.{UnknownComm
 use Rattle.prop_language.specs.Tokens.{Token, Word, tokens}
 use Rattle.prop_language.specs.Names.{is_among}
 use Rattle.prop_language.specs.Commands.{Value, Command}
-use Rattle.prop_language.specs.Spelling.{Spells, AreTwoToEight, command_words}
-use Rattle.prop_language.specs.Reading.{without_return, is_silent, command_in_range, begins_as_command, AskFor}
+use Rattle.prop_language.specs.Spelling.{command_words}
+use Rattle.prop_language.specs.inner.Grammar.{Spells, AreTwoToEight, command_in_range}
+use Rattle.prop_language.specs.Reading.{without_return, is_silent, begins_as_command, AskFor}
 use Rattle.prop_language.specs.Reading.{IsReadingOf, IsReading, HaveOneReading}
 use Rattle.prop_language.specs.Said.{Reads}
 use Rattle.prop_language.specs.declared.command.Command as made
 use Rattle.prop_language.specs.inner.Forms.{forms}
 use Rattle.prop_language.specs.inner.Parsing.{reading, reading_of, command_of}
 use Rattle.prop_language.specs.inner.Parts.{ReadsAs}
+use Rattle.prop_language.proofs.PartLaws.{AskAs, asked_by_parts, asked_by_tokens}
 use Rattle.prop_language.proofs.SpellingLaws.{read_form, spelled_is_read, read_is_spelled}
 
 -- ---- tokens
@@ -56,7 +58,7 @@ read : (ts : List Token) → Read ts
 read (Word w ∷ ts) = by_word w ts _ refl
 read ts = Formless refl refl
 
-asked_by : (ts : List Token) → Read ts → AskFor ts (command_of ts)
+asked_by : (ts : List Token) → Read ts → AskAs ts (command_of ts)
 asked_by ts (Formless n e) = inr (λ command s. none-some command (sym n ∙ spelled_is_read ts command s), e)
 asked_by ts (Formed command f e) = inl (command, read_is_spelled ts command f, e)
 
@@ -67,20 +69,25 @@ one_command ts command other s o =
     let g : read_form ts ≡ Some other = spelled_is_read ts other o in
     cc
 
+one_as : (ts : List Token) (read other : Result (Option Command) Refusal) → AskAs ts read → AskAs ts other
+    → other ≡ read
+one_as ts read other (inl (c, s, e)) (inl (d, o, f)) = f ∙ ap command_in_range (one_command ts c d s o) ∙ sym e
+one_as ts read other (inl (c, s, e)) (inr (n, f)) = absurd (n c s)
+one_as ts read other (inr (n, e)) (inl (d, o, f)) = absurd (n d o)
+one_as ts read other (inr (n, e)) (inr (m, f)) = f ∙ sym e
+
 one_asked : (ts : List Token) (read other : Result (Option Command) Refusal) → AskFor ts read → AskFor ts other
     → other ≡ read
-one_asked ts read other (inl (c, s, e)) (inl (d, o, f)) = f ∙ ap command_in_range (one_command ts c d s o) ∙ sym e
-one_asked ts read other (inl (c, s, e)) (inr (n, f)) = absurd (n c s)
-one_asked ts read other (inr (n, e)) (inl (d, o, f)) = absurd (n d o)
-one_asked ts read other (inr (n, e)) (inr (m, f)) = f ∙ sym e
+one_asked ts read other a b = one_as ts read other (asked_by_tokens ts read a) (asked_by_tokens ts other b)
 
 -- ---- lines
 
 by_silence : (bytes : List ℕ) (silent : Bool) → is_utf8 bytes ≡ true → is_silent bytes ≡ silent
     → IsReadingOf bytes (reading_of bytes)
 by_silence bytes true u s = inr (inl (IsUtf8-from_is_utf8 bytes u, s, rw (u, s) refl))
-by_silence bytes false u s = inr (inr
-    (IsUtf8-from_is_utf8 bytes u, s, rw (u, s) (asked_by (tokens bytes) (read (tokens bytes)))))
+by_silence bytes false u s =
+    let ts = tokens bytes in
+    inr (inr (IsUtf8-from_is_utf8 bytes u, s, rw (u, s) (asked_by_parts ts (command_of ts) (asked_by ts (read ts)))))
 
 by_text : (bytes : List ℕ) (text : Bool) → is_utf8 bytes ≡ text → IsReadingOf bytes (reading_of bytes)
 by_text bytes true u = by_silence bytes _ u refl
@@ -134,7 +141,7 @@ ranged command other false range e = cc
 ranged command other true false e = cc
 ranged command other true true e = cc
 
-asked_is_spelled : (ts : List Token) (command : Command) → AskFor ts (Ok (Some command)) → Spells ts command
+asked_is_spelled : (ts : List Token) (command : Command) → AskAs ts (Ok (Some command)) → Spells ts command
 asked_is_spelled ts command (inl (c, s, e)) = subst (Spells ts) (ranged c command _ _ e) s
 asked_is_spelled ts command (inr (n, e)) = cc
 
@@ -143,7 +150,8 @@ pub spelled : (line : List ℕ) (command : Command) → IsReading line (Ok (Some
 spelled line command (inl (l, e)) = cc
 spelled line command (inr (l, inl (n, e))) = cc
 spelled line command (inr (l, inr (inl (u, s, e)))) = cc
-spelled line command (inr (l, inr (inr (u, s, a)))) = asked_is_spelled (tokens (without_return line)) command a
+spelled line command (inr (l, inr (inr (u, s, a)))) = asked_is_spelled (tokens (without_return line)) command
+    (asked_by_tokens (tokens (without_return line)) (Ok (Some command)) a)
 
 -- a choice that is spelled has two to eight values
 counted : (ts : List Token) (name cell : List ℕ) (values : List Value) → Spells ts (Command.Choose name cell values)

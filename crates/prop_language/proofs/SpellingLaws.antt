@@ -18,8 +18,8 @@ use Rattle.prop_language.specs.inner.Forms.{values, limit_of, only_value, fix, t
 use Rattle.prop_language.proofs.ValueLaws.{value_read, choice_read, one_spelled, choice_spelled}
 use Rattle.prop_language.proofs.StepLaws.{Head, Headed, Headless, head, words_alone, before_equals, after_equals}
 use Rattle.prop_language.proofs.StepLaws.{bodiless, bodied}
-use Rattle.prop_language.specs.Spelling.{Spells, SpellsStep, SpellsSteps, IsLocal, StandsFor, Gives, Passes, HaveNoBy}
-use Rattle.prop_language.specs.Spelling.{tokens_of_value}
+use Rattle.prop_language.specs.inner.Grammar.{Spells, SpellsStep, SpellsSteps, StandsFor, Gives, Passes, HaveNoBy}
+use Rattle.prop_language.specs.Spelling.{tokens_of_value, IsLocal}
 
 -- what is read from a line's tokens, where there is a form for it
 abbrev pub read_form : List Token → Option Command

@@ -21,7 +21,7 @@ use Rattle.prop_language.specs.Names.{is_name}
 use Rattle.prop_language.specs.Commands.{KindWord, Step, Command}
 use Rattle.prop_language.specs.inner.Forms.{join, only_words, each, is_semicolon, is_equals, kind_word, cell}
 use Rattle.prop_language.specs.inner.Forms.{local_of_kind, local_like, use_step, step, steps, define}
-use Rattle.prop_language.specs.Reading.{kind_names, step_names, is_step_in_range}
+use Rattle.prop_language.specs.inner.Grammar.{kind_names, step_names, is_step_in_range}
 use Rattle.prop_language.specs.inner.Parsing.{command_in_form}
 use Rattle.prop_language.specs.Said.{step_of}
 use Rattle.prop_language.specs.inner.Parts.{steps_said}

@@ -1,117 +1,126 @@
--- How each command is spelled: the tokens of a line that asks for it.
-use Rattle.std.specs.Prelude.{◌≡◌, ◌≢◌, ◌⊎◌, ℕ, ◌≤◌, List, [], ◌∷◌, ◌++◌, true, false, codes, pos}
-use Rattle.std.specs.Prelude.{unsigned_abs, map, flat_map, length}
-use Rattle.std.specs.List.{AllByRecursion}
+-- How each command is spelled: the parts of a line that asks for it.
+use Rattle.std.specs.Prelude.{◌≡◌, ◌≢◌, ◌⊎◌, ℕ, ◌≤◌, List, [], ◌∷◌, ◌++◌, Bool, true, false, codes}
+use Rattle.std.specs.Prelude.{pos, unsigned_abs, map, length, is_some}
+use Rattle.std.specs.List.{AllByRecursion, AllZip, join_by}
 use Rattle.std.specs.Option.{option_map}
 use Rattle.prop_language.specs.Tokens.{Token, Word, Open, Close, Semicolon, Equals, Star}
-use Rattle.prop_language.specs.Names.{looks_like_number, number_in}
+use Rattle.prop_language.specs.Names.{is_name, looks_like_number, number_in}
 use Rattle.prop_language.specs.Commands.{Value, Bare, Braces, KindWord, Spans, Truths, Symbols}
 use Rattle.prop_language.specs.Commands.{Named, By, Passed, Step, Command}
 
 -- the first words of the commands
 abbrev pub command_words : List (List ℕ)
-command_words =
-    codes "domain" ∷ codes "relation" ∷ codes "cell" ∷ codes "define" ∷ codes "attach" ∷ codes
-    "fix" ∷ codes "tell" ∷ codes "choose" ∷ codes "kick" ∷ codes "bring" ∷ codes
-    "forget" ∷ codes "limit" ∷ codes "settle" ∷ codes "ask" ∷ codes "why" ∷ codes "core" ∷ codes
-    "worldview" ∷ codes "nogoods" ∷ []
+command_words = map codes ("domain" ∷ "relation" ∷ "cell" ∷ "define" ∷ "attach" ∷ "fix" ∷ "tell"
+    ∷ "choose" ∷ "kick" ∷ "bring" ∷ "forget" ∷ "limit" ∷ "settle" ∷ "ask" ∷ "why" ∷ "core"
+    ∷ "worldview" ∷ "nogoods" ∷ [])
 
--- The word stands for the kind. Three kinds have words of their own, and another word is a domain's
+-- a token of a line as it stands, a word that has to be a name, or a word that has to be a number
+-- in range, and whether it is
+pub data Part : Type 0 where
+  Plain : Token → Part
+  Name : List ℕ → Part
+  Number : List ℕ → Bool → Part
+
+abbrev pub token_of : Part → Token
+token_of (Plain t) = t
+token_of (Name w) = Word w
+token_of (Number w ranged) = Word w
+
+-- it is a name where it has to be one
+abbrev pub is_named : Part → Bool
+is_named (Name w) = is_name w
+is_named part = true
+
+-- it is a number in range where it has to be one
+abbrev pub is_ranged : Part → Bool
+is_ranged (Number w ranged) = ranged
+is_ranged part = true
+
+-- a word of the command's own
+abbrev pub own : List ℕ → Part
+own w = Plain (Word w)
+
+-- The part stands for the kind. Three kinds have words of their own, and another word is a domain's
 -- name.
-abbrev pub StandsFor : List ℕ → KindWord → Type 0
-StandsFor w Spans = w ≡ codes "span"
-StandsFor w Truths = w ≡ codes "truth"
-StandsFor w Symbols = w ≡ codes "symbol"
-StandsFor w (Named name) = (w ≡ name) × (w ≢ codes "span") × (w ≢ codes "truth")
-    × (w ≢ codes "symbol")
+abbrev pub IsKind : Part → KindWord → Type 0
+IsKind part Spans = part ≡ own (codes "span")
+IsKind part Truths = part ≡ own (codes "truth")
+IsKind part Symbols = part ≡ own (codes "symbol")
+IsKind part (Named name) = (part ≡ Name name) × (name ≢ codes "span") × (name ≢ codes "truth")
+    × (name ≢ codes "symbol")
 
--- none of the words is `by`
-abbrev pub HaveNoBy : List (List ℕ) → Type 0
-HaveNoBy words = AllByRecursion (λ w. w ≢ codes "by") words
+-- there is one cell or more, and only the first can be called `by`
+abbrev pub AreCells : List (List ℕ) → Type 0
+AreCells [] = ⊥
+AreCells (x ∷ xs) = AllByRecursion (λ w. w ≢ codes "by") xs
 
--- The tokens give the parameter. A word that begins as a number is one, and another is a relation's
+-- The parts give the parameter. A word that begins as a number is one, and another is a relation's
 -- name.
-abbrev pub Gives : By → List Token → Type 0
-Gives By.Nothing ts = ts ≡ []
-Gives (By.Number n) ts =
-    (p : List ℕ) × (ts ≡ Word (codes "by") ∷ Word p ∷ []) × (looks_like_number p ≡ true)
-    × (number_in (pos 1) (pos 1_000_000_000) p ≡ n)
-Gives (By.Relation r) ts = (ts ≡ Word (codes "by") ∷ Word r ∷ []) × (looks_like_number r ≡ false)
+abbrev pub Gives : By → List Part → Type 0
+Gives By.Nothing ps = ps ≡ []
+Gives (By.Number n) ps =
+    (w : List ℕ) × (ps ≡ own (codes "by") ∷ Number w (is_some n) ∷ [])
+    × (looks_like_number w ≡ true) × (number_in (pos 1) (pos 1_000_000_000) w ≡ n)
+Gives (By.Relation r) ps = (ps ≡ own (codes "by") ∷ Name r ∷ []) × (looks_like_number r ≡ false)
 
 -- the same of a step, which can also give a star
-abbrev pub Passes : Passed → List Token → Type 0
-Passes (Passed.Said by) ts = Gives by ts
-Passes Passed.Own ts = ts ≡ Word (codes "by") ∷ Star ∷ []
+abbrev pub Passes : Passed → List Part → Type 0
+Passes (Passed.Said by) ps = Gives by ps
+Passes Passed.Own ps = ps ≡ own (codes "by") ∷ Plain Star ∷ []
 
 -- the tokens have one of the forms of a local
 abbrev pub IsLocal : List Token → Type 0
 IsLocal ts =
-    ((n kind : List ℕ) × (ts ≡ Word (codes "local") ∷ Word n ∷ Word kind ∷ []))
-    ⊎ ((n p : List ℕ) × (ts ≡ Word (codes "local") ∷ Word n ∷ Word (codes "like") ∷ Word p ∷ []))
+    ((n kind : List ℕ) × (ts ≡ map Word (codes "local" ∷ n ∷ kind ∷ [])))
+    ⊎ ((n p : List ℕ) × (ts ≡ map Word (codes "local" ∷ n ∷ codes "like" ∷ p ∷ [])))
 
--- The tokens spell the step. A use has one cell or more, of which only the first can be called
--- `by`, and not the form of a local.
-abbrev pub SpellsStep : List Token → Step → Type 0
-SpellsStep ts (Step.Local n kind) =
-    (word : List ℕ) × (ts ≡ Word (codes "local") ∷ Word n ∷ Word word ∷ []) × StandsFor word kind
-SpellsStep ts (Step.Like n p) =
-    ts ≡ Word (codes "local") ∷ Word n ∷ Word (codes "like") ∷ Word p ∷ []
-SpellsStep ts (Step.Use m [] passed) = ⊥
-SpellsStep ts (Step.Use m (x ∷ xs) passed) =
-    (rest : List Token) × (ts ≡ Word m ∷ Word x ∷ map Word xs ++ rest) × HaveNoBy xs
-    × Passes passed rest × ¬ (IsLocal ts)
-
--- the tokens spell the steps, of which there is one or more, with a semicolon between each two
-abbrev pub SpellsSteps : List Token → List Step → Type 0
-SpellsSteps ts [] = ⊥
-SpellsSteps ts (s ∷ []) = SpellsStep ts s
-SpellsSteps ts (s ∷ r ∷ steps) =
-    (first others : List Token) × (ts ≡ first ++ Semicolon ∷ others) × SpellsStep first s
-    × SpellsSteps others (r ∷ steps)
+-- The parts spell the step. A use has not the form of a local.
+abbrev pub SpellsStep : List Part → Step → Type 0
+SpellsStep ps (Step.Local n kind) =
+    (part : Part) × (ps ≡ own (codes "local") ∷ Name n ∷ part ∷ []) × IsKind part kind
+SpellsStep ps (Step.Like n p) =
+    ps ≡ own (codes "local") ∷ Name n ∷ own (codes "like") ∷ Name p ∷ []
+SpellsStep ps (Step.Use m cells passed) =
+    (rest : List Part) × (ps ≡ map Name (m ∷ cells) ++ rest) × AreCells cells × Passes passed rest
+    × ¬ (IsLocal (map token_of ps))
 
 abbrev pub tokens_of_value : Value → List Token
 tokens_of_value (Bare w) = Word w ∷ []
 tokens_of_value (Braces ws) = Open ∷ map Word ws ++ Close ∷ []
 
--- the number of a choice's values
-abbrev pub AreTwoToEight : List Value → Type 0
-AreTwoToEight vs = (2 ≤ length vs) × (length vs ≤ 8)
-
--- The tokens spell the command. Of a domain's elements, a relation's pairs, a definition's
--- parameters and steps and an attachment's cells there is one or more, and of the cells only the
--- first can be called `by`. A choice has two to eight values.
-abbrev pub Spells : List Token → Command → Type 0
-Spells ts (Command.Domain name elements) =
-    (ts ≡ Word (codes "domain") ∷ Word name ∷ map Word elements) × (elements ≢ [])
-Spells ts (Command.Relation name d e []) = ⊥
-Spells ts (Command.Relation name d e (p ∷ ps)) =
-    ts ≡ Word (codes "relation") ∷ Word name ∷ Word d ∷ Word e ∷ Equals ∷ Word p.0 ∷ Word
-    p.1 ∷ flat_map (λ q. Semicolon ∷ Word q.0 ∷ Word q.1 ∷ []) ps
-Spells ts (Command.Cell name kind) =
-    (word : List ℕ) × (ts ≡ Word (codes "cell") ∷ Word name ∷ Word word ∷ []) × StandsFor word kind
-Spells ts (Command.Define name params steps) =
-    (rest : List Token) × (ts ≡ Word (codes "define") ∷ Word name ∷ map Word
-    params ++ Equals ∷ rest) × (params ≢ []) × SpellsSteps rest steps
-Spells ts (Command.Attach name [] by) = ⊥
-Spells ts (Command.Attach name (x ∷ xs) by) =
-    (rest : List Token) × (ts ≡ Word (codes "attach") ∷ Word name ∷ Word x ∷ map Word xs ++ rest)
-    × HaveNoBy xs × Gives by rest
-Spells ts (Command.Fix cell value) = ts ≡ Word (codes "fix") ∷ Word cell ∷ tokens_of_value value
-Spells ts (Command.Tell premise cell value) =
-    ts ≡ Word (codes "tell") ∷ Word premise ∷ Word cell ∷ tokens_of_value value
-Spells ts (Command.Choose name cell []) = ⊥
-Spells ts (Command.Choose name cell (v ∷ vs)) =
-    (ts ≡ Word (codes "choose") ∷ Word name ∷ Word cell ∷ tokens_of_value v ++ flat_map
-    (λ w. Word (codes "or") ∷ tokens_of_value w) vs) × AreTwoToEight (v ∷ vs)
-Spells ts (Command.Kick premise) = ts ≡ Word (codes "kick") ∷ Word premise ∷ []
-Spells ts (Command.Bring premise) = ts ≡ Word (codes "bring") ∷ Word premise ∷ []
-Spells ts (Command.Forget premise) = ts ≡ Word (codes "forget") ∷ Word premise ∷ []
-Spells ts (Command.Limit steps) =
-    (w : List ℕ) × (ts ≡ Word (codes "limit") ∷ Word w ∷ [])
+-- The parts spell the command. Of a domain's elements, a relation's pairs and a definition's
+-- parameters and steps there is one or more, and of a choice's values there are two to eight.
+abbrev pub Spells : List Part → Command → Type 0
+Spells ps (Command.Domain name elements) =
+    (ps ≡ own (codes "domain") ∷ map Name (name ∷ elements)) × (elements ≢ [])
+Spells ps (Command.Relation name d e pairs) =
+    (ps ≡ own (codes "relation") ∷ Name name ∷ Name d ∷ Name e ∷ map Plain
+    (Equals ∷ join_by (λ p. Word p.0 ∷ Word p.1 ∷ []) (Semicolon ∷ []) pairs)) × (pairs ≢ [])
+Spells ps (Command.Cell name kind) =
+    (part : Part) × (ps ≡ own (codes "cell") ∷ Name name ∷ part ∷ []) × IsKind part kind
+Spells ps (Command.Define name params steps) =
+    (parts : List (List Part)) × AllZip SpellsStep parts steps × (ps ≡ own (codes "define") ∷ map
+    Name (name ∷ params) ++ Plain Equals ∷ join_by (λ part. part) (Plain Semicolon ∷ []) parts)
+    × (params ≢ []) × (steps ≢ [])
+Spells ps (Command.Attach name cells by) =
+    (rest : List Part) × (ps ≡ own (codes "attach") ∷ map Name (name ∷ cells) ++ rest)
+    × AreCells cells × Gives by rest
+Spells ps (Command.Fix cell value) =
+    ps ≡ own (codes "fix") ∷ Name cell ∷ map Plain (tokens_of_value value)
+Spells ps (Command.Tell premise cell value) =
+    ps ≡ own (codes "tell") ∷ Name premise ∷ Name cell ∷ map Plain (tokens_of_value value)
+Spells ps (Command.Choose name cell values) =
+    (ps ≡ own (codes "choose") ∷ Name name ∷ Name cell ∷ map Plain (join_by tokens_of_value
+    (Word (codes "or") ∷ []) values)) × (2 ≤ length values) × (length values ≤ 8)
+Spells ps (Command.Kick premise) = ps ≡ own (codes "kick") ∷ Name premise ∷ []
+Spells ps (Command.Bring premise) = ps ≡ own (codes "bring") ∷ Name premise ∷ []
+Spells ps (Command.Forget premise) = ps ≡ own (codes "forget") ∷ Name premise ∷ []
+Spells ps (Command.Limit steps) =
+    (w : List ℕ) × (ps ≡ own (codes "limit") ∷ Number w (is_some steps) ∷ [])
     × (option_map unsigned_abs (number_in (pos 0) (pos 1_000_000_000_000_000) w) ≡ steps)
-Spells ts Command.Settle = ts ≡ Word (codes "settle") ∷ []
-Spells ts (Command.Ask cell) = ts ≡ Word (codes "ask") ∷ Word cell ∷ []
-Spells ts (Command.Why cell) = ts ≡ Word (codes "why") ∷ Word cell ∷ []
-Spells ts (Command.Core cell) = ts ≡ Word (codes "core") ∷ Word cell ∷ []
-Spells ts Command.Worldview = ts ≡ Word (codes "worldview") ∷ []
-Spells ts Command.Nogoods = ts ≡ Word (codes "nogoods") ∷ []
+Spells ps Command.Settle = ps ≡ own (codes "settle") ∷ []
+Spells ps (Command.Ask cell) = ps ≡ own (codes "ask") ∷ Name cell ∷ []
+Spells ps (Command.Why cell) = ps ≡ own (codes "why") ∷ Name cell ∷ []
+Spells ps (Command.Core cell) = ps ≡ own (codes "core") ∷ Name cell ∷ []
+Spells ps Command.Worldview = ps ≡ own (codes "worldview") ∷ []
+Spells ps Command.Nogoods = ps ≡ own (codes "nogoods") ∷ []

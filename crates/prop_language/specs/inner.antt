@@ -1,3 +1,4 @@
 pub mod Forms
 pub mod Parsing
 pub mod Parts
+pub mod Grammar

@@ -8,7 +8,7 @@ ghost use Rattle.prop_language.specs.Tokens.{tokens, Word, Open, Equals};
 ghost use Rattle.prop_language.specs.Names.{is_name};
 ghost use Rattle.prop_language.specs.inner.Forms as forms;
 ghost use Rattle.prop_language.specs.Commands as commands;
-ghost use Rattle.prop_language.specs.Reading.{kind_names};
+ghost use Rattle.prop_language.specs.inner.Grammar.{kind_names};
 ghost use Rattle.prop_language.specs.inner.Parsing.{command_in_form};
 ghost use Rattle.prop_language.specs.Said.{words, pairs_of, kind_of, by_of, value_of};
 ghost use Rattle.prop_language.specs.inner.Parts.{front, one_word, are_words, front_words};

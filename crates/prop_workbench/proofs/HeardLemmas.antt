@@ -8,9 +8,8 @@ use Rattle.prop_refusals.specs.declared.refusal.Refusal.TheVariants.{Memory, Not
 use Rattle.prop_procedures.specs.Stored.{Stored}
 use Rattle.prop_language.specs.Commands.{Command}
 use Rattle.prop_language.specs.Tokens.{Token, Word, tokens, is_blank, front_word}
-use Rattle.prop_language.specs.Names.{is_name}
-use Rattle.prop_language.specs.Reading.{AskFor, IsReading, AsRead, command_in_range, is_silent, without_return}
-use Rattle.prop_language.specs.Reading.{names_in, is_in_range}
+use Rattle.prop_language.specs.Reading.{AskFor, IsReading, AsRead, judged, is_silent, without_return}
+use Rattle.prop_language.specs.Spelling.{Part, is_named, is_ranged}
 use Rattle.prop_language.proofs.ReadingLaws.{have_one_reading}
 use Rattle.prop_language.specs.Said.{KeepsWords}
 use Rattle.prop_engine.specs.Answers.{Refused}
@@ -57,8 +56,8 @@ heard_words text keeps h = by (silent_tokens text h)
     by (inl e) = subst KeepsWords e keeps
     by (inr p) = keeps_no_comment p.0 p.1 (subst KeepsWords p.2 keeps)
 
-ranged_heard : (command : Command) → Ok None ≡ command_in_range command → ⊥
-ranged_heard command h = by (not (list_all is_name (names_in command))) (not (is_in_range command)) h
+judged_heard : (ps : List Part) (command : Command) → Ok None ≡ judged ps command → ⊥
+judged_heard ps command h = by (not (list_all is_named ps)) (not (list_all is_ranged ps)) h
   where
     by : (s t : Bool) → Ok None ≡ cond s (Err NotAName) (cond t (Err NotANumber) (Ok (Some command))) → ⊥
     by true t e = cc
@@ -66,7 +65,7 @@ ranged_heard command h = by (not (list_all is_name (names_in command))) (not (is
     by false false e = let f : None ≡ Some command = cc in cc
 
 asked_heard : (ts : List Token) → AskFor ts (Ok None) → ⊥
-asked_heard ts (inl (command, s, e)) = ranged_heard command e
+asked_heard ts (inl (ps, command, t, s, e)) = judged_heard ps command e
 asked_heard ts (inr (n, e)) = cc
 
 pub heard : (line : List ℕ) → KeepsWords (tokens (without_return line)) → IsReading line (Ok None) → ⊥

@@ -15,8 +15,8 @@ use Rattle.prop_language.specs.Commands.{Value, By, Passed, Step, Command}
 use Rattle.prop_language.specs.inner.Forms.{join, bare, each, step, on_word, limit_of, domain}
 use Rattle.prop_language.specs.inner.Forms.{relation, cell, define, attach, fix, tell, choose}
 use Rattle.prop_language.specs.inner.Forms.{parameter, values, sides, two_to_eight}
-use Rattle.prop_language.specs.Reading.{by_names, is_by_in_range, passed_names, is_passed_in_range}
-use Rattle.prop_language.specs.Reading.{step_names, is_step_in_range}
+use Rattle.prop_language.specs.inner.Grammar.{by_names, is_by_in_range, passed_names}
+use Rattle.prop_language.specs.inner.Grammar.{is_passed_in_range, step_names, is_step_in_range}
 use Rattle.prop_language.specs.inner.Parsing.{command_in_form}
 use Rattle.prop_language.specs.Said.{Reads, step_of}
 use Rattle.prop_language.specs.declared.command.Step as kept

@@ -302,7 +302,12 @@ pub not_just : (x : Info) → LeavesJust (IsLeftByOne IsNot x) (not_of x)
 not_just x t l = (
   (λ h.
       let p = (just t l).0 h in
-      record { input = p.first; is_truth = p.first_is_truth; left = p.first_left; belongs = p.belongs }),
+      record {
+        input = p.first;
+        is_truth = p.first_is_truth;
+        left = p.first_left;
+        belongs = p.belongs;
+      }),
   (λ p. (just t l).1 (record {
     first = p.input;
     second = p.input;

@@ -1,7 +1,7 @@
 use Rattle.std.proofs.Common.{inr}
 use Rattle.std.proofs.lemmas.Result.{err_from_is_err_and}
 use Rattle.prop_language.specs.Tokens.{tokens}
-use Rattle.prop_language.specs.Reading.{by_names, is_by_in_range}
+use Rattle.prop_language.specs.inner.Grammar.{by_names, is_by_in_range}
 use Rattle.prop_language.proofs.Forming.{misread, no_attach, attach_used, use_misformed, names_refused}
 use Rattle.prop_language.proofs.Forming.{parameter_refused, use_read}
 use Rattle.prop_language.proofs.forms.attach.Goals as goal

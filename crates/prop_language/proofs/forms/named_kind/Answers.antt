@@ -1,6 +1,6 @@
 use Rattle.std.proofs.lemmas.Result.{err_from_is_err_and}
 use Rattle.prop_language.specs.inner.Forms.{kind_word}
-use Rattle.prop_language.specs.Reading.{kind_names}
+use Rattle.prop_language.specs.inner.Grammar.{kind_names}
 use Rattle.prop_language.proofs.Forming.{first_unnamed, others_unnamed}
 use Rattle.prop_language.proofs.forms.named_kind.Goals as goal
 

@@ -3,7 +3,7 @@ use Rattle.std.proofs.lemmas.Result.{err_from_is_err_and}
 use Rattle.prop_language.specs.Commands.{Passed}
 use Rattle.prop_language.specs.Said.{passed_of}
 use Rattle.prop_language.specs.inner.Parts.{passed_said, passed_in_range}
-use Rattle.prop_language.specs.Reading.{passed_names, is_passed_in_range}
+use Rattle.prop_language.specs.inner.Grammar.{passed_names, is_passed_in_range}
 use Rattle.prop_language.proofs.Forming.{part_refused, part_judged, step_used, use_misformed, names_refused}
 use Rattle.prop_language.proofs.Forming.{parameter_refused, use_read}
 use Rattle.prop_language.proofs.steps.use_step.Goals as goal
