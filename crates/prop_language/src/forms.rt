@@ -19,7 +19,7 @@ use crate::command::{By, Command, KindWord, Value};
 use crate::names::name;
 use crate::numbers::{looks_like_number, natural_in, number_in};
 use crate::tokens::{Token, next_token};
-use prop_refusals::Refusal;
+use prop_refusals::{MOST_SCALE, Refusal};
 use std::alloc::Global;
 
 /// The highest limit of the steps that a running command may take.
@@ -400,7 +400,7 @@ pub(crate) fn parameter(word: Option<&[u8]>) -> Result<By<'_>, Refusal>
     match word {
         None => Ok(By::Nothing),
         Some(word) if looks_like_number(word) => {
-            let number = number_in(1, 1_000_000_000, word).ok_or(Refusal::NotANumber)?;
+            let number = number_in(1, MOST_SCALE, word).ok_or(Refusal::NotANumber)?;
             Ok(By::Number(number))
         }
         Some(word) => Ok(By::Relation(name(word)?)),

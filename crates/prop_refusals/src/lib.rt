@@ -5,4 +5,4 @@
 
 pub mod refusal;
 
-pub use refusal::{Limit, Refusal};
+pub use refusal::{Limit, MOST_SCALE, Refusal};
