@@ -1,11 +1,11 @@
 -- Entries that are believed in both of two worldviews or in neither.
 use Rattle.std.proofs.Common.{if◌then◌else◌, ◌≡◌, ◌∙◌, ℕ, Bool, true, false, not, ◌&&◌, ◌||◌, List, [], ◌∷◌, ◌++◌, map}
-use Rattle.std.proofs.Common.{refl, sym, ap, ◌≢◌, ◌⊎◌, ◌%◌, ◌↔◌, inl, inr, Any}
+use Rattle.std.proofs.Common.{refl, sym, ap, ◌≢◌, ◌⊎◌, ◌↔◌, inl, inr, Any}
 use Rattle.std.specs.List.{list_any}
 use Rattle.std.proofs.lemmas.List.Elements.{filter-append}
 use Rattle.std.proofs.lemmas.List.Folds.{Any-from_list_any, list_any-append, list_any-from_Any}
 use Rattle.prop_numbers.specs.Sets.{Members, set_of, is_within}
-use Rattle.prop_numbers.specs.Signatures.{CoversChange}
+use Rattle.prop_numbers.specs.Changes.{CoversChange}
 use Rattle.prop_numbers.proofs.WithinLemmas.{within_has, within_from}
 use Rattle.prop_tms.specs.Beliefs.{merge_of_all, belief_of, believed_of}
 use Rattle.prop_tms.specs.Values.{entries_of, entries_of_one}
@@ -124,9 +124,9 @@ both_or_neither false true f g = cc (g refl)
 both_or_neither false false f g = refl
 
 -- a support without a premise that may be in just one of two worldviews is believed in both or in neither
-pub not_in_one : (w z rs : Members) (s : List ℕ) → CoversChange w z rs
-    → ((p : ℕ) → set_of s p ≡ true → rs (p % 128) ≡ false) → is_in_one w z s ≡ false
-not_in_one w z rs s covers out = both_or_neither (is_within w s) (is_within z s)
+pub not_in_one : (w z may : Members) (s : List ℕ) → CoversChange w z may
+    → ((p : ℕ) → set_of s p ≡ true → may p ≡ false) → is_in_one w z s ≡ false
+not_in_one w z may s covers out = both_or_neither (is_within w s) (is_within z s)
     (λ t. within_from z s (λ p h. sym (same p h) ∙ within_has w s p t h))
     (λ t. within_from w s (λ p h. same p h ∙ within_has z s p t h))
   where

@@ -22,7 +22,7 @@ use crate::values::{
     joined, put_alone, room_for,
 };
 use prop_lattice::Partial;
-use prop_premises::{Premise, PremiseSet, Worldview};
+use prop_premises::{Premise, PremiseSet, Shift, Worldview};
 use smallvec::SmallVec;
 use std::alloc::{AllocError, Global};
 use std::marker::Model;
@@ -127,14 +127,14 @@ impl<V: Partial> Tms<V> {
 
     /// Whether some entry is believed in just one of two worldviews. Where none is, what the
     /// believed entries say together is the same in both. It takes no memory.
-    pub fn may_shift(&self, before: &Worldview, after: &Worldview) -> bool
-        ensures some { IsTrue result ↔ Any (λ e. is_within (set_of before.now) e.support
-            ≢ is_within (set_of after.now) e.support) self.now }
+    pub fn may_shift(&self, shift: &Shift<'_>) -> bool
+        ensures some { IsTrue result ↔ Any (λ e. is_within (set_of shift.now.before.now) e.support
+            ≢ is_within (set_of shift.now.after.now) e.support) self.now }
         ensures stays { result ≡ false
-            → belief_of V.bottom V.join (set_of before.now) self.now ≡ belief_of V.bottom V.join
-            (set_of after.now) self.now }
+            → belief_of V.bottom V.join (set_of shift.now.before.now) self.now
+            ≡ belief_of V.bottom V.join (set_of shift.now.after.now) self.now }
     {
-        may_shift(&self.values, before, after)
+        may_shift(&self.values, shift)
     }
 
     /// What the believed entries say together, with the support of believed entries that say so,

@@ -9,5 +9,6 @@ use Rattle.prop_tms.proofs.shifting.may_shift.Goals as goal
 pub returns : goal.returns
 returns g c =
     any_from_yields_List
-    (λ x. list_any (is_in_one (set_of c.args.before.now) (set_of c.args.after.now)) x.supports.items) _ _ c.any.result
+    (λ x. list_any (is_in_one (set_of c.args.shift.now.before.now) (set_of c.args.shift.now.after.now))
+    x.supports.items) _ _ c.any.result
     c.any.ensures.ran (YieldsList-from_slice c.args.values.now (cc)) (λ x b q k. search rules)
