@@ -3,7 +3,7 @@ ghost use Rattle.std.specs.Prelude.{◌≡◌, ◌<◌, ℕ, [], length, slice_i
 ghost use Rattle.prop_numbers.specs.Sets.{set_of};
 ghost use Rattle.prop_cells.specs.inner.Bearing.{AreSame, UnitesAt};
 
-use prop_premises::{PremiseSet, Worldview};
+use prop_premises::{PremiseSet, Shift};
 use std::alloc::AllocError;
 
 /// There is a set at this place, of no premises where there was none. The others stay.
@@ -34,17 +34,12 @@ pub(crate) fn bear(
 
 /// Whether two worldviews believe the same of each premise of the set at a place. It takes no
 /// memory.
-pub(crate) fn agree_at(
-    sets: &[PremiseSet],
-    place: usize,
-    before: &Worldview,
-    after: &Worldview,
-) -> bool
+pub(crate) fn agree_at(sets: &[PremiseSet], place: usize, shift: &Shift<'_>) -> bool
     ensures { IsTrue result → (p : ℕ) → IsTrue (set_of (slice_index_or sets.now place []) p)
-        → set_of before.now p ≡ set_of after.now p }
+        → set_of shift.now.before.now p ≡ set_of shift.now.after.now p }
 {
     match sets.get(place) {
-        Some(premises) => !before.differs_at(after, premises),
+        Some(premises) => !shift.differs_at(premises),
         None => true,
     }
 }

@@ -14,7 +14,7 @@ ghost use Rattle.prop_cells.specs.inner.Sides.{StandsAt, entries_below};
 
 use crate::known::Known;
 use prop_lattice::{Info, Partial};
-use prop_premises::{Premise, PremiseSet, Worldview};
+use prop_premises::{Premise, PremiseSet, Shift, Worldview};
 use prop_tms::{Supported, Tms};
 use smallvec::SmallVec;
 use std::alloc::{AllocError, Global};
@@ -77,26 +77,26 @@ fn is_same(a: Info, b: Info) -> bool
 pub(crate) fn is_shifted(
     contents: &[Tms<Info>],
     cell: usize,
-    before: &Worldview,
-    after: &Worldview,
+    shift: &Shift<'_>,
     known: &mut Known,
 ) -> bool
     requires cell { cell < length contents.now }
-    requires known { ArePassed cell (set_of before.now) (set_of after.now) contents.now known.old }
+    requires known { ArePassed cell (set_of shift.now.before.now) (set_of shift.now.after.now)
+        contents.now known.old }
     ensures shifted { IsTrue result
-        → beliefs (set_of before.now) contents.now cell ≢ beliefs (set_of after.now) contents.now
-        cell }
+        → beliefs (set_of shift.now.before.now) contents.now cell
+        ≢ beliefs (set_of shift.now.after.now) contents.now cell }
     ensures stays { result ≡ false
-        → beliefs (set_of before.now) contents.now cell ≡ beliefs (set_of after.now) contents.now
-        cell }
-    ensures known { ArePassed (cell + 1) (set_of before.now) (set_of after.now) contents.now
-        known.new }
+        → beliefs (set_of shift.now.before.now) contents.now cell
+        ≡ beliefs (set_of shift.now.after.now) contents.now cell }
+    ensures known { ArePassed (cell + 1) (set_of shift.now.before.now) (set_of shift.now.after.now)
+        contents.now known.new }
 {
-    if !contents[cell].may_shift(before, after) {
+    if !contents[cell].may_shift(shift) {
         return false;
     }
-    let was = belief_ahead(contents, cell, before, known);
-    let is = belief_of(contents, cell, after);
+    let was = belief_ahead(contents, cell, shift.before, known);
+    let is = belief_of(contents, cell, shift.after);
     known.put(cell, is);
     !is_same(was, is)
 }

@@ -12,7 +12,7 @@ use crate::contents::{add_to, drop_from, is_shifted, trim_at};
 use crate::dropping::drop_entries;
 use crate::known::Known;
 use prop_lattice::Info;
-use prop_premises::{Premise, PremiseSet, Worldview};
+use prop_premises::{Premise, PremiseSet, Shift, Worldview};
 use prop_tms::Tms;
 use std::alloc::{AllocError, Global};
 use std::marker::Model;
@@ -132,30 +132,26 @@ impl Entries {
     /// How many cells from this one on are known to stay, as far as one look tells: those of the
     /// region or of the block that begins here, where the worldviews agree on what bears on it, and
     /// else this one. None where this one shifts. It takes no memory.
-    fn staying(
-        &self,
-        cell: usize,
-        before: &Worldview,
-        after: &Worldview,
-        known: &mut Known,
-    ) -> usize
+    fn staying(&self, cell: usize, shift: &Shift<'_>, known: &mut Known) -> usize
         requires cell { cell < length self.now }
-        requires known { ArePassed cell (set_of before.now) (set_of after.now) self.now known.old }
+        requires known { ArePassed cell (set_of shift.now.before.now) (set_of shift.now.after.now)
+            self.now known.old }
         ensures few { result ≤ 4_096 }
         ensures same { (k : ℕ) → cell ≤ k → k < cell + result
-            → beliefs (set_of before.now) self.now k ≡ beliefs (set_of after.now) self.now k }
-        ensures shifted { result ≡ 0 → beliefs (set_of before.now) self.now cell
-            ≢ beliefs (set_of after.now) self.now cell }
-        ensures known { ArePassed (cell + max result 1) (set_of before.now) (set_of after.now)
-            self.now known.new }
+            → beliefs (set_of shift.now.before.now) self.now k
+            ≡ beliefs (set_of shift.now.after.now) self.now k }
+        ensures shifted { result ≡ 0 → beliefs (set_of shift.now.before.now) self.now cell
+            ≢ beliefs (set_of shift.now.after.now) self.now cell }
+        ensures known { ArePassed (cell + max result 1) (set_of shift.now.before.now)
+            (set_of shift.now.after.now) self.now known.new }
     {
-        if cell % REGION == 0 && agree_at(&self.regions, cell / REGION, before, after) {
+        if cell % REGION == 0 && agree_at(&self.regions, cell / REGION, shift) {
             return REGION;
         }
-        if cell % BLOCK == 0 && agree_at(&self.blocks, cell / BLOCK, before, after) {
+        if cell % BLOCK == 0 && agree_at(&self.blocks, cell / BLOCK, shift) {
             return BLOCK;
         }
-        if is_shifted(&self.cells, cell, before, after, known) {
+        if is_shifted(&self.cells, cell, shift, known) {
             return 0;
         }
         1
@@ -164,26 +160,23 @@ impl Entries {
     /// The first cell from this one on of which two worldviews believe different things, and the
     /// number of cells where there is none. What is known of the cells up to that one is what the
     /// second worldview believes. It takes no memory.
-    pub(crate) fn next_shifted(
-        &self,
-        from: usize,
-        before: &Worldview,
-        after: &Worldview,
-        known: &mut Known,
-    ) -> usize
+    pub(crate) fn next_shifted(&self, from: usize, shift: &Shift<'_>, known: &mut Known) -> usize
         requires from { from ≤ length self.now }
-        requires known { ArePassed from (set_of before.now) (set_of after.now) self.now known.old }
+        requires known { ArePassed from (set_of shift.now.before.now) (set_of shift.now.after.now)
+            self.now known.old }
         ensures range { (from ≤ result) × (result ≤ length self.now) }
         ensures passed { (k : ℕ) → from ≤ k → k < result
-            → beliefs (set_of before.now) self.now k ≡ beliefs (set_of after.now) self.now k }
-        ensures shifted { result < length self.now → beliefs (set_of before.now) self.now result
-            ≢ beliefs (set_of after.now) self.now result }
-        ensures known { ArePassed (result + 1) (set_of before.now) (set_of after.now) self.now
-            known.new }
+            → beliefs (set_of shift.now.before.now) self.now k
+            ≡ beliefs (set_of shift.now.after.now) self.now k }
+        ensures shifted { result < length self.now
+            → beliefs (set_of shift.now.before.now) self.now result
+            ≢ beliefs (set_of shift.now.after.now) self.now result }
+        ensures known { ArePassed (result + 1) (set_of shift.now.before.now)
+            (set_of shift.now.after.now) self.now known.new }
     {
         let mut cell = from;
         while cell < self.cells.len() {
-            let stay = self.staying(cell, before, after, known);
+            let stay = self.staying(cell, shift, known);
             if stay == 0 {
                 return cell;
             }

@@ -6,8 +6,8 @@ use Rattle.prop_cells.proofs.entries.Entries.next_shifted.Goals as goal
 
 pub returns-clause-known : goal.returns-clause-known
 returns-clause-known c =
-    let s = set_of c.args.before.now in
-    let t = set_of c.args.after.now in
+    let s = set_of c.args.shift.now.before.now in
+    let t = set_of c.args.shift.now.after.now in
     let n = c.self.inside in
     let count : c.len-2.result ≡ length c.args.self.now =
     rw (← c.self.view_is) (let e = c.len-2.ensures in let ok = n.cells.ok in omega (arith, e, ok)) in

@@ -7,8 +7,9 @@ use Rattle.prop_cells.proofs.entries.Entries.next_shifted.Given as goal
 abbrev pub invariant-loop-cell : goal.invariant-loop-cell
 invariant-loop-cell l = record {
   low : l.from ≤ l.cell;
-  passed : (k : ℕ) → l.from ≤ k → k < l.cell → beliefs (set_of l.before) l.self k ≡ beliefs (set_of l.after) l.self k;
-  known : ArePassed l.cell (set_of l.before) (set_of l.after) l.self l.known;
+  passed : (k : ℕ) → l.from ≤ k → k < l.cell
+      → beliefs (set_of l.shift.before.now) l.self k ≡ beliefs (set_of l.shift.after.now) l.self k;
+  known : ArePassed l.cell (set_of l.shift.before.now) (set_of l.shift.after.now) l.self l.known;
 }
 
 abbrev pub decreases-loop-cell : goal.decreases-loop-cell

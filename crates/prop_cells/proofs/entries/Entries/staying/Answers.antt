@@ -7,8 +7,8 @@ use Rattle.prop_cells.proofs.entries.Entries.staying.Goals as goal
 
 pub returns-then-agree_at-clause-same : goal.returns-then-agree_at-clause-same
 returns-then-agree_at-clause-same c = λ k low high.
-    let w = set_of c.args.before.now in
-    let z = set_of c.args.after.now in
+    let w = set_of c.args.shift.now.before.now in
+    let z = set_of c.args.shift.now.after.now in
     let n = c.self.inside in
     let here = c.if-cell-eq0.true in
     let at : k / 4_096 ≡ c.args.cell / 4_096 = omega (arith, low, high, here) in
@@ -20,8 +20,8 @@ returns-then-agree_at-clause-same c = λ k low high.
 
 pub returns-then-agree_at-2-clause-same : goal.returns-then-agree_at-2-clause-same
 returns-then-agree_at-2-clause-same c = λ k low high.
-    let w = set_of c.args.before.now in
-    let z = set_of c.args.after.now in
+    let w = set_of c.args.shift.now.before.now in
+    let z = set_of c.args.shift.now.after.now in
     let n = c.self.inside in
     let here = c.if-cell-eq0-2.true in
     let at : k / 64 ≡ c.args.cell / 64 = omega (arith, low, high, here) in
@@ -33,10 +33,10 @@ returns-then-agree_at-2-clause-same c = λ k low high.
 
 pub returns-then-agree_at-clause-known : goal.returns-then-agree_at-clause-known
 returns-then-agree_at-clause-known c =
-    passed_on (set_of c.args.before.now) (set_of c.args.after.now) c.args.self.now c.args.known.now c.args.cell
-    (c.args.cell + 4_096) (omega arith) (returns-then-agree_at-clause-same c) c.requires.known
+    passed_on (set_of c.args.shift.now.before.now) (set_of c.args.shift.now.after.now) c.args.self.now
+    c.args.known.now c.args.cell (c.args.cell + 4_096) (omega arith) (returns-then-agree_at-clause-same c) c.requires.known
 
 pub returns-then-agree_at-2-clause-known : goal.returns-then-agree_at-2-clause-known
 returns-then-agree_at-2-clause-known c =
-    passed_on (set_of c.args.before.now) (set_of c.args.after.now) c.args.self.now c.args.known.now c.args.cell
-    (c.args.cell + 64) (omega arith) (returns-then-agree_at-2-clause-same c) c.requires.known
+    passed_on (set_of c.args.shift.now.before.now) (set_of c.args.shift.now.after.now) c.args.self.now
+    c.args.known.now c.args.cell (c.args.cell + 64) (omega arith) (returns-then-agree_at-2-clause-same c) c.requires.known
