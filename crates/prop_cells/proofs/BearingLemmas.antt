@@ -9,6 +9,7 @@ use Rattle.std.proofs.lemmas.List.Elements.{All-contains, All-contains_itself, A
 use Rattle.prop_lattice.specs.declared.info.Info.TheVariants.{Nothing}
 use Rattle.prop_lattice.specs.Order.{merge_of}
 use Rattle.prop_numbers.specs.Sets.{Members, set_of, is_below, is_within, IsPart}
+use Rattle.prop_numbers.proofs.WithinLemmas.{within_has}
 use Rattle.prop_tms.specs.Beliefs.{believed_of, merge_of_all}
 use Rattle.prop_cells.specs.Problems.{Premises}
 use Rattle.prop_cells.specs.Data.{Entry, AddsAt, TrimsAt, beliefs, content_of}
@@ -105,6 +106,20 @@ unites_at old mid at here now more same l is unites = record {
   here = λ p. ap (λ (s : List ℕ). set_of s p) (get_or-set_same mid at now [] l) ∙ unites p
       ∙ ap (λ (s : List ℕ). set_of s p || set_of more p) (is ∙ same at);
   others = λ k ne. get_or-set_other mid at k now [] ne ∙ same k;
+}
+
+absorbed : (a b : Bool) → (b ≡ true → a ≡ true) → a ≡ (a || b)
+absorbed true b h = refl
+absorbed false true h = h refl
+absorbed false false h = refl
+
+-- the set at the place has the premises already
+pub unites_there : (sets : List (List ℕ)) (at : ℕ) (more : List ℕ)
+    → is_within (set_of (slice_index_or sets at [])) more ≡ true → UnitesAt sets sets at more
+unites_there sets at more h = record {
+  here = λ p. absorbed (set_of (slice_index_or sets at []) p) (set_of more p)
+      (λ t. within_has (set_of (slice_index_or sets at [])) more p h t);
+  others = λ k ne. refl;
 }
 
 -- one of the sets, written back as it was

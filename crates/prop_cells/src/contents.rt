@@ -27,6 +27,25 @@ pub(crate) fn belief_of(contents: &[Tms<Info>], cell: usize, worldview: &Worldvi
     contents[cell].believed_value(worldview)
 }
 
+/// What is believed of a cell is worked out, and known from then on where there is room. It takes
+/// no memory.
+#[inline(never)]
+pub(crate) fn learn(
+    contents: &[Tms<Info>],
+    cell: usize,
+    worldview: &Worldview,
+    known: &mut Known,
+) -> Info
+    requires cell { cell < length contents.now }
+    requires known { AreBeliefs (set_of worldview.now) contents.now known.old }
+    ensures value { result ≡ beliefs (set_of worldview.now) contents.now cell }
+    ensures known { AreBeliefs (set_of worldview.now) contents.now known.new }
+{
+    let info = belief_of(contents, cell, worldview);
+    known.put(cell, info);
+    info
+}
+
 /// What is believed of a cell. It is worked out only where it isn't known, and known from then on
 /// where there is room. It takes no memory.
 #[inline]
@@ -44,9 +63,50 @@ pub(crate) fn known_belief(
     if let Some(info) = known.get(cell) {
         return info;
     }
-    let info = belief_of(contents, cell, worldview);
-    known.put(cell, info);
-    info
+    learn(contents, cell, worldview, known)
+}
+
+/// Writes what is believed of a cell, which is then known, to a place. It takes no memory.
+#[inline]
+fn write_belief(
+    contents: &[Tms<Info>],
+    cell: usize,
+    worldview: &Worldview,
+    known: &mut Known,
+    place: &mut Info,
+)
+    requires cell { cell < length contents.now }
+    requires known { AreBeliefs (set_of worldview.now) contents.now known.old }
+    ensures value { place.new ≡ beliefs (set_of worldview.now) contents.now cell }
+    ensures known { AreBeliefs (set_of worldview.now) contents.now known.new }
+{
+    if let Some(info) = known.find(cell) {
+        *place = *info;
+        return;
+    }
+    *place = learn(contents, cell, worldview, known);
+}
+
+/// Whether what is believed of a cell, which is then known, says as much as this. It takes no
+/// memory.
+#[inline]
+pub(crate) fn knows(
+    contents: &[Tms<Info>],
+    cell: usize,
+    value: Info,
+    worldview: &Worldview,
+    known: &mut Known,
+) -> bool
+    requires cell { cell < length contents.now }
+    requires known { AreBeliefs (set_of worldview.now) contents.now known.old }
+    ensures knows { IsTrue result ↔ Below value
+        (beliefs (set_of worldview.now) contents.now cell) }
+    ensures known { AreBeliefs (set_of worldview.now) contents.now known.new }
+{
+    if let Some(info) = known.find(cell) {
+        return info.implies(value);
+    }
+    learn(contents, cell, worldview, known).implies(value)
 }
 
 /// What is believed of a cell before a walk has come to it. It is worked out only where it isn't
@@ -132,36 +192,29 @@ pub(crate) fn first_clash(contents: &[Tms<Info>], worldview: &Worldview) -> Opti
     None
 }
 
-/// Whether one of them is a contradiction.
-pub(crate) fn has_contradiction(infos: &[Info]) -> bool
-    ensures { result ≡ list_any is_contradiction infos.now }
-{
-    infos.iter().any(
-        |info| -> bool
-            ensures { result ≡ is_contradiction info.now }
-        { matches!(info, Info::Contradiction) },
-    )
-}
-
-/// What is believed of these cells, which is then known. Up to 4 of them take no memory.
+/// Writes what is believed of these cells, which is then known, into as many places, and tells
+/// whether one of them is believed to hold a contradiction. It takes no memory.
+#[inline]
 pub(crate) fn gather(
-    alloc: Global,
     contents: &[Tms<Info>],
     cells: &[usize],
     worldview: &Worldview,
     known: &mut Known,
-) -> Result<SmallVec<Info, 4>, AllocError>
+    args: &mut [Info],
+) -> bool
     requires cells { All (λ c. c < length contents.now) cells.now }
+    requires places { length args.old ≡ length cells.now }
     requires known { AreBeliefs (set_of worldview.now) contents.now known.old }
-    ensures args { IfOk result (λ v. v.items ≡ map (beliefs (set_of worldview.now) contents.now)
-        cells.now) }
+    ensures args { args.new ≡ map (beliefs (set_of worldview.now) contents.now) cells.now }
+    ensures clash { result ≡ list_any is_contradiction args.new }
     ensures known { AreBeliefs (set_of worldview.now) contents.now known.new }
 {
-    let mut args = SmallVec::new(alloc);
-    for c in cells {
-        args.push(known_belief(contents, *c, worldview, known))?;
+    let mut clash = false;
+    for i in 0..cells.len() {
+        write_belief(contents, cells[i], worldview, known, &mut args[i]);
+        clash |= args[i].is_contradiction();
     }
-    Ok(args)
+    clash
 }
 
 /// Adds the premises of a lean support for a cell. Where just one entry of the cell is believed,
@@ -180,6 +233,21 @@ fn unite_support(
     if let Some(sole) = contents[cell].sole_support(worldview) {
         return support.unite(sole);
     }
+    unite_strongest(support, contents, cell, worldview)
+}
+
+/// Adds the premises of a lean support for a cell, whatever entries of it are believed.
+#[inline(never)]
+fn unite_strongest(
+    support: &mut PremiseSet,
+    contents: &[Tms<Info>],
+    cell: usize,
+    worldview: &Worldview,
+) -> Result<(), AllocError>
+    requires { cell < length contents.now }
+    ensures { OnOk result ((part : List ℕ) × IsLeanAt (set_of worldview.now) contents.now cell part
+        × IsSame (set_of support.new) (union (set_of support.old) (set_of part))) }
+{
     let entry = strongest_of(contents, cell, worldview)?;
     support.unite(&entry.support)
 }

@@ -34,6 +34,18 @@ impl Known {
         }
     }
 
+    /// What is known of a cell, where it stands.
+    #[inline]
+    pub(crate) fn find(&self, cell: usize) -> Option<&Info>
+        ensures some { IfSome result (λ info. known_at self.now cell ≡ Some info.now) }
+        ensures none { result ≡ None → known_at self.now cell ≡ None }
+    {
+        match self.beliefs.get(cell) {
+            Some(known) => known.as_ref(),
+            None => None,
+        }
+    }
+
     /// What is known of a cell.
     #[inline]
     pub fn get(&self, cell: usize) -> Option<Info>

@@ -1,7 +1,7 @@
 use Rattle.std.proofs.Common.{sym}
 use Rattle.prop_numbers.specs.Sets.{set_of}
 use Rattle.prop_cells.proofs.KnowingLaws.{known_put}
-use Rattle.prop_cells.proofs.contents.known_belief.Goals as goal
+use Rattle.prop_cells.proofs.contents.learn.Goals as goal
 
 pub returns-clause-known : goal.returns-clause-known
 returns-clause-known c = rw c.put.ensures
