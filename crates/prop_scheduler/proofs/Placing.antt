@@ -1,13 +1,13 @@
 -- Making the instances of a use: the network refuses none of them, and what it makes is what the use stands for.
 use Rattle.std.proofs.Common.{◌≡◌, ◌∙◌, ℕ, ◌<◌, ◌≤◌, ◌+◌, ◌-◌, ◌==◌, Bool, true, false, cond, not, List, [], ◌∷◌, ◌++◌}
 use Rattle.std.proofs.Common.{Option, Some, None, All, map, drop, length, slice_get, nat_le, is_none, unwrap_or, get_or}
-use Rattle.std.proofs.Common.{◌⊎◌, inl, inr, refl, sym, ap, arith, suc, zero, zero-add}
+use Rattle.std.proofs.Common.{◌⊎◌, inl, inr, refl, sym, ap, arith, suc, zero, zero-add, append_assoc}
 use Rattle.std.specs.Prelude.{⊤, Result, Ok, Err, OnOk}
 use Rattle.std.specs.List.{list_any}
 use Rattle.std.specs.Option.{option_map_or, option_and_then, option_or}
 use Rattle.std.proofs.lemmas.Bool.{lt-leb, lt-ltb, le-ltb, cases_lt}
 use Rattle.std.proofs.lemmas.Bool.Decides.{nat_tests}
-use Rattle.std.proofs.lemmas.List.{map-append, length-map}
+use Rattle.std.proofs.lemmas.List.{map-append, length-map, length_push}
 use Rattle.std.proofs.lemmas.List.Folds.{list_any_none}
 use Rattle.std.proofs.lemmas.Option.{slice_get_cases, slice_get_past}
 use Rattle.prop_refusals.specs.Refusals.{most, when}
@@ -179,3 +179,26 @@ module _ (library : List Stored) (d : Data) (cells : List ℕ) (next first : ℕ
       })
   made_ok (Ok u) new h = h ∙ ap (λ (xs : List Instance). record d { instances = d.instances ++ xs }) made_is
   made_ok (Err refusal) new h = tt
+
+-- ---- one instance after another
+
+-- one more is made of those that are left
+pub one_made : (library library' : List Stored) (old now new : Data) (cells : List ℕ) (next first : ℕ)
+    (x : flats.Placed) (left rest all : List flats.Placed) → library' ≡ library → now ≡ record old { instances = now.instances }
+    → left ≡ x ∷ rest →
+    new ≡ record now {
+      instances = now.instances ++ made_of library' (drop first now.params) cells next x ∷ [];
+    } → now.instances ++ map (made_of library (drop first old.params) cells next) left ≡ old.instances ++ map
+    (made_of library (drop first old.params) cells next) all →
+    (new ≡ record old { instances = new.instances })
+    × (new.instances ++ map (made_of library (drop first old.params) cells next) rest ≡ old.instances ++ map
+    (made_of library (drop first old.params) cells next) all) × (length new.instances ≡ length now.instances + 1)
+one_made library library' old now new cells next first x left rest all l r here ok h =
+    let f = made_of library (drop first old.params) cells next in
+    let made : new.instances ≡ now.instances ++ f x ∷ [] = ap (λ (d : Data). d.instances) ok
+    ∙ (λ i. now.instances ++ made_of (l i) (drop first (r i).params) cells next x ∷ []) in (
+      ok ∙ (λ i. record (r i) { instances = sym (ap (λ (d : Data). d.instances) ok) i }),
+      ap (λ xs. xs ++ map f rest) made ∙ append_assoc now.instances (f x ∷ []) (map f rest)
+          ∙ ap (λ xs. now.instances ++ map f xs) (sym here) ∙ h,
+      ap length made ∙ length_push now.instances (f x),
+    )

@@ -23,7 +23,7 @@ use crate::live::Live;
 use prop_cells::{Known, Network};
 use prop_lattice::{Limit, Refusal};
 use prop_procedures::{Flat, Kinded, Param, Placed, Rule};
-use std::alloc::{AllocError, Global};
+use std::alloc::Global;
 
 /// Makes a cell of this kind. Refused as by `Network::new_cell`, it makes nothing.
 pub fn new_cell<R: Rule + Drop>(live: &mut Live<R>, kind: Kinded) -> Result<(), Refusal>
@@ -90,21 +90,15 @@ fn cell_placed(cells: &[usize], next: usize, place: usize) -> usize
     }
 }
 
-/// The numbers of the cells at these places.
-fn cells_placed(
-    alloc: Global,
-    cells: &[usize],
-    next: usize,
-    places: &[usize],
-) -> Result<Vec<usize>, AllocError>
-    requires { All (λ place. next + (place - length cells.now) < 2 ^ 64) places.now }
-    ensures { IfOk result (λ v. v.items ≡ map (cell_placed cells.now next) places.now) }
+/// The numbers of the cells at these places, in the list of the places. It takes no memory.
+fn cells_placed(cells: &[usize], next: usize, mut places: Vec<usize>) -> Vec<usize>
+    requires { All (λ place. next + (place - length cells.now) < 2 ^ 64) places.items }
+    ensures { result.items ≡ map (cell_placed cells.now next) places.items }
 {
-    let mut numbers = Vec::new(alloc);
-    for place in places {
-        numbers.push(cell_placed(cells, next, *place))?;
+    for i in 0..places.len() {
+        places[i] = cell_placed(cells, next, places[i]);
     }
-    Ok(numbers)
+    places
 }
 
 /// The number of the parameter at a place, where there are `count` and those of the use begin with
@@ -159,12 +153,12 @@ fn make_instance<R: Rule + Drop>(
     network: &mut Network<R>,
     cells: &[usize],
     base: Base,
-    x: &Placed,
+    x: Placed,
 ) -> Result<(), Refusal>
     requires kept { IsKept (stored_of R.value_of network.old.library) network.old.cells }
     requires params { base.param ≤ length network.old.cells.params }
     requires may { MayBeMade (stored_of R.value_of network.old.library) network.old.cells.kinds
-        (drop base.param network.old.cells.params) cells.now base.cell x.now }
+        (drop base.param network.old.cells.params) cells.now base.cell x }
     requires room { length network.old.cells.instances < most Instances }
     ensures same { network.new.library ≡ network.old.library }
     ensures kept { IsKept (stored_of R.value_of network.new.library) network.new.cells }
@@ -172,17 +166,21 @@ fn make_instance<R: Rule + Drop>(
         ≡ record network.old.cells {
           instances = network.old.cells.instances ++ made_of
               (stored_of R.value_of network.old.library) (drop base.param network.old.cells.params)
-              cells.now base.cell x.now ∷ [];
+              cells.now base.cell x ∷ [];
         }) }
     ensures err { IfErr result (λ e. e ≡ Refusal.Memory) }
     ensures err_same { OnErr result (network.new.cells ≡ network.old.cells) }
 {
-    let Ok(ins) = cells_placed(alloc, cells, base.cell, &x.inputs) else {
-        return Err(Refusal::Memory);
-    };
-    let out = cell_placed(cells, base.cell, x.output);
-    let param = param_number(base.param, network.data().params().len(), x.param);
-    network.attach_fitting(alloc, x.procedure, param, ins, out)
+    let Placed {
+        procedure,
+        param,
+        inputs,
+        output,
+    } = x;
+    let inputs = cells_placed(cells, base.cell, inputs);
+    let output = cell_placed(cells, base.cell, output);
+    let param = param_number(base.param, network.data().params().len(), param);
+    network.attach_fitting(alloc, procedure, param, inputs, output)
 }
 
 /// Makes these instances.
@@ -191,20 +189,20 @@ fn make_instances<R: Rule + Drop>(
     network: &mut Network<R>,
     cells: &[usize],
     base: Base,
-    instances: &[Placed],
+    instances: Vec<Placed>,
 ) -> Result<(), Refusal>
     requires kept { IsKept (stored_of R.value_of network.old.library) network.old.cells }
     requires params { base.param ≤ length network.old.cells.params }
     requires may { All (MayBeMade (stored_of R.value_of network.old.library) network.old.cells.kinds
-        (drop base.param network.old.cells.params) cells.now base.cell) instances.now }
-    requires room { length network.old.cells.instances + length instances.now ≤ most Instances }
+        (drop base.param network.old.cells.params) cells.now base.cell) instances.items }
+    requires room { length network.old.cells.instances + length instances.items ≤ most Instances }
     ensures same { network.new.library ≡ network.old.library }
     ensures kept { IsKept (stored_of R.value_of network.new.library) network.new.cells }
     ensures ok { OnOk result (network.new.cells
         ≡ record network.old.cells {
           instances = network.old.cells.instances ++ map
               (made_of (stored_of R.value_of network.old.library)
-              (drop base.param network.old.cells.params) cells.now base.cell) instances.now;
+              (drop base.param network.old.cells.params) cells.now base.cell) instances.items;
         }) }
     ensures err { IfErr result (λ e. e ≡ Refusal.Memory) }
     ensures back { (before : Held) → GoesBackTo before network.old.cells
@@ -256,9 +254,7 @@ fn make_some<R: Rule + Drop>(
         drop(instances);
         return Err(refusal);
     }
-    let made = make_instances(alloc, network, cells, base, &instances);
-    drop(instances);
-    made
+    make_instances(alloc, network, cells, base, instances)
 }
 
 /// Makes what a use on these cells stands for, for which there is room. Refused with 90, it makes

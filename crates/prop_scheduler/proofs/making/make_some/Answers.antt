@@ -1,4 +1,4 @@
-use Rattle.std.proofs.Common.{◌∙◌}
+use Rattle.std.proofs.Common.{◌∙◌, refl}
 use Rattle.prop_refusals.specs.Refusals.{most}
 use Rattle.prop_refusals.specs.declared.refusal.Limit.TheVariants.{Instances}
 use Rattle.prop_procedures.specs.Kept.{stored_of}
@@ -49,48 +49,48 @@ returns-in-Err-add_params-clause-back g c =
     (c.make_cells-made.ensures.back c.args.network.now.cells c.requires.kept.made
     (goes_back-same c.args.network.now.cells c.requires.kept.made))
 
-pub make_instances-made-requires-clause-kept : goal.make_instances-made-requires-clause-kept
-make_instances-made-requires-clause-kept g c = c.add_params.ensures.kept
+pub make_instances-requires-clause-kept : goal.make_instances-requires-clause-kept
+make_instances-requires-clause-kept g c = c.add_params.ensures.kept
 
-pub make_instances-made-requires-clause-params : goal.make_instances-made-requires-clause-params
-make_instances-made-requires-clause-params g c =
+pub make_instances-requires-clause-params : goal.make_instances-requires-clause-params
+make_instances-requires-clause-params g c =
     first_there (stored_of g.R.Rule.value_of c.args.network.now.library)
     (stored_of g.R.Rule.value_of c.add_params.new.network.library) c.args.network.now.cells
     c.make_cells-made.new.network.cells c.add_params.new.network.cells c.args.cells.now c.args.base.cell
     c.args.base.param
-    c.args.flat c.deref.result.now c.deref-2.result.now
+    c.args.flat c.deref.result.now c.args.flat.instances.items
     (λ i. stored_of g.R.Rule.value_of ((c.add_params.ensures.same ∙ c.make_cells-made.ensures.same) i))
-    c.requires.cell c.requires.param c.deref.ensures.value c.deref-2.ensures.value
+    c.requires.cell c.requires.param c.deref.ensures.value refl
     c.in_default.ensures.ok c.in_default-add_params.ensures.ok
 
-pub make_instances-made-requires-clause-may : goal.make_instances-made-requires-clause-may
-make_instances-made-requires-clause-may g c =
+pub make_instances-requires-clause-may : goal.make_instances-requires-clause-may
+make_instances-requires-clause-may g c =
     each_may (stored_of g.R.Rule.value_of c.args.network.now.library)
     (stored_of g.R.Rule.value_of c.add_params.new.network.library) c.args.network.now.cells
     c.make_cells-made.new.network.cells c.add_params.new.network.cells c.args.cells.now c.args.base.cell
     c.args.base.param
-    c.args.flat c.deref.result.now c.deref-2.result.now
+    c.args.flat c.deref.result.now c.args.flat.instances.items
     (λ i. stored_of g.R.Rule.value_of ((c.add_params.ensures.same ∙ c.make_cells-made.ensures.same) i))
-    c.requires.cell c.requires.param c.deref.ensures.value c.deref-2.ensures.value
+    c.requires.cell c.requires.param c.deref.ensures.value refl
     c.in_default.ensures.ok c.in_default-add_params.ensures.ok c.requires.may
 
-pub make_instances-made-requires-clause-room : goal.make_instances-made-requires-clause-room
-make_instances-made-requires-clause-room g c =
+pub make_instances-requires-clause-room : goal.make_instances-requires-clause-room
+make_instances-requires-clause-room g c =
     room_for (stored_of g.R.Rule.value_of c.args.network.now.library)
     (stored_of g.R.Rule.value_of c.add_params.new.network.library) c.args.network.now.cells
     c.make_cells-made.new.network.cells c.add_params.new.network.cells c.args.cells.now c.args.base.cell
     c.args.base.param
-    c.args.flat c.deref.result.now c.deref-2.result.now
+    c.args.flat c.deref.result.now c.args.flat.instances.items
     (λ i. stored_of g.R.Rule.value_of ((c.add_params.ensures.same ∙ c.make_cells-made.ensures.same) i))
-    c.requires.cell c.requires.param c.deref.ensures.value c.deref-2.ensures.value
+    c.requires.cell c.requires.param c.deref.ensures.value refl
     c.in_default.ensures.ok c.in_default-add_params.ensures.ok (most Instances) c.requires.few_instances
 
 pub returns-clause-same : goal.returns-clause-same
-returns-clause-same g c = c.make_instances-made.ensures.same ∙ c.add_params.ensures.same
+returns-clause-same g c = c.make_instances.ensures.same ∙ c.add_params.ensures.same
     ∙ c.make_cells-made.ensures.same
 
 pub returns-clause-kept : goal.returns-clause-kept
-returns-clause-kept g c = c.make_instances-made.ensures.kept
+returns-clause-kept g c = c.make_instances.ensures.kept
 
 pub returns-clause-ok : goal.returns-clause-ok
 returns-clause-ok g c =
@@ -98,17 +98,17 @@ returns-clause-ok g c =
     (stored_of g.R.Rule.value_of c.add_params.new.network.library) c.args.network.now.cells
     c.make_cells-made.new.network.cells c.add_params.new.network.cells c.args.cells.now c.args.base.cell
     c.args.base.param
-    c.args.flat c.deref.result.now c.deref-2.result.now
+    c.args.flat c.deref.result.now c.args.flat.instances.items
     (λ i. stored_of g.R.Rule.value_of ((c.add_params.ensures.same ∙ c.make_cells-made.ensures.same) i))
-    c.requires.cell c.requires.param c.deref.ensures.value c.deref-2.ensures.value
-    c.in_default.ensures.ok c.in_default-add_params.ensures.ok c.make_instances-made.result
-    c.make_instances-made.new.network.cells c.make_instances-made.ensures.ok
+    c.requires.cell c.requires.param c.deref.ensures.value refl
+    c.in_default.ensures.ok c.in_default-add_params.ensures.ok c.make_instances.result
+    c.make_instances.new.network.cells c.make_instances.ensures.ok
 
 pub returns-clause-err : goal.returns-clause-err
-returns-clause-err g c = c.make_instances-made.ensures.err
+returns-clause-err g c = c.make_instances.ensures.err
 
 pub returns-clause-back : goal.returns-clause-back
-returns-clause-back g c = c.make_instances-made.ensures.back c.args.network.now.cells
+returns-clause-back g c = c.make_instances.ensures.back c.args.network.now.cells
     (c.add_params.ensures.back c.args.network.now.cells
     (c.make_cells-made.ensures.back c.args.network.now.cells c.requires.kept.made
     (goes_back-same c.args.network.now.cells c.requires.kept.made)))
