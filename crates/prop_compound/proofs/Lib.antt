@@ -13,6 +13,7 @@ mod Using
 mod Placing
 mod Frames
 mod Zips
+mod Spans
 mod Looping
 pub mod InPlace
 pub mod Judging

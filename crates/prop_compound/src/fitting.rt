@@ -1,8 +1,12 @@
 //! Whether the cells and parameters of instances fit their procedures.
 ghost use Rattle.std.specs.Prelude.{◌≡◌, ◌<◌, ◌≤◌, ◌++◌, ◌∷◌, [], is_none, All, length, map, zip};
-ghost use Rattle.std.specs.Prelude.{IfOk, IfErr, OnOk, None, Some};
+ghost use Rattle.std.specs.Prelude.{IfOk, IfErr, OnOk, None, Some, IsTrue, Option, true};
 ghost use Rattle.std.specs.List.{list_any};
 ghost use Rattle.prop_procedures.specs.Kept.{stored_of};
+ghost use Rattle.prop_procedures.specs.Stored.{are_right, span_kind};
+ghost use Rattle.prop_procedures.specs.declared.shape.Need.{Need as Needed};
+ghost use Rattle.prop_procedures.specs.declared.shape.Shape.TheVariants.{Span};
+ghost use Rattle.prop_sets.specs.declared.side.Side.{Side};
 ghost use Rattle.prop_vocabulary.specs.Refusing.{IsReason};
 ghost use Rattle.prop_procedures.specs.Flats.{param_at};
 ghost use Rattle.prop_procedures.specs.Fitting.{kind_at, fitting_param};
@@ -11,7 +15,7 @@ ghost use Rattle.prop_compound.specs.Flattened.{placed_of, IsInstanceOver};
 ghost use Rattle.prop_compound.specs.inner.Flattened.{walk_of, AreRight, IsBehind};
 
 use crate::walk::{Walk, flat_behind, kind_at, param_at};
-use prop_lattice::Refusal;
+use prop_lattice::{Kind, Refusal};
 use prop_procedures::fitting::{are_right, is_scale, sides_of};
 use prop_procedures::{Flat, Kinded, Library, Need, Param, Placed, Rule, Shape};
 use smallvec::SmallVec;
@@ -37,6 +41,29 @@ fn is_param_wrong(need: Need, params: &[Param], place: Option<usize>) -> bool
         Some(param) => rejects(need, param),
         None => matches!(need, Need::Rows),
     }
+}
+
+/// Whether the place and its cell are of spans.
+fn is_of_spans(shape: Shape, kind: Kinded) -> bool
+    ensures { IsTrue result → (shape ≡ Span) × (kind ≡ span_kind) }
+{
+    matches!(shape, Shape::Span) && matches!(kind.kind, Kind::Span) && kind.size == 0
+}
+
+/// Whether all places of a procedure and their cells are of spans, which fit whatever is given.
+fn are_of_spans(ins: &[Shape], out: Shape, kinds: &[Kinded], instance: &Placed) -> bool
+    requires count { length instance.now.inputs.items ≡ length ins.now }
+    ensures { IsTrue result → (need : Needed) (sides : Option (Side × Side)) → are_right need sides
+        (zip (ins.now ++ out ∷ [])
+        (map (kind_at kinds.now) (instance.now.inputs.items ++ instance.now.output ∷ [])))
+        ≡ true }
+{
+    for (i, cell) in instance.inputs.iter().enumerate() {
+        if !is_of_spans(ins[i], kind_at(kinds, *cell)) {
+            return false;
+        }
+    }
+    is_of_spans(out, kind_at(kinds, instance.output))
 }
 
 /// The shapes of a procedure's places, each with the kind of its cell. It takes no memory.
@@ -73,6 +100,9 @@ fn is_kind_wrong<R: Rule + Drop>(
         (placed_of params.now instance.now) }
 {
     let p = library.get(instance.procedure);
+    if are_of_spans(p.ins(), p.out(), kinds, instance) {
+        return false;
+    }
     let places = places(alloc, p.ins(), p.out(), kinds, instance);
     let sides = match param_at(params, instance.param) {
         Some(param) => sides_of(param),

@@ -184,8 +184,8 @@ module _ (library : List Stored) (d : Data) (cells : List ℕ) (next first : ℕ
 
 -- one more is made of those that are left
 pub one_made : (library library' : List Stored) (old now new : Data) (cells : List ℕ) (next first : ℕ)
-    (x : flats.Placed) (left rest all : List flats.Placed) → library' ≡ library → now ≡ record old { instances = now.instances }
-    → left ≡ x ∷ rest →
+    (x : flats.Placed) (left rest all : List flats.Placed) → library' ≡ library
+    → now ≡ record old { instances = now.instances } → left ≡ x ∷ rest →
     new ≡ record now {
       instances = now.instances ++ made_of library' (drop first now.params) cells next x ∷ [];
     } → now.instances ++ map (made_of library (drop first old.params) cells next) left ≡ old.instances ++ map
