@@ -1,3 +1,4 @@
+pub mod Plain
 pub mod Lexing
 pub mod Digits
 pub mod Forming
