@@ -18,3 +18,5 @@ mod Looping
 pub mod InPlace
 pub mod Judging
 pub mod Resolved
+pub mod ByNumber
+pub mod ByName

@@ -3,6 +3,8 @@ pub mod Kinds
 pub mod Expansion
 pub mod Defining
 pub mod Expanding
+pub mod Compounds
+pub mod Numbered
 pub mod AtOnce
 pub mod Shortcuts
 pub mod Kept
