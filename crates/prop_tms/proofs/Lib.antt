@@ -8,3 +8,4 @@ pub mod BeliefUses
 pub mod TrimLemmas
 pub mod PurgeLemmas
 pub mod ShiftLemmas
+pub mod SurveyLemmas

@@ -1,5 +1,5 @@
 //! What the believed entries say together, and few premises that are enough for it.
-ghost use Rattle.std.specs.Prelude.{◌≡◌, ◌↔◌, ◌≤◌, ◌+◌, ◌⊎◌, ℕ, [], length, map, take, false};
+ghost use Rattle.std.specs.Prelude.{◌≡◌, ◌≤◌, ◌+◌, ◌⊎◌, ℕ, [], length, map, take, false};
 ghost use Rattle.std.specs.Prelude.{All, option_to_list};
 ghost use Rattle.std.specs.Prelude.{Contains, IsTrue, IsOk, IfOk, IfSome, IsSomeAnd};
 ghost use Rattle.std.specs.List.{list_any};
@@ -69,41 +69,6 @@ pub(crate) fn belief<V: Partial>(values: &[Valued<V>], worldview: &Worldview) ->
         V::nothing()
     };
     said_with(earlier, worldview, first)
-}
-
-/// Whether a value and the believed entries say together as much as another value. No entry is
-/// looked at past those that do.
-fn says_with<V: Partial>(values: &[Valued<V>], worldview: &Worldview, first: V, value: V) -> bool
-    ensures { IsTrue result ↔ V.below value (V.join first
-        (belief_of V.bottom V.join (set_of worldview.now) (entries_of values.now))) }
-{
-    let mut merged = first;
-    for valued in values {
-        if merged.implies(value) {
-            return true;
-        }
-        if adds(valued, worldview, merged) {
-            merged = merged.merge(valued.value);
-        }
-    }
-    merged.implies(value)
-}
-
-/// Whether the believed entries say together as much as the value. The value added last is looked
-/// at first, and no entry past those that do.
-pub(crate) fn says<V: Partial>(values: &[Valued<V>], worldview: &Worldview, value: V) -> bool
-    ensures { IsTrue result ↔ V.below value
-        (belief_of V.bottom V.join (set_of worldview.now) (entries_of values.now)) }
-{
-    let Some((newest, earlier)) = values.split_last() else {
-        return V::nothing().implies(value);
-    };
-    let first = if believes_any(worldview, &newest.supports) {
-        newest.value
-    } else {
-        V::nothing()
-    };
-    says_with(earlier, worldview, first, value)
 }
 
 /// What the entries of the row say together: what those before the last say, with what the last

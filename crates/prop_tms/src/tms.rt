@@ -14,12 +14,12 @@ ghost use Rattle.prop_tms.specs.declared.supported.Supported.{Supported};
 
 use crate::purging::drop_resting;
 use crate::shifting::may_shift;
-use crate::strongest::{belief, says, sole_support, strongest};
+use crate::strongest::{belief, sole_support, strongest};
 use crate::supported::Supported;
 use crate::trimming::{count_derived, trim};
 use crate::values::{
-    Values, count, drop_bare, drop_emptied, drop_from, drop_subsumed, is_alone, is_needless,
-    joined, put_alone, room_for,
+    Values, count, drop_bare, drop_emptied, drop_from, drop_subsumed, is_alone, push_apart,
+    put_alone, room_for, surveyed,
 };
 use prop_lattice::Partial;
 use prop_premises::{Premise, PremiseSet, Shift, Worldview};
@@ -89,15 +89,19 @@ impl<V: Partial> Tms<V> {
         ensures err { OnErr result (self.new ≡ self.old) }
     {
         let entry = Supported { value, support };
-        if is_needless(&self.values, &entry) {
+        let Some(survey) = surveyed(&self.values, &entry) else {
             return Ok(Change::Same);
-        }
-        if count(&self.values) == usize::MAX {
+        };
+        if survey.count == usize::MAX {
             return Err(AllocError);
         }
-        let value = joined(&self.values, entry.value, &entry.support);
+        let value = survey.value;
         let support = entry.support;
         let entry = Supported { value, support };
+        if !survey.may_cover {
+            push_apart(&mut self.values, entry)?;
+            return Ok(Change::Grown);
+        }
         if is_alone(&self.values, &entry.support) {
             put_alone(&mut self.values, entry);
             return Ok(Change::Grown);
@@ -115,14 +119,6 @@ impl<V: Partial> Tms<V> {
         ensures least { IsLeastBelief V.below (set_of worldview.now) self.now result }
     {
         belief(&self.values, worldview)
-    }
-
-    /// Whether the believed entries say together as much as the value. It takes no memory.
-    pub fn says(&self, value: V, worldview: &Worldview) -> bool
-        ensures { IsTrue result ↔ V.below value
-            (belief_of V.bottom V.join (set_of worldview.now) self.now) }
-    {
-        says(&self.values, worldview, value)
     }
 
     /// Whether some entry is believed in just one of two worldviews. Where none is, what the

@@ -1,6 +1,6 @@
 //! Values, each once, with the supports that say so.
-ghost use Rattle.std.specs.Prelude.{◌≡◌, ◌≢◌, ◌↔◌, ◌<◌, ◌≤◌, ◌+◌, ◌^◌, ℕ, List, [], ◌∷◌};
-ghost use Rattle.std.specs.Prelude.{Any, All, false, not};
+ghost use Rattle.std.specs.Prelude.{◌≡◌, ◌≢◌, ◌↔◌, ◌<◌, ◌≤◌, ◌+◌, ◌^◌, ℕ, List, [], ◌∷◌, ◌++◌};
+ghost use Rattle.std.specs.Prelude.{All, None, false, not};
 ghost use Rattle.std.specs.Prelude.{length, filter, get_or, IsTrue, OnOk, OnErr, IfOk, IfSome};
 ghost use Rattle.std.specs.Prelude.{IfNone};
 ghost use Rattle.std.specs.List.{list_any};
@@ -62,31 +62,10 @@ pub(crate) fn count<V: Partial>(values: &[Valued<V>]) -> usize
 fn has_part(supports: &[PremiseSet], support: &PremiseSet) -> bool
     ensures { result ≡ list_any (λ s. is_within (set_of support.now) s) supports.now }
 {
-    supports.iter().any(|part| part.is_subset(support))
-}
-
-/// Whether some entry of the value subsumes this one.
-#[inline]
-fn subsumes<V: Partial>(valued: &Valued<V>, entry: &Supported<V>) -> bool
-    ensures { IsTrue result ↔ Any (λ x. Subsumes V.below x entry.now) (entries_of_one valued.now) }
-{
-    valued.value.implies(entry.value) && has_part(&valued.supports, &entry.support)
-}
-
-/// Whether some entry subsumes this one.
-#[inline]
-fn is_known<V: Partial>(values: &[Valued<V>], entry: &Supported<V>) -> bool
-    ensures { IsTrue result ↔ Any (λ x. Subsumes V.below x entry.now) (entries_of values.now) }
-{
-    values.iter().any(|valued| subsumes(valued, entry))
-}
-
-/// Whether the entry says nothing new.
-#[inline]
-pub(crate) fn is_needless<V: Partial>(values: &[Valued<V>], entry: &Supported<V>) -> bool
-    ensures { IsTrue result ↔ IsNeedless V.below V.bottom (entries_of values.now) entry.now }
-{
-    V::nothing().implies(entry.value) || is_known(values, entry)
+    match supports {
+        [only] => only.is_subset(support),
+        _ => supports.iter().any(|part| part.is_subset(support)),
+    }
 }
 
 /// Whether some of the supports has the same premises as this one.
@@ -97,19 +76,53 @@ fn has_same(supports: &[PremiseSet], support: &PremiseSet) -> bool
     supports.iter().any(|other| other.is_same(support))
 }
 
-/// The value of an entry with this value and support, with what the entries that rest on the same
-/// premises say.
-pub(crate) fn joined<V: Partial>(values: &[Valued<V>], value: V, support: &PremiseSet) -> V
-    ensures { result ≡ (joined_with V.bottom V.join (entries_of values.now)
-        (record { value = value; support = support.now })).value }
+/// What the entries are to a new one that says something new.
+#[derive(Clone, Copy)]
+pub(crate) struct Survey<V: Copy> {
+    /// How many they are.
+    pub count: usize,
+    /// The new value, with what the entries on the same premises say.
+    pub value: V,
+    /// Whether it may say all that one of their values says.
+    pub may_cover: bool,
+}
+
+/// What the entries are to this one; nothing where it says nothing new. It looks at each value
+/// once.
+pub(crate) fn surveyed<V: Partial>(values: &[Valued<V>], entry: &Supported<V>) -> Option<Survey<V>>
+    requires { length (entries_of values.now) < 2 ^ 64 }
+    ensures known { result ≡ None → IsNeedless V.below V.bottom (entries_of values.now) entry.now }
+    ensures new { IfSome result (λ s.
+        ¬ (IsNeedless V.below V.bottom (entries_of values.now) entry.now)) }
+    ensures count { IfSome result (λ s. s.count ≡ length (entries_of values.now)) }
+    ensures value { IfSome result (λ s. s.value ≡
+        (joined_with V.bottom V.join (entries_of values.now) entry.now).value) }
+    ensures apart { IfSome result (λ s. s.may_cover ≡ false
+        → All (λ x. ¬ (V.below x.value s.value)) values.now) }
 {
-    let mut said = V::nothing();
-    for valued in values {
-        if has_same(&valued.supports, support) {
-            said = said.merge(valued.value);
-        }
+    if V::nothing().implies(entry.value) {
+        return None;
     }
-    value.merge(said)
+    let mut count = 0;
+    let mut said = V::nothing();
+    let mut covers = false;
+    for valued in values {
+        if has_part(&valued.supports, &entry.support) {
+            if valued.value.implies(entry.value) {
+                return None;
+            }
+            if has_same(&valued.supports, &entry.support) {
+                said = said.merge(valued.value);
+            }
+        }
+        covers |= entry.value.implies(valued.value);
+        count += valued.supports.len();
+    }
+    Some(Survey {
+        count,
+        value: entry.value.merge(said),
+        may_cover: covers || !V::nothing().implies(said),
+    })
 }
 
 /// Whether there is one entry alone, on the same premises as this support.
@@ -124,6 +137,26 @@ pub(crate) fn is_alone<V: Partial>(values: &[Valued<V>], support: &PremiseSet) -
         },
         _ => false,
     }
+}
+
+/// Adds an entry with a value of its own, as the last one. After want of memory nothing has
+/// changed.
+pub(crate) fn push_apart<V: Partial>(
+    values: &mut Values<V>,
+    entry: Supported<V>,
+) -> Result<(), AllocError>
+    ensures ok { OnOk result (entries_of values.new.items
+        ≡ entries_of values.old.items ++ entry ∷ []) }
+    ensures values { OnOk result (values_of values.new.items
+        ≡ values_of values.old.items ++ entry.value ∷ []) }
+    ensures bare { OnOk result (NoneBare values.old.items → NoneBare values.new.items) }
+    ensures err { OnErr result (values.new.items ≡ values.old.items) }
+{
+    let mut supports = SmallVec::new(*values.allocator());
+    supports.push(entry.support)?;
+    let value = entry.value;
+    values.push(Valued { value, supports })?;
+    Ok(())
 }
 
 /// Puts an entry in the place of the only one.

@@ -1,18 +1,19 @@
 use Rattle.std.proofs.Common.{rules, ◌≡◌, ◌≢◌, ◌∙◌, ◌+◌, ◌*◌, ◌<◌, ◌≤◌, ◌++◌, [], ◌∷◌, List, ℕ, AllPairs, refl, sym, ap}
-use Rattle.std.proofs.Common.{subst, inl, inr, length, get_or, map, set, drop, arith}
+use Rattle.std.proofs.Common.{subst, inl, inr, length, get_or, map, set, drop, arith, All}
 use Rattle.prop_lattice.specs.InformationOrder.{IsInformationOrder}
 use Rattle.std.specs.List.{refill}
-use Rattle.std.proofs.lemmas.List.{length-set}
+use Rattle.std.proofs.lemmas.List.{length-append, length-set}
 use Rattle.std.proofs.Math.Nat.{le_of_lt, lt_of_le_of_lt, mul-le-mul_right}
 use Rattle.prop_tms.specs.Beliefs.{Adds, IsNeedless, NoneAlike, NoneSubsumed, Subsumes, joined_with}
 use Rattle.prop_tms.specs.Kept.{IsLeftWithout}
 use Rattle.prop_tms.specs.Values.{entries_of}
-use Rattle.prop_tms.specs.inner.Values.{values_of, AreApart, NoneBare, StandsAlone}
+use Rattle.prop_tms.specs.inner.Values.{values_of, AreApart, AreKept, NoneBare, StandsAlone}
 use Rattle.prop_tms.specs.declared.supported.Supported.{Supported}
 use Rattle.prop_tms.specs.declared.values.Valued.{Valued}
 use Rattle.prop_tms.proofs.BeliefLemmas.{adds_joined, adds_needless, joined_alone, needed_joined, none_alike-joined}
 use Rattle.prop_tms.proofs.BeliefLemmas.{none_subsumed-joined}
 use Rattle.prop_tms.proofs.KeptLemmas.{insert_length}
+use Rattle.prop_tms.proofs.SurveyLemmas.{apart_last, is_off, none_left}
 use Rattle.prop_tms.proofs.ValueLemmas.{grown_all, has_room, left_length, length_values, none_bare-push, values_of-set}
 use Rattle.prop_tms.proofs.ValueLemmas.{written, written_values}
 use Rattle.prop_tms.proofs.tms.Tms.add.Given.{Over}
@@ -36,34 +37,50 @@ pushed_is start mid again i y is values =
 
 -- ---- what says nothing new
 
-pub returns-then-is_needless-clause-adds : goal.returns-then-is_needless-clause-adds
-returns-then-is_needless-clause-adds g c =
+pub returns-in_default-clause-adds : goal.returns-in_default-clause-adds
+returns-in_default-clause-adds g c =
     let e : Supported _ = record { value = c.args.value; support = c.args.support } in
     let needless : IsNeedless g.V.Partial.below g.V.Partial.bottom c.args.self.now e =
-    rw (← c.self.view_is) (rw c.deref.ensures at (c.is_needless.ensures.0 c.if-is_needless.true)) in
+    rw (← c.self.view_is) (rw c.deref.ensures at (c.in_default.ensures.known refl)) in
     adds_needless g.met.V.Partial.laws c.args.self.now e needless
 
-pub returns-then-is_needless-clause-same : goal.returns-then-is_needless-clause-same
-returns-then-is_needless-clause-same g c =
+pub returns-in_default-clause-same : goal.returns-in_default-clause-same
+returns-in_default-clause-same g c =
     let e : Supported _ = record { value = c.args.value; support = c.args.support } in
     let needless : IsNeedless g.V.Partial.below g.V.Partial.bottom c.args.self.now e =
-    rw (← c.self.view_is) (rw c.deref.ensures at (c.is_needless.ensures.0 c.if-is_needless.true)) in
+    rw (← c.self.view_is) (rw c.deref.ensures at (c.in_default.ensures.known refl)) in
     (λ t. needless, λ n. refl)
+
+pub returns-in_default-clause-apart : goal.returns-in_default-clause-apart
+returns-in_default-clause-apart g c = rw (← c.self.view_is) c.self.invariant.subsumed
 
 -- ---- where memory is refused
 
-pub returns-then-count-clause-needless : goal.returns-then-count-clause-needless
-returns-then-count-clause-needless g c =
+pub returns-then-survey-clause-needless : goal.returns-then-survey-clause-needless
+returns-then-survey-clause-needless g c =
     let e : Supported _ = record { value = c.args.value; support = c.args.support } in
     let needed : ¬ (IsNeedless g.V.Partial.below g.V.Partial.bottom (entries_of c.self.inside.values.items) e) =
-    λ n. cc (c.if-is_needless.false, c.is_needless.ensures.1 (rw c.deref.ensures n)) in
+    rw c.deref.ensures at c.in-Some.ensures.new in
+    λ n. absurd (needed (rw c.self.view_is n))
+
+pub returns-then-survey-clause-apart : goal.returns-then-survey-clause-apart
+returns-then-survey-clause-apart g c = rw (← c.self.view_is) c.self.invariant.subsumed
+
+pub invariant_of-self : goal.invariant_of-self
+invariant_of-self g c = subst (AreKept g.V.Partial.below) (sym c.in_err-push_apart.ensures.err) c.self.invariant
+
+pub returns-in_err-push_apart-clause-needless : goal.returns-in_err-push_apart-clause-needless
+returns-in_err-push_apart-clause-needless g c =
+    let e : Supported _ = record { value = c.args.value; support = c.args.support } in
+    let needed : ¬ (IsNeedless g.V.Partial.below g.V.Partial.bottom (entries_of c.self.inside.values.items) e) =
+    rw c.deref.ensures at c.in-Some.ensures.new in
     λ n. absurd (needed (rw c.self.view_is n))
 
 pub returns-in_err-place-clause-needless : goal.returns-in_err-place-clause-needless
 returns-in_err-place-clause-needless g c =
     let e : Supported _ = record { value = c.args.value; support = c.args.support } in
     let needed : ¬ (IsNeedless g.V.Partial.below g.V.Partial.bottom (entries_of c.self.inside.values.items) e) =
-    λ n. cc (c.if-is_needless.false, c.is_needless.ensures.1 (rw c.deref.ensures n)) in
+    rw c.deref.ensures at c.in-Some.ensures.new in
     λ n. absurd (needed (rw c.self.view_is n))
 
 pub invariant_of-self-in_err-place : goal.invariant_of-self-in_err-place
@@ -111,6 +128,122 @@ returns-in_err-push-clause-len g c = absurd (no_refusal g c)
 pub returns-in_err-push-clause-err : goal.returns-in_err-push-clause-err
 returns-in_err-push-clause-err g c = absurd (no_refusal g c)
 
+-- ---- as a new value
+
+pub invariant_of-self-then-not-survey : goal.invariant_of-self-then-not-survey
+invariant_of-self-then-not-survey g c =
+    let laws = g.met.V.Partial.laws in
+    let xs = c.self.inside.values.items in
+    let old = entries_of xs in
+    let e : Supported _ = record { value = c.args.value; support = c.args.support } in
+    let m = joined_with g.V.Partial.bottom g.V.Partial.join old e in
+    let said : c.in-Some.survey.value ≡ m.value = rw c.deref.ensures at c.in-Some.ensures.value in
+    let off = is_off c.in-Some.survey.may_cover (λ on. cc (on, c.if-not-survey.true)) in
+    let new : All (λ (x : Valued _). ¬ (g.V.Partial.below x.value m.value)) xs =
+    rw (c.deref.ensures, said) at (c.in-Some.ensures.apart off) in
+    let left = none_left g.V.Partial.below m xs new in
+    let stands : entries_of c.push_apart.new.values.items ≡ old ++ m ∷ [] = c.in_ok-push_apart.ensures.ok
+    ∙ ap (λ v. old ++ record { value = v; support = c.args.support } ∷ []) said in
+    let needed : ¬ (IsNeedless g.V.Partial.below g.V.Partial.bottom old e) =
+    rw c.deref.ensures at c.in-Some.ensures.new in
+    record {
+      subsumed = subst (NoneSubsumed g.V.Partial.below) (sym stands)
+          (none_subsumed-joined laws old old [] m left (needed_joined laws old e needed) c.self.invariant.subsumed);
+      alike = subst NoneAlike (sym stands) (none_alike-joined laws old old [] e left c.self.invariant.alike);
+      apart = subst (AllPairs (λ a b. a ≢ b)) (sym (c.in_ok-push_apart.ensures.values
+          ∙ ap (λ v. values_of xs ++ v ∷ []) said))
+          (apart_last g.V.Partial.below laws.reflexive xs m.value new c.self.invariant.apart);
+      bare = c.in_ok-push_apart.ensures.bare c.self.invariant.bare;
+      counted = (
+          let counted = rw c.deref.ensures at c.in-Some.ensures.count in
+          let longer = ap length stands in
+          let more = length-append old (m ∷ []) in
+          omega (arith, longer, more, c.if-survey.false, counted, c.self.invariant.counted)
+          );
+    }
+
+pub returns-then-not-survey-clause-adds : goal.returns-then-not-survey-clause-adds
+returns-then-not-survey-clause-adds g c =
+    let laws = g.met.V.Partial.laws in
+    let xs = c.self.inside.values.items in
+    let old = entries_of xs in
+    let e : Supported _ = record { value = c.args.value; support = c.args.support } in
+    let m = joined_with g.V.Partial.bottom g.V.Partial.join old e in
+    let said : c.in-Some.survey.value ≡ m.value = rw c.deref.ensures at c.in-Some.ensures.value in
+    let off = is_off c.in-Some.survey.may_cover (λ on. cc (on, c.if-not-survey.true)) in
+    let new : All (λ (x : Valued _). ¬ (g.V.Partial.below x.value m.value)) xs =
+    rw (c.deref.ensures, said) at (c.in-Some.ensures.apart off) in
+    let left = none_left g.V.Partial.below m xs new in
+    let stands : entries_of c.push_apart.new.values.items ≡ old ++ m ∷ [] = c.in_ok-push_apart.ensures.ok
+    ∙ ap (λ v. old ++ record { value = v; support = c.args.support } ∷ []) said in
+    rw (← c.self.view_is) (subst (λ (new : List (Supported _)). Adds g.V.Partial.bottom g.V.Partial.join old new e)
+    (sym stands) (adds_joined laws old old [] e left))
+
+pub returns-then-not-survey-clause-same : goal.returns-then-not-survey-clause-same
+returns-then-not-survey-clause-same g c =
+    let e : Supported _ = record { value = c.args.value; support = c.args.support } in
+    let needed : ¬ (IsNeedless g.V.Partial.below g.V.Partial.bottom (entries_of c.self.inside.values.items) e) =
+    rw c.deref.ensures at c.in-Some.ensures.new in
+    (λ t. cc, λ n. absurd (needed (rw c.self.view_is n)))
+
+pub returns-then-not-survey-clause-needless : goal.returns-then-not-survey-clause-needless
+returns-then-not-survey-clause-needless g c =
+    let e : Supported _ = record { value = c.args.value; support = c.args.support } in
+    let needed : ¬ (IsNeedless g.V.Partial.below g.V.Partial.bottom (entries_of c.self.inside.values.items) e) =
+    rw c.deref.ensures at c.in-Some.ensures.new in
+    λ n. absurd (needed (rw c.self.view_is n))
+
+pub returns-then-not-survey-clause-apart : goal.returns-then-not-survey-clause-apart
+returns-then-not-survey-clause-apart g c =
+    let laws = g.met.V.Partial.laws in
+    let xs = c.self.inside.values.items in
+    let old = entries_of xs in
+    let e : Supported _ = record { value = c.args.value; support = c.args.support } in
+    let m = joined_with g.V.Partial.bottom g.V.Partial.join old e in
+    let said : c.in-Some.survey.value ≡ m.value = rw c.deref.ensures at c.in-Some.ensures.value in
+    let off = is_off c.in-Some.survey.may_cover (λ on. cc (on, c.if-not-survey.true)) in
+    let new : All (λ (x : Valued _). ¬ (g.V.Partial.below x.value m.value)) xs =
+    rw (c.deref.ensures, said) at (c.in-Some.ensures.apart off) in
+    let left = none_left g.V.Partial.below m xs new in
+    let stands : entries_of c.push_apart.new.values.items ≡ old ++ m ∷ [] = c.in_ok-push_apart.ensures.ok
+    ∙ ap (λ v. old ++ record { value = v; support = c.args.support } ∷ []) said in
+    let needed : ¬ (IsNeedless g.V.Partial.below g.V.Partial.bottom old e) =
+    rw c.deref.ensures at c.in-Some.ensures.new in
+    subst (NoneSubsumed g.V.Partial.below) (sym stands)
+    (none_subsumed-joined laws old old [] m left (needed_joined laws old e needed) c.self.invariant.subsumed)
+
+pub returns-then-not-survey-clause-alone : goal.returns-then-not-survey-clause-alone
+returns-then-not-survey-clause-alone g c =
+    let laws = g.met.V.Partial.laws in
+    let xs = c.self.inside.values.items in
+    let old = entries_of xs in
+    let e : Supported _ = record { value = c.args.value; support = c.args.support } in
+    let m = joined_with g.V.Partial.bottom g.V.Partial.join old e in
+    let said : c.in-Some.survey.value ≡ m.value = rw c.deref.ensures at c.in-Some.ensures.value in
+    let off = is_off c.in-Some.survey.may_cover (λ on. cc (on, c.if-not-survey.true)) in
+    let new : All (λ (x : Valued _). ¬ (g.V.Partial.below x.value m.value)) xs =
+    rw (c.deref.ensures, said) at (c.in-Some.ensures.apart off) in
+    let left = none_left g.V.Partial.below m xs new in
+    let stands : entries_of c.push_apart.new.values.items ≡ old ++ m ∷ [] = c.in_ok-push_apart.ensures.ok
+    ∙ ap (λ v. old ++ record { value = v; support = c.args.support } ∷ []) said in
+    subst NoneAlike (sym stands) (none_alike-joined laws old old [] e left c.self.invariant.alike)
+
+pub returns-then-not-survey-clause-stay : goal.returns-then-not-survey-clause-stay
+returns-then-not-survey-clause-stay g c =
+    let laws = g.met.V.Partial.laws in
+    let xs = c.self.inside.values.items in
+    let old = entries_of xs in
+    let e : Supported _ = record { value = c.args.value; support = c.args.support } in
+    let m = joined_with g.V.Partial.bottom g.V.Partial.join old e in
+    let said : c.in-Some.survey.value ≡ m.value = rw c.deref.ensures at c.in-Some.ensures.value in
+    let off = is_off c.in-Some.survey.may_cover (λ on. cc (on, c.if-not-survey.true)) in
+    let new : All (λ (x : Valued _). ¬ (g.V.Partial.below x.value m.value)) xs =
+    rw (c.deref.ensures, said) at (c.in-Some.ensures.apart off) in
+    let left = none_left g.V.Partial.below m xs new in
+    let stands : entries_of c.push_apart.new.values.items ≡ old ++ m ∷ [] = c.in_ok-push_apart.ensures.ok
+    ∙ ap (λ v. old ++ record { value = v; support = c.args.support } ∷ []) said in
+    rw (← c.self.view_is) (inr (old, [], left, stands))
+
 -- ---- in the place of the only entry
 
 -- the entry subsumes the only one
@@ -127,12 +260,12 @@ left_alone {V} {below} {bottom} {top} {join} laws xs e alone =
     (inl (joined_alone laws o e alone.4, refl))
 
 stands_alone : (g : Over) (c : goal.After-self-1 g) → StandsAlone c.self.inside.values.items c.args.support
-stands_alone g c = rw c.deref-4.ensures at (c.is_alone.ensures c.if-is_alone.true)
+stands_alone g c = rw c.deref-2.ensures at (c.is_alone.ensures c.if-is_alone.true)
 
 pub put_alone-requires : goal.put_alone-requires
 put_alone-requires g c = (
   c.args.support,
-  rw c.deref_mut.ensures.value (rw c.deref-4.ensures at (c.is_alone.ensures c.if-is_alone.true)),
+  rw c.deref_mut.ensures.value (rw c.deref-2.ensures at (c.is_alone.ensures c.if-is_alone.true)),
 )
 
 put_again : (g : Over) (c : goal.After-self-1 g) →
@@ -155,7 +288,7 @@ replaced g c =
     let old = entries_of c.self.inside.values.items in
     let e : Supported _ = record { value = c.args.value; support = c.args.support } in
     let m = joined_with g.V.Partial.bottom g.V.Partial.join old e in
-    let said : c.joined-value.result ≡ m.value = rw c.deref-3.ensures at c.joined-value.ensures in (
+    let said : c.in-Some.survey.value ≡ m.value = rw c.deref.ensures at c.in-Some.ensures.value in (
       left_alone g.met.V.Partial.laws c.self.inside.values.items e (stands_alone g c),
       ap entries_of (put_again g c) ∙ c.put_alone.ensures.same
           ∙ ap (λ v. record { value = v; support = c.args.support } ∷ []) said,
@@ -164,10 +297,10 @@ replaced g c =
 needed_alone : (g : Over) (c : goal.After-self-1 g)
     → ¬ (IsNeedless g.V.Partial.below g.V.Partial.bottom (entries_of c.self.inside.values.items)
     (record { value = c.args.value; support = c.args.support }))
-needed_alone g c = λ n. cc (c.if-is_needless.false, c.is_needless.ensures.1 (rw c.deref.ensures n))
+needed_alone g c = rw c.deref.ensures at c.in-Some.ensures.new
 
-pub invariant_of-self : goal.invariant_of-self
-invariant_of-self g c =
+pub invariant_of-self-then-is_alone : goal.invariant_of-self-then-is_alone
+invariant_of-self-then-is_alone g c =
     let laws = g.met.V.Partial.laws in
     let old = entries_of c.self.inside.values.items in
     let e : Supported _ = record { value = c.args.value; support = c.args.support } in
@@ -266,7 +399,7 @@ grown g c =
     let x = c.index-deref_mut-place.result in
     let again = c.deref_mut-3.result.now in
     let y : Valued _ = record { value = (get_or again i x).value; supports = c.push.new.self } in
-    let said : c.joined-value.result ≡ m.value = rw c.deref-3.ensures at c.joined-value.ensures in
+    let said : c.in-Some.survey.value ≡ m.value = rw c.deref.ensures at c.in-Some.ensures.value in
     let values = rw c.deref_mut-2.ensures.value at c.drop_subsumed-emptied.ensures.values in
     let whole = again_is start mid again c.deref_mut-3.ensures.value values in
     let pushed = pushed_is start mid again i y c.deref_mut-3.ensures.value values in
@@ -282,7 +415,7 @@ grown g c =
 needed : (g : Over) (c : goal.After-drop_emptied g)
     → ¬ (IsNeedless g.V.Partial.below g.V.Partial.bottom (entries_of c.self.inside.values.items)
     (record { value = c.args.value; support = c.args.support }))
-needed g c = λ n. cc (c.if-is_needless.false, c.is_needless.ensures.1 (rw c.deref.ensures n))
+needed g c = rw c.deref.ensures at c.in-Some.ensures.new
 
 subsumed : (g : Over) (c : goal.After-drop_emptied g)
     → NoneSubsumed g.V.Partial.below (entries_of c.drop_emptied.new.values.items)
@@ -322,8 +455,8 @@ invariant_of-self-2 g c = record {
   apart = c.drop_emptied.ensures.apart;
   bare = c.drop_emptied.ensures.bare;
   counted = (
-      let counted = rw c.deref-2.ensures at c.count.ensures in
-      omega (arith, longer g c, c.if-count.false, counted, c.self.invariant.counted)
+      let counted = rw c.deref.ensures at c.in-Some.ensures.count in
+      omega (arith, longer g c, c.if-survey.false, counted, c.self.invariant.counted)
       );
 }
 
