@@ -12,7 +12,8 @@ use Rattle.prop_sets.specs.declared.side.Side as sides
 use Rattle.prop_sets.proofs.TieLemmas.{adds-pair}
 use Rattle.prop_vocabulary.specs.Names.{number_in}
 use Rattle.prop_vocabulary.specs.Promises.{IsNamedPair, HasJust, HaveJustTheirPairs}
-use Rattle.prop_vocabulary.specs.Pairs.{place_of, with_pairs, is_pair_outside, is_outside}
+use Rattle.prop_vocabulary.specs.Pairs.{place_of, with_pairs, is_outside}
+use Rattle.prop_vocabulary.specs.inner.Named.{is_pair_outside}
 use Rattle.prop_vocabulary.specs.Vocabulary.{Vocabulary, domain_number, elements_at, elements_of, side_at, IsWhole}
 use Rattle.prop_vocabulary.proofs.Lookups.{number_below}
 use Rattle.prop_vocabulary.proofs.RefusalLemmas.{nothing_outside}

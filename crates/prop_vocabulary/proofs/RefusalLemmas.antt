@@ -9,8 +9,10 @@ use Rattle.prop_refusals.specs.declared.refusal.Refusal.TheVariants.{NameTaken, 
 use Rattle.prop_refusals.specs.declared.refusal.Refusal.TheVariants.{LimitReached}
 use Rattle.prop_vocabulary.specs.Names.{number_in}
 use Rattle.prop_vocabulary.specs.Vocabulary.{Vocabulary, domain_number}
-use Rattle.prop_vocabulary.specs.Refusing.{is_domain_taken, domain_limit, domain_refusal, is_domain_missing}
-use Rattle.prop_vocabulary.specs.Refusing.{is_word_outside, pairs_refusal, relation_refusal}
+use Rattle.prop_vocabulary.specs.Refusing.{domain_refusal, is_domain_missing}
+use Rattle.prop_vocabulary.specs.inner.Named.{is_domain_taken, domain_limit}
+use Rattle.prop_vocabulary.specs.Refusing.{pairs_refusal, relation_refusal}
+use Rattle.prop_vocabulary.specs.inner.Named.{is_word_outside}
 
 -- the first of the refusals
 first_some : (o : Option Refusal) (rest : List (Option Refusal)) (e : Refusal) → o ≡ Some e

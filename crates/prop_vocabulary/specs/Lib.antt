@@ -8,3 +8,4 @@ pub mod Texts
 pub mod Promises
 pub mod Values
 pub mod Said
+pub mod inner

@@ -13,19 +13,13 @@ texts_of_pairs pairs = map (λ pair. (pair.0.now, pair.1.now)) pairs
 abbrev pub place_of : List (List ℕ) → List ℕ → ℕ
 place_of elements name = unwrap_or (number_in elements name) 0
 
--- one pair more, of the elements with these names
-abbrev pub with_named_pair : List (List ℕ) → List (List ℕ) → Relation → List ℕ × List ℕ → Relation
-with_named_pair first second m pair = with_pair m (place_of first pair.0) (place_of second pair.1)
-
--- all these pairs more
+-- all these pairs more, of elements by their names
 abbrev pub with_pairs : List (List ℕ) → List (List ℕ) → Relation → List (List ℕ × List ℕ) → Relation
-with_pairs first second m pairs = fold (with_named_pair first second) m pairs
+with_pairs first second m pairs =
+    fold (λ m pair. with_pair m (place_of first pair.0) (place_of second pair.1)) m pairs
 
--- the first word is no element of the first domain, or the second word none of the second
-abbrev pub is_pair_outside : List (List ℕ) → List (List ℕ) → List ℕ × List ℕ → Bool
-is_pair_outside first second pair =
-    is_none (number_in first pair.0) || is_none (number_in second pair.1)
-
--- one of the pairs has such a word
+-- of one of the pairs the first word is no element of the first domain, or the second none of the
+-- second
 abbrev pub is_outside : List (List ℕ) → List (List ℕ) → List (List ℕ × List ℕ) → Bool
-is_outside first second pairs = list_any (is_pair_outside first second) pairs
+is_outside first second pairs = list_any
+    (λ pair. is_none (number_in first pair.0) || is_none (number_in second pair.1)) pairs

@@ -19,23 +19,13 @@ IsReason why refusal = (why ≡ Some refusal) ⊎ (refusal ≡ Memory)
 
 -- ---- a domain
 
--- a declared domain has the name, or an element stands twice
-abbrev pub is_domain_taken : Vocabulary → List ℕ → List (List ℕ) → Bool
-is_domain_taken v name elements = is_some (number_in v.domain_names name) || has_repeat elements
-
--- there are as many declared domains as there can be, or too many elements
-abbrev pub domain_limit : Vocabulary → List (List ℕ) → Option Refusal
-domain_limit v elements =
-    first_of (
-    when (LimitReached Domains) (nat_le (most Domains) (length v.domain_names))
-    ∷ when (LimitReached Elements) (nat_lt (most Elements) (length elements))
-    ∷ []
-    )
-
--- why the domain may not be declared
+-- why the domain may not be declared: a declared domain has the name or an element stands twice,
+-- there are as many declared domains as there can be, or there are too many elements
 abbrev pub domain_refusal : Vocabulary → List ℕ → List (List ℕ) → Option Refusal
 domain_refusal v name elements =
-    first_of (when NameTaken (is_domain_taken v name elements) ∷ domain_limit v elements ∷ [])
+    first_of (when NameTaken (is_some (number_in v.domain_names name) || has_repeat elements)
+    ∷ first_of (when (LimitReached Domains) (nat_le (most Domains) (length v.domain_names))
+    ∷ when (LimitReached Elements) (nat_lt (most Elements) (length elements)) ∷ []) ∷ [])
 
 -- ---- a relation
 
@@ -43,28 +33,20 @@ domain_refusal v name elements =
 abbrev pub is_domain_missing : Vocabulary → List ℕ → List ℕ → Bool
 is_domain_missing v from to = is_none (domain_number v from) || is_none (domain_number v to)
 
--- a word of a pair is no element of its domain
-abbrev pub is_word_outside : Vocabulary → List ℕ → List ℕ → List (List ℕ × List ℕ) → Bool
-is_word_outside v from to pairs =
-    is_outside (elements_of v (unwrap_or (domain_number v from) 0))
-    (elements_of v (unwrap_or (domain_number v to) 0)) pairs
-
--- why these are no pairs of the two domains
+-- why these are no pairs of elements of the two domains
 abbrev pub pairs_refusal : Vocabulary → List ℕ → List ℕ → List (List ℕ × List ℕ) → Option Refusal
 pairs_refusal v from to pairs =
     first_of (when NoSuchDomain (is_domain_missing v from to) ∷ when NotInTheDomain
-    (is_word_outside v from to pairs) ∷ [])
+    (is_outside (elements_of v (unwrap_or (domain_number v from) 0))
+    (elements_of v (unwrap_or (domain_number v to) 0)) pairs) ∷ [])
 
 -- why the relation may not be declared
 abbrev pub relation_refusal : Vocabulary → List ℕ → List ℕ → List ℕ → List (List ℕ × List ℕ)
     → Option Refusal
 relation_refusal v name from to pairs =
-    first_of (
-    when NameTaken (is_some (number_in v.relation_names name))
+    first_of (when NameTaken (is_some (number_in v.relation_names name))
     ∷ pairs_refusal v from to pairs
-    ∷ when (LimitReached Relations) (nat_le (most Relations) (length v.relation_names))
-    ∷ []
-    )
+    ∷ when (LimitReached Relations) (nat_le (most Relations) (length v.relation_names)) ∷ [])
 
 -- ---- a symbol
 

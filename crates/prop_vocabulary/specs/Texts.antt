@@ -47,14 +47,10 @@ domain_of v SymbolKind = None
 abbrev pub elements_of_kind : Vocabulary → Kind → List (List ℕ)
 elements_of_kind v kind = unwrap_or (domain_of v kind) []
 
--- the name of the symbol with this number, nothing where there is none
-abbrev pub symbol_text : Vocabulary → ℕ → List ℕ
-symbol_text v n = unwrap_or (slice_get v.symbols n) []
-
 -- the text of an information of a cell of the kind
 abbrev pub value_text : Vocabulary → Kind → Info → List ℕ
 value_text v kind Nothing = codes "nothing"
 value_text v kind (Span s) = span_text s.lo s.hi
 value_text v kind (Set s) = in_braces (names_in (elements_of_kind v kind) s.bits)
-value_text v kind (Sym n) = symbol_text v n
+value_text v kind (Sym n) = unwrap_or (slice_get v.symbols n) []
 value_text v kind Contradiction = codes "contradiction"

@@ -33,8 +33,7 @@ bounded_number word = number_in (neg_ℤ B) B word
 abbrev pub ends_value : Option ℤ → Option ℤ → Result Info Refusal
 ends_value (Some low) (Some high) =
     cond (int_lt high low) (Err EmptyValue) (Ok (span_from low high))
-ends_value (Some low) None = Err NotANumber
-ends_value None high = Err NotANumber
+ends_value low high = Err NotANumber
 
 -- A, or A..B
 abbrev pub span_value : List ℕ × Option (List ℕ) → Result Info Refusal
@@ -61,14 +60,10 @@ abbrev pub known : Result Info Refusal → Result Meant Refusal
 known (Ok info) = Ok (Known info)
 known (Err refusal) = Err refusal
 
-abbrev pub symbol_value : List ℕ → Result Meant Refusal
-symbol_value word = cond (is_name word) (Ok (Name word)) (Err NotAName)
-
 -- what a value says at a cell of the kind, by the names of its domain's elements where it is a set
 abbrev pub value_said : Kind → List (List ℕ) → Value → Result Meant Refusal
 value_said Span names (Bare word) = known (span_value (halves word))
-value_said Span names (Braces words) = Err WrongKind
 value_said (Set d) names (Bare word) = known (set_value names (word ∷ []))
 value_said (Set d) names (Braces words) = known (set_value names words)
-value_said Symbol names (Bare word) = symbol_value word
-value_said Symbol names (Braces words) = Err WrongKind
+value_said Symbol names (Bare word) = cond (is_name word) (Ok (Name word)) (Err NotAName)
+value_said kind names (Braces words) = Err WrongKind

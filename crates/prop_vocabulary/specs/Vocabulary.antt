@@ -42,11 +42,8 @@ abbrev pub domain_number : Vocabulary → List ℕ → Option ℕ
 domain_number v name = option_map (λ n. n + 1) (number_in v.domain_names name)
 
 -- the elements of the domain with the number, none where there is no such domain
-abbrev pub elements_at : List (List (List ℕ)) → ℕ → List (List ℕ)
-elements_at domains d = unwrap_or (slice_get domains d) []
-
 abbrev pub elements_of : Vocabulary → ℕ → List (List ℕ)
-elements_of v d = elements_at v.domains d
+elements_of v d = unwrap_or (slice_get v.domains d) []
 
 -- one domain more
 abbrev pub with_domain : Vocabulary → List ℕ → List (List ℕ) → Vocabulary
@@ -101,6 +98,10 @@ abbrev pub with_first_symbols : Vocabulary → ℕ → Vocabulary
 with_first_symbols v count = record v { symbols = take count v.symbols }
 
 -- ---- what is true of every vocabulary
+
+-- the elements of one of these domains
+abbrev pub elements_at : List (List (List ℕ)) → ℕ → List (List ℕ)
+elements_at domains d = unwrap_or (slice_get domains d) []
 
 -- the side is about one of these domains
 pub record IsSideOf (domains : List (List (List ℕ))) (s : sides.Side) : Type 0 where

@@ -2,7 +2,8 @@
 ghost use Rattle.std.specs.Prelude.{◌≡◌, ◌<◌, length};
 ghost use Rattle.std.specs.List.{list_any};
 ghost use Rattle.prop_vocabulary.specs.Pairs.{texts_of_pairs, place_of, with_pairs};
-ghost use Rattle.prop_vocabulary.specs.Pairs.{is_pair_outside, is_outside};
+ghost use Rattle.prop_vocabulary.specs.Pairs.{is_outside};
+ghost use Rattle.prop_vocabulary.specs.inner.Named.{is_pair_outside};
 
 use prop_sets::{Domain, Rows};
 

@@ -3,7 +3,8 @@ ghost use Rattle.std.specs.Prelude.{◌≡◌, ◌<◌, ◌==◌, IfOk, string_b
 ghost use Rattle.std.specs.Int.{bit_at};
 ghost use Rattle.prop_sets.specs.Names.{texts_of};
 ghost use Rattle.prop_vocabulary.specs.Texts.{span_text, in_braces, names_in, domain_of};
-ghost use Rattle.prop_vocabulary.specs.Texts.{elements_of_kind, symbol_text, value_text};
+ghost use Rattle.prop_vocabulary.specs.Texts.{elements_of_kind, value_text};
+ghost use Rattle.prop_vocabulary.specs.inner.Named.{symbol_text};
 
 use crate::vocabulary::Vocabulary;
 use prop_lattice::{Elements, Info, Kind, Span};
