@@ -14,7 +14,8 @@ use Rattle.prop_compound.proofs.Judging.{IsRightly}
 use Rattle.prop_compound.proofs.ByNumber.{named_number, compound_used}
 use Rattle.prop_refusals.specs.Refusals.{most, when, first_of}
 use Rattle.prop_refusals.specs.declared.refusal.Limit.TheVariants.{Definitions as TooMany}
-use Rattle.prop_refusals.specs.declared.refusal.Refusal.TheVariants.{NameTaken, NoSuchDomain, NoSuchRelation, NoSuchCell}
+use Rattle.prop_refusals.specs.declared.refusal.Refusal.TheVariants.{NameTaken, NoSuchDomain, NoSuchRelation}
+use Rattle.prop_refusals.specs.declared.refusal.Refusal.TheVariants.{NoSuchCell}
 use Rattle.prop_refusals.specs.declared.refusal.Refusal.TheVariants.{NoSuchProcedure, WrongCount, LimitReached}
 use Rattle.prop_sets.specs.Names.{has_repeat}
 use Rattle.prop_sets.specs.Relation.{Relation}
@@ -40,13 +41,16 @@ use Rattle.prop_compound.specs.Defining.{passing_named, locals_of, scope_of, ste
 use Rattle.prop_compound.specs.Defining.{with_definition, is_domain_missing, is_relation_missing, is_cell_missing}
 use Rattle.prop_compound.specs.Defining.{is_unknown, is_count_wrong, is_name_taken, define_refusal}
 use Rattle.prop_compound.specs.Expansion.{Walk, start, cell_at, cells_at, with_fresh, use_expanded, steps_expanded}
-use Rattle.prop_compound.specs.Expansion.{definition_expanded, spare_in, spare_of, spare_used, passes_something, stands_for}
+use Rattle.prop_compound.specs.Expansion.{definition_expanded, spare_in, spare_of, spare_used, passes_something}
+use Rattle.prop_compound.specs.Expansion.{stands_for}
 use Rattle.prop_compound.specs.Expansion.{expanded}
-use Rattle.prop_compound.specs.Compounds.{Compound, compound_named, use_added, passed_by, steps_added, hands_on, compound_of}
+use Rattle.prop_compound.specs.Compounds.{Compound, compound_named, use_added, passed_by, steps_added, hands_on}
+use Rattle.prop_compound.specs.Compounds.{compound_of}
 use Rattle.prop_compound.specs.Compounds.{is_some_wrong, compound_refusal}
 use Rattle.prop_compound.specs.Numbered.{with_spare, added_in, compounds_of, passed_among}
 use Rattle.prop_compound.proofs.ByNumber.{pass_is, steps_spare, definition_spare, numbered_at, behind_is, pushed_from}
-use Rattle.prop_compound.proofs.ByNumber.{use_numbered, none_numbered, some_numbered, miscounted_numbered, count_numbered}
+use Rattle.prop_compound.proofs.ByNumber.{use_numbered, none_numbered, some_numbered, miscounted_numbered}
+use Rattle.prop_compound.proofs.ByNumber.{count_numbered}
 
 -- ---- cells by name
 
@@ -99,7 +103,8 @@ module _ (words : Vocabulary) (whole : length words.relations ≡ length words.r
   given_same given Passed.Own h = refl
 
   something : (given : Option Param) (passed : Passed) → IsPassedThere passed
-      → is_some (pass given (passing_named words passed)) ≡ passes_something (is_some given) (passing_named words passed)
+      → is_some (pass given (passing_named words passed))
+      ≡ passes_something (is_some given) (passing_named words passed)
   something given (Passed.Said By.Nothing) h = refl
   something given (Passed.Said (By.Number None)) h = refl
   something given (Passed.Said (By.Number (Some k))) h = refl
@@ -124,7 +129,8 @@ module _ (words : Vocabulary) (whole : length words.relations ≡ length words.r
   something given Passed.Own h = refl
 
 -- the step hands on what its definition is given, in words and by numbers
-hands_same : (library : List Stored) (words : Vocabulary) (defs : Definitions) (scope : List (List ℕ)) (steps : List Step)
+hands_same : (library : List Stored) (words : Vocabulary) (defs : Definitions) (scope : List (List ℕ))
+    (steps : List Step)
     → list_any hands_on steps ≡ list_any is_passing_on (map (step_numbered library words defs scope) steps)
 hands_same library words defs scope [] = refl
 hands_same library words defs scope (Step.Local name kind ∷ steps) = hands_same library words defs scope steps
@@ -199,7 +205,8 @@ module _ (library : List Stored) (words : Vocabulary) (whole : length words.rela
     passed_there name names (Passed.Said (By.Relation r)) h = h
     passed_there name names Passed.Own h = tt
 
-    steps_same : (steps : List Step) (names : List (List ℕ)) (cells : List ℕ) → scope ≡ names ++ flat_map locals_of steps
+    steps_same : (steps : List Step) (names : List (List ℕ)) (cells : List ℕ)
+        → scope ≡ names ++ flat_map locals_of steps
         → AreFine names steps → (e : Walk) →
         steps_added library words cs given (record { names = names; cells = cells }) steps e ≡ with_spare
         (steps_expanded among (definition_expanded among latest) given cells (map number steps) e)
@@ -259,7 +266,8 @@ module _ (library : List Stored) (words : Vocabulary) (whole : length words.rela
         ∙ (λ i. with_spare (expand x)
         (spare_used (spare_in latest) used (something words whole given passed there i) || rest))
         ∙ (λ i. with_spare (steps_expanded among f given cells (map number steps) (use_expanded f (used_is i) on own e))
-        (spare_used (spare_in latest) (used_is i) (passes_something (is_some given) (passing_named words passed)) || rest))
+        (spare_used (spare_in latest) (used_is i) (passes_something (is_some given) (passing_named words passed))
+        || rest))
 
   -- ---- a definition more
 
@@ -289,7 +297,8 @@ module _ (library : List Stored) (words : Vocabulary) (whole : length words.rela
         steps_same (scope_of params steps) given steps params cells refl (all_fine given) (with_spare e own)
         ∙ ap (λ w. with_spare w rest) (steps_spare among f (definition_spare among latest) given cells d.steps e own)
         ∙ (λ i. record (expand e) { spare = or_assoc (expand e).spare own rest i })
-        ∙ (λ i. with_spare (expand e) ((is_some given && not (hands_same library words defs (scope_of params steps) steps
+        ∙ (λ i. with_spare (expand e) ((is_some given && not (hands_same library words defs
+        (scope_of params steps) steps
         i)) || rest))
         ∙ sym (steps_spare among f (definition_spare among latest) given cells d.steps e (own' || rest))
         ∙ (λ i. cond (sym it i) (steps_expanded among f given cells d.steps (with_spare e
@@ -360,7 +369,8 @@ module _ (library : List Stored) (words : Vocabulary) (whole : length words.rela
   count_wrong names (Step.Local name kind ∷ steps) = count_wrong (names ++ name ∷ []) steps
   count_wrong names (Step.Like name like ∷ steps) = count_wrong (names ++ name ∷ []) steps
   count_wrong names (Step.Use name cells passed ∷ steps) =
-      λ i. miscounted_numbered words.relations library defs same name (length cells) i || count_wrong (names ++ []) steps i
+      λ i. miscounted_numbered words.relations library defs same name (length cells) i
+          || count_wrong (names ++ []) steps i
 
   -- it is refused for the same
   pub refusal_same : (name : List ℕ) (params : List (List ℕ)) (steps : List Step)

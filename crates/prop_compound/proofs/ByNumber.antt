@@ -57,7 +57,8 @@ module _ (pass : Option Param → Passing → Option Param) where
   use_spare f h (uses.Procedure n) cells given e b = refl
   use_spare f h (uses.Definition n) cells given e b = h n cells given e b
 
-  pub steps_spare : (f : Adds) → AddsSpare f → (given : Option Param) (cells : List ℕ) (steps : List NumberedStep) (e : Walk)
+  pub steps_spare : (f : Adds) → AddsSpare f
+      → (given : Option Param) (cells : List ℕ) (steps : List NumberedStep) (e : Walk)
       (b : Bool) → steps_expanded pass f given cells steps (with_spare e b)
       ≡ with_spare (steps_expanded pass f given cells steps e) b
   steps_spare f h given cells [] e b = refl
@@ -117,7 +118,8 @@ module _ (pass : Option Param → Passing → Option Param) where
   found_at earlier [] (d ∷ ds) n same l = absurd (omega (arith, same))
   found_at earlier (name ∷ names) [] n same l = absurd (omega (arith, l))
   found_at earlier (name ∷ names) (d ∷ ds) zero same l =
-      let here : added_in pass (d ∷ earlier) (length earlier) ≡ added_in pass (behind ds (d ∷ earlier)) (length earlier + 0)
+      let here : added_in pass (d ∷ earlier) (length earlier)
+          ≡ added_in pass (behind ds (d ∷ earlier)) (length earlier + 0)
       = sym (still_added ds (d ∷ earlier) (length earlier) (omega arith))
       ∙ ap (added_in pass (behind ds (d ∷ earlier))) (omega arith) in
       λ i. Some (record { name = name; wants = d.params; adds = here i })
@@ -213,8 +215,10 @@ module _ (relations : List Relation) (library : List Stored) (defs : Definitions
       ≡ with_spare (use_expanded (definition_expanded pass latest) used cells given e)
       (spare_used (spare_in latest) used (is_some given))
   use_one (uses.Procedure n) cells given e = λ i.
-      record (with_placed e (record { procedure = n; given = given; cells = cells })) { spare = sym (or-false e.spare) i }
-  use_one (uses.Definition n) cells given e = definition_spare pass latest n cells given e (spare_in latest n (is_some given))
+      record (with_placed e (record { procedure = n; given = given; cells = cells })) { spare = sym
+          (or-false e.spare) i }
+  use_one (uses.Definition n) cells given e = definition_spare pass latest n cells given e (spare_in latest n
+      (is_some given))
 
   pub use_numbered : (name : List ℕ) (used : Used) → used_named library defs name ≡ Some used → (cells : List ℕ)
       (given : Option Param) (e : Walk) → use_added library cs name cells given e
@@ -233,10 +237,12 @@ module _ (relations : List Relation) (library : List Stored) (defs : Definitions
   is_some_map None = refl
   is_some_map (Some used) = refl
 
-  pub none_numbered : (name : List ℕ) → is_none (compound_named library cs name) ≡ is_none (used_named library defs name)
+  pub none_numbered : (name : List ℕ)
+      → is_none (compound_named library cs name) ≡ is_none (used_named library defs name)
   none_numbered name = ap is_none (named_number name) ∙ is_none_map (used_named library defs name)
 
-  pub some_numbered : (name : List ℕ) → is_some (compound_named library cs name) ≡ is_some (used_named library defs name)
+  pub some_numbered : (name : List ℕ)
+      → is_some (compound_named library cs name) ≡ is_some (used_named library defs name)
   some_numbered name = ap is_some (named_number name) ∙ is_some_map (used_named library defs name)
 
   counted_by : (count : ℕ) (o : Option Used)

@@ -67,7 +67,8 @@ grown_more s t d n old new after h shifted read read_line =
                 (beliefs s d.contents cell ≡ beliefs t d.contents cell)
                 ⊎ All (Contains after) (readers_of d.instances cell)) [
                   | inl same ↦ inl same
-                  | inr all ↦ inr (All-weaker (Contains new) (Contains after) read.kept (readers_of d.instances cell) all)
+                  | inr all ↦ inr (All-weaker (Contains new) (Contains after) read.kept
+                      (readers_of d.instances cell) all)
                 ]
           ];
     }

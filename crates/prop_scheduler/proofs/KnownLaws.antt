@@ -5,7 +5,8 @@ use Rattle.std.specs.Prelude.{⊤, Result, Ok, Err, OnOk, OnErr}
 use Rattle.std.proofs.Math.ListN.{set, replicate, length-set}
 use Rattle.std.proofs.lemmas.Bool.{cases_lt}
 use Rattle.std.proofs.lemmas.Bool.Decides.{eqb_tells}
-use Rattle.std.proofs.lemmas.List.{length-replicate, get_or_append_left, get_or-append_right, get_or-replicate, get_or_past}
+use Rattle.std.proofs.lemmas.List.{length-replicate, get_or_append_left, get_or-append_right, get_or-replicate}
+use Rattle.std.proofs.lemmas.List.{get_or_past}
 use Rattle.prop_lattice.specs.declared.info.Info.{Info}
 use Rattle.prop_lattice.specs.declared.info.Info.TheVariants.{Nothing}
 use Rattle.prop_lattice.specs.Order.{merge_of}
@@ -69,7 +70,8 @@ pub roomy : (known : List (Option Info)) (n cell : ℕ) → known_at (known ++ r
 roomy known n cell = elim (cases_lt cell (length known)) as
     (λ _. known_at (known ++ replicate n None) cell ≡ known_at known cell) [
       | inl l ↦ get_or_append_left known (replicate n None) None cell l
-      | inr l ↦ get_or-append_right known (replicate n None) (length known) cell None refl l ∙ unknown n (cell - length known)
+      | inr l ↦ get_or-append_right known (replicate n None) (length known) cell None refl l
+          ∙ unknown n (cell - length known)
           ∙ sym (get_or_past known cell None l)
     ]
 

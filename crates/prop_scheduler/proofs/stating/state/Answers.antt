@@ -10,7 +10,8 @@ use Rattle.prop_cells.proofs.KnowingLaws.{known_merged}
 use Rattle.prop_scheduler.specs.Agendas.{all_alerted}
 use Rattle.prop_scheduler.proofs.Behind.{behind_none, readers_behind, touched_stirred, states_more}
 use Rattle.prop_scheduler.proofs.KnownLaws.{same_known, kept_known}
-use Rattle.prop_scheduler.proofs.UnderWay.{under_way_same, under_way_grown, states_merge, states_same, states_clear, states_believed}
+use Rattle.prop_scheduler.proofs.UnderWay.{under_way_same, under_way_grown, states_merge, states_same, states_clear}
+use Rattle.prop_scheduler.proofs.UnderWay.{states_believed}
 use Rattle.prop_scheduler.proofs.WatchLaws.{watched_at, watched_same, watched_clear, same_but}
 use Rattle.prop_scheduler.proofs.stating.state.Goals as goal
 
