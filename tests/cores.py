@@ -3,11 +3,16 @@
 
 usage: tests/cores.py PROGRAM
 
-prints of each core how many premises are believed, how many the core has, the steps of its command, and the seconds of the whole session. The steps are the
-least limit with which the core is reduced, found by halving.
+prints of each core how many premises are believed, how many the core has, the steps of its command, the instructions of the command beyond those of `why`,
+and the seconds of the whole session. The steps are the least limit with which the core is reduced, found by halving; the instructions are those that
+valgrind's callgrind counts, - where there is no valgrind.
 """
+import os
+import re
+import shutil
 import subprocess
 import sys
+import tempfile
 import time
 from dataclasses import dataclass
 
@@ -102,15 +107,31 @@ def steps(program, core):
     return low
 
 
+def counted(program, sent):
+    """The instructions of a session."""
+    with tempfile.TemporaryDirectory() as folder:
+        words = ["valgrind", "--tool=callgrind", f"--callgrind-out-file={folder}/out", os.path.abspath(program)]
+        said = subprocess.run(words, input=sent, capture_output=True, check=True).stderr.decode()
+    return int(re.search(r"Collected : (\d+)", said)[1])
+
+
+def beyond_why(program, core):
+    """The instructions of `core` beyond those of `why`, where valgrind can tell."""
+    if not shutil.which("valgrind"):
+        return "-"
+    tried, explained = (counted(program, core.sent(f"{command} {core.cell}")) for command in ("core", "why"))
+    return f"{tried - explained:,}"
+
+
 def main(program):
-    print("| Core | steps | seconds |\n|---|---|---|")
+    print("| Core | steps | instructions | seconds |\n|---|---|---|---|")
     for core in cores():
         start = time.monotonic()
         answer = last_line(program, core)
         seconds = time.monotonic() - start
         if answer != core.answer:
             return f"{core.name}: the answer is {answer!r}, wanted {core.answer!r}"
-        print(f"| {core.name} | {steps(program, core):,} | {seconds:.2f} |", flush=True)
+        print(f"| {core.name} | {steps(program, core):,} | {beyond_why(program, core)} | {seconds:.2f} |", flush=True)
     return 0
 
 
