@@ -5,7 +5,7 @@ ghost use Rattle.prop_cells.specs.Data.{Entry};
 ghost use Rattle.prop_cells.specs.Knowing.{AreBeliefs};
 
 use prop_cells::{Known, Network};
-use prop_premises::Worldview;
+use prop_premises::{Shift, Worldview};
 use prop_procedures::Rule;
 use std::alloc::{AllocError, Global};
 use std::mem::replace;
@@ -97,9 +97,10 @@ fn shift<R: Rule + Drop>(
     requires { AreBeliefs (set_of before.now) network.now.cells.contents known.old }
     ensures { AreBeliefs (set_of after.now) network.now.cells.contents known.new }
 {
+    let shift = Shift::new(before, after);
     let count = network.cells();
-    let mut cell = network.next_shifted(0, before, after, known);
+    let mut cell = network.next_shifted(0, &shift, known);
     while cell < count {
-        cell = network.next_shifted(cell + 1, before, after, known);
+        cell = network.next_shifted(cell + 1, &shift, known);
     }
 }

@@ -1,14 +1,22 @@
 //! Another worldview for a network under way.
 ghost use Rattle.std.specs.Prelude.{◌≡◌, ◌<◌, ◌≤◌, ℕ, Contains, length};
 ghost use Rattle.prop_numbers.specs.Sets.{set_of, IsPart};
+ghost use Rattle.prop_procedures.specs.Kept.{stored_of};
 ghost use Rattle.prop_cells.specs.Problems.{Premises};
+ghost use Rattle.prop_cells.specs.Data.{beliefs, problem_of};
 ghost use Rattle.prop_cells.specs.Forgetting.{forgotten};
+ghost use Rattle.prop_cells.specs.Knowing.{AreBeliefs};
+ghost use Rattle.prop_scheduler.specs.Turns.{IsUnderWay};
+ghost use Rattle.prop_scheduler.specs.Watching.{IsWatched};
+ghost use Rattle.prop_scheduler.specs.Potential.{potential};
 ghost use Rattle.prop_scheduler.specs.Shifts.{AreShifted, AreGrown};
 ghost use Rattle.prop_scheduler.specs.Live.{cells_of, line_of, library_of, potential_in};
 ghost use Rattle.prop_scheduler.specs.Live.{IsLiveIn, IsReady};
 
+use crate::agenda::Agenda;
 use crate::live::Live;
-use prop_premises::{Premise, Worldview};
+use prop_cells::{Known, Network};
+use prop_premises::{Premise, Shift, Worldview};
 use prop_procedures::Rule;
 
 /// Every instance waits and every cell is watched, so the network is under way in whatever
@@ -41,6 +49,78 @@ pub fn purge<R: Rule + Drop>(live: &mut Live<R>, premise: Premise)
     wake_all(live);
 }
 
+/// Each cell that shifts is watched, and its readers and writers wait. What is known of the first
+/// worldview is known of the second from then on. It takes no memory.
+fn alert_along<R: Rule + Drop>(
+    network: &Network<R>,
+    agenda: &mut Agenda,
+    shift: &Shift<'_>,
+    known: &mut Known,
+)
+    requires room { length network.now.cells.instances ≤ agenda.old.room }
+    requires cells { length network.now.cells.kinds ≤ agenda.old.cells }
+    requires known { AreBeliefs (set_of shift.now.before.now) network.now.cells.contents known.old }
+    requires under_way { IsUnderWay (stored_of R.value_of network.now.library)
+        (set_of shift.now.before.now) network.now.cells agenda.old.line }
+    requires watched { IsWatched (set_of shift.now.before.now) network.now.cells
+        agenda.old.watched }
+    ensures room { agenda.new.room ≡ agenda.old.room }
+    ensures cells { agenda.new.cells ≡ agenda.old.cells }
+    ensures known { AreBeliefs (set_of shift.now.after.now) network.now.cells.contents known.new }
+    ensures under_way { IsUnderWay (stored_of R.value_of network.now.library)
+        (set_of shift.now.after.now) network.now.cells agenda.new.line }
+    ensures watched { IsWatched (set_of shift.now.after.now) network.now.cells agenda.new.watched }
+    ensures shifted { AreShifted (set_of shift.now.before.now) (set_of shift.now.after.now)
+        network.now.cells (length network.now.cells.kinds) agenda.old.line agenda.new.line }
+{
+    let count = network.cells();
+    let mut cell = network.next_shifted(0, shift, known);
+    while cell < count {
+        agenda.alert_all(network.readers(cell));
+        agenda.alert_all(network.writers(cell));
+        agenda.watch(cell);
+        cell = network.next_shifted(cell + 1, shift, known);
+    }
+}
+
+/// The same where the second worldview believes all that the first does: the writers need not wait,
+/// since what they said is still said. So the potential doesn't rise.
+fn alert_grown_along<R: Rule + Drop>(
+    network: &Network<R>,
+    agenda: &mut Agenda,
+    shift: &Shift<'_>,
+    known: &mut Known,
+)
+    requires room { length network.now.cells.instances ≤ agenda.old.room }
+    requires cells { length network.now.cells.kinds ≤ agenda.old.cells }
+    requires known { AreBeliefs (set_of shift.now.before.now) network.now.cells.contents known.old }
+    requires more { IsPart (set_of shift.now.before.now) (set_of shift.now.after.now) }
+    requires under_way { IsUnderWay (stored_of R.value_of network.now.library)
+        (set_of shift.now.before.now) network.now.cells agenda.old.line }
+    requires watched { IsWatched (set_of shift.now.before.now) network.now.cells
+        agenda.old.watched }
+    ensures room { agenda.new.room ≡ agenda.old.room }
+    ensures cells { agenda.new.cells ≡ agenda.old.cells }
+    ensures known { AreBeliefs (set_of shift.now.after.now) network.now.cells.contents known.new }
+    ensures under_way { IsUnderWay (stored_of R.value_of network.now.library)
+        (set_of shift.now.after.now) network.now.cells agenda.new.line }
+    ensures watched { IsWatched (set_of shift.now.after.now) network.now.cells agenda.new.watched }
+    ensures grown { AreGrown (set_of shift.now.before.now) (set_of shift.now.after.now)
+        network.now.cells (length network.now.cells.kinds) agenda.old.line agenda.new.line }
+    ensures falls { potential (problem_of (stored_of R.value_of network.now.library) network.now.cells)
+        (beliefs (set_of shift.now.after.now) network.now.cells.contents) agenda.new.line
+        ≤ potential (problem_of (stored_of R.value_of network.now.library) network.now.cells)
+        (beliefs (set_of shift.now.before.now) network.now.cells.contents) agenda.old.line }
+{
+    let count = network.cells();
+    let mut cell = network.next_shifted(0, shift, known);
+    while cell < count {
+        agenda.alert_all(network.readers(cell));
+        agenda.watch(cell);
+        cell = network.next_shifted(cell + 1, shift, known);
+    }
+}
+
 /// Each cell that the second worldview believes something else of than the first is watched, and
 /// its readers and writers wait, so a network that was under way in the first is so in the second.
 /// What is known of beliefs in the first is known of the second after it; where memory is refused,
@@ -53,16 +133,8 @@ pub fn alert_shifted<R: Rule + Drop>(live: &mut Live<R>, before: &Worldview, aft
         (length (cells_of live.old).kinds) (line_of live.old) (line_of live.new) }
 {
     let mut known = live.seen.take(live.alloc, before);
-    let network = &live.network;
-    let agenda = &mut live.agenda;
-    let count = network.cells();
-    let mut cell = network.next_shifted(0, before, after, &mut known);
-    while cell < count {
-        agenda.alert_all(network.readers(cell));
-        agenda.alert_all(network.writers(cell));
-        agenda.watch(cell);
-        cell = network.next_shifted(cell + 1, before, after, &mut known);
-    }
+    let shift = Shift::new(before, after);
+    alert_along(&live.network, &mut live.agenda, &shift, &mut known);
     live.seen.keep(after, known);
 }
 
@@ -80,14 +152,7 @@ pub fn alert_grown<R: Rule + Drop>(live: &mut Live<R>, before: &Worldview, after
         ≤ potential_in R.value_of (set_of before.now) live.old }
 {
     let mut known = live.seen.take(live.alloc, before);
-    let network = &live.network;
-    let agenda = &mut live.agenda;
-    let count = network.cells();
-    let mut cell = network.next_shifted(0, before, after, &mut known);
-    while cell < count {
-        agenda.alert_all(network.readers(cell));
-        agenda.watch(cell);
-        cell = network.next_shifted(cell + 1, before, after, &mut known);
-    }
+    let shift = Shift::new(before, after);
+    alert_grown_along(&live.network, &mut live.agenda, &shift, &mut known);
     live.seen.keep(after, known);
 }

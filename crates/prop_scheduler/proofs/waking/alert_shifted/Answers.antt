@@ -1,144 +1,52 @@
-use Rattle.std.proofs.Common.{◌≡◌, ◌∙◌, ◌+◌, ◌<◌, ◌≤◌, ℕ, List, length, refl, subst, arith}
-use Rattle.std.proofs.lemmas.List.Elements.{All-weaker}
+use Rattle.std.proofs.Common.{List, ℕ, length, sym, subst}
 use Rattle.prop_numbers.specs.Sets.{set_of}
 use Rattle.prop_procedures.specs.Kept.{stored_of}
-use Rattle.prop_cells.specs.Problems.{Premises}
-use Rattle.prop_cells.specs.Data.{Data}
-use Rattle.prop_cells.specs.Instances.{readers_of, writers_of}
-use Rattle.prop_cells.proofs.Reading.{readers_are, writers_below}
-use Rattle.prop_scheduler.specs.Agendas.{AllAlerted}
+use Rattle.prop_cells.specs.Knowing.{AreBeliefs}
+use Rattle.prop_scheduler.specs.Turns.{IsUnderWay}
+use Rattle.prop_scheduler.specs.Watching.{IsWatched}
 use Rattle.prop_scheduler.specs.Shifts.{AreShifted}
-use Rattle.prop_scheduler.proofs.KnownLaws.{all_passed}
-use Rattle.prop_scheduler.proofs.ShiftLaws.{shifted_none, shifted_on, shifted_more, under_way_shifted}
-use Rattle.prop_scheduler.proofs.WatchLaws.{AreLooked, looked_none, looked_on, looked_more, watched_shifted}
 use Rattle.prop_scheduler.proofs.waking.alert_shifted.Goals as goal
 
-pub loop-cell-init : goal.loop-cell-init
-loop-cell-init g c =
-    let s = set_of c.args.before.now in
-    let t = set_of c.args.after.now in
+pub alert_along-requires : goal.alert_along-requires
+alert_along-requires g c =
+    let before = sym c.new-shift.ensures.before in
+    let library = stored_of g.R.Rule.value_of c.args.live.now.network.library in
     let d = c.args.live.now.network.cells in
-    let next = c.next_shifted-cell.ensures in
+    let agenda = c.args.live.now.agenda in
     record {
-      within = next.range.1;
-      here = next.shifted;
-      shifted = shifted_on s t d 0 c.next_shifted-cell.result c.args.live.now.agenda.line c.args.live.now.agenda.line
-          (shifted_none s t d c.args.live.now.agenda.line) next.passed;
-      room = refl;
-      cells = refl;
-      looked = looked_on s t d 0 c.next_shifted-cell.result c.args.live.now.agenda.watched
-          c.args.live.now.agenda.watched
-          (looked_none s t d c.args.live.now.agenda.watched c.requires.alive.watched.below) next.passed;
-      known = next.known;
+      room = c.args.live.now.room;
+      cells = c.args.live.now.cells;
+      known = subst (λ (w : List ℕ). AreBeliefs (set_of w) d.contents c.take-known.result) before
+          (c.take-known.ensures.known d.contents c.args.live.now.beliefs);
+      under_way = subst (λ (w : List ℕ). IsUnderWay library (set_of w) d agenda.line) before
+          c.requires.alive.under_way;
+      watched = subst (λ (w : List ℕ). IsWatched (set_of w) d agenda.watched) before c.requires.alive.watched;
     }
-
-pub alert_all-requires : goal.alert_all-requires
-alert_all-requires g c =
-    let xs = c.args.live.now.network.cells.instances in
-    let room = c.args.live.now.room in
-    let same = c.loop-cell.invariant.room in
-    rw c.readers.ensures (All-weaker (λ j. j < length xs) (λ j. j < c.loop-cell.agenda.room)
-    (λ j h. omega (arith, h, room, same)) (readers_of xs c.loop-cell.cell) (readers_are xs c.loop-cell.cell).below)
-
-pub alert_all-requires-in-loop-cell : goal.alert_all-requires-in-loop-cell
-alert_all-requires-in-loop-cell g c =
-    let xs = c.args.live.now.network.cells.instances in
-    let room = c.args.live.now.room in
-    let same = c.loop-cell.invariant.room in
-    let then = c.alert_all.ensures.room in
-    rw c.writers.ensures (All-weaker (λ j. j < length xs) (λ j. j < c.alert_all.new.self.room)
-    (λ j h. omega (arith, h, room, same, then)) (writers_of xs c.loop-cell.cell)
-    (writers_below xs c.loop-cell.cell))
-
-pub watch-requires : goal.watch-requires
-watch-requires g c =
-    let cells = c.args.live.now.cells in
-    let same = c.loop-cell.invariant.cells in
-    let read = c.alert_all.ensures.cells in
-    let written = c.alert_all-in-loop-cell.ensures.cells in
-    let count = c.cells-count.ensures.count in
-    let below = c.loop-cell-test.true in
-    omega (arith, cells, same, read, written, count, below)
-
-pub loop-cell-preserved : goal.loop-cell-preserved
-loop-cell-preserved g c =
-    let s = set_of c.args.before.now in
-    let t = set_of c.args.after.now in
-    let d = c.args.live.now.network.cells in
-    let h = c.loop-cell.invariant in
-    let next = c.next_shifted-cell-in-loop-cell.ensures in
-    let to = c.next_shifted-cell-in-loop-cell.result in
-    let within : c.loop-cell.cell < length d.kinds = let count = c.cells-count.ensures.count in let below =
-    c.loop-cell-test.true in omega (arith, count, below) in
-    let read : AllAlerted c.loop-cell.agenda.line c.alert_all.new.self.line
-    (readers_of d.instances c.loop-cell.cell) = rw c.readers.ensures at c.alert_all.ensures.alerted in
-    let written : AllAlerted c.alert_all.new.self.line c.alert_all-in-loop-cell.new.self.line
-    (writers_of d.instances c.loop-cell.cell) = rw c.writers.ensures at c.alert_all-in-loop-cell.ensures.alerted in
-    record {
-      within = next.range.1;
-      here = next.shifted;
-      shifted = rw c.watch.ensures.line (shifted_on s t d (c.loop-cell.cell + 1) to
-          c.args.live.now.agenda.line c.alert_all-in-loop-cell.new.self.line
-          (shifted_more s t d c.loop-cell.cell c.args.live.now.agenda.line c.loop-cell.agenda.line
-          c.alert_all.new.self.line c.alert_all-in-loop-cell.new.self.line h.shifted (h.here within) read written
-          (rw c.readers.ensures at c.alert_all.ensures.line)
-          (rw c.writers.ensures at c.alert_all-in-loop-cell.ensures.line)) next.passed);
-      room = c.watch.ensures.room ∙ c.alert_all-in-loop-cell.ensures.room ∙ c.alert_all.ensures.room ∙ h.room;
-      cells = c.watch.ensures.cells ∙ c.alert_all-in-loop-cell.ensures.cells ∙ c.alert_all.ensures.cells ∙ h.cells;
-      looked = looked_on s t d (c.loop-cell.cell + 1) to c.args.live.now.agenda.watched
-          c.watch.new.self.watched
-          (looked_more s t d c.loop-cell.cell c.args.live.now.agenda.watched c.loop-cell.agenda.watched
-          c.watch.new.self.watched h.looked within
-          (rw (c.alert_all-in-loop-cell.ensures.watched, c.alert_all.ensures.watched) at c.watch.ensures.watched))
-          next.passed;
-      known = next.known;
-    }
-
--- every cell was looked at
-at_end : (end cell n : ℕ) → end ≡ n → end ≤ cell → cell ≤ n → cell ≡ n
-at_end end cell n count least most = omega (arith, count, least, most)
-
-all_shifted : (s t : Premises) (d : Data) (end cell : ℕ) (old new : List ℕ) → end ≡ length d.kinds → end ≤ cell
-    → cell ≤ length d.kinds → AreShifted s t d cell old new → AreShifted s t d (length d.kinds) old new
-all_shifted s t d end cell old new count least most h =
-    subst (λ (n : ℕ). AreShifted s t d n old new) (at_end end cell (length d.kinds) count least most) h
-
-all_looked : (s t : Premises) (d : Data) (end cell : ℕ) (old new : List ℕ) → end ≡ length d.kinds → end ≤ cell
-    → cell ≤ length d.kinds → AreLooked s t d cell old new → AreLooked s t d (length d.kinds) old new
-all_looked s t d end cell old new count least most h =
-    subst (λ (n : ℕ). AreLooked s t d n old new) (at_end end cell (length d.kinds) count least most) h
 
 pub returns-clause-alive : goal.returns-clause-alive
 returns-clause-alive g c =
+    let after = c.new-shift.ensures.after in
+    let library = stored_of g.R.Rule.value_of c.args.live.now.network.library in
+    let d = c.args.live.now.network.cells in
     record {
-      under_way = (under_way_shifted (stored_of g.R.Rule.value_of c.args.live.now.network.library) (set_of
-          c.args.before.now)
-          (set_of c.args.after.now) c.args.live.now.network.cells c.args.live.now.agenda.line c.loop-cell.agenda.line
-          c.cells-count.ensures.within c.requires.alive.under_way
-          (all_shifted _ _ _ c.cells-count.result c.loop-cell.cell _ _ c.cells-count.ensures.count
-          c.loop-cell-test.false c.loop-cell.invariant.within c.loop-cell.invariant.shifted));
-      watched = (let s = set_of c.args.before.now in
-          let t = set_of c.args.after.now in
-          let d = c.args.live.now.network.cells in
-          watched_shifted s t d c.args.live.now.agenda.watched c.loop-cell.agenda.watched
-          c.cells-count.ensures.contents
-          (all_looked s t d c.cells-count.result c.loop-cell.cell c.args.live.now.agenda.watched
-          c.loop-cell.agenda.watched
-          c.cells-count.ensures.count c.loop-cell-test.false c.loop-cell.invariant.within
-          c.loop-cell.invariant.looked)
-          c.requires.alive.watched);
+      under_way = subst (λ (w : List ℕ). IsUnderWay library (set_of w) d c.alert_along.new.agenda.line) after
+          c.alert_along.ensures.under_way;
+      watched = subst (λ (w : List ℕ). IsWatched (set_of w) d c.alert_along.new.agenda.watched) after
+          c.alert_along.ensures.watched;
     }
 
 pub returns-clause-shifted : goal.returns-clause-shifted
 returns-clause-shifted g c =
-    all_shifted _ _ _ c.cells-count.result c.loop-cell.cell _ _
-    c.cells-count.ensures.count c.loop-cell-test.false c.loop-cell.invariant.within c.loop-cell.invariant.shifted
+    let d = c.args.live.now.network.cells in
+    subst (λ (w : List ℕ). AreShifted (set_of w) (set_of c.args.after.now) d (length d.kinds)
+    c.args.live.now.agenda.line c.alert_along.new.agenda.line) c.new-shift.ensures.before
+    (subst (λ (w : List ℕ). AreShifted (set_of c.new-shift.result.before.now) (set_of w) d (length d.kinds)
+    c.args.live.now.agenda.line c.alert_along.new.agenda.line) c.new-shift.ensures.after
+    c.alert_along.ensures.shifted)
 
 pub invariant_of-live-clause-beliefs : goal.invariant_of-live-clause-beliefs
 invariant_of-live-clause-beliefs g c =
     let d = c.args.live.now.network.cells in
-    let count = c.cells-count.ensures.count in
-    let contents = c.cells-count.ensures.contents in
-    let done = c.loop-cell-test.false in
-    c.keep.ensures d.contents (all_passed (set_of c.args.before.now) (set_of c.args.after.now) d.contents
-    c.loop-cell.known (c.loop-cell.cell + 1) (omega (arith, count, contents, done)) c.loop-cell.invariant.known)
+    c.keep.ensures d.contents
+    (subst (λ (w : List ℕ). AreBeliefs (set_of w) d.contents c.alert_along.new.known) c.new-shift.ensures.after
+    c.alert_along.ensures.known)
