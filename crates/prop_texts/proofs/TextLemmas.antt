@@ -7,7 +7,8 @@ use Rattle.std.proofs.lemmas.List.Concat.{flat_map-append}
 use Rattle.std.proofs.lemmas.List.Elements.{filter-append}
 use Rattle.prop_numbers.specs.Sets.{Members}
 use Rattle.prop_premises.specs.Origins.{Origin, User, Side, name_of, side_at}
-use Rattle.prop_texts.specs.Texts.{label_at, premises_text}
+use Rattle.prop_texts.specs.Texts.{premises_text}
+use Rattle.prop_texts.specs.inner.Listed.{label_at}
 
 -- ---- labels
 

@@ -1,7 +1,8 @@
 //! The labels of premises, as they stand in replies.
 ghost use Rattle.std.specs.Prelude.{◌≡◌, ◌<◌, ◌++◌, ◌∷◌, All, IfOk, OnOk, length, string_bytes};
 ghost use Rattle.std.specs.List.Sorted.{IsStrictlyIncreasing};
-ghost use Rattle.prop_texts.specs.Texts.{label_at, premises_text, support_text, because};
+ghost use Rattle.prop_texts.specs.Texts.{premises_text, support_text, because};
+ghost use Rattle.prop_texts.specs.inner.Listed.{label_at};
 
 use prop_premises::{Premise, PremiseSet, Premises};
 use std::alloc::{AllocError, Global};

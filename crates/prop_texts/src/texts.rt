@@ -3,7 +3,8 @@ ghost use Rattle.std.specs.Prelude.{◌≡◌, ◌<◌, ℕ, not, if◌then◌el
 ghost use Rattle.std.specs.Prelude.{string_bytes};
 ghost use Rattle.std.specs.List.Sorted.{IsStrictlyIncreasing};
 ghost use Rattle.prop_numbers.specs.Sets.{set_of};
-ghost use Rattle.prop_texts.specs.Texts.{equation, contradiction_text, is_listed, members_text};
+ghost use Rattle.prop_texts.specs.Texts.{equation, contradiction_text, members_text};
+ghost use Rattle.prop_texts.specs.inner.Listed.{is_listed};
 ghost use Rattle.prop_texts.specs.Texts.{worldview_text};
 ghost use Rattle.prop_engine.specs.Answers.{answer_of, Says};
 

@@ -2,7 +2,8 @@ use Rattle.std.proofs.Common.{◌≡◌, ◌∙◌, ◌+◌, sym, ap, filter, no
 use Rattle.std.specs.List.{range_with_len}
 use Rattle.std.specs.String.{string_bytes}
 use Rattle.prop_numbers.specs.Sets.{set_of}
-use Rattle.prop_texts.specs.Texts.{premises_text, is_listed}
+use Rattle.prop_texts.specs.Texts.{premises_text}
+use Rattle.prop_texts.specs.inner.Listed.{is_listed}
 use Rattle.prop_texts.proofs.TextLemmas.{members_more, members_same}
 use Rattle.prop_texts.proofs.texts.listed.Goals as goal
 use Rattle.prop_texts.proofs.texts.listed.Goals.{then-is_listed+in_ok-push_label, else-is_listed}

@@ -1,7 +1,8 @@
 use Rattle.std.proofs.Common.{◌≡◌, filter, string_bytes}
 use Rattle.std.specs.List.{range_with_len}
 use Rattle.prop_numbers.specs.Sets.{set_of}
-use Rattle.prop_texts.specs.Texts.{premises_text, is_listed}
+use Rattle.prop_texts.specs.Texts.{premises_text}
+use Rattle.prop_texts.specs.inner.Listed.{is_listed}
 use Rattle.prop_texts.proofs.texts.listed.Given as goal
 
 abbrev pub invariant-loop-number : goal.invariant-loop-number
