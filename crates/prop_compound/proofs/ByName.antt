@@ -370,7 +370,7 @@ module _ (library : List Stored) (words : Vocabulary) (whole : length words.rela
   count_wrong names (Step.Like name like ∷ steps) = count_wrong (names ++ name ∷ []) steps
   count_wrong names (Step.Use name cells passed ∷ steps) =
       λ i. miscounted_numbered words.relations library defs same name (length cells) i
-          || count_wrong (names ++ []) steps i
+      || count_wrong (names ++ []) steps i
 
   -- it is refused for the same
   pub refusal_same : (name : List ℕ) (params : List (List ℕ)) (steps : List Step)

@@ -119,7 +119,7 @@ module _ (pass : Option Param → Passing → Option Param) where
   found_at earlier (name ∷ names) [] n same l = absurd (omega (arith, l))
   found_at earlier (name ∷ names) (d ∷ ds) zero same l =
       let here : added_in pass (d ∷ earlier) (length earlier)
-          ≡ added_in pass (behind ds (d ∷ earlier)) (length earlier + 0)
+      ≡ added_in pass (behind ds (d ∷ earlier)) (length earlier + 0)
       = sym (still_added ds (d ∷ earlier) (length earlier) (omega arith))
       ∙ ap (added_in pass (behind ds (d ∷ earlier))) (omega arith) in
       λ i. Some (record { name = name; wants = d.params; adds = here i })
@@ -215,8 +215,10 @@ module _ (relations : List Relation) (library : List Stored) (defs : Definitions
       ≡ with_spare (use_expanded (definition_expanded pass latest) used cells given e)
       (spare_used (spare_in latest) used (is_some given))
   use_one (uses.Procedure n) cells given e = λ i.
-      record (with_placed e (record { procedure = n; given = given; cells = cells })) { spare = sym
-          (or-false e.spare) i }
+      record (with_placed e (record { procedure = n; given = given; cells = cells })) {
+        spare = sym
+            (or-false e.spare) i;
+      }
   use_one (uses.Definition n) cells given e = definition_spare pass latest n cells given e (spare_in latest n
       (is_some given))
 

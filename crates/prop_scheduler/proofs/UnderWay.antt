@@ -129,7 +129,7 @@ pub states_believed : (s : Premises) (d new : Data) (x : Statement) → States d
     → is_within s (support_of x.premise) ≡ true → MergesAt (beliefs s d.contents) (beliefs s new.contents) x.cell x.info
 states_believed s d new x states on =
     adds_merges d.contents new.contents x.cell
-        (record { value = x.info; support = support_of x.premise }) states.adds s on
+    (record { value = x.info; support = support_of x.premise }) states.adds s on
 
 -- what isn't believed, or follows from what is believed of its cell, changes no belief there
 pub states_same : (s : Premises) (d new : Data) (x : Statement) → States d new x
