@@ -27,9 +27,9 @@ pub none_ended : (part : List ℕ) → IsWithoutFeed part → ended_lines part �
 none_ended [] h = refl
 none_ended (b ∷ part) h = rw (not_feed b h.0, none_ended part h.1) refl
 
-pub without_more : (part : List ℕ) (b : ℕ) → IsWithoutFeed part → (b ≡ 10 → ⊥) → IsWithoutFeed (part ++ b ∷ [])
-without_more [] b h k = (k, tt)
-without_more (c ∷ part) b h k = (h.0, without_more part b h.1 k)
+pub without_more : (part bytes : List ℕ) → IsWithoutFeed part → IsWithoutFeed bytes → IsWithoutFeed (part ++ bytes)
+without_more [] bytes h k = k
+without_more (c ∷ part) bytes h k = (h.0, without_more part bytes h.1 k)
 
 -- what stands before the line feed of a line
 pub before_feed : (text : List ℕ) → before_last (text ++ 10 ∷ []) ≡ text

@@ -30,17 +30,17 @@ pub empty_kept : kept_of [] ≡ []
 unfolding kept_of
 empty_kept = refl
 
-take_push : (n : ℕ) (xs : List ℕ) (y : ℕ) → take n (take n xs ++ y ∷ []) ≡ take n (xs ++ y ∷ [])
-take_push n xs y = elim (cases_lt n (length xs)) [
+take_onto : (n : ℕ) (xs ys : List ℕ) → take n (take n xs ++ ys) ≡ take n (xs ++ ys)
+take_onto n xs ys = elim (cases_lt n (length xs)) [
   | inl h ↦
       let full : length (take n xs) ≡ n = length-take n xs ∙ omega arith in
-      take_at (take n xs) (y ∷ []) n full ∙ sym (take-append-le n xs (y ∷ []) (omega arith))
-  | inr h ↦ ap (λ l. take n (l ++ y ∷ [])) (take_all n xs h)
+      take_at (take n xs) ys n full ∙ sym (take-append-le n xs ys (omega arith))
+  | inr h ↦ ap (λ l. take n (l ++ ys)) (take_all n xs h)
 ]
 
-kept_more : (part : List ℕ) (b : ℕ) → kept_of (kept_of part ++ b ∷ []) ≡ kept_of (part ++ b ∷ [])
+kept_more : (part bytes : List ℕ) → kept_of (kept_of part ++ bytes) ≡ kept_of (part ++ bytes)
 unfolding kept_of
-kept_more part b = take_push 4097 part b
+kept_more part bytes = take_onto 4097 part bytes
 
 -- what is kept of a line is empty only where the line is
 nothing_taken : (n : ℕ) (xs : List ℕ) → 0 < n → take n xs ≡ [] → xs ≡ []
@@ -74,19 +74,19 @@ start_progress machine now counts l r = record {
   refused_counted = r;
 }
 
--- one more byte of a line
-pub byte_progress : {S : Type 0} (machine : Machine S) (old : S) (input kept output : List ℕ) (counts : Counts)
-    (now : S) (b : ℕ) → (b ≡ 10 → ⊥) → (whole : List ℕ) → whole ≡ input ++ b ∷ [] → (kept' : List ℕ)
-    → kept' ≡ kept_of (kept ++ b ∷ []) → Progress machine old input kept output counts now
+-- more bytes of a line
+pub bytes_progress : {S : Type 0} (machine : Machine S) (old : S) (input kept output : List ℕ) (counts : Counts)
+    (now : S) (bytes : List ℕ) → IsWithoutFeed bytes → (whole : List ℕ) → whole ≡ input ++ bytes → (kept' : List ℕ)
+    → kept' ≡ kept_of (kept ++ bytes) → Progress machine old input kept output counts now
     → Progress machine old whole kept' output counts now
-byte_progress machine old input kept output counts now b h whole w kept' k p = record {
+bytes_progress machine old input kept output counts now bytes h whole w kept' k p = record {
   lines = p.lines;
-  part = p.part ++ b ∷ [];
+  part = p.part ++ bytes;
   answers = p.answers;
-  split = λ more. rw (w, append_assoc input, append_assoc p.part) (p.split (b ∷ more));
-  ended = λ more. rw (w, append_assoc input, append_assoc p.part) (p.ended (b ∷ more));
-  plain = without_more p.part b p.plain h;
-  kept_is = k ∙ ap (λ l. kept_of (l ++ b ∷ [])) p.kept_is ∙ kept_more p.part b;
+  split = λ more. rw (w, append_assoc input, append_assoc p.part) (p.split (bytes ++ more));
+  ended = λ more. rw (w, append_assoc input, append_assoc p.part) (p.ended (bytes ++ more));
+  plain = without_more p.part bytes p.plain h;
+  kept_is = k ∙ ap (λ l. kept_of (l ++ bytes)) p.kept_is ∙ kept_more p.part bytes;
   run = p.run;
   output_is = p.output_is;
   lines_counted = p.lines_counted;

@@ -1,11 +1,12 @@
 //! The engine: reads pieces, carries out lines, writes replies.
 ghost use Rattle.std.specs.Prelude.{◌≡◌, ◌≢◌, ◌↔◌, ◌⊎◌, ℕ, ◌+◌, ◌<◌, ◌≤◌, ◌^◌, List, length, min};
-ghost use Rattle.std.specs.Prelude.{max, true, false};
+ghost use Rattle.std.specs.Prelude.{max, true, false, ◌++◌, ◌∷◌, take, drop, IfSome, None};
 ghost use Rattle.std.specs.Prelude.{OnOk, OnErr, IfOk, IfErr, MatchResult, IsErrOf};
 ghost use Rattle.std.specs.Io.KnownBytes.{Appends, Consumes};
 ghost use Rattle.prop_engine.specs.Watched.{AppendsFront, IsFaulty, IsFresh, IsPassedOn};
 ghost use Rattle.prop_engine.specs.Answers.{Answer, Silent, text_written};
 ghost use Rattle.prop_engine.specs.inner.Progress.{CountsAnswer, Advances, Stops, GrowsAtMost};
+ghost use Rattle.prop_engine.specs.inner.Lines.{IsWithoutFeed};
 ghost use Rattle.prop_engine.specs.Endings.{Tells, WritesTranscript, WritesPrefix};
 
 use crate::interpreter::Interpreter;
@@ -52,6 +53,21 @@ fn answer<M: Interpreter, Rd: Read, W: Write>(
     Ok(())
 }
 
+/// The place of the first line feed.
+fn line_end(bytes: &[u8]) -> Option<usize>
+    ensures some { IfSome result (λ at. (at < length bytes.now)
+        × (bytes.now ≡ take at bytes.now ++ 10 ∷ drop (at + 1) bytes.now)
+        × IsWithoutFeed (take at bytes.now)) }
+    ensures none { result ≡ None → IsWithoutFeed bytes.now }
+{
+    for (i, byte) in bytes.iter().enumerate() {
+        if *byte == b'\n' {
+            return Some(i);
+        }
+    }
+    None
+}
+
 /// Takes the next piece of the input.
 fn feed<M: Interpreter, Rd: Read, W: Write>(
     interpreter: &mut M,
@@ -84,14 +100,14 @@ fn feed<M: Interpreter, Rd: Read, W: Write>(
     ensures passed_on { OnOk result (IsPassedOn devices.new) }
     ensures needed { devices.new.writer.has_flushed_idly ≡ devices.old.writer.has_flushed_idly }
 {
-    for byte in piece {
-        if *byte == b'\n' {
-            answer(interpreter, pending.as_slice(), devices, counts)?;
-            pending.clear();
-        } else {
-            pending.push(*byte);
-        }
+    let mut left = piece;
+    while let Some(end) = line_end(left) {
+        pending.extend(&left[..end]);
+        answer(interpreter, pending.as_slice(), devices, counts)?;
+        pending.clear();
+        left = &left[end + 1..];
     }
+    pending.extend(left);
     Ok(())
 }
 

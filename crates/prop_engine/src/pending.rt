@@ -44,14 +44,14 @@ impl Pending {
         self.len = 0;
     }
 
-    /// Takes the next byte of the line. One past the first 4,097 is not kept.
-    pub fn push(&mut self, byte: u8)
-        ensures { self.new ≡ kept_of (self.old ++ byte ∷ []) }
+    /// Takes the next bytes of the line. Those past the first 4,097 are not kept.
+    pub fn extend(&mut self, bytes: &[u8])
+        ensures { self.new ≡ kept_of (self.old ++ bytes.now) }
     {
-        if self.len < 4097 {
-            self.bytes[self.len] = byte;
-            self.len += 1;
-        }
+        let count = bytes.len().min(4097 - self.len);
+        let end = self.len + count;
+        self.bytes[self.len..end].copy_from_slice(&bytes[..count]);
+        self.len = end;
     }
 
     /// The bytes of the prefix: the line, or the first 4,097 bytes of a longer one.
