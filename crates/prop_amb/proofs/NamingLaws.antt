@@ -1,6 +1,6 @@
 -- A stand stays one as a name is taken up and taken back.
 use Rattle.std.proofs.Common.{◌≡◌, ◌∙◌, ℕ, zero, suc, ◌+◌, ◌<◌, ◌≤◌, Bool, true, false, cond, ◌||◌, ◌&&◌, ◌==◌, nat_lt}
-use Rattle.std.proofs.Common.{IsTrue, List, [], ◌∷◌, ◌++◌, length, take, filter, Option, Some, None, is_some, unwrap_or}
+use Rattle.std.proofs.Common.{IsTrue, List, [], ◌∷◌, ◌++◌, length, take, filter, None, is_some}
 use Rattle.std.proofs.Common.{refl, sym, ap, arith, inl, inr, length-append, append-nil}
 use Rattle.std.proofs.lemmas.Bool.{cases_eq, or_cases}
 use Rattle.std.proofs.lemmas.Bool.Decides.{nat_tests, eqb_tells}
@@ -84,23 +84,9 @@ lt_false q m l = grind (arith, nat_tests)
 
 -- ---- a new name
 
-pub new_name : (os : List Origin) (name : List ℕ) → (length (with_name os name) ≡ length os → ⊥)
+new_name : (os : List Origin) (name : List ℕ) → premise_number os name ≡ None
     → with_name os name ≡ os ++ User name true ∷ []
-new_name os name apart = by (is_some (premise_number os name)) apart
-  where
-    by : (b : Bool) → (length (cond b os (os ++ User name true ∷ [])) ≡ length os → ⊥)
-        → cond b os (os ++ User name true ∷ []) ≡ os ++ User name true ∷ []
-    by true f = absurd (f refl)
-    by false f = refl
-
-pub new_number : (os : List Origin) (name : List ℕ) → (length (with_name os name) ≡ length os → ⊥)
-    → unwrap_or (premise_number os name) (length os) ≡ length os
-new_number os name apart = by (premise_number os name) apart
-  where
-    by : (o : Option ℕ) → (length (cond (is_some o) os (os ++ User name true ∷ [])) ≡ length os → ⊥)
-        → unwrap_or o (length os) ≡ length os
-    by (Some p) f = absurd (f refl)
-    by None f = refl
+new_name os name none = ap (λ o. cond (is_some o) os (os ++ User name true ∷ [])) none
 
 believed_push : (os : List Origin) (name : List ℕ) (n p : ℕ) → n ≡ length os
     → believed_in (os ++ User name true ∷ []) p ≡ (believed_in os p || (n == p))
@@ -162,61 +148,32 @@ stand_interned s name stand room = record {
     turn false true false = refl
     turn false false e = sym (or_none e)
 
--- as much, where it is known only that there is one premise more
-pub interned_below : (s : Stand) (name : List ℕ) (origins : List Origin) (premise : ℕ) → IsStand s
-    → origins ≡ with_name s.premises name → premise ≡ unwrap_or (premise_number s.premises name) (length s.premises) →
-    (length origins ≡ length s.premises → ⊥) → IsBelow premise (set_of s.worldview)
-interned_below s name origins premise stand now number more =
-    rw (number, new_number s.premises name apart)
-    (below_last s origins (length s.premises) stand (ap choices_of new ∙ choices_of-user s.premises name true)
-    (rw new (numbered_user s.premises name true stand.numbered)) (omega arith)
-    (rw new (is_user_at-push s.premises name true (length s.premises) refl))
-    (ap length new ∙ length-append s.premises (User name true ∷ [])))
-  where
-    apart : length (with_name s.premises name) ≡ length s.premises → ⊥
-    apart e = more (ap length now ∙ e)
+-- what is believed has a smaller number than a premise that is new
+pub below_new : (s : Stand) (name : List ℕ) → IsStand s → IsBelow (length s.premises) (set_of s.worldview)
+below_new s name stand =
+    below_last s (s.premises ++ User name true ∷ []) (length s.premises) stand (choices_of-user s.premises name true)
+    (numbered_user s.premises name true stand.numbered) (omega arith)
+    (is_user_at-push s.premises name true (length s.premises) refl)
+    (length-append s.premises (User name true ∷ []))
 
-    new : origins ≡ s.premises ++ User name true ∷ []
-    new = now ∙ new_name s.premises name apart
-
+-- the stand with one premise more
 pub interned_stand : (s : Stand) (name : List ℕ) (origins : List Origin) (premise : ℕ) → IsStand s
-    → origins ≡ with_name s.premises name → premise ≡ unwrap_or (premise_number s.premises name) (length s.premises) →
-    (length origins ≡ length s.premises → ⊥) → length origins ≤ most Premises
+    → premise_number s.premises name ≡ None → length s.premises < most Premises
+    → origins ≡ with_name s.premises name → premise ≡ length s.premises
     → IsStand (record s { premises = origins; worldview = s.worldview ++ premise ∷ [] })
-interned_stand s name origins premise stand now number more few =
-    rw (new, number, new_number s.premises name apart)
-    (stand_interned s name stand (omega
-    (arith, few, ap length new, length-append s.premises (User name true ∷ []))))
-  where
-    apart : length (with_name s.premises name) ≡ length s.premises → ⊥
-    apart e = more (ap length now ∙ e)
+interned_stand s name origins premise stand none room now number =
+    let new : origins ≡ s.premises ++ User name true ∷ [] = now ∙ new_name s.premises name none in
+    rw (new, number) (stand_interned s name stand room)
 
-    new : origins ≡ s.premises ++ User name true ∷ []
-    new = now ∙ new_name s.premises name apart
+pub interned_new_is : (s t : Stand) (name : List ℕ) (origins : List Origin) (premise : ℕ) → s ≡ t
+    → origins ≡ with_name s.premises name → premise ≡ length s.premises →
+    record s { premises = origins; worldview = s.worldview ++ premise ∷ [] } ≡ interned t name
+interned_new_is s t name origins premise same now number =
+    ap (λ os. record s { premises = os; worldview = s.worldview ++ premise ∷ [] }) now
+    ∙ ap (λ n. record s { premises = with_name s.premises name; worldview = s.worldview ++ n ∷ [] }) number
+    ∙ ap (λ (u : Stand). interned u name) same
 
 -- what was believed still is
--- the stand with one premise more
-pub interned_new_is : (s t : Stand) (name : List ℕ) (origins : List Origin) (premise : ℕ) → s ≡ t
-    → origins ≡ with_name s.premises name → premise ≡ unwrap_or (premise_number s.premises name) (length s.premises)
-    → (length origins ≡ length s.premises → ⊥) →
-    record s { premises = origins; worldview = s.worldview ++ premise ∷ [] } ≡ interned t name
-interned_new_is s t name origins premise same now number more = by (premise_number s.premises name) refl
-    ∙ ap (λ (u : Stand). interned u name) same
-  where
-    apart : length (with_name s.premises name) ≡ length s.premises → ⊥
-    apart e = more (ap length now ∙ e)
-
-    by : (o : Option ℕ) → premise_number s.premises name ≡ o
-        → record s { premises = origins; worldview = s.worldview ++ premise ∷ [] } ≡ interned s name
-    by (Some p) e = absurd (apart (ap (λ o. length (cond (is_some o) s.premises (s.premises ++ User name true ∷ [])))
-        e))
-    by None e =
-        ap (λ os. record s { premises = os; worldview = s.worldview ++ premise ∷ [] }) now
-        ∙ ap (λ n. record s { premises = with_name s.premises name; worldview = s.worldview ++ n ∷ [] })
-        (number ∙ new_number s.premises name apart)
-        ∙ sym (ap (λ o. cond (is_some o) s
-        (record s { premises = with_name s.premises name; worldview = s.worldview ++ length s.premises ∷ [] })) e)
-
 pub believed_in-kept : (os : List Origin) (name : List ℕ) (p : ℕ) → IsTrue (believed_in os p)
     → IsTrue (believed_in (with_name os name) p)
 believed_in-kept os name p h = believed_in-with_name os name p (in_range os p (is_user_at-believed os p h)) ∙ h
@@ -295,10 +252,8 @@ interned_new : (s : Stand) (name : List ℕ) → premise_number s.premises name 
       worldview = s.worldview ++ length s.premises ∷ [];
     }
 interned_new s name none =
-    ap (λ o. cond (is_some o) s (record s {
-      premises = cond (is_some o) s.premises (s.premises ++ User name true ∷ []);
-      worldview = s.worldview ++ length s.premises ∷ [];
-    })) none
+    ap (λ os. record s { premises = os; worldview = s.worldview ++ length s.premises ∷ [] })
+    (new_name s.premises name none)
 
 -- what was just taken up goes, and all is as it was
 pub taken_back_undoes : (s : Stand) (p : ℕ) (before : Stand) (name : List ℕ) → IsNumbered s.premises →

@@ -1,12 +1,7 @@
 -- How a stand changes: by names, by choices, and by moves from one list to a later one.
-use Rattle.std.specs.Prelude.{◌≡◌, ℕ, zero, suc, ◌+◌, List, [], ◌∷◌, ◌++◌, length, map, cond}
-use Rattle.std.specs.Prelude.{if◌then◌else◌, ◌||◌, ◌==◌, nat_lt, nat_le, is_some, Option, Some}
-use Rattle.std.specs.Prelude.{None, false}
-use Rattle.prop_refusals.specs.Refusals.{most}
-use Rattle.prop_refusals.specs.declared.refusal.Limit.TheVariants.{Premises, Choices}
-use Rattle.prop_refusals.specs.declared.refusal.Refusal.{Refusal}
-use Rattle.prop_refusals.specs.declared.refusal.Refusal.TheVariants.{NameTaken, LimitReached}
-use Rattle.prop_premises.specs.Origins.{Origin, premise_number, is_choice, with_name, with_choice}
+use Rattle.std.specs.Prelude.{◌≡◌, ℕ, zero, suc, ◌+◌, List, [], ◌∷◌, ◌++◌, length, map}
+use Rattle.std.specs.Prelude.{if◌then◌else◌, ◌==◌, false}
+use Rattle.prop_premises.specs.Origins.{Origin, with_name, with_choice}
 use Rattle.prop_premises.specs.Origins.{choices_of}
 use Rattle.prop_premises.specs.declared.choice.Choice.{Choice}
 use Rattle.prop_premises.specs.ChoiceLists.{is_side_of}
@@ -37,14 +32,12 @@ restarted s = record s {
   reasons = no_reasons s.reasons;
 }
 
--- a new name is believed, and a known one changes nothing
+-- a new name is believed
 abbrev pub interned : Stand → List ℕ → Stand
-interned s name =
-    cond (is_some (premise_number s.premises name)) s
-    (record s {
-      premises = with_name s.premises name;
-      worldview = s.worldview ++ length s.premises ∷ [];
-    })
+interned s name = record s {
+  premises = with_name s.premises name;
+  worldview = s.worldview ++ length s.premises ∷ [];
+}
 
 -- a new choice stands on its first side, which isn't believed yet, and no reason is kept against it
 abbrev pub declared : Stand → List ℕ → ℕ → Stand
@@ -86,11 +79,3 @@ passed_over s reason = record s {
   list = advanced s.list s.level;
   reasons = reasons_advanced s.reasons s.level reason;
 }
-
--- why no choice with this name and so many sides can be declared
-abbrev pub declare_refusal : Stand → List ℕ → ℕ → Option Refusal
-declare_refusal s name sides =
-    if is_some (premise_number s.premises name) || is_choice s.premises name then Some NameTaken
-    else
-    if nat_lt (most Premises) (length s.premises + sides) then Some (LimitReached Premises) else
-    if nat_le (most Choices) (length s.list) then Some (LimitReached Choices) else None

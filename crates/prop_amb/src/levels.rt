@@ -1,5 +1,7 @@
 //! Sides of choices that are believed no longer.
 ghost use Rattle.std.specs.Prelude.{◌≡◌, ◌≤◌, ◌<◌, ◌*◌, ℕ, IsTrue, false, length, take};
+ghost use Rattle.prop_refusals.specs.Refusals.{most};
+ghost use Rattle.prop_refusals.specs.declared.refusal.Limit.TheVariants.{Premises};
 ghost use Rattle.prop_numbers.specs.Sets.{Members, set_of, IsSame};
 ghost use Rattle.prop_premises.specs.ChoiceLists.{worldview, is_hypothetical, IsChoiceList};
 ghost use Rattle.prop_premises.specs.ChoiceLists.{AreInOrder};
@@ -18,7 +20,7 @@ pub(crate) fn leave(
     requires list { IsChoiceList choices.now list.now }
     requires room { length choices.now * 4 < 9_223_372_036_854_775_808 }
     requires order { AreInOrder choices.now }
-    requires small { (p : ℕ) → IsTrue (is_hypothetical choices.now p) → p < 4_096 }
+    requires small { (p : ℕ) → IsTrue (is_hypothetical choices.now p) → p < most Premises }
     requires level { level ≤ length list.now }
     requires from { from ≤ level }
     ensures { (users : Members)

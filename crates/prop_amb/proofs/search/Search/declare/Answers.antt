@@ -3,7 +3,7 @@ use Rattle.prop_premises.specs.Origins.{choices_of}
 use Rattle.prop_premises.proofs.ChangeLemmas.{length-with_choice}
 use Rattle.prop_amb.specs.contracts.search.Search.{the_view}
 use Rattle.prop_amb.proofs.LastChoiceLaws.{stand_declared, search_stays}
-use Rattle.prop_amb.proofs.search.Search.add_choice.Goals as goal
+use Rattle.prop_amb.proofs.search.Search.declare.Goals as goal
 
 pub invariant_of-self-2 : goal.invariant_of-self-2
 invariant_of-self-2 c = (
@@ -13,7 +13,7 @@ invariant_of-self-2 c = (
     c.in_ok-push-2.ensures.items,
     c.reserve-2.ensures.items,
     c.none.ensures,
-    c.in-Ok.ensures.ok,
+    c.in_ok-choice.ensures.ok,
   )
       (stand_declared (the_view c.self.inside) c.args.name.now c.args.sides c.self.invariant.0 c.requires.sides.0
       c.requires.sides.1 (rw (← c.self.view_is) at c.requires.room)),
@@ -23,7 +23,7 @@ invariant_of-self-2 c = (
 
 pub returns-clause-last : goal.returns-clause-last
 returns-clause-last c =
-    let known = c.in-Ok.ensures in record {
+    let known = c.in_ok-choice.ensures in record {
       earlier = choices_of c.self.inside.premises;
       last = known.choices;
       end = omega (
@@ -37,9 +37,9 @@ returns-clause-last c =
 
 pub returns-clause-search : goal.returns-clause-search
 returns-clause-search c problem fresh h =
-    let known = c.in-Ok.ensures in
-    let is : c.in-Ok.choice ≡ record { first = length c.self.inside.premises; sides = c.args.sides } =
-    ap (λ n. record { first = n; sides = c.in-Ok.choice.sides }) known.choice.0
+    let known = c.in_ok-choice.ensures in
+    let is : c.in_ok-choice.choice ≡ record { first = length c.self.inside.premises; sides = c.args.sides } =
+    ap (λ n. record { first = n; sides = c.in_ok-choice.choice.sides }) known.choice.0
     ∙ ap (λ n. record { first = length c.self.inside.premises; sides = n }) known.choice.1 in
     rw (
       c.in_ok-push.ensures.items,
@@ -49,5 +49,5 @@ returns-clause-search c problem fresh h =
       c.none.ensures,
       known.ok,
     )
-    (search_stays problem (the_view c.self.inside) c.args.name.now c.args.sides c.in-Ok.choice c.self.invariant.0
+    (search_stays problem (the_view c.self.inside) c.args.name.now c.args.sides c.in_ok-choice.choice c.self.invariant.0
     c.requires.sides.0 c.requires.sides.1 is fresh (rw (← c.self.view_is) at h))
