@@ -71,16 +71,16 @@ impl Seen {
         known
     }
 
-    /// Keeps what is known of what this worldview believes; where memory is refused, nothing is
-    /// known.
+    /// Keeps what is known of what this worldview believes. It takes no memory where this worldview
+    /// has as many words as the one that was seen; where memory is refused, nothing is known.
     pub(crate) fn keep(&mut self, worldview: &Worldview, known: Known)
         ensures { (contents : List (List Entry))
             → AreBeliefs (set_of worldview.now) contents known
             → AreBeliefs (set_of self.new.worldview) contents self.new.known }
     {
         self.known = known;
-        match worldview.copy() {
-            Ok(seen) => self.worldview = seen,
+        match self.worldview.become_as(worldview) {
+            Ok(()) => (),
             Err(_) => self.known.clear(),
         }
     }

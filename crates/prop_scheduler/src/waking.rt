@@ -3,15 +3,14 @@ ghost use Rattle.std.specs.Prelude.{◌≡◌, ◌<◌, ◌≤◌, ℕ, Contains
 ghost use Rattle.prop_numbers.specs.Sets.{set_of, IsPart};
 ghost use Rattle.prop_procedures.specs.Kept.{stored_of};
 ghost use Rattle.prop_cells.specs.Problems.{Premises};
-ghost use Rattle.prop_cells.specs.Data.{beliefs, problem_of};
 ghost use Rattle.prop_cells.specs.Forgetting.{forgotten};
 ghost use Rattle.prop_cells.specs.Knowing.{AreBeliefs};
 ghost use Rattle.prop_scheduler.specs.Turns.{IsUnderWay};
 ghost use Rattle.prop_scheduler.specs.Watching.{IsWatched};
-ghost use Rattle.prop_scheduler.specs.Potential.{potential};
 ghost use Rattle.prop_scheduler.specs.Shifts.{AreShifted, AreGrown};
 ghost use Rattle.prop_scheduler.specs.Live.{cells_of, line_of, library_of, potential_in};
 ghost use Rattle.prop_scheduler.specs.Live.{IsLiveIn, IsReady};
+ghost use Rattle.prop_scheduler.specs.inner.Potential.{potential_of};
 
 use crate::agenda::Agenda;
 use crate::live::Live;
@@ -107,10 +106,10 @@ fn alert_grown_along<R: Rule + Drop>(
     ensures watched { IsWatched (set_of shift.now.after.now) network.now.cells agenda.new.watched }
     ensures grown { AreGrown (set_of shift.now.before.now) (set_of shift.now.after.now)
         network.now.cells (length network.now.cells.kinds) agenda.old.line agenda.new.line }
-    ensures falls { potential (problem_of (stored_of R.value_of network.now.library) network.now.cells)
-        (beliefs (set_of shift.now.after.now) network.now.cells.contents) agenda.new.line
-        ≤ potential (problem_of (stored_of R.value_of network.now.library) network.now.cells)
-        (beliefs (set_of shift.now.before.now) network.now.cells.contents) agenda.old.line }
+    ensures falls { potential_of (stored_of R.value_of network.now.library)
+        (set_of shift.now.after.now) network.now.cells agenda.new.line
+        ≤ potential_of (stored_of R.value_of network.now.library) (set_of shift.now.before.now)
+        network.now.cells agenda.old.line }
 {
     let count = network.cells();
     let mut cell = network.next_shifted(0, shift, known);

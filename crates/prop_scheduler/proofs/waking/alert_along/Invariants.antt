@@ -10,14 +10,16 @@ abbrev pub invariant-loop-cell : goal.invariant-loop-cell
 invariant-loop-cell g l = record {
   within : l.cell ≤ length l.network.cells.kinds;
   here : l.cell < length l.network.cells.kinds
-      → beliefs (set_of l.shift.before.now) l.network.cells.contents l.cell ≢ beliefs (set_of l.shift.after.now) l.network.cells.contents
-      l.cell;
-  shifted : AreShifted (set_of l.shift.before.now) (set_of l.shift.after.now) l.network.cells l.cell l.initial.agenda.line l.agenda.line;
+      → beliefs (set_of l.shift.before.now) l.network.cells.contents l.cell
+      ≢ beliefs (set_of l.shift.after.now) l.network.cells.contents l.cell;
+  shifted : AreShifted (set_of l.shift.before.now) (set_of l.shift.after.now) l.network.cells l.cell
+      l.initial.agenda.line l.agenda.line;
   room : l.agenda.room ≡ l.initial.agenda.room;
   cells : l.agenda.cells ≡ l.initial.agenda.cells;
-  looked : AreLooked (set_of l.shift.before.now) (set_of l.shift.after.now) l.network.cells l.cell l.initial.agenda.watched
-      l.agenda.watched;
-  known : ArePassed (l.cell + 1) (set_of l.shift.before.now) (set_of l.shift.after.now) l.network.cells.contents l.known;
+  looked : AreLooked (set_of l.shift.before.now) (set_of l.shift.after.now) l.network.cells l.cell
+      l.initial.agenda.watched l.agenda.watched;
+  known : ArePassed (l.cell + 1) (set_of l.shift.before.now) (set_of l.shift.after.now) l.network.cells.contents
+      l.known;
 }
 
 abbrev pub decreases-loop-cell : goal.decreases-loop-cell
