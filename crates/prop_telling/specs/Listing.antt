@@ -21,7 +21,8 @@ use Rattle.prop_cells.specs.Instances.{Instance}
 use Rattle.prop_amb.specs.Search.{Stand}
 use Rattle.prop_amb.specs.Going.{Work}
 use Rattle.prop_engine.specs.Answers.{Answer, Text, Refused}
-use Rattle.prop_texts.specs.Texts.{label_at, premises_text}
+use Rattle.prop_texts.specs.Texts.{premises_text}
+use Rattle.prop_texts.specs.inner.Listed.{label_at}
 use Rattle.prop_workbench.specs.Machine.{State, text_at}
 use Rattle.prop_workbench.specs.Engine.{Standing}
 use Rattle.prop_telling.specs.Texts.{procedure_text}

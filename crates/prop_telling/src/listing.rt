@@ -4,7 +4,7 @@ ghost use Rattle.std.specs.Prelude.{string_bytes, IfSome, Some, slice_get};
 ghost use Rattle.prop_procedures.specs.Kept.{stored_of};
 ghost use Rattle.prop_cells.specs.Data.{IsKept};
 ghost use Rattle.prop_cells.specs.Instances.{Instance as InstanceOf};
-ghost use Rattle.prop_texts.specs.Texts.{label_at};
+ghost use Rattle.prop_texts.specs.inner.Listed.{label_at};
 ghost use Rattle.prop_telling.specs.Listing.{domain_text, kind_text, belief_text, begin_text};
 ghost use Rattle.prop_telling.specs.Listing.{list_text, instance_text, refuted_lines};
 

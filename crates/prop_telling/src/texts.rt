@@ -6,7 +6,8 @@ ghost use Rattle.prop_premises.specs.Origins.{side_at};
 ghost use Rattle.prop_procedures.specs.Kept.{stored_of};
 ghost use Rattle.prop_cells.specs.Data.{IsKept};
 ghost use Rattle.prop_cells.specs.Instances.{Instance as InstanceOf};
-ghost use Rattle.prop_texts.specs.Texts.{label_at, premises_text};
+ghost use Rattle.prop_texts.specs.Texts.{premises_text};
+ghost use Rattle.prop_texts.specs.inner.Listed.{label_at};
 ghost use Rattle.prop_telling.specs.Texts.{cell_text, cells_text, call_text, sides_text};
 ghost use Rattle.prop_telling.specs.Texts.{moved_text};
 

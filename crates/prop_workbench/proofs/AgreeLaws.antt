@@ -15,13 +15,13 @@ use Rattle.prop_language.specs.Commands as commands
 use Rattle.prop_language.specs.Commands.{Command}
 use Rattle.prop_language.proofs.ReadingLaws.{one_reading}
 use Rattle.prop_texts.specs.Texts.{equation, because}
-use Rattle.prop_engine.specs.Answers.{Answer, Text, Refused}
+use Rattle.prop_engine.specs.Answers.{Answer, Done, Text, Refused}
 use Rattle.prop_engine.specs.Transcripts.{Run}
 use Rattle.prop_workbench.specs.Machine.{State, naming, text_at, problem_in, users_in, choices_in, worldview_at}
 use Rattle.prop_workbench.specs.Refusing.{refusal_of}
 use Rattle.prop_workbench.specs.Effects.{effect}
 use Rattle.prop_workbench.specs.Running.{named_by, Settled, MayEnd, Replies, IsRest, IsValueReply, IsExplainedReply}
-use Rattle.prop_workbench.specs.Steps.{Runs, Lists, Changes, CarriesUnless, Follows, Step}
+use Rattle.prop_workbench.specs.Steps.{Runs, Lists, AtOnce, CarriesUnless, Follows, Step}
 use Rattle.prop_workbench.specs.Engine.{workbench}
 use Rattle.prop_workbench.specs.Agreeing.{AreAlike, HaveMemory, RunsMeet, AnswersMeet, IsCoreMark, SayOneValue}
 use Rattle.prop_workbench.specs.Agreeing.{SettledTextsMeet, SettledIsFree}
@@ -39,8 +39,8 @@ same_alike : (s t first second : State) → AreAlike s t → first ≡ s → sec
 same_alike s t first second e f g = ap (λ u. naming u []) g ∙ e ∙ sym (ap (λ u. naming u []) f)
 
 changes_meet : (library : List Stored) (s t first second : State) (command : Command) (answer other : Answer)
-    (steps others : ℕ) → AreAlike s t → Changes library s command answer first steps
-    → Changes library t command other second others → Meet first second answer other
+    (steps others : ℕ) → AreAlike s t → AtOnce Done (effect library s command) answer first steps
+    → AtOnce Done (effect library t command) other second others → Meet first second answer other
 changes_meet library s t first second command answer other steps others e r q = (
   same_alike (effect library s command) (effect library t command) first second (effect_alike library s t command e)
       r.new_is q.new_is,
@@ -60,13 +60,13 @@ lists_meet : (library : List Stored) (s t first second : State) (answer other : 
     → AreAlike s t → Lists library s answer first steps → Lists library t other second others
     → Meet first second answer other
 lists_meet library s t first second answer other steps others e r q =
-    (same_alike s t first second e r.same q.same, inr (r.text, q.text, r.answer_is, q.answer_is))
+    (same_alike s t first second e r.2.new_is q.2.new_is, inr (_, _, r.2.answer_is, q.2.answer_is))
 
 carried_meet : (o : Option Refusal) (library : List Stored) (s t first second : State) (command : Command)
     (answer other : Answer) (steps others : ℕ) → AreAlike s t → CarriesUnless o library s command answer first steps
     → CarriesUnless o library t command other second others → Meet first second answer other
 carried_meet (Some refusal) library s t first second command answer other steps others e r q =
-    (same_alike s t first second e r.same q.same, inl (q.answer_is ∙ sym r.answer_is))
+    (same_alike s t first second e r.new_is q.new_is, inl (q.answer_is ∙ sym r.answer_is))
 carried_meet None library s t first second (commands.Command.Domain name elements) answer other steps others e r q =
     changes_meet library s t first second (commands.Command.Domain name elements) answer other steps others e r q
 carried_meet None library s t first second (commands.Command.Relation name from to pairs) answer other steps others e r
@@ -110,9 +110,9 @@ follows_meet : (library : List Stored) (s t first second : State) (read : Result
     → Follows library t read other second others →
     answer ≢ Refused Memory → other ≢ Refused Memory → Meet first second answer other
 follows_meet library s t first second (Ok None) answer other steps others e r q n m =
-    (same_alike s t first second e r.1 q.1, inl (q.0 ∙ sym r.0))
+    (same_alike s t first second e r.new_is q.new_is, inl (q.answer_is ∙ sym r.answer_is))
 follows_meet library s t first second (Err refusal) answer other steps others e (inl r) (inl q) n m =
-    (same_alike s t first second e r.same q.same, inl (q.answer_is ∙ sym r.answer_is))
+    (same_alike s t first second e r.new_is q.new_is, inl (q.answer_is ∙ sym r.answer_is))
 follows_meet library s t first second (Err refusal) answer other steps others e (inl r) (inr q) n m =
     absurd (m q.answer_is)
 follows_meet library s t first second (Err refusal) answer other steps others e (inr r) q n m = absurd (n r.answer_is)

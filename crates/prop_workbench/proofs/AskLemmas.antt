@@ -1,5 +1,6 @@
 -- What is answered when the network was run for a cell.
 use Rattle.std.proofs.Common.{◌≡◌, ℕ, zero, suc, ◌+◌, ◌*◌, ◌<◌, ◌≤◌, ◌⊎◌, IsTrue, List, [], ◌∷◌, Some, None, All}
+use Rattle.std.proofs.Common.{is_none}
 use Rattle.std.proofs.Common.{get_or, length, take, codes, ◌∙◌, Result, Ok, Err, IfOk, inl, inr, refl, ap, subst, arith}
 use Rattle.std.specs.List.Sorted.{IsStrictlyIncreasing}
 use Rattle.std.proofs.lemmas.Option.{slice_get-get_or}
@@ -35,7 +36,9 @@ use Rattle.prop_language.specs.Commands.{Command}
 use Rattle.prop_vocabulary.specs.Vocabulary.{Vocabulary}
 use Rattle.prop_engine.specs.Answers.{Answer, Says, Text}
 use Rattle.prop_workbench.specs.Machine.{State, problem_in, text_at, worldview_at}
-use Rattle.prop_workbench.specs.Refusing.{refusal_of}
+use Rattle.prop_refusals.specs.Refusals.{first_of, when}
+use Rattle.prop_workbench.specs.Refusing.{refusal_of, passed}
+use Rattle.prop_workbench.proofs.LimitLemmas.{as_many}
 use Rattle.prop_workbench.specs.declared.asking.Question.{Question}
 use Rattle.prop_workbench.specs.declared.asking.Question.TheVariants.{Settle, Worldview, Ask, Why}
 use Rattle.prop_workbench.specs.inner.Questions.{command_of, IsNamed, MaySay, HasRun}
@@ -70,10 +73,10 @@ believes_whole s stand full = believes_same s stand ∙ whole_is s full
 -- a question for a cell that is there is not refused
 pub free : (library : List Stored) (s : State) (question : Question) → IsNamed s question
     → refusal_of library s (command_of question) ≡ None
-free library s Settle named = refl
-free library s Worldview named = refl
-free library s (Ask cell name) named = rw named refl
-free library s (Why cell name) named = rw named refl
+free library s Settle named = as_many [] s
+free library s Worldview named = as_many [] s
+free library s (Ask cell name) named = (λ i. first_of (when NoSuchCell (is_none (named i)) ∷ passed s s)) ∙ as_many [] s
+free library s (Why cell name) named = (λ i. first_of (when NoSuchCell (is_none (named i)) ∷ passed s s)) ∙ as_many [] s
 
 pub carries : (library : List Stored) (s t : State) (question : Question) (answer : Answer) (steps : ℕ)
     → Runs library s (command_of question) answer t steps → Carries library s (command_of question) answer t steps
@@ -439,7 +442,8 @@ nowhere_core library s name none = rw none refl
 -- a core is asked for by a run
 pub free_core : (library : List Stored) (s : State) (name : List ℕ) (cell : ℕ) → cell_named s.names name ≡ Some cell
     → refusal_of library s (commands.Command.Core name) ≡ None
-free_core library s name cell named = rw named refl
+free_core library s name cell named =
+    (λ i. first_of (when NoSuchCell (is_none (named i)) ∷ passed s s)) ∙ as_many [] s
 
 pub nowhere_why : (library : List Stored) (s : State) (name : List ℕ) → cell_named s.names name ≡ None
     → refusal_of library s (commands.Command.Why name) ≡ Some NoSuchCell

@@ -2,18 +2,19 @@
 use Rattle.std.proofs.Common.{◌≡◌, ◌∙◌, ℕ, ◌<◌, ◌≤◌, ◌+◌, ◌-◌, ◌^◌, Bool, true, false, not, List, [], ◌∷◌, ◌++◌, Option}
 use Rattle.std.proofs.Common.{Some, None, All, map, drop, length, get_or, zip, is_none, unwrap_or, slice_get, Result}
 use Rattle.std.proofs.Common.{Ok, Err, OnOk, OnErr, IfErr, ◌||◌, cond, ◌⊎◌, inl, inr, refl, sym, ap, subst, arith}
-use Rattle.std.specs.Prelude.{⊤}
+use Rattle.std.specs.Prelude.{⊤, nat_lt}
 use Rattle.std.specs.List.{list_any}
-use Rattle.std.specs.Option.{option_map_or, option_and_then}
-use Rattle.std.proofs.lemmas.Bool.{cases_lt, lt-ltb, le-ltb}
-use Rattle.std.proofs.lemmas.List.{length-append, length-map}
+use Rattle.std.specs.Option.{option_map_or, option_and_then, option_or}
+use Rattle.std.proofs.lemmas.Bool.{cases_lt, lt-ltb, le-ltb, ltb-false}
+use Rattle.std.proofs.lemmas.List.{length-append, length-map, length-drop}
 use Rattle.std.proofs.Math.Seq.{drop-append_seam}
 use Rattle.std.proofs.lemmas.List.Elements.{All-append, All-cons, All-head, All-tail, All-map, All-weaker}
 use Rattle.prop_refusals.specs.Refusals.{most, first_of, when}
-use Rattle.prop_refusals.specs.declared.refusal.Limit.TheVariants.{Cells}
+use Rattle.prop_refusals.specs.declared.refusal.Limit.TheVariants.{Cells, Instances}
 use Rattle.prop_refusals.specs.declared.refusal.Refusal.{Refusal}
 use Rattle.prop_refusals.specs.declared.refusal.Refusal.TheVariants.{NoSuchRelation, NoSuchCell, NoSuchProcedure}
 use Rattle.prop_refusals.specs.declared.refusal.Refusal.TheVariants.{WrongCount, WrongKind, WrongParameter, Memory}
+use Rattle.prop_refusals.specs.declared.refusal.Refusal.TheVariants.{LimitReached}
 use Rattle.prop_procedures.specs.declared.shape.Kinded.{Kinded}
 use Rattle.prop_procedures.specs.declared.shape.Param.{Param}
 use Rattle.prop_procedures.specs.declared.shape.Param.TheVariants.{Plain}
@@ -38,12 +39,17 @@ use Rattle.prop_vocabulary.specs.Vocabulary.{Vocabulary}
 use Rattle.prop_scheduler.specs.Making.{room_refusal, made_of, with_flat, MayBeMade, MayMake}
 use Rattle.prop_workbench.specs.Effects.{inputs_of, output_of, instance_placed, with_use}
 use Rattle.prop_workbench.specs.Machine.{State}
-use Rattle.prop_workbench.specs.Refusing.{refusal_of, is_unknown, given_by, used, use_refusal}
-use Rattle.prop_workbench.specs.Sessions.{state_from}
+use Rattle.prop_compound.specs.Compounds.{given_by, compound_named, is_miscounted as is_count_wrong}
+use Rattle.prop_workbench.specs.Refusing.{refusal_of, passed, is_unknown, use_refusal}
+use Rattle.prop_workbench.specs.Effects.{used}
+use Rattle.prop_workbench.specs.Sessions.{state_from, AreNumbered}
+use Rattle.prop_workbench.proofs.NamesLemmas.{use_refusal_is}
+use Rattle.prop_compound.specs.Numbered.{compounds_of}
 use Rattle.prop_compound.specs.Kinds.{IsSized, AreLocalsOf}
 use Rattle.prop_workbench.specs.Steps.{Obeys}
 use Rattle.prop_workbench.proofs.UseLemmas.{kind_of_place, kinds_of_use}
-use Rattle.prop_workbench.proofs.StepLemmas.{first_of-one, obeys, refuses_or_lacks}
+use Rattle.prop_workbench.proofs.StepLemmas.{obeys, refuses_or_lacks}
+use Rattle.prop_workbench.proofs.LimitLemmas.{few_used}
 
 -- ---- the rows of refusals
 
@@ -58,9 +64,58 @@ holds_not refusal false e = refl
 
 attach_rows : (library : List Stored) (s : State) (name : List ℕ) (cells : List (List ℕ)) (by : By) (numbers : List ℕ)
     → is_unknown s.words by ≡ false → is_cell_missing s.names cells ≡ false → numbers ≡ cells_named s.names cells →
-    refusal_of library s (commands.Command.Attach name cells by) ≡ use_refusal library s name numbers by
+    refusal_of library s (commands.Command.Attach name cells by) ≡ first_of (use_refusal library s name numbers by
+    ∷ passed s (with_use library s numbers (used library s name numbers by)))
 attach_rows library s name cells by numbers relation missing same =
-    rw (relation, missing, ← same) (first_of-one (use_refusal library s name numbers by))
+    λ i. first_of (when NoSuchRelation (relation i) ∷ when NoSuchCell (missing i)
+    ∷ use_refusal library s name (sym same i) by
+    ∷ passed s (with_use library s (sym same i) (used library s name (sym same i) by)))
+
+small_if : (refusal : Refusal) (k n : ℕ) → when refusal (nat_lt k n) ≡ None → n ≤ k
+small_if refusal k n e = ltb-false k n (holds_not refusal (nat_lt k n) e)
+
+none_of : (a b : Option Refusal) → option_or a b ≡ None → (a ≡ None) × (b ≡ None)
+none_of (Some x) b e = cc
+none_of None b e = (refl, e)
+
+last_of_seven : (a b c d e f g : Option Refusal) → first_of (a ∷ b ∷ c ∷ d ∷ e ∷ f ∷ g ∷ []) ≡ None → g ≡ None
+last_of_seven (Some x) b c d e f g h = cc
+last_of_seven None (Some x) c d e f g h = cc
+last_of_seven None None (Some x) d e f g h = cc
+last_of_seven None None None (Some x) e f g h = cc
+last_of_seven None None None None (Some x) f g h = cc
+last_of_seven None None None None None (Some x) g h = cc
+last_of_seven None None None None None None None h = refl
+last_of_seven None None None None None None (Some x) h = cc
+
+-- what is not refused passes no limit
+few_made : (library : List Stored) (s : State) (name : List ℕ) (cells : List ℕ) (by : By)
+    → use_refusal library s name cells by ≡ None
+    → first_of (passed s (with_use library s cells (used library s name cells by))) ≡ None
+few_made library s name cells by fits =
+    let e = used library s name cells by in
+    let room = last_of_seven (when NoSuchProcedure (is_none (compound_named library s.definitions name)))
+    (when WrongCount (is_count_wrong library s.definitions name (length cells)))
+    (when (LimitReached Cells) (nat_lt (most Cells) (length e.kinds - length cells)))
+    (when (LimitReached Instances) (nat_lt (most Instances) (length e.placed)))
+    (when WrongKind (list_any (is_kind_wrong library e.kinds) e.placed))
+    (when WrongParameter (e.spare || list_any (is_param_wrong library) e.placed))
+    (room_refusal (length s.kinds + (length e.kinds - length cells)) (length s.instances + length e.placed)) fits in
+    let apart = none_of (when (LimitReached Cells) (nat_lt (most Cells)
+    (length s.kinds + (length e.kinds - length cells)))) (when (LimitReached Instances)
+    (nat_lt (most Instances) (length s.instances + length e.placed))) room in
+    let fresh = drop (length cells) e.kinds in
+    let made = map (instance_placed library cells (length s.kinds)) e.placed in
+    let kinds = small_if (LimitReached Cells) (most Cells) (length s.kinds + (length e.kinds - length cells)) apart.0 in
+    let instances = small_if (LimitReached Instances) (most Instances) (length s.instances + length e.placed) apart.1
+    in
+    let all_kinds : length (s.kinds ++ fresh) ≡ length s.kinds + (length e.kinds - length cells) =
+    length-append s.kinds fresh ∙ ap (λ n. length s.kinds + n) (length-drop (length cells) e.kinds) in
+    let all_made : length (s.instances ++ made) ≡ length s.instances + length e.placed =
+    length-append s.instances made
+    ∙ ap (λ n. length s.instances + n) (length-map e.placed (instance_placed library cells (length s.kinds))) in
+    few_used s (s.kinds ++ fresh) (s.instances ++ made) (subst (λ n. n ≤ most Cells) (sym all_kinds) kinds)
+    (subst (λ n. n ≤ most Instances) (sym all_made) instances)
 
 attached_step : (library : List Stored) (s new : State) (name : List ℕ) (cells : List (List ℕ)) (by : By)
     (numbers : List ℕ) → is_unknown s.words by ≡ false → is_cell_missing s.names cells ≡ false
@@ -69,7 +124,9 @@ attached_step : (library : List Stored) (s new : State) (name : List ℕ) (cells
     → Obeys library s (commands.Command.Attach name cells by) Done new 0
 attached_step library s new name cells by numbers relation missing same fits e =
     obeys library s new (commands.Command.Attach name cells by) Done 0
-    (attach_rows library s name cells by numbers relation missing same ∙ fits)
+    (attach_rows library s name cells by numbers relation missing same
+    ∙ (λ i. first_of (fits i ∷ passed s (with_use library s numbers (used library s name numbers by))))
+    ∙ few_made library s name numbers by fits)
     (record {
       answer_is = refl;
       new_is = e
@@ -84,7 +141,8 @@ unattached_step : (library : List Stored) (s new : State) (name : List ℕ) (cel
     → Obeys library s (commands.Command.Attach name cells by) (Refused refusal) new 0
 unattached_step library s new name cells by numbers refusal relation missing same (inl e) back =
     refuses_or_lacks library s new (commands.Command.Attach name cells by) refusal
-    (inl (attach_rows library s name cells by numbers relation missing same ∙ e)) back
+    (inl (attach_rows library s name cells by numbers relation missing same
+    ∙ (λ i. first_of (e i ∷ passed s (with_use library s numbers (used library s name numbers by)))))) back
 unattached_step library s new name cells by numbers refusal relation missing same (inr m) back =
     refuses_or_lacks library s new (commands.Command.Attach name cells by) refusal (inr m) back
 
@@ -157,10 +215,11 @@ module _ (library : List Stored) (names : CellNames) (words : Vocabulary) (defin
       omega (arith, all, given)
 
   -- the rows of its refusals
-  pub use_rows : use_refusal library (state_from names words definitions premises d limit) name cells by
+  pub use_rows : AreNumbered words definitions
+      → use_refusal library (state_from names words definitions premises d limit) name cells by
       ≡ first_of (expand_refusal library words definitions name (map (kind_at d.kinds) cells) (given_by words by)
       ∷ room_refusal (length d.kinds + length flat.fresh.items) (length d.instances + length flat.instances.items) ∷ [])
-  use_rows =
+  use_rows numbered =
       let expand = expand_refusal library words definitions name (map (kind_at d.kinds) cells) (given_by words by) in
       let fresh : length (used library (state_from names words definitions premises d limit) name cells by).kinds -
       length cells ≡ length flat.fresh.items =
@@ -168,7 +227,8 @@ module _ (library : List Stored) (names : CellNames) (words : Vocabulary) (defin
       let count : length (used library (state_from names words definitions premises d limit) name cells by).placed
       ≡ length flat.instances.items = ap (λ (e : Expansion (Option Param)). length e.placed) (sym is)
       ∙ length-map flat.instances.items (placed_of flat.params.items) in
-      λ i. first_of (expand ∷ room_refusal (length d.kinds + fresh i) (length d.instances + count i) ∷ [])
+      use_refusal_is library names words definitions premises d limit name cells by numbered
+      ∙ (λ i. first_of (expand ∷ room_refusal (length d.kinds + fresh i) (length d.instances + count i) ∷ []))
 
   kinds_used : (used library (state_from names words definitions premises d limit) name cells by).kinds ≡ map
       (kind_at d.kinds) cells ++ flat.fresh.items
@@ -199,7 +259,7 @@ module _ (library : List Stored) (names : CellNames) (words : Vocabulary) (defin
       λ i. record {
         names = names;
         words = words;
-        definitions = definitions;
+        definitions = compounds_of words.relations definitions;
         kinds = kinds i;
         premises = premises;
         statements = statements i;

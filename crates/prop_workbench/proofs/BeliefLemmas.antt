@@ -1,6 +1,6 @@
 -- Steps that change what is believed.
 use Rattle.std.proofs.Common.{◌≡◌, ◌∙◌, ℕ, Bool, true, false, List, Some, None, Result, Ok, Err, ◌⊎◌, ◌↔◌, IsTrue, inl}
-use Rattle.std.proofs.Common.{inr, refl, sym, ap}
+use Rattle.std.proofs.Common.{inr, refl, sym, ap, subst}
 use Rattle.std.specs.Prelude.{⊤, OnOk, OnErr, IfErr}
 use Rattle.prop_refusals.specs.declared.refusal.Refusal.{Refusal}
 use Rattle.prop_refusals.specs.declared.refusal.Refusal.TheVariants.{Memory, NoSuchPremise, IsAChoice}
@@ -10,7 +10,10 @@ use Rattle.prop_language.specs.Commands as commands
 use Rattle.prop_language.specs.Commands.{Command}
 use Rattle.prop_engine.specs.Answers.{Done, answer_done}
 use Rattle.prop_workbench.specs.Machine.{State}
-use Rattle.prop_workbench.specs.Refusing.{refusal_of}
+use Rattle.prop_refusals.specs.Refusals.{first_of}
+use Rattle.prop_workbench.specs.Effects.{number_given}
+use Rattle.prop_workbench.specs.Refusing.{refusal_of, belief_reasons}
+use Rattle.prop_workbench.proofs.LimitLemmas.{as_believed}
 use Rattle.prop_workbench.specs.Steps.{Obeys, Carries}
 use Rattle.prop_workbench.proofs.StepLemmas.{obeys_done}
 
@@ -19,10 +22,16 @@ abbrev pub belief_command : Bool → List ℕ → Command
 belief_command true name = commands.Command.Bring name
 belief_command false name = commands.Command.Kick name
 
+-- the belief in a premise makes nothing
+believes : (library : List Stored) (s : State) (b : Bool) (name : List ℕ)
+    → refusal_of library s (belief_command b name) ≡ first_of (belief_reasons s name)
+believes library s true name = as_believed (belief_reasons s name) s (number_given s.premises name) true
+believes library s false name = as_believed (belief_reasons s name) s (number_given s.premises name) false
+
 fits : (library : List Stored) (s : State) (b : Bool) (name : List ℕ) (p : ℕ) → premise_number s.premises name ≡ Some p
     → is_choice s.premises name ≡ false → refusal_of library s (belief_command b name) ≡ None
-fits library s true name p found free = rw (found, free) refl
-fits library s false name p found free = rw (found, free) refl
+fits library s true name p found free = believes library s true name ∙ rw (found, free) refl
+fits library s false name p found free = believes library s false name ∙ rw (found, free) refl
 
 missing : (library : List Stored) (s : State) (b : Bool) (name : List ℕ) → premise_number s.premises name ≡ None
     → is_choice s.premises name ≡ false → refusal_of library s (belief_command b name) ≡ Some NoSuchPremise
@@ -67,3 +76,10 @@ believed_or_not library s new b name (Err e) h (inr m) same =
 pub found_free : (b : Bool) (r : Result ℕ Refusal) (p : ℕ) → r ≡ Ok p → ((r ≡ Err IsAChoice) ↔ IsTrue b) → b ≡ false
 found_free true r p e h = let f : Ok p ≡ Err IsAChoice = sym e ∙ h.1 refl in cc
 found_free false r p e h = refl
+
+-- and one that isn't found changes nothing
+pub belief_refused : (library : List Stored) (s : State) (b : Bool) (name : List ℕ) (r : Result ⊤ Refusal) (e : Refusal)
+    → r ≡ Err e → IsMissing s name e → Obeys library s (belief_command b name) (answer_done r) s 0
+belief_refused library s b name r e is why =
+    subst (λ (x : Result ⊤ Refusal). Obeys library s (belief_command b name) (answer_done x) s 0) (sym is)
+    (believed_or_not library s s b name (Err e) tt (inl why) refl)

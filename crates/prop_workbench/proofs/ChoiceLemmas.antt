@@ -2,11 +2,11 @@
 use Rattle.std.proofs.Common.{◌≡◌, ◌∙◌, ℕ, Bool, true, false, ◌||◌, List, [], ◌∷◌, ◌++◌, All, Option, Some, None}
 use Rattle.std.proofs.Common.{Result, Ok, ◌+◌, ◌<◌, ◌≤◌, length, map, subst, take, slice_index_or}
 use Rattle.std.specs.Bool.{then_some}
-use Rattle.std.proofs.Common.{Err, is_some, is_none, unwrap_or, ◌⊎◌, inl, inr, refl, sym, ap, arith}
-use Rattle.std.specs.Prelude.{⊤, OnOk, OnErr, IfErr}
+use Rattle.std.proofs.Common.{Err, is_some, ◌⊎◌, inl, inr, refl, sym, ap, arith}
+use Rattle.std.specs.Prelude.{⊤, OnOk, OnErr, IfErr, ◌==◌}
 use Rattle.std.specs.List.{list_any}
-use Rattle.std.specs.Option.{option_map, option_map_or}
-use Rattle.std.specs.Result.{result_unwrap_or}
+use Rattle.std.specs.Option.{option_map_or}
+use Rattle.std.specs.Result.{result_err, result_unwrap_or}
 use Rattle.std.proofs.lemmas.List.{length-map, map_more, map_push, take_all}
 use Rattle.std.proofs.lemmas.Bool.{le-leb, lt-leb}
 use Rattle.std.proofs.lemmas.List.Elements.{All-cons, All-head, All-tail}
@@ -33,12 +33,14 @@ use Rattle.prop_vocabulary.specs.Vocabulary.{Vocabulary}
 use Rattle.prop_engine.specs.Answers.{Done, answer_done}
 use Rattle.prop_workbench.specs.inner.Choosing.{is_one_refused, values_refusal, meaning_of, Means, IsMeaning}
 use Rattle.prop_workbench.specs.inner.Choosing.{meanings_of, earlier}
-use Rattle.prop_workbench.specs.Effects.{chosen}
+use Rattle.prop_workbench.specs.Effects.{effect, said}
+use Rattle.prop_workbench.specs.Refusing.{refusal_of, refused_at, passed}
+use Rattle.prop_workbench.specs.inner.Effects.{chosen}
+use Rattle.prop_workbench.specs.inner.Refusing.{meaning_at, is_error, choosing_limit_of}
+use Rattle.prop_workbench.proofs.SaidLemmas.{AreMeant, refused_found, chosen_said, chosen_limit}
 use Rattle.prop_workbench.specs.Machine.{State}
-use Rattle.prop_workbench.specs.Refusing.{refusal_of, meaning_at, is_error, value_at, meants_at, both_meant}
-use Rattle.prop_workbench.specs.Refusing.{is_refused_at, choosing_limit_at}
 use Rattle.prop_workbench.specs.Steps.{Obeys}
-use Rattle.prop_workbench.proofs.StepLemmas.{first_of-one, obeys, refuses_or_lacks}
+use Rattle.prop_workbench.proofs.StepLemmas.{obeys, refuses_or_lacks}
 use Rattle.prop_workbench.proofs.ValueLemmas.{IsValueRefusal, value_refusal}
 use Rattle.prop_workbench.proofs.ValueLemmas.IsValueRefusal.{no_name, no_number, wrong_kind, outside as not_inside}
 use Rattle.prop_workbench.proofs.ValueLemmas.IsValueRefusal.{empty as no_element}
@@ -54,50 +56,83 @@ is_taken_in s name = is_some (premise_number s.premises name) || is_choice s.pre
 -- ---- the refusals in their order
 
 -- the rows of the refusals that a choice can meet
-abbrev choice_rows : Bool → Bool → Bool → Bool → Bool → Bool → Bool → Option Refusal → Option Refusal
-choice_rows name number taken missing wrong outside empty limit =
+abbrev choice_rows : Bool → Bool → Bool → Bool → Bool → Bool → Bool → List (Option Refusal) → Option Refusal
+choice_rows name number taken missing wrong outside empty limits =
     first_of (when NotAName name ∷ when NotANumber number ∷ when NameTaken taken ∷ when NoSuchCell missing
-    ∷ when WrongKind wrong ∷ when NotInTheDomain outside ∷ when EmptyValue empty ∷ None ∷ limit ∷ [])
+    ∷ when WrongKind wrong ∷ when NotInTheDomain outside ∷ when EmptyValue empty ∷ limits)
 
 abbrev value_rows : Bool → Bool → Bool → Bool → Bool → Bool → Option Refusal
 value_rows name number taken wrong outside empty =
     first_of (when NotAName name ∷ when NotANumber number ∷ when NameTaken taken ∷ when WrongKind wrong ∷ when
     NotInTheDomain outside ∷ when EmptyValue empty ∷ [])
 
-some_row : (name number taken wrong outside empty : Bool) (limit : Option Refusal) (e : Refusal)
+some_row : (name number taken wrong outside empty : Bool) (limits : List (Option Refusal)) (e : Refusal)
     → value_rows name number taken wrong outside empty ≡ Some e
-    → choice_rows name number taken false wrong outside empty limit ≡ Some e
-some_row true number taken wrong outside empty limit e h = h
-some_row false true taken wrong outside empty limit e h = h
-some_row false false true wrong outside empty limit e h = h
-some_row false false false true outside empty limit e h = h
-some_row false false false false true empty limit e h = h
-some_row false false false false false true limit e h = h
-some_row false false false false false false limit e h = cc
+    → choice_rows name number taken false wrong outside empty limits ≡ Some e
+some_row true number taken wrong outside empty limits e h = h
+some_row false true taken wrong outside empty limits e h = h
+some_row false false true wrong outside empty limits e h = h
+some_row false false false true outside empty limits e h = h
+some_row false false false false true empty limits e h = h
+some_row false false false false false true limits e h = h
+some_row false false false false false false limits e h = cc
 
-no_row : (name number taken wrong outside empty : Bool) (limit : Option Refusal)
+no_row : (name number taken wrong outside empty : Bool) (limits : List (Option Refusal))
     → value_rows name number taken wrong outside empty ≡ None
-    → choice_rows name number taken false wrong outside empty limit ≡ limit
-no_row true number taken wrong outside empty limit h = cc
-no_row false true taken wrong outside empty limit h = cc
-no_row false false true wrong outside empty limit h = cc
-no_row false false false true outside empty limit h = cc
-no_row false false false false true empty limit h = cc
-no_row false false false false false true limit h = cc
-no_row false false false false false false limit h = first_of-one limit
+    → choice_rows name number taken false wrong outside empty limits ≡ first_of limits
+no_row true number taken wrong outside empty limits h = cc
+no_row false true taken wrong outside empty limits h = cc
+no_row false false true wrong outside empty limits h = cc
+no_row false false false true outside empty limits h = cc
+no_row false false false false true empty limits h = cc
+no_row false false false false false true limits h = cc
+no_row false false false false false false limits h = refl
+
+-- the value is refused so
+abbrev is_told : State → List ℕ → Refusal → Value → Bool
+is_told s name refusal value =
+    option_map_or (λ why. number_of why == number_of refusal) (refused_at s name value) false
+
+error_is : (refusal : Refusal) (r : Result Meant Refusal)
+    → option_map_or (λ why. number_of why == number_of refusal) (result_err r) false ≡ is_error refusal r
+error_is refusal (Ok meant) = refl
+error_is refusal (Err e) = refl
 
 -- a value is refused so at the cell of the name
 one_refused : (s : State) (name : List ℕ) (refusal : Refusal) (values : List Value) (cell : ℕ) (kind : Kind)
     → cell_named s.names name ≡ Some cell → kind ≡ (kind_at s.kinds cell).kind →
-    list_any (is_refused_at s name refusal) values ≡ is_one_refused s.words kind refusal values
+    list_any (is_told s name refusal) values ≡ is_one_refused s.words kind refusal values
 one_refused s name refusal [] cell kind found is_kind = refl
 one_refused s name refusal (value ∷ values) cell kind found is_kind =
-    let here : is_refused_at s name refusal value ≡ is_error refusal (meaning_at s.words kind value) =
-    ap (λ (o : Option ℕ). option_map_or (is_error refusal)
-    (option_map (λ n. meaning_at s.words (kind_at s.kinds n).kind value) o) false) found
+    let here : is_told s name refusal value ≡ is_error refusal (meaning_at s.words kind value) =
+    ap (λ (o : Option Refusal). option_map_or (λ why. number_of why == number_of refusal) o false)
+    (refused_found s name value cell found)
+    ∙ error_is refusal (meaning_at s.words (kind_at s.kinds cell).kind value)
     ∙ ap (λ (k : Kind). is_error refusal (meaning_at s.words k value)) (sym is_kind) in
     let more = one_refused s name refusal values cell kind found is_kind in
     λ i. here i || more i
+
+-- no value is refused for the cell
+never_missing : (e : Refusal) → IsValueRefusal e → is_error NoSuchCell (Err e) ≡ false
+never_missing e no_name = refl
+never_missing e no_number = refl
+never_missing e wrong_kind = refl
+never_missing e not_inside = refl
+never_missing e no_element = refl
+
+none_missing : (words : Vocabulary) (kind : Kind) (values : List Value)
+    → is_one_refused words kind NoSuchCell values ≡ false
+none_missing words kind [] = refl
+none_missing words kind (value ∷ values) =
+    λ i. one (meaning_at words kind value) refl i || none_missing words kind values i
+  where
+    one : (r : Result Meant Refusal) → meaning_at words kind value ≡ r → is_error NoSuchCell r ≡ false
+    one (Ok meant) e = refl
+    one (Err x) e = never_missing x (value_refusal kind (elements_of_kind words kind) value x e)
+
+-- the limits that a choice would pass
+abbrev passed_by : List Stored → State → List ℕ → List ℕ → List Value → List (Option Refusal)
+passed_by library s choice name values = passed s (effect library s (choose choice name values))
 
 by_rows : (library : List Stored) (s : State) (choice name : List ℕ) (values : List Value) (cell : ℕ) (kind : Kind)
     → cell_named s.names name ≡ Some cell → kind ≡ (kind_at s.kinds cell).kind →
@@ -105,12 +140,13 @@ by_rows : (library : List Stored) (s : State) (choice name : List ℕ) (values :
     (is_one_refused s.words kind NotANumber values) (is_taken_in s choice) false
     (is_one_refused s.words kind WrongKind values)
     (is_one_refused s.words kind NotInTheDomain values) (is_one_refused s.words kind EmptyValue values)
-    (choosing_limit_at s (meants_at s name values))
+    (passed_by library s choice name values)
 by_rows library s choice name values cell kind found is_kind =
-    let one : (e : Refusal) → list_any (is_refused_at s name e) values ≡ is_one_refused s.words kind e values =
+    let one : (e : Refusal) → list_any (is_told s name e) values ≡ is_one_refused s.words kind e values =
     λ e. one_refused s name e values cell kind found is_kind in
-    λ i. choice_rows (one NotAName i) (one NotANumber i) (is_taken_in s choice) (is_none (found i)) (one WrongKind i)
-    (one NotInTheDomain i) (one EmptyValue i) (choosing_limit_at s (meants_at s name values))
+    λ i. choice_rows (one NotAName i) (one NotANumber i) (is_taken_in s choice)
+    ((one NoSuchCell ∙ none_missing s.words kind values) i) (one WrongKind i) (one NotInTheDomain i) (one EmptyValue i)
+    (passed_by library s choice name values)
 
 -- a value that is refused, or the name
 choice_refused : (library : List Stored) (s : State) (choice name : List ℕ) (values : List Value) (cell : ℕ)
@@ -122,7 +158,7 @@ choice_refused library s choice name values cell kind e found is_kind h =
     ∙ some_row (is_one_refused s.words kind NotAName values) (is_one_refused s.words kind NotANumber values)
     (is_taken_in s choice) (is_one_refused s.words kind WrongKind values)
     (is_one_refused s.words kind NotInTheDomain values)
-    (is_one_refused s.words kind EmptyValue values) (choosing_limit_at s (meants_at s name values)) e h
+    (is_one_refused s.words kind EmptyValue values) (passed_by library s choice name values) e h
 
 pub choice_stops : (library : List Stored) (s : State) (choice name : List ℕ) (values : List Value) (cell : ℕ)
     (kind : Kind) (e : Refusal) → cell_named s.names name ≡ Some cell → kind ≡ (kind_at s.kinds cell).kind →
@@ -134,40 +170,51 @@ choice_stops library s choice name values cell kind e found is_kind (inr m) = in
 
 -- ---- no cell has the name
 
-none_refused : (s : State) (name : List ℕ) (refusal : Refusal) (values : List Value) → cell_named s.names name ≡ None
-    → list_any (is_refused_at s name refusal) values ≡ false
-none_refused s name refusal [] none = refl
-none_refused s name refusal (value ∷ values) none =
-    let here : is_refused_at s name refusal value ≡ false =
-    ap (λ (o : Option ℕ). option_map_or (is_error refusal)
-    (option_map (λ n. meaning_at s.words (kind_at s.kinds n).kind value) o) false) none in
-    let more = none_refused s name refusal values none in
+missing_so : (s : State) (name : List ℕ) (refusal : Refusal) (values : List Value) (t : Bool)
+    → cell_named s.names name ≡ None → (number_of NoSuchCell == number_of refusal) ≡ t →
+    list_any (is_told s name refusal) values ≡ list_any (λ value. t) values
+missing_so s name refusal [] t none is = refl
+missing_so s name refusal (value ∷ values) t none is =
+    let here : is_told s name refusal value ≡ t =
+    ap (λ (o : Option ℕ). option_map_or (λ why. number_of why == number_of refusal)
+    (option_map_or (λ n. result_err (said s.words (kind_at s.kinds n).kind value)) o (Some NoSuchCell)) false) none
+    ∙ is in
+    let more = missing_so s name refusal values t none is in
     λ i. here i || more i
 
+never_any : (values : List Value) → list_any (λ value. false) values ≡ false
+never_any [] = refl
+never_any (value ∷ values) = never_any values
+
+some_any : (values : List Value) → 0 < length values → list_any (λ value. true) values ≡ true
+some_any [] l = absurd (omega (arith, l))
+some_any (value ∷ values) l = refl
+
 without_cell : (library : List Stored) (s : State) (choice name : List ℕ) (values : List Value)
-    → cell_named s.names name ≡ None → refusal_of library s (choose choice name values) ≡ choice_rows false false
-    (is_taken_in s choice) true false false false (choosing_limit_at s (meants_at s name values))
-without_cell library s choice name values none =
-    let one : (e : Refusal) → list_any (is_refused_at s name e) values ≡ false =
-    λ e. none_refused s name e values none in
-    λ i. choice_rows (one NotAName i) (one NotANumber i) (is_taken_in s choice) (is_none (none i)) (one WrongKind i)
-    (one NotInTheDomain i) (one EmptyValue i) (choosing_limit_at s (meants_at s name values))
+    → cell_named s.names name ≡ None → 0 < length values →
+    refusal_of library s (choose choice name values) ≡ choice_rows false false (is_taken_in s choice) true false false
+    false (passed_by library s choice name values)
+without_cell library s choice name values none some =
+    let no : (e : Refusal) → (number_of NoSuchCell == number_of e) ≡ false
+    → list_any (is_told s name e) values ≡ false =
+    λ e is. missing_so s name e values false none is ∙ never_any values in
+    let yes = missing_so s name NoSuchCell values true none refl ∙ some_any values some in
+    λ i. choice_rows (no NotAName refl i) (no NotANumber refl i) (is_taken_in s choice) (yes i) (no WrongKind refl i)
+    (no NotInTheDomain refl i) (no EmptyValue refl i) (passed_by library s choice name values)
 
 pub choice_nowhere : (library : List Stored) (s : State) (choice name : List ℕ) (values : List Value)
-    → cell_named s.names name ≡ None → is_taken_in s choice ≡ false
+    → cell_named s.names name ≡ None → 0 < length values → is_taken_in s choice ≡ false
     → refusal_of library s (choose choice name values) ≡ Some NoSuchCell
-choice_nowhere library s choice name values none free =
-    without_cell library s choice name values none
-    ∙ ap (λ (t : Bool). choice_rows false false t true false false false
-    (choosing_limit_at s (meants_at s name values))) free
+choice_nowhere library s choice name values none some free =
+    without_cell library s choice name values none some
+    ∙ ap (λ (t : Bool). choice_rows false false t true false false false (passed_by library s choice name values)) free
 
 pub choice_taken : (library : List Stored) (s : State) (choice name : List ℕ) (values : List Value)
-    → cell_named s.names name ≡ None → is_taken_in s choice ≡ true
+    → cell_named s.names name ≡ None → 0 < length values → is_taken_in s choice ≡ true
     → refusal_of library s (choose choice name values) ≡ Some NameTaken
-choice_taken library s choice name values none taken =
-    without_cell library s choice name values none
-    ∙ ap (λ (t : Bool). choice_rows false false t true false false false
-    (choosing_limit_at s (meants_at s name values))) taken
+choice_taken library s choice name values none some taken =
+    without_cell library s choice name values none some
+    ∙ ap (λ (t : Bool). choice_rows false false t true false false false (passed_by library s choice name values)) taken
 
 -- ---- each value means something
 
@@ -402,6 +449,10 @@ pub all_judged : (words : Vocabulary) (kind : Kind) (taken : Bool) (values : Lis
 all_judged words kind taken values first meants k l judged =
     subst (λ vs. IsJudged words kind taken (map value_of vs) first meants) (take_all k values l) judged
 
+-- there is one
+pub some_values : (values : List declared.Value) → 2 ≤ length values → 0 < length (map value_of values)
+some_values values l = omega (arith, l, length-map values value_of)
+
 -- as many as there are values
 pub meants_count : (words : Vocabulary) (kind : Kind) (values : List declared.Value) (meants : List told.Meant)
     → map meant_of meants ≡ meanings_of words kind (map value_of values) → length meants ≡ length values
@@ -411,64 +462,58 @@ meants_count words kind values meants e =
 
 -- ---- the choice is made
 
-meants_are : (s : State) (name : List ℕ) (cell : ℕ) (kind : Kind) (values : List Value)
-    → cell_named s.names name ≡ Some cell → kind ≡ (kind_at s.kinds cell).kind → All (Means s.words kind) values
-    → meants_at s name values ≡ Some (meanings_of s.words kind values)
-meants_are s name cell kind [] found is_kind mean = refl
-meants_are s name cell kind (value ∷ values) found is_kind mean =
-    let first : value_at s name value ≡ Some (Ok (meaning_of s.words kind value)) =
-    ap (option_map (λ n. meaning_at s.words (kind_at s.kinds n).kind value)) found
-    ∙ ap (λ (k : Kind). Some (meaning_at s.words k value)) (sym is_kind)
-    ∙ ap Some (All-head (Means s.words kind) value values mean) in
-    let more = meants_are s name cell kind values found is_kind (All-tail (Means s.words kind) value values mean) in
-    λ i. both_meant (first i) (more i)
+meants_are : (words : Vocabulary) (kind : Kind) (values : List Value) → All (Means words kind) values
+    → AreMeant words kind values (meanings_of words kind values)
+meants_are words kind [] mean = tt
+meants_are words kind (value ∷ values) mean = (
+  All-head (Means words kind) value values mean,
+  meants_are words kind values (All-tail (Means words kind) value values mean),
+)
 
 -- ---- the choice is made, or a limit refuses it
 
 pub chosen_or_not : (library : List Stored) (s new : State) (choice name : List ℕ) (values : List Value) (cell : ℕ)
     (kind : Kind) (taken : Bool) → cell_named s.names name ≡ Some cell → kind ≡ (kind_at s.kinds cell).kind
-    → taken ≡ is_taken_in s choice →
+    → taken ≡ is_taken_in s choice → 0 < length values →
     values_refusal s.words kind taken values ≡ None → (r : Result ⊤ Refusal)
-    → OnOk r (choosing_limit_at s (Some (meanings_of s.words kind values)) ≡ None)
+    → OnOk r (choosing_limit_of s (meanings_of s.words kind values) ≡ None)
     → OnOk r (new ≡ chosen s choice cell (meanings_of s.words kind values)) →
-    IfErr r (λ e. (choosing_limit_at s (Some (meanings_of s.words kind values)) ≡ Some e) ⊎ (e ≡ Memory))
+    IfErr r (λ e. (choosing_limit_of s (meanings_of s.words kind values) ≡ Some e) ⊎ (e ≡ Memory))
     → OnErr r (new ≡ s) → Obeys library s (choose choice name values) (answer_done r) new 0
-chosen_or_not library s new choice name values cell kind taken found is_kind is_taken none = by
+chosen_or_not library s new choice name values cell kind taken found is_kind is_taken some none = by
   where
-    mean : All (Means s.words kind) values
-    mean = values_mean s.words kind taken values none
+    meants : List Meant
+    meants = meanings_of s.words kind values
 
-    meants : meants_at s name values ≡ Some (meanings_of s.words kind values)
-    meants = meants_are s name cell kind values found is_kind mean
+    are : AreMeant s.words (kind_at s.kinds cell).kind values meants
+    are = subst (λ k. AreMeant s.words k values meants) is_kind
+        (meants_are s.words kind values (values_mean s.words kind taken values none))
 
-    refusal : refusal_of library s (choose choice name values) ≡ choosing_limit_at s
-        (Some (meanings_of s.words kind values))
+    made : effect library s (choose choice name values) ≡ chosen s choice cell meants
+    made = chosen_said library s choice name values cell meants found are
+
+    many : 0 < length meants
+    many = omega (arith, some, length-map values (meaning_of s.words kind))
+
+    refusal : refusal_of library s (choose choice name values) ≡ choosing_limit_of s meants
     refusal =
         by_rows library s choice name values cell kind found is_kind
         ∙ no_row (is_one_refused s.words kind NotAName values) (is_one_refused s.words kind NotANumber values)
         (is_taken_in s choice) (is_one_refused s.words kind WrongKind values)
         (is_one_refused s.words kind NotInTheDomain values)
-        (is_one_refused s.words kind EmptyValue values) (choosing_limit_at s (meants_at s name values))
+        (is_one_refused s.words kind EmptyValue values) (passed_by library s choice name values)
         (ap (λ (t : Bool). values_refusal s.words kind t values) (sym is_taken) ∙ none)
-        ∙ ap (choosing_limit_at s) meants
+        ∙ ap (λ t. first_of (passed s t)) made ∙ chosen_limit s choice cell meants many
 
-    made : chosen s choice cell (meanings_of s.words kind values) ≡ chosen s choice
-        (unwrap_or (cell_named s.names name) 0) (unwrap_or (meants_at s name values) [])
-    made =
-        let at : cell ≡ unwrap_or (cell_named s.names name) 0 = sym (ap (λ (o : Option ℕ). unwrap_or o 0) found) in
-        let all : meanings_of s.words kind values ≡ unwrap_or (meants_at s name values) [] =
-        sym (ap (λ (o : Option (List Meant)). unwrap_or o []) meants) in
-        λ i. chosen s choice (at i) (all i)
-
-    stops : (e : Refusal) → (choosing_limit_at s (Some (meanings_of s.words kind values)) ≡ Some e) ⊎ (e ≡ Memory)
+    stops : (e : Refusal) → (choosing_limit_of s meants ≡ Some e) ⊎ (e ≡ Memory)
         → (refusal_of library s (choose choice name values) ≡ Some e) ⊎ (e ≡ Memory)
     stops e (inl h) = inl (refusal ∙ h)
     stops e (inr m) = inr m
 
-    by : (r : Result ⊤ Refusal) → OnOk r (choosing_limit_at s (Some (meanings_of s.words kind values)) ≡ None)
+    by : (r : Result ⊤ Refusal) → OnOk r (choosing_limit_of s (meanings_of s.words kind values) ≡ None)
         → OnOk r (new ≡ chosen s choice cell (meanings_of s.words kind values)) →
-        IfErr r (λ e. (choosing_limit_at s (Some (meanings_of s.words kind values)) ≡ Some e) ⊎ (e ≡ Memory))
+        IfErr r (λ e. (choosing_limit_of s (meanings_of s.words kind values) ≡ Some e) ⊎ (e ≡ Memory))
         → OnErr r (new ≡ s) → Obeys library s (choose choice name values) (answer_done r) new 0
     by (Ok t) fits ok why same = obeys library s new (choose choice name values) Done 0 (refusal ∙ fits)
-        (record { answer_is = refl; new_is = ok ∙ made; no_steps = refl })
+        (record { answer_is = refl; new_is = ok ∙ sym made; no_steps = refl })
     by (Err e) fits ok why same = refuses_or_lacks library s new (choose choice name values) e (stops e why) same

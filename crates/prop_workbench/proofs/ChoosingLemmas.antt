@@ -21,10 +21,10 @@ use Rattle.prop_vocabulary.specs.Names.{number_in}
 use Rattle.prop_vocabulary.specs.Texts.{elements_of_kind}
 use Rattle.prop_vocabulary.specs.Vocabulary.{Vocabulary, IsWhole, with_first_symbols}
 use Rattle.prop_workbench.specs.inner.Choosing.{IsMeaning, infos_meant}
-use Rattle.prop_workbench.specs.Effects.{info_meant, with_meants, sides_stated, chosen}
+use Rattle.prop_workbench.specs.inner.Effects.{info_meant, with_meants, sides_stated, chosen}
 use Rattle.prop_workbench.specs.inner.Effects.{MayMean}
 use Rattle.prop_workbench.specs.Machine.{State}
-use Rattle.prop_workbench.specs.Refusing.{with_meant, naming_limit, all_naming_limit}
+use Rattle.prop_workbench.specs.inner.Refusing.{with_meant, naming_limit, all_naming_limit}
 use Rattle.prop_compound.specs.Kinds.{IsKnown}
 use Rattle.prop_workbench.proofs.TellLemmas.{same_domains}
 use Rattle.prop_workbench.proofs.ValueLemmas.{value_may_be}

@@ -1,19 +1,18 @@
 -- What a session keeps where a choice is declared and its sides are stated.
 use Rattle.std.proofs.Common.{◌≡◌, ◌∙◌, ℕ, suc, Bool, true, false, nat_lt, nat_le, List, [], ◌∷◌, ◌++◌, Option, Some}
-use Rattle.std.proofs.Common.{None, ◌+◌, ◌<◌, ◌≤◌, ◌⊎◌, inl, inr, map, length, get_or, arith, refl, sym, ap}
-use Rattle.std.specs.List.{AllZip}
+use Rattle.std.proofs.Common.{None, ◌&&◌, is_none, ◌+◌, ◌<◌, ◌≤◌, map, length, get_or, arith, refl, ap}
 use Rattle.std.proofs.lemmas.Bool.{lt-leb, and_left}
+use Rattle.std.proofs.lemmas.Bool.Decides.{nat_tests}
 use Rattle.std.proofs.lemmas.List.Elements.{All-append, All-cons, All-contains, All-weaker, Contains-get_or}
 use Rattle.std.proofs.lemmas.List.Elements.{Contains-append_left}
 use Rattle.prop_refusals.specs.Refusals.{most, first_of, when}
 use Rattle.prop_lattice.specs.declared.info.Info.{Info}
 use Rattle.prop_refusals.specs.declared.refusal.Refusal.{Refusal}
-use Rattle.prop_refusals.specs.declared.refusal.Refusal.TheVariants.{LimitReached, Memory}
-use Rattle.prop_refusals.specs.declared.refusal.Limit.TheVariants.{Premises, Choices, Statements}
+use Rattle.prop_refusals.specs.declared.refusal.Refusal.TheVariants.{LimitReached}
+use Rattle.prop_refusals.specs.declared.refusal.Limit.TheVariants.{Premises}
 use Rattle.prop_numbers.specs.Sets.{Members, set_of}
-use Rattle.prop_premises.specs.Origins.{premise_number, is_choice, choices_of}
+use Rattle.prop_premises.specs.Origins.{premise_number}
 use Rattle.prop_premises.specs.declared.choice.Choice.{Choice}
-use Rattle.prop_premises.specs.ChoiceLists.{IsSide}
 use Rattle.prop_premises.proofs.ChangeLemmas.{length-with_choice}
 use Rattle.prop_procedures.specs.Stored.{Stored}
 use Rattle.prop_cells.specs.declared.instance.Statement.{Statement}
@@ -27,11 +26,11 @@ use Rattle.prop_scheduler.specs.Agendas.{Waiting}
 use Rattle.prop_scheduler.specs.Turns.{IsUnderWay}
 use Rattle.prop_amb.specs.Refuted.{IsCovered}
 use Rattle.prop_amb.specs.Search.{Stand, IsStand, IsSearch, choices_in}
-use Rattle.prop_amb.specs.Moving.{declared, declare_refusal, IsFresh}
+use Rattle.prop_amb.specs.Moving.{declared, IsFresh}
 use Rattle.prop_amb.proofs.KeepingLaws.{search_extends}
 use Rattle.prop_amb.proofs.RefutedLaws.{covered_choice}
 use Rattle.prop_workbench.specs.Machine.{State}
-use Rattle.prop_workbench.specs.Refusing.{choosing_limit}
+use Rattle.prop_workbench.specs.inner.Refusing.{choosing_limit, telling_limit}
 use Rattle.prop_scheduler.specs.Watching.{IsWatched}
 use Rattle.prop_workbench.specs.Sessions.{AreKnown, IsAtWork}
 
@@ -42,41 +41,21 @@ none_of : (e : Refusal) (b : Bool) (rest : List (Option Refusal)) → first_of (
 none_of e true rest h = cc
 none_of e false rest h = (refl, h)
 
--- none of the limits is passed
-pub limits_passed : (s : State) (sides : ℕ) → choosing_limit s sides ≡ None →
-    (nat_lt (most Premises) (length s.premises + sides) ≡ false)
-    × (nat_le (most Choices) (length (choices_of s.premises)) ≡ false)
-    × (nat_lt (most Statements) (length s.statements + sides) ≡ false)
-limits_passed s sides h =
-    let premises = none_of (LimitReached Premises) (nat_lt (most Premises) (length s.premises + sides)) _ h in
-    let choices = none_of (LimitReached Choices) (nat_le (most Choices) (length (choices_of s.premises))) _ premises.1
-    in
-    let statements = none_of (LimitReached Statements) (nat_lt (most Statements) (length s.statements + sides)) _
-    choices.1 in
-    (premises.0, choices.0, statements.0)
+-- there is room for the premises of the sides
+pub room_for_sides : (s : State) (sides : ℕ) → choosing_limit s sides ≡ None
+    → length s.premises + sides ≤ most Premises
+room_for_sides s sides fits =
+    let passed = none_of (LimitReached Premises) (nat_lt (most Premises) (length s.premises + sides)) _ fits in
+    grind (arith, nat_tests, passed.0)
 
-as_many : {A B : Type 0} (R : A → B → Type 0) (xs : List A) (ys : List B) → AllZip R xs ys → length ys ≡ length xs
-as_many R [] [] h = refl
-as_many R [] (y ∷ ys) h = absurd h
-as_many R (x ∷ xs) [] h = absurd h
-as_many R (x ∷ xs) (y ∷ ys) h = ap suc (as_many R xs ys h.1)
-
--- a choice with a free name, within the limits, is declared
-pub declared_fits : (stand : Stand) (s : State) (name : List ℕ) (sides : ℕ) → IsStand stand
-    → s.premises ≡ stand.premises → premise_number stand.premises name ≡ None → is_choice stand.premises name ≡ false
-    → choosing_limit s sides ≡ None →
-    declare_refusal stand name sides ≡ None
-declared_fits stand s name sides made same new free fits =
-    let passed = limits_passed s sides fits in
-    let premises : nat_lt (most Premises) (length stand.premises + sides) ≡ false = rw same at passed.0 in
-    let choices : nat_le (most Choices) (length stand.list) ≡ false =
-    rw (as_many IsSide (choices_in stand) stand.list made.is_list) (rw same at passed.1) in
-    rw (new, free, premises, choices) refl
-
--- where a choice is refused all the same, there was no memory
-pub only_memory : (o : Option Refusal) (e : Refusal) → o ≡ None → (o ≡ Some e) ⊎ (e ≡ Memory) → e ≡ Memory
-only_memory o e none (inl h) = let f : None ≡ Some e = sym none ∙ h in cc
-only_memory o e none (inr m) = m
+-- there is room for a premise with a new name
+pub room_for_name : (s : State) (name : List ℕ) → premise_number s.premises name ≡ None → telling_limit s name ≡ None
+    → length s.premises < most Premises
+room_for_name s name new fits =
+    let passed = none_of (LimitReached Premises)
+    (is_none (premise_number s.premises name) && nat_le (most Premises) (length s.premises)) _ fits in
+    let full : nat_le (most Premises) (length s.premises) ≡ false = rw new at passed.0 in
+    grind (arith, nat_tests, full)
 
 -- ---- the premises of the sides
 

@@ -8,12 +8,12 @@ use Rattle.prop_amb.specs.Refuted.{IsCovered}
 use Rattle.prop_procedures.specs.Stored.{Stored}
 use Rattle.prop_language.specs.Commands as commands
 use Rattle.prop_language.specs.Commands.{Command}
-use Rattle.prop_engine.specs.Answers.{Answer}
+use Rattle.prop_engine.specs.Answers.{Answer, Done}
 use Rattle.prop_workbench.specs.Machine.{State, naming, choices_in}
 use Rattle.prop_workbench.specs.Refusing.{refusal_of}
 use Rattle.prop_workbench.specs.Effects.{effect}
 use Rattle.prop_workbench.specs.inner.Effects.{named_after}
-use Rattle.prop_workbench.specs.Steps.{Shown, Covers, Changes, Carries, CarriesUnless, Obeys, Follows}
+use Rattle.prop_workbench.specs.Steps.{Shown, Covers, AtOnce, Carries, CarriesUnless, Obeys, Follows}
 use Rattle.prop_workbench.specs.inner.Steps.{IsObeyed, IsFollowed}
 use Rattle.prop_workbench.proofs.NamingLaws.{refusal_naming, effect_naming}
 
@@ -40,7 +40,7 @@ covers_still old new named keeps covers =
 
 -- it is carried out where it changes the state, and the other way around
 still_carries : (library : List Stored) (s t : State) (command : Command) (answer : Answer) (steps : ℕ)
-    → IsStill command → Changes library s command answer t steps ↔ Carries library s command answer t steps
+    → IsStill command → AtOnce Done (effect library s command) answer t steps ↔ Carries library s command answer t steps
 still_carries library s t (commands.Command.Forget premise) answer steps still = absurd still
 still_carries library s t commands.Command.Settle answer steps still = absurd still
 still_carries library s t (commands.Command.Ask x) answer steps still = absurd still
@@ -57,8 +57,8 @@ still_named s (commands.Command.Forget premise) named still = absurd still
 still_named s command named still = refl
 
 changes_named : (library : List Stored) (s t : State) (named : List (List ℕ)) (command : Command) (answer : Answer)
-    (steps : ℕ) → IsStill command → Changes library s command answer t steps
-    → Changes library (naming s named) command answer (naming t named) steps
+    (steps : ℕ) → IsStill command → AtOnce Done (effect library s command) answer t steps
+    → AtOnce Done (effect library (naming s named) command) answer (naming t named) steps
 changes_named library s t named command answer steps still r = record {
   answer_is = r.answer_is;
   new_is = ap (λ u. naming u named) r.new_is
@@ -71,7 +71,7 @@ carries_named : (o : Option Refusal) (library : List Stored) (s t : State) (name
     (answer : Answer) (steps : ℕ) → IsStill command → CarriesUnless o library s command answer t steps →
     CarriesUnless o library (naming s named) command answer (naming t named) steps
 carries_named (Some refusal) library s t named command answer steps still r =
-    record { answer_is = r.answer_is; same = ap (λ u. naming u named) r.same; no_steps = r.no_steps }
+    record { answer_is = r.answer_is; new_is = ap (λ u. naming u named) r.new_is; no_steps = r.no_steps }
 carries_named None library s t named command answer steps still r =
     (still_carries library (naming s named) (naming t named) command answer steps still).0
     (changes_named library s t named command answer steps still

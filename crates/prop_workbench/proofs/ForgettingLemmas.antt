@@ -17,9 +17,12 @@ use Rattle.prop_nogoods.specs.Stores.{has_part, lacking}
 use Rattle.prop_language.specs.Commands as commands
 use Rattle.prop_engine.specs.Answers.{Done, answer_done}
 use Rattle.prop_amb.specs.Refuted.{IsCovered}
+use Rattle.prop_workbench.specs.inner.Effects.{forgetting}
 use Rattle.prop_workbench.specs.Machine.{State, naming, choices_in}
-use Rattle.prop_workbench.specs.Refusing.{refusal_of}
-use Rattle.prop_workbench.specs.Effects.{forgetting}
+use Rattle.prop_refusals.specs.Refusals.{first_of}
+use Rattle.prop_workbench.specs.Effects.{number_given}
+use Rattle.prop_workbench.specs.Refusing.{refusal_of, belief_reasons}
+use Rattle.prop_workbench.proofs.LimitLemmas.{as_stated}
 use Rattle.prop_workbench.specs.Steps.{Shown, Carries}
 use Rattle.prop_workbench.specs.inner.Steps.{IsObeyed}
 use Rattle.prop_workbench.proofs.BeliefLemmas.{IsMissing}
@@ -76,9 +79,16 @@ all_covered choices listed named p user covers k d l =
 
 -- ---- the step
 
+-- what is forgotten makes nothing
+forgets : (library : List Stored) (s : State) (name : List ℕ)
+    → refusal_of library s (commands.Command.Forget name) ≡ first_of (belief_reasons s name)
+forgets library s name =
+    as_stated (belief_reasons s name) s (number_given s.premises name)
+    (lacking s.named (number_given s.premises name))
+
 fits : (library : List Stored) (s : State) (name : List ℕ) (p : ℕ) → premise_number s.premises name ≡ Some p
     → is_choice s.premises name ≡ false → refusal_of library s (commands.Command.Forget name) ≡ None
-fits library s name p found free = rw (found, free) refl
+fits library s name p found free = forgets library s name ∙ rw (found, free) refl
 
 missing : (library : List Stored) (s : State) (name : List ℕ) → premise_number s.premises name ≡ None
     → is_choice s.premises name ≡ false → refusal_of library s (commands.Command.Forget name) ≡ Some NoSuchPremise

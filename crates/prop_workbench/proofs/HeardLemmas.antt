@@ -86,4 +86,4 @@ follows_refused line refusal (inl m) keeps = by (have_one_reading line).0 (have_
     by (Ok (Some command)) e = (Ok (Some command), e, λ library old. rw m (lacks library old old command 0 refl))
     by (Err other) e = (Err other, e, λ library old. inr (record { answer_is = rw m refl; same = refl }))
 follows_refused line refusal (inr e) keeps =
-    (Err refusal, e, λ library old. inl (record { answer_is = refl; same = refl; no_steps = refl }))
+    (Err refusal, e, λ library old. inl (record { answer_is = refl; new_is = refl; no_steps = refl }))

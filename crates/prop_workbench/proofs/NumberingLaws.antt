@@ -1,48 +1,19 @@
 -- Each line leaves the premises numbered.
-use Rattle.std.proofs.Common.{◌≡◌, ℕ, suc, ◌≤◌, true, false, List, [], ◌∷◌, length, Option, Some, None, Result, Ok, Err}
-use Rattle.std.proofs.Common.{unwrap_or, inl, inr, refl, subst, arith, append-nil}
+use Rattle.std.proofs.Common.{◌≡◌, ℕ, ◌≤◌, true, false, List, length, Option, Some, None, Result, Ok, Err}
+use Rattle.std.proofs.Common.{inl, inr, refl, subst, arith}
 use Rattle.prop_refusals.specs.declared.refusal.Refusal.{Refusal}
-use Rattle.prop_premises.specs.Origins.{Origin, IsNumbered, with_choice}
+use Rattle.prop_premises.specs.Origins.{IsNumbered}
 use Rattle.prop_premises.proofs.NumberingLaws.{numbered_name, numbered_choice, numbered_belief}
 use Rattle.prop_procedures.specs.Stored.{Stored}
-use Rattle.prop_vocabulary.specs.Values.{Meant}
 use Rattle.prop_language.specs.Commands as commands
 use Rattle.prop_language.specs.Commands.{Command, Value}
 use Rattle.prop_language.specs.Reading.{IsReading}
 use Rattle.prop_language.proofs.ReadingLaws.{choose_counts}
 use Rattle.prop_engine.specs.Answers.{Answer}
 use Rattle.prop_workbench.specs.Machine.{State}
-use Rattle.prop_workbench.specs.Refusing.{refusal_of, value_at, both_meant, meants_at}
+use Rattle.prop_workbench.specs.Refusing.{refusal_of}
 use Rattle.prop_workbench.specs.Agreeing.{StepsKeepNumbers}
 use Rattle.prop_workbench.specs.Steps.{CarriesUnless, Follows}
-
--- ---- the values of a choice
-
-both_count : (said : Option (Result Meant Refusal)) (rest : Option (List Meant)) (k : ℕ) (meants : List Meant)
-    → ((more : List Meant) → rest ≡ Some more → length more ≡ k) → both_meant said rest ≡ Some meants
-    → length meants ≡ suc k
-both_count None rest k meants counted e = cc
-both_count (Some (Err refusal)) rest k meants counted e = cc
-both_count (Some (Ok meant)) None k meants counted e = cc
-both_count (Some (Ok meant)) (Some more) k meants counted e =
-    let same : meants ≡ meant ∷ more = cc in
-    let n = counted more refl in
-    rw same (omega (arith, n))
-
-meant_count : (s : State) (cell : List ℕ) (values : List Value) (meants : List Meant)
-    → meants_at s cell values ≡ Some meants → length meants ≡ length values
-meant_count s cell [] [] e = refl
-meant_count s cell [] (m ∷ ms) e = cc
-meant_count s cell (value ∷ values) meants e =
-    both_count (value_at s cell value) (meants_at s cell values) (length values) meants
-    (λ more f. meant_count s cell values more f) e
-
-numbered_chosen : (os : List Origin) (name : List ℕ) (o : Option (List Meant)) (k : ℕ) → 2 ≤ k → k ≤ 8
-    → ((meants : List Meant) → o ≡ Some meants → length meants ≡ k) → IsNumbered os
-    → IsNumbered (with_choice os name (length (unwrap_or o [])))
-numbered_chosen os name None k low high counted n = rw (append-nil os) n
-numbered_chosen os name (Some meants) k low high counted n = let e =
-    counted meants refl in numbered_choice os name (length meants) (omega (arith, e, low)) (omega (arith, e, high)) n
 
 -- ---- each line
 
@@ -51,7 +22,7 @@ carried : (library : List Stored) (s t : State) (o : Option Refusal) (command : 
     ((name cell : List ℕ) (values : List Value) → command ≡ commands.Command.Choose name cell values
     → (2 ≤ length values) × (length values ≤ 8)) → CarriesUnless o library s command answer t steps
     → IsNumbered t.premises
-carried library s t (Some refusal) command answer steps n few r = rw r.same n
+carried library s t (Some refusal) command answer steps n few r = rw r.new_is n
 carried library s t None (commands.Command.Domain name elements) answer steps n few r = rw r.new_is n
 carried library s t None (commands.Command.Relation name from to pairs) answer steps n few r = rw r.new_is n
 carried library s t None (commands.Command.Cell name kind) answer steps n few r = rw r.new_is n
@@ -62,8 +33,7 @@ carried library s t None (commands.Command.Tell premise cell value) answer steps
     rw r.new_is (numbered_name s.premises premise n)
 carried library s t None (commands.Command.Choose name cell values) answer steps n few r =
     let counts = few name cell values refl in
-    rw r.new_is (numbered_chosen s.premises name (meants_at s cell values) (length values) counts.0 counts.1
-    (λ meants e. meant_count s cell values meants e) n)
+    rw r.new_is (numbered_choice s.premises name (length values) (omega (arith, counts.0)) (omega (arith, counts.1)) n)
 carried library s t None (commands.Command.Kick premise) answer steps n few r =
     rw r.new_is (numbered_belief s.premises _ false n)
 carried library s t None (commands.Command.Bring premise) answer steps n few r =
@@ -75,13 +45,13 @@ carried library s t None (commands.Command.Ask x) answer steps n few r = rw r.ne
 carried library s t None (commands.Command.Why x) answer steps n few r = rw r.new_is n
 carried library s t None (commands.Command.Core x) answer steps n few r = rw r.new_is n
 carried library s t None commands.Command.Worldview answer steps n few r = rw r.new_is n
-carried library s t None commands.Command.Nogoods answer steps n few r = rw r.same n
+carried library s t None commands.Command.Nogoods answer steps n few r = rw r.2.new_is n
 
 followed : (library : List Stored) (s t : State) (line : List ℕ) (read : Result (Option Command) Refusal)
     (answer : Answer) (steps : ℕ) → IsReading line read → IsNumbered s.premises → Follows library s read answer t steps
     → IsNumbered t.premises
-followed library s t line (Ok None) answer steps is_read n f = rw f.1 n
-followed library s t line (Err refusal) answer steps is_read n (inl r) = rw r.same n
+followed library s t line (Ok None) answer steps is_read n f = rw f.new_is n
+followed library s t line (Err refusal) answer steps is_read n (inl r) = rw r.new_is n
 followed library s t line (Err refusal) answer steps is_read n (inr l) = rw l.same n
 followed library s t line (Ok (Some command)) answer steps is_read n (inl r) =
     carried library s t (refusal_of library s command) command answer steps n

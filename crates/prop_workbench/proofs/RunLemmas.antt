@@ -26,6 +26,7 @@ use Rattle.prop_workbench.specs.declared.session.Session.{Session}
 use Rattle.prop_workbench.specs.inner.Sessions.{Keeps}
 use Rattle.prop_workbench.specs.Steps.{Shown, Covers, Runs, Carries}
 use Rattle.prop_workbench.specs.inner.Steps.{IsObeyed}
+use Rattle.prop_workbench.proofs.LimitLemmas.{as_many}
 use Rattle.prop_workbench.proofs.NamingLaws.{refusal_naming}
 use Rattle.prop_workbench.proofs.StepLemmas.{obeys, refuses}
 use Rattle.prop_workbench.proofs.CoveringLemmas.{KeepsCover, covers_still, covers_more}
@@ -224,18 +225,12 @@ pub nogoods_obeyed : (library : List Stored) (s : Shown) (answer : Answer) → A
 nogoods_obeyed library s answer in_order refuted minimal (inl e) named covers = record {
   now = named;
   covers = covers;
-  step = inl (record {
-    text = nogoods_text s.state.premises s.learned;
-    lists = record {
-      lines = s.learned;
-      nogoods = record { in_order = in_order; refuted = refuted; minimal = minimal; covers = covers };
-      text_is =
-          refl;
-    };
-    answer_is = e;
-    same = refl;
-    no_steps = refl;
-  });
+  step = obeys library (naming s.state named) (naming s.state named) commands.Command.Nogoods answer 0
+      (as_many [] (naming s.state named)) (
+        s.learned,
+        record { in_order = in_order; refuted = refuted; minimal = minimal; covers = covers },
+        record { answer_is = e; new_is = refl; no_steps = refl },
+      );
 }
 nogoods_obeyed library s answer in_order refuted minimal (inr m) named covers =
     record { now = named; covers = covers; step = inr (record { answer_is = m; same = refl }) }

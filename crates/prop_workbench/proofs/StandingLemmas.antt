@@ -1,6 +1,6 @@
 -- What a search keeps where a belief changes, a statement is made, or a name is taken up.
 use Rattle.std.proofs.Common.{◌≡◌, ◌∙◌, ℕ, zero, suc, Bool, true, false, not, IsTrue, List, [], ◌∷◌, ◌++◌, Contains}
-use Rattle.std.proofs.Common.{All, Ok, Some, None, ◌+◌, ◌<◌, ◌==◌, ◌||◌, map, unwrap_or, length, get_or, arith, refl}
+use Rattle.std.proofs.Common.{All, Ok, Some, None, ◌+◌, ◌<◌, ◌==◌, ◌||◌, map, length, get_or, arith, refl}
 use Rattle.std.proofs.Common.{sym, ap, subst}
 use Rattle.std.proofs.lemmas.Bool.Decides.{nat_tests}
 use Rattle.std.proofs.lemmas.List.{length-append}
@@ -191,13 +191,11 @@ new_length old new name none made = ap (λ (t : Stand). length t.premises) (made
 
 -- the new name's number is there
 pub new_number : (old new : Stand) (name : List ℕ) (given : ℕ) → premise_number old.premises name ≡ None
-    → new ≡ interned old name → given ≡ unwrap_or (premise_number old.premises name) (length old.premises) → (p : ℕ)
-    → Some given ≡ Some p → p < length new.premises
+    → new ≡ interned old name → given ≡ length old.premises → (p : ℕ) → Some given ≡ Some p → p < length new.premises
 new_number old new name given none made is p e =
     let same : given ≡ p = cc in
-    let number : given ≡ length old.premises = is ∙ ap (λ o. unwrap_or o (length old.premises)) none in
     let more = new_length old new name none made in
-    omega (arith, same, number, more)
+    omega (arith, same, is, more)
 
 -- a search with a new name is at work as before
 pub named_at_work : (library : List Stored) (old new : Stand) (name : List ℕ) (d : Data) (agenda : Waiting)
@@ -224,7 +222,9 @@ named_at_work library old new name d agenda work none made stand search =
 
 pub named_covers : (old new : Stand) (name : List ℕ) → new ≡ interned old name → premise_number old.premises name ≡ None
     → (m : Members) → IsCovered (choices_in old) old.listed m → IsCovered (choices_in new) new.listed m
-named_covers old new name made none m h = rw (made, new_stand old name none, choices_of-user old.premises name true) h
+named_covers old new name made none m h =
+    let is = made ∙ new_stand old name none in
+    subst (λ (t : Stand). IsCovered (choices_in t) t.listed m) (sym is) (rw (choices_of-user old.premises name true) h)
 
 -- ---- a premise that is forgotten
 

@@ -10,16 +10,21 @@ use Rattle.prop_cells.specs.Data.{Data}
 use Rattle.prop_cells.specs.Refusing.{cell_refusal}
 use Rattle.prop_compound.specs.Definitions.{Definitions}
 use Rattle.prop_compound.specs.Kinds.{kind_named}
+use Rattle.prop_compound.specs.Numbered.{compounds_of}
 use Rattle.prop_vocabulary.specs.Vocabulary.{Vocabulary}
 use Rattle.prop_workbench.specs.Sessions.{state_from}
 use Rattle.prop_procedures.specs.Stored.{Stored, span_kind}
 use Rattle.prop_language.specs.Commands as commands
 use Rattle.prop_language.specs.Commands.{KindWord, Command}
-use Rattle.std.specs.Prelude.{⊤, OnOk, OnErr, IfErr, nat_le}
+use Rattle.std.specs.Prelude.{⊤, OnOk, OnErr, IfErr, nat_le, is_some, is_none}
 use Rattle.prop_refusals.specs.Refusals.{first_of, most, when}
 use Rattle.prop_engine.specs.Answers.{Answer, Silent, Done, Text, Refused, answer_done}
+use Rattle.prop_texts.specs.Texts.{nogoods_text}
 use Rattle.prop_workbench.specs.Machine.{State}
-use Rattle.prop_workbench.specs.Refusing.{refusal_of}
+use Rattle.prop_workbench.specs.Refusing.{refusal_of, passed}
+use Rattle.prop_workbench.specs.Effects.{effect}
+use Rattle.prop_workbench.proofs.LimitLemmas.{more_cells, one_grows}
+use Rattle.std.proofs.lemmas.List.{length-append}
 use Rattle.prop_workbench.specs.Steps.{Obeys, Carries, CarriesUnless, Runs, Follows}
 use Rattle.prop_vocabulary.specs.Cells.{CellNames, cell_named, with_cell_name}
 
@@ -39,7 +44,7 @@ pub refuses : (library : List Stored) (old new : State) (command : Command) (ref
     → refusal_of library old command ≡ Some refusal → new ≡ old → Obeys library old command (Refused refusal) new 0
 refuses library old new command refusal e same =
     inl (subst (λ (r : Option Refusal). CarriesUnless r library old command (Refused refusal) new 0) (sym e)
-    (record { answer_is = refl; same = same; no_steps = refl }))
+    (record { answer_is = refl; new_is = same; no_steps = refl }))
 
 -- want of memory changes nothing
 pub lacks : (library : List Stored) (old new : State) (command : Command) (steps : ℕ) → new ≡ old
@@ -62,13 +67,35 @@ obeys_done library old new command (Ok t) fits carries why same = obeys library 
 obeys_done library old new command (Err refusal) fits carries why same =
     refuses_or_lacks library old new command refusal why same
 
+-- why something is not done, said in other words
+pub reason_is : (r : Result ⊤ Refusal) (why other : Option Refusal) → why ≡ other
+    → IfErr r (λ e. (other ≡ Some e) ⊎ (e ≡ Memory)) → IfErr r (λ e. (why ≡ Some e) ⊎ (e ≡ Memory))
+reason_is (Ok t) why other same h = tt
+reason_is (Err e) why other same (inl h) = inl (same ∙ h)
+reason_is (Err e) why other same (inr m) = inr m
+
 -- a cell of a new name is refused for the limit alone
 pub cell_rows : (library : List Stored) (s : State) (name : List ℕ) (kind : KindWord) (made : Kinded)
     → cell_named s.names name ≡ None → kind_named s.words kind ≡ Some made →
     refusal_of library s (commands.Command.Cell name kind) ≡ when (LimitReached Cells)
     (nat_le (most Cells) (length s.kinds))
 cell_rows library s name kind made none there =
-    rw (none, there) (first_of-one (when (LimitReached Cells) (nat_le (most Cells) (length s.kinds))))
+    (λ i. first_of (when NameTaken (is_some (none i)) ∷ when NoSuchDomain (is_none (there i)) ∷ passed s
+    (effect library s (commands.Command.Cell name kind))))
+    ∙ more_cells s (with_cell_name s.names name (length s.kinds)) cells
+    ∙ one_grows Cells (length s.kinds) (length cells) (length-append s.kinds _)
+  where
+    cells : List Kinded
+    cells = s.kinds ++ unwrap_or (kind_named s.words kind) span_kind ∷ []
+
+-- or memory was wanting
+pub cell_stopped : (library : List Stored) (s : State) (name : List ℕ) (kind : KindWord) (made : Kinded) (e : Refusal)
+    → cell_named s.names name ≡ None → kind_named s.words kind ≡ Some made →
+    (when (LimitReached Cells) (nat_le (most Cells) (length s.kinds)) ≡ Some e) ⊎ (e ≡ Memory)
+    → (refusal_of library s (commands.Command.Cell name kind) ≡ Some e) ⊎ (e ≡ Memory)
+cell_stopped library s name kind made e none there (inl h) =
+    inl (cell_rows library s name kind made none there ∙ h)
+cell_stopped library s name kind made e none there (inr m) = inr m
 
 -- a name that a cell has, and a kind whose domain there is not
 pub cell_taken : (library : List Stored) (s : State) (name : List ℕ) (kind : KindWord) (cell : ℕ)
@@ -98,7 +125,7 @@ cell_made library names names' words definitions premises d new limit name kind 
       new_is = λ i. record {
         names = (named ∙ ap (with_cell_name names name) counted) i;
         words = words;
-        definitions = definitions;
+        definitions = compounds_of words.relations definitions;
         kinds = (ap (λ (x : Data). x.kinds) e ∙ ap (λ o. d.kinds ++ unwrap_or o span_kind ∷ []) (sym there)) i;
         premises = premises;
         statements = ap (λ (x : Data). x.statements) e i;
@@ -113,7 +140,7 @@ cell_made library names names' words definitions premises d new limit name kind 
 
 same_if_memory : (o : Option Refusal) (library : List Stored) (old new : State) (command : Command) (answer : Answer)
     (steps : ℕ) → answer ≡ Refused Memory → CarriesUnless o library old command answer new steps → new ≡ old
-same_if_memory (Some refusal) library old new command answer steps e r = r.same
+same_if_memory (Some refusal) library old new command answer steps e r = r.new_is
 same_if_memory None library old new (commands.Command.Domain name elements) answer steps e r =
     let f : Refused Memory ≡ Done = sym e ∙ r.answer_is in cc
 same_if_memory None library old new (commands.Command.Relation name from to pairs) answer steps e r =
@@ -130,8 +157,8 @@ same_if_memory None library old new (commands.Command.Tell premise cell value) a
     let f : Refused Memory ≡ Done = sym e ∙ r.answer_is in cc
 same_if_memory None library old new (commands.Command.Choose name cell values) answer steps e r =
     let f : Refused Memory ≡ Done = sym e ∙ r.answer_is in cc
-same_if_memory None library old new commands.Command.Nogoods answer steps e r = let f : Refused Memory ≡ Text r.text =
-    sym e ∙ r.answer_is in cc
+same_if_memory None library old new commands.Command.Nogoods answer steps e r =
+    let f : Refused Memory ≡ Text (nogoods_text old.premises r.0) = sym e ∙ r.2.answer_is in cc
 same_if_memory None library old new (commands.Command.Kick premise) answer steps e r = let f : Refused Memory ≡ Done =
     sym e ∙ r.answer_is in cc
 same_if_memory None library old new (commands.Command.Bring premise) answer steps e r = let f : Refused Memory ≡ Done =
@@ -155,8 +182,10 @@ same_if_memory None library old new (commands.Command.Ask cell) answer steps e r
 pub still_lacks : (library : List Stored) (old new : State) (read : Result (Option Command) Refusal) (answer : Answer)
     (steps others : ℕ) → answer ≡ Refused Memory → Follows library old read answer new steps
     → Follows library old read answer new others
-still_lacks library old new (Ok None) answer steps others e f = let g : Refused Memory ≡ Silent = sym e ∙ f.0 in cc
-still_lacks library old new (Err refusal) answer steps others e (inl r) = inr (record { answer_is = e; same = r.same })
+still_lacks library old new (Ok None) answer steps others e f = let g : Refused Memory ≡ Silent = sym e ∙ f.answer_is
+    in cc
+still_lacks library old new (Err refusal) answer steps others e (inl r) =
+    inr (record { answer_is = e; same = r.new_is })
 still_lacks library old new (Err refusal) answer steps others e (inr l) = inr l
 still_lacks library old new (Ok (Some command)) answer steps others e (inl c) =
     inr (record {
@@ -169,8 +198,8 @@ still_lacks library old new (Ok (Some command)) answer steps others e (inr l) = 
 -- and nothing changed
 pub lacking_same : (library : List Stored) (old new : State) (read : Result (Option Command) Refusal) (answer : Answer)
     (steps : ℕ) → answer ≡ Refused Memory → Follows library old read answer new steps → new ≡ old
-lacking_same library old new (Ok None) answer steps e f = f.1
-lacking_same library old new (Err refusal) answer steps e (inl r) = r.same
+lacking_same library old new (Ok None) answer steps e f = f.new_is
+lacking_same library old new (Err refusal) answer steps e (inl r) = r.new_is
 lacking_same library old new (Err refusal) answer steps e (inr l) = l.same
 lacking_same library old new (Ok (Some command)) answer steps e (inl c) =
     same_if_memory (refusal_of library old command) library old new command answer steps e c
@@ -204,7 +233,7 @@ carried_within None library old new (commands.Command.Tell premise cell value) a
     none_within steps new.limit r.no_steps
 carried_within None library old new (commands.Command.Choose name cell values) answer steps r =
     none_within steps new.limit r.no_steps
-carried_within None library old new commands.Command.Nogoods answer steps r = none_within steps new.limit r.no_steps
+carried_within None library old new commands.Command.Nogoods answer steps r = none_within steps new.limit r.2.no_steps
 carried_within None library old new (commands.Command.Kick premise) answer steps r =
     none_within steps new.limit r.no_steps
 carried_within None library old new (commands.Command.Bring premise) answer steps r =
@@ -226,7 +255,7 @@ carried_within None library old new commands.Command.Worldview answer steps r =
 -- a step takes no more steps than the limit behind it, but where memory was refused
 pub steps_within : (library : List Stored) (old new : State) (read : Result (Option Command) Refusal) (answer : Answer)
     (steps : ℕ) → (answer ≡ Refused Memory → ⊥) → Follows library old read answer new steps → steps ≤ new.limit
-steps_within library old new (Ok None) answer steps n f = none_within steps new.limit f.2
+steps_within library old new (Ok None) answer steps n f = none_within steps new.limit f.no_steps
 steps_within library old new (Err refusal) answer steps n (inl r) = none_within steps new.limit r.no_steps
 steps_within library old new (Err refusal) answer steps n (inr l) = absurd (n l.answer_is)
 steps_within library old new (Ok (Some command)) answer steps n (inl c) =

@@ -1,9 +1,10 @@
 -- What a value says at a cell, and why it is refused.
 use Rattle.std.proofs.Common.{◌≡◌, ◌∙◌, ℕ, ℤ, neg_ℤ, ◌≤ℤ◌, ◌<◌, ◌≤◌, ◌^◌, ◌/◌, zero, suc, bytes_eq, length, Bool}
 use Rattle.std.proofs.Common.{true, false, cond, ◌&&◌, ◌||◌, List, [], ◌∷◌, Option, Some, None, Result, Ok, Err}
-use Rattle.std.proofs.Common.{is_none, ◌⊎◌, inl, inr, refl, ap, subst, arith, slice_index_or, eq-eqb}
-use Rattle.std.specs.Prelude.{int_le, int_lt}
-use Rattle.std.specs.Option.{option_map_or, option_and_then}
+use Rattle.std.proofs.Common.{◌⊎◌, inl, inr, refl, sym, ap, subst, arith, slice_index_or, eq-eqb}
+use Rattle.std.specs.Prelude.{int_le, int_lt, ⊤, OnOk, OnErr, IfErr}
+use Rattle.std.specs.Option.{option_and_then, option_map_or}
+use Rattle.std.specs.Result.{result_err}
 use Rattle.std.specs.List.{list_all}
 use Rattle.std.proofs.lemmas.Int.{ints}
 use Rattle.prop_lattice.specs.declared.span.TheConstants.{B}
@@ -11,7 +12,8 @@ use Rattle.prop_lattice.specs.declared.info.Info.{Info}
 use Rattle.prop_lattice.specs.declared.info.Kind.{Kind}
 use Rattle.prop_lattice.specs.declared.info.Kind.TheVariants as kinds
 use Rattle.prop_refusals.specs.declared.refusal.Refusal.{Refusal}
-use Rattle.prop_refusals.specs.declared.refusal.Refusal.TheVariants.{NotAName, NotANumber, NoSuchCell, WrongKind}
+use Rattle.prop_refusals.specs.declared.refusal.Refusal.TheVariants.{NotAName, NotANumber, WrongKind, Memory}
+use Rattle.prop_refusals.specs.declared.refusal.Refusal.TheVariants.{NoSuchCell}
 use Rattle.prop_refusals.specs.declared.refusal.Refusal.TheVariants.{NotInTheDomain, EmptyValue, IsAChoice}
 use Rattle.prop_lattice.specs.Ends.{AreEnds, AreSome, ends_or_not, some_or_not, span_if, span_from, elements_if}
 use Rattle.prop_lattice.specs.Ends.{elements_from}
@@ -30,11 +32,16 @@ use Rattle.prop_language.specs.Commands.{Value, Bare, Braces}
 use Rattle.prop_language.specs.Names.{whole_number, is_name, is_among}
 use Rattle.prop_vocabulary.specs.Values.{Meant, Known, Name, known, value_said, span_value, set_value, bits_named}
 use Rattle.prop_vocabulary.specs.Values.{ends_value, bounded_number, halves}
-use Rattle.prop_vocabulary.specs.Texts.{elements_of_kind}
 use Rattle.prop_workbench.specs.Machine.{State}
-use Rattle.prop_workbench.specs.Refusing.{refusal_of, stating_limit, stating_limit_at, meaning_at, is_error}
-use Rattle.prop_workbench.specs.inner.Refusing.{is_choice_told}
-use Rattle.prop_workbench.specs.inner.Effects.{stating, MayMean}
+use Rattle.prop_workbench.specs.Refusing.{refusal_of, refused_at, passed}
+use Rattle.prop_workbench.specs.Effects.{effect, said}
+use Rattle.prop_workbench.specs.Steps.{Carries, Obeys}
+use Rattle.prop_engine.specs.Answers.{Done, answer_done}
+use Rattle.prop_premises.specs.Origins.{is_choice}
+use Rattle.prop_workbench.proofs.SaidLemmas.{refused_found, said_state, said_limit}
+use Rattle.prop_workbench.proofs.StepLemmas.{obeys, refuses_or_lacks}
+use Rattle.prop_workbench.specs.inner.Refusing.{is_choice_told, meaning_at, stating_limit, with_meant}
+use Rattle.prop_workbench.specs.inner.Effects.{stating, stated, info_meant, MayMean}
 use Rattle.prop_vocabulary.specs.Cells.{cell_named}
 
 -- ---- the refusals of values
@@ -239,50 +246,101 @@ value_may_be k names value meant same few h = by k.kind refl value meant h
 
 -- ---- the refusal of a statement
 
--- the rows of the refusals that a statement can meet
-abbrev value_rows : Option (Result Meant Refusal) → Option ℕ → Bool → Option Refusal → Option Refusal
-value_rows said cell choice limit =
-    first_of (when NotAName (option_map_or (is_error NotAName) said false || false) ∷ when NotANumber
-    (option_map_or (is_error NotANumber) said false || false) ∷ None ∷ when NoSuchCell (is_none cell)
-    ∷ when WrongKind (option_map_or (is_error WrongKind) said false || false) ∷ when NotInTheDomain
-    (option_map_or (is_error NotInTheDomain) said false || false) ∷ when EmptyValue
-    (option_map_or (is_error EmptyValue) said false || false) ∷ when IsAChoice choice ∷ limit ∷ [])
-
-by_rows : (library : List Stored) (s : State) (premise : Option (List ℕ)) (name : List ℕ) (value : Value) (cell : ℕ)
-    → cell_named s.names name ≡ Some cell →
-    refusal_of library s (stating premise name value) ≡ value_rows
-    (Some (meaning_at s.words (kind_at s.kinds cell).kind value)) (Some cell) (is_choice_told s premise)
-    (stating_limit_at s premise (Some (meaning_at s.words (kind_at s.kinds cell).kind value)))
-by_rows library s None name value cell found = rw found refl
-by_rows library s (Some premise) name value cell found = rw found refl
-
-error_rows : (e : Refusal) (cell : ℕ) (choice : Bool) (limit : Option Refusal) → IsValueRefusal e
-    → value_rows (Some (Err e)) (Some cell) choice limit ≡ Some e
-error_rows e cell choice limit no_name = refl
-error_rows e cell choice limit no_number = refl
-error_rows e cell choice limit wrong_kind = refl
-error_rows e cell choice limit outside = refl
-error_rows e cell choice limit empty = refl
-
 -- a value that is refused is refused first
 pub value_refused : (library : List Stored) (s : State) (premise : Option (List ℕ)) (name : List ℕ) (value : Value)
     (cell : ℕ) (e : Refusal) → cell_named s.names name ≡ Some cell
     → meaning_at s.words (kind_at s.kinds cell).kind value ≡ Err e →
     refusal_of library s (stating premise name value) ≡ Some e
-value_refused library s premise name value cell e found said =
-    by_rows library s premise name value cell found
-    ∙ ap (λ (r : Result Meant Refusal).
-    value_rows (Some r) (Some cell) (is_choice_told s premise) (stating_limit_at s premise (Some r))) said
-    ∙ error_rows e cell (is_choice_told s premise) None
-    (value_refusal (kind_at s.kinds cell).kind (elements_of_kind s.words (kind_at s.kinds cell).kind) value e said)
+value_refused library s premise name value cell e found said = by premise
+  where
+    refused : refused_at s name value ≡ Some e
+    refused = refused_found s name value cell found ∙ ap result_err said
+
+    by : (premise : Option (List ℕ)) → refusal_of library s (stating premise name value) ≡ Some e
+    by None = λ i. first_of (refused i ∷ passed s (effect library s (stating None name value)))
+    by (Some told) = λ i. first_of (refused i ∷ when IsAChoice (is_choice s.premises told) ∷ passed s
+        (effect library s (stating (Some told) name value)))
+
+-- where no cell has the name, that is
+pub told_nowhere : (library : List Stored) (s : State) (premise : Option (List ℕ)) (name : List ℕ) (value : Value)
+    → cell_named s.names name ≡ None → refusal_of library s (stating premise name value) ≡ Some NoSuchCell
+told_nowhere library s premise name value none = by premise
+  where
+    nowhere : refused_at s name value ≡ Some NoSuchCell
+    nowhere = λ i. option_map_or (λ n. result_err (said s.words (kind_at s.kinds n).kind value)) (none i)
+        (Some NoSuchCell)
+
+    by : (premise : Option (List ℕ)) → refusal_of library s (stating premise name value) ≡ Some NoSuchCell
+    by None = λ i. first_of (nowhere i ∷ passed s (effect library s (stating None name value)))
+    by (Some told) = λ i. first_of (nowhere i ∷ when IsAChoice (is_choice s.premises told) ∷ passed s
+        (effect library s (stating (Some told) name value)))
 
 -- where the value means something, the name of a choice is refused
 pub choice_told : (library : List Stored) (s : State) (premise : Option (List ℕ)) (name : List ℕ) (value : Value)
     (cell : ℕ) (meant : Meant) → cell_named s.names name ≡ Some cell
     → meaning_at s.words (kind_at s.kinds cell).kind value ≡ Ok meant → is_choice_told s premise ≡ true →
     refusal_of library s (stating premise name value) ≡ Some IsAChoice
-choice_told library s premise name value cell meant found said told =
-    by_rows library s premise name value cell found
-    ∙ ap (λ (r : Result Meant Refusal).
-    value_rows (Some r) (Some cell) (is_choice_told s premise) (stating_limit_at s premise (Some r))) said
-    ∙ ap (λ choice. value_rows (Some (Ok meant)) (Some cell) choice (stating_limit s premise meant)) told
+choice_told library s None name value cell meant found said told = cc
+choice_told library s (Some premise) name value cell meant found said told =
+    λ i. first_of ((refused_found s name value cell found ∙ ap result_err said) i ∷ when IsAChoice (told i) ∷ passed s
+    (effect library s (stating (Some premise) name value)))
+
+-- and else only a limit is
+pub limit_told : (library : List Stored) (s : State) (premise : Option (List ℕ)) (name : List ℕ) (value : Value)
+    (cell : ℕ) (meant : Meant) → cell_named s.names name ≡ Some cell
+    → meaning_at s.words (kind_at s.kinds cell).kind value ≡ Ok meant → is_choice_told s premise ≡ false →
+    refusal_of library s (stating premise name value) ≡ stating_limit s premise meant
+limit_told library s premise name value cell meant found said told = by premise told
+  where
+    fine : refused_at s name value ≡ None
+    fine = refused_found s name value cell found ∙ ap result_err said
+
+    by : (premise : Option (List ℕ)) → is_choice_told s premise ≡ false
+        → refusal_of library s (stating premise name value) ≡ stating_limit s premise meant
+    by None told =
+        (λ i. first_of (fine i ∷ passed s (effect library s (stating None name value))))
+        ∙ ap (λ t. first_of (passed s t)) (said_state library s None name value cell meant found said)
+        ∙ said_limit s None cell meant
+    by (Some premise) told =
+        (λ i. first_of (fine i ∷ when IsAChoice (told i) ∷ passed s
+        (effect library s (stating (Some premise) name value))))
+        ∙ ap (λ t. first_of (passed s t)) (said_state library s (Some premise) name value cell meant found said)
+        ∙ said_limit s (Some premise) cell meant
+
+stating_carried : (library : List Stored) (s new : State) (premise : Option (List ℕ)) (name : List ℕ) (value : Value)
+    → new ≡ effect library s (stating premise name value)
+    → Carries library s (stating premise name value) Done new 0
+stating_carried library s new None name value e = record { answer_is = refl; new_is = e; no_steps = refl }
+stating_carried library s new (Some premise) name value e = record { answer_is = refl; new_is = e; no_steps = refl }
+
+-- a value is stated, or a limit is met
+pub told_or_not : (library : List Stored) (s new : State) (premise under : Option (List ℕ)) (name : List ℕ)
+    (value : Value) (cell : ℕ) (meant : Meant) → cell_named s.names name ≡ Some cell
+    → meaning_at s.words (kind_at s.kinds cell).kind value ≡ Ok meant → is_choice_told s premise ≡ false
+    → under ≡ premise → (r : Result ⊤ Refusal) → OnOk r (stating_limit s under meant ≡ None)
+    → OnOk r (new ≡ stated s under cell (with_meant s.words meant) (info_meant s.words meant)) →
+    IfErr r (λ e. (stating_limit s under meant ≡ Some e) ⊎ (e ≡ Memory)) → OnErr r (new ≡ s)
+    → Obeys library s (stating premise name value) (answer_done r) new 0
+told_or_not library s new premise under name value cell meant found said told same = by
+  where
+    limit : refusal_of library s (stating premise name value) ≡ stating_limit s under meant
+    limit = limit_told library s premise name value cell meant found said told
+        ∙ ap (λ o. stating_limit s o meant) (sym same)
+
+    made : stated s under cell (with_meant s.words meant) (info_meant s.words meant) ≡ effect library s
+        (stating premise name value)
+    made = ap (λ o. stated s o cell (with_meant s.words meant) (info_meant s.words meant)) same
+        ∙ sym (said_state library s premise name value cell meant found said)
+
+    stops : (e : Refusal) → (stating_limit s under meant ≡ Some e) ⊎ (e ≡ Memory)
+        → (refusal_of library s (stating premise name value) ≡ Some e) ⊎ (e ≡ Memory)
+    stops e (inl h) = inl (limit ∙ h)
+    stops e (inr m) = inr m
+
+    by : (r : Result ⊤ Refusal) → OnOk r (stating_limit s under meant ≡ None)
+        → OnOk r (new ≡ stated s under cell (with_meant s.words meant) (info_meant s.words meant)) →
+        IfErr r (λ e. (stating_limit s under meant ≡ Some e) ⊎ (e ≡ Memory)) → OnErr r (new ≡ s)
+        → Obeys library s (stating premise name value) (answer_done r) new 0
+    by (Ok t) fits ok why back = obeys library s new (stating premise name value) Done 0 (limit ∙ fits)
+        (stating_carried library s new premise name value (ok ∙ made))
+    by (Err e) fits ok why back = refuses_or_lacks library s new (stating premise name value) e (stops e why) back

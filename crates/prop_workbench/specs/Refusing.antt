@@ -1,13 +1,14 @@
--- For what a command is refused in a state: each condition by itself, and which of them comes
--- first.
-use Rattle.std.specs.Prelude.{ℕ, List, [], ◌∷◌, Bool, false, ◌+◌, ◌==◌, ◌&&◌, ◌||◌, nat_le, nat_lt}
-use Rattle.std.specs.Prelude.{Option, Some, None, Result, Ok, Err, length, is_some, is_none}
-use Rattle.std.specs.Prelude.{map, ◌-◌}
+-- For what a command is refused in a state: each reason by itself, and which of them comes first.
+use Rattle.std.specs.Prelude.{ℕ, List, [], ◌∷◌, Bool, false, ◌+◌, ◌==◌, ◌&&◌, ◌||◌, nat_lt, ◌++◌}
+use Rattle.std.specs.Prelude.{Option, Some, length, is_some, is_none, map, ◌-◌, unwrap_or}
 use Rattle.std.specs.List.{list_any}
-use Rattle.std.specs.Option.{option_map, option_map_or, option_or}
-use Rattle.prop_lattice.specs.declared.info.Kind.{Kind}
-use Rattle.prop_refusals.specs.declared.refusal.Limit.TheVariants.{Cells, Premises, Choices}
-use Rattle.prop_refusals.specs.declared.refusal.Limit.TheVariants.{Statements}
+use Rattle.std.specs.Option.{option_map_or}
+use Rattle.std.specs.Result.{result_err}
+use Rattle.prop_refusals.specs.declared.refusal.Limit.{Limit}
+use Rattle.prop_refusals.specs.declared.refusal.Limit.TheVariants.{Cells, Instances, Premises}
+use Rattle.prop_refusals.specs.declared.refusal.Limit.TheVariants.{Choices, Statements, Domains}
+use Rattle.prop_refusals.specs.declared.refusal.Limit.TheVariants.{Elements, Relations, Symbols}
+use Rattle.prop_refusals.specs.declared.refusal.Limit.TheVariants.{Definitions}
 use Rattle.prop_refusals.specs.declared.refusal.Refusal.{Refusal}
 use Rattle.prop_refusals.specs.declared.refusal.Refusal.TheVariants.{NotAName, NotANumber}
 use Rattle.prop_refusals.specs.declared.refusal.Refusal.TheVariants.{NameTaken, NoSuchDomain}
@@ -15,41 +16,67 @@ use Rattle.prop_refusals.specs.declared.refusal.Refusal.TheVariants.{NoSuchRelat
 use Rattle.prop_refusals.specs.declared.refusal.Refusal.TheVariants.{NoSuchPremise, WrongKind}
 use Rattle.prop_refusals.specs.declared.refusal.Refusal.TheVariants.{NotInTheDomain, EmptyValue}
 use Rattle.prop_refusals.specs.declared.refusal.Refusal.TheVariants.{IsAChoice, LimitReached}
+use Rattle.prop_refusals.specs.declared.refusal.Refusal.TheVariants.{NoSuchProcedure, WrongCount}
+use Rattle.prop_refusals.specs.declared.refusal.Refusal.TheVariants.{WrongParameter}
 use Rattle.prop_refusals.specs.Refusals.{number_of, most, when, first_of}
-use Rattle.prop_premises.specs.Origins.{premise_number, is_choice, choices_of}
-use Rattle.prop_procedures.specs.declared.shape.Param.{Param}
-use Rattle.prop_procedures.specs.declared.shape.Param.TheVariants as params
+use Rattle.prop_sets.specs.Names.{has_repeat}
+use Rattle.prop_premises.specs.Origins.{premise_number, is_choice}
+use Rattle.prop_procedures.specs.Fitting.{kind_at}
 use Rattle.prop_procedures.specs.Stored.{Stored}
 use Rattle.prop_language.specs.Commands.{By, Value, Command}
-use Rattle.prop_vocabulary.specs.Values.{Meant, Known, Name, value_said}
-use Rattle.prop_procedures.specs.Fitting.{kind_at}
-use Rattle.prop_vocabulary.specs.Vocabulary.{Vocabulary, relation_named, with_symbol}
-use Rattle.prop_vocabulary.specs.Texts.{elements_of_kind}
-use Rattle.prop_vocabulary.specs.Refusing.{domain_refusal, relation_refusal, symbol_refusal}
-use Rattle.prop_scheduler.specs.Making.{room_refusal}
-use Rattle.prop_workbench.specs.Machine.{State}
 use Rattle.prop_vocabulary.specs.Cells.{cell_named, cells_named, is_cell_missing}
-use Rattle.prop_compound.specs.Expansion.{Expansion, expanded}
-use Rattle.prop_compound.specs.Expanding.{expand_refusal}
+use Rattle.prop_vocabulary.specs.Names.{number_in}
+use Rattle.prop_vocabulary.specs.Pairs.{is_outside}
+use Rattle.prop_vocabulary.specs.Vocabulary.{Vocabulary, domain_number, elements_of}
+use Rattle.prop_vocabulary.specs.Vocabulary.{relation_named}
+use Rattle.prop_compound.specs.Expanding.{is_kind_wrong, is_param_wrong}
+use Rattle.prop_compound.specs.Compounds.{compound_named, is_miscounted, compound_refusal}
 use Rattle.prop_compound.specs.Kinds.{kind_named}
-use Rattle.prop_compound.specs.Defining.{define_refusal}
+use Rattle.prop_scheduler.specs.Making.{room_refusal}
+use Rattle.prop_workbench.specs.Machine.{State, choices_in}
+use Rattle.prop_workbench.specs.Effects.{said, used, effect}
 
--- what the value means at a cell of the kind
-abbrev pub meaning_at : Vocabulary → Kind → Value → Result Meant Refusal
-meaning_at words kind value = value_said kind (elements_of_kind words kind) value
+-- ---- what there would be too much of
 
--- what the value means at the cell with the name, where there is such a cell
-abbrev pub value_at : State → List ℕ → Value → Option (Result Meant Refusal)
-value_at s name value = option_map (λ n. meaning_at s.words (kind_at s.kinds n).kind value)
-    (cell_named s.names name)
+-- there would be more of something than before, and than there can be
+abbrev pub grows : Limit → ℕ → ℕ → Option Refusal
+grows limit before after =
+    when (LimitReached limit) (nat_lt before after && nat_lt (most limit) after)
 
-abbrev pub is_error : Refusal → Result Meant Refusal → Bool
-is_error refusal (Ok meant) = false
-is_error refusal (Err other) = number_of other == number_of refusal
+-- what there would be too much of after a change
+abbrev pub passed : State → State → List (Option Refusal)
+passed old new =
+    grows Cells (length old.kinds) (length new.kinds)
+    ∷ grows Instances (length old.instances) (length new.instances)
+    ∷ grows Premises (length old.premises) (length new.premises)
+    ∷ grows Choices (length (choices_in old)) (length (choices_in new))
+    ∷ grows Statements (length old.statements) (length new.statements)
+    ∷ grows Domains (length old.words.domain_names) (length new.words.domain_names)
+    ∷ grows Elements 0 (length (elements_of new.words (length old.words.domains)))
+    ∷ grows Relations (length old.words.relation_names) (length new.words.relation_names)
+    ∷ grows Definitions (length old.definitions) (length new.definitions)
+    ∷ grows Symbols (length old.words.symbols) (length new.words.symbols)
+    ∷ []
 
--- the value is refused so at the cell with the name
-abbrev pub is_refused_at : State → List ℕ → Refusal → Value → Bool
-is_refused_at s cell refusal value = option_map_or (is_error refusal) (value_at s cell value) false
+-- ---- values
+
+-- why the value may not be said of the cell with the name
+abbrev pub refused_at : State → List ℕ → Value → Option Refusal
+refused_at s name value =
+    option_map_or (λ n. result_err (said s.words (kind_at s.kinds n).kind value))
+    (cell_named s.names name) (Some NoSuchCell)
+
+-- this refusal, where one of the values may not be said for this reason
+abbrev pub when_refused : State → List ℕ → List Value → Refusal → Option Refusal
+when_refused s cell values refusal =
+    when refusal (list_any (λ value. option_map_or (λ why. number_of why == number_of refusal)
+    (refused_at s cell value) false) values)
+
+-- ---- words
+
+-- the elements of the declared domain with the name
+abbrev pub elements_named : Vocabulary → List ℕ → List (List ℕ)
+elements_named words name = elements_of words (unwrap_or (domain_number words name) 0)
 
 -- what is given is a relation, of which there is none
 abbrev pub is_unknown : Vocabulary → By → Bool
@@ -57,163 +84,71 @@ is_unknown words By.Nothing = false
 is_unknown words (By.Number k) = false
 is_unknown words (By.Relation name) = is_none (relation_named words name)
 
--- what a command gives with its procedure
-abbrev pub given_by : Vocabulary → By → Option Param
-given_by words By.Nothing = None
-given_by words (By.Number k) = option_map params.Scale k
-given_by words (By.Relation name) = option_map params.Rows (relation_named words name)
-
--- there are as many premises as there can be and the name is of a new one, or as many statements
-abbrev pub telling_limit : State → List ℕ → Option Refusal
-telling_limit s premise =
-    first_of (
-    when (LimitReached Premises) (is_none (premise_number s.premises premise) && nat_le
-    (most Premises) (length s.premises))
-    ∷ when (LimitReached Statements) (nat_le (most Statements) (length s.statements))
-    ∷ []
-    )
-
--- the vocabulary with the symbol that is named
-abbrev pub with_meant : Vocabulary → Meant → Vocabulary
-with_meant words (Known info) = words
-with_meant words (Name symbol) = with_symbol words symbol
-
--- the first with those behind it, where each means something
-abbrev pub both_meant : Option (Result Meant Refusal) → Option (List Meant) → Option (List Meant)
-both_meant (Some (Ok meant)) (Some more) = Some (meant ∷ more)
-both_meant first more = None
-
--- the same, and under no premise only the statements count
-abbrev pub statement_limit : State → Option (List ℕ) → Option Refusal
-statement_limit s None = when (LimitReached Statements)
-    (nat_le (most Statements) (length s.statements))
-statement_limit s (Some premise) = telling_limit s premise
-
--- a value that names a new symbol is refused where there are as many as there can be
-abbrev pub naming_limit : Vocabulary → Meant → Option Refusal
-naming_limit words (Name symbol) = symbol_refusal words symbol
-naming_limit words (Known info) = None
-
--- why what is meant is not stated
-abbrev pub stating_limit : State → Option (List ℕ) → Meant → Option Refusal
-stating_limit s premise meant =
-    first_of (statement_limit s premise ∷ naming_limit s.words meant ∷ [])
-
--- the same, where a cell has the name and the value means something there
-abbrev pub stating_limit_at : State → Option (List ℕ) → Option (Result Meant Refusal)
-    → Option Refusal
-stating_limit_at s premise (Some (Ok meant)) = stating_limit s premise meant
-stating_limit_at s premise meant = None
-
--- there are too many premises for so many sides, as many choices as there can be, or too many
--- statements for one a side
-abbrev pub choosing_limit : State → ℕ → Option Refusal
-choosing_limit s sides =
-    first_of (
-    when (LimitReached Premises) (nat_lt (most Premises) (length s.premises + sides))
-    ∷ when (LimitReached Choices) (nat_le (most Choices) (length (choices_of s.premises)))
-    ∷ when (LimitReached Statements) (nat_lt (most Statements) (length s.statements + sides))
-    ∷ []
-    )
-
--- the values that are meant are refused, one after another, where one names a new symbol and there
--- are as many as there can be
-abbrev pub all_naming_limit : Vocabulary → List Meant → Option Refusal
-all_naming_limit words [] = None
-all_naming_limit words (meant ∷ more) =
-    option_or (naming_limit words meant) (all_naming_limit (with_meant words meant) more)
-
--- what each value means at the cell with the name, where all mean something
-abbrev pub meants_at : State → List ℕ → List Value → Option (List Meant)
-meants_at s cell [] = Some []
-meants_at s cell (value ∷ values) = both_meant (value_at s cell value) (meants_at s cell values)
-
--- why a choice between the values at the cell with the name is refused, where there is such a cell
--- and each of them means something there
-abbrev pub choosing_limit_at : State → Option (List Meant) → Option Refusal
-choosing_limit_at s (Some meants) =
-    first_of (choosing_limit s (length meants) ∷ all_naming_limit s.words meants ∷ [])
-choosing_limit_at s None = None
-
--- ---- attaching
-
--- what the use of the name on these cells stands for, the cells being counted from 0 and followed
--- by the fresh ones
-abbrev pub used : List Stored → State → List ℕ → List ℕ → By → Expansion (Option Param)
-used library s name cells by =
-    expanded library s.words s.definitions name (map (kind_at s.kinds) cells) (given_by s.words by)
-
 -- why a use of the name on the cells of these numbers is refused
 abbrev pub use_refusal : List Stored → State → List ℕ → List ℕ → By → Option Refusal
 use_refusal library s name cells by =
     let e = used library s name cells by in
     first_of (
-    expand_refusal library s.words s.definitions name (map (kind_at s.kinds) cells)
-    (given_by s.words by)
+    when NoSuchProcedure (is_none (compound_named library s.definitions name))
+    ∷ when WrongCount (is_miscounted library s.definitions name (length cells))
+    ∷ when (LimitReached Cells) (nat_lt (most Cells) (length e.kinds - length cells))
+    ∷ when (LimitReached Instances) (nat_lt (most Instances) (length e.placed))
+    ∷ when WrongKind (list_any (is_kind_wrong library e.kinds) e.placed)
+    ∷ when WrongParameter (e.spare || list_any (is_param_wrong library) e.placed)
     ∷ room_refusal (length s.kinds + (length e.kinds - length cells))
     (length s.instances + length e.placed)
     ∷ []
     )
 
--- why values may not be said of the cell with the name, whether what is declared by it has a name
--- that is taken, whether a choice has the name of the premise, and which limit is met: the first
--- that applies
-abbrev pub saying_refusal : State → List ℕ → List Value → Bool → Bool → Option Refusal
-    → Option Refusal
-saying_refusal s cell values is_taken is_a_choice limit =
-    first_of (
-    when NotAName (list_any (is_refused_at s cell NotAName) values)
-    ∷ when NotANumber (list_any (is_refused_at s cell NotANumber) values)
-    ∷ when NameTaken is_taken
-    ∷ when NoSuchCell (is_none (cell_named s.names cell))
-    ∷ when WrongKind (list_any (is_refused_at s cell WrongKind) values)
-    ∷ when NotInTheDomain (list_any (is_refused_at s cell NotInTheDomain) values)
-    ∷ when EmptyValue (list_any (is_refused_at s cell EmptyValue) values)
-    ∷ when IsAChoice is_a_choice
-    ∷ limit
-    ∷ []
-    )
+-- ---- commands
 
 -- why the belief in the premise with the name may not change: a choice has the name, or nobody
-abbrev pub belief_refusal : State → List ℕ → Option Refusal
-belief_refusal s premise =
-    first_of (when IsAChoice (is_choice s.premises premise) ∷ when NoSuchPremise
-    (is_none (premise_number s.premises premise)) ∷ [])
+abbrev pub belief_reasons : State → List ℕ → List (Option Refusal)
+belief_reasons s premise =
+    when IsAChoice (is_choice s.premises premise)
+    ∷ when NoSuchPremise (is_none (premise_number s.premises premise))
+    ∷ []
 
--- why the command is refused in the state, where it is: the first that applies
-abbrev pub refusal_of : List Stored → State → Command → Option Refusal
-refusal_of library s (Command.Domain name elements) = domain_refusal s.words name elements
-refusal_of library s (Command.Relation name from to pairs) =
-    relation_refusal s.words name from to pairs
-refusal_of library s (Command.Cell name kind) =
-    first_of (
+-- why the command is refused as the state stands, in order
+abbrev pub reasons : List Stored → State → Command → List (Option Refusal)
+reasons library s (Command.Domain name elements) =
+    when NameTaken (is_some (number_in s.words.domain_names name) || has_repeat elements) ∷ []
+reasons library s (Command.Relation name from to pairs) =
+    when NameTaken (is_some (number_in s.words.relation_names name))
+    ∷ when NoSuchDomain (is_none (domain_number s.words from) || is_none
+    (domain_number s.words to))
+    ∷ when NotInTheDomain (is_outside (elements_named s.words from) (elements_named s.words to)
+    pairs)
+    ∷ []
+reasons library s (Command.Cell name kind) =
     when NameTaken (is_some (cell_named s.names name))
     ∷ when NoSuchDomain (is_none (kind_named s.words kind))
-    ∷ when (LimitReached Cells) (nat_le (most Cells) (length s.kinds))
     ∷ []
-    )
-refusal_of library s (Command.Define name params steps) =
-    define_refusal library s.words s.definitions name params steps
-refusal_of library s (Command.Attach name cells by) =
-    first_of (
+reasons library s (Command.Define name params steps) =
+    compound_refusal library s.words s.definitions name params steps ∷ []
+reasons library s (Command.Attach name cells by) =
     when NoSuchRelation (is_unknown s.words by)
     ∷ when NoSuchCell (is_cell_missing s.names cells)
     ∷ use_refusal library s name (cells_named s.names cells) by
     ∷ []
-    )
-refusal_of library s (Command.Fix cell value) =
-    saying_refusal s cell (value ∷ []) false false (stating_limit_at s None (value_at s cell value))
-refusal_of library s (Command.Tell premise cell value) =
-    saying_refusal s cell (value ∷ []) false (is_choice s.premises premise)
-    (stating_limit_at s (Some premise) (value_at s cell value))
-refusal_of library s (Command.Choose name cell values) =
-    saying_refusal s cell values
-    (is_some (premise_number s.premises name) || is_choice s.premises name) false
-    (choosing_limit_at s (meants_at s cell values))
-refusal_of library s (Command.Kick premise) = belief_refusal s premise
-refusal_of library s (Command.Bring premise) = belief_refusal s premise
-refusal_of library s (Command.Forget premise) = belief_refusal s premise
-refusal_of library s (Command.Ask cell) = when NoSuchCell (is_none (cell_named s.names cell))
-refusal_of library s (Command.Why cell) = when NoSuchCell (is_none (cell_named s.names cell))
-refusal_of library s (Command.Core cell) = when NoSuchCell (is_none (cell_named s.names cell))
-refusal_of library s command = None
+reasons library s (Command.Fix cell value) = refused_at s cell value ∷ []
+reasons library s (Command.Tell premise cell value) =
+    refused_at s cell value ∷ when IsAChoice (is_choice s.premises premise) ∷ []
+reasons library s (Command.Choose name cell values) =
+    when_refused s cell values NotAName
+    ∷ when_refused s cell values NotANumber
+    ∷ when NameTaken (is_some (premise_number s.premises name) || is_choice s.premises name)
+    ∷ map (when_refused s cell values) (NoSuchCell ∷ WrongKind ∷ NotInTheDomain ∷ EmptyValue ∷ [])
+reasons library s (Command.Kick premise) = belief_reasons s premise
+reasons library s (Command.Bring premise) = belief_reasons s premise
+reasons library s (Command.Forget premise) = belief_reasons s premise
+reasons library s (Command.Ask cell) = when NoSuchCell (is_none (cell_named s.names cell)) ∷ []
+reasons library s (Command.Why cell) = when NoSuchCell (is_none (cell_named s.names cell)) ∷ []
+reasons library s (Command.Core cell) = when NoSuchCell (is_none (cell_named s.names cell)) ∷ []
+reasons library s command = []
+
+-- why the command is refused in the state, where it is: the first reason, and then what there would
+-- be too much of
+abbrev pub refusal_of : List Stored → State → Command → Option Refusal
+refusal_of library s command =
+    first_of (reasons library s command ++ passed s (effect library s command))

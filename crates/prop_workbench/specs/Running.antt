@@ -21,7 +21,6 @@ use Rattle.prop_workbench.specs.Machine.{State, problem_in, text_at, users_in, c
 use Rattle.prop_workbench.specs.Machine.{worldview_at}
 use Rattle.prop_workbench.specs.Points.{HoldsPoints, NoneSatisfy}
 use Rattle.prop_texts.specs.Texts.{equation, because, contradiction_text, worldview_text}
-use Rattle.prop_texts.specs.Texts.{nogoods_text}
 use Rattle.prop_vocabulary.specs.Cells.{cell_named}
 use Rattle.prop_explain.specs.Irreducible.{IsIrreducible}
 
@@ -176,9 +175,3 @@ pub record AreNogoods (library : List Stored) (s : State) (lines : List (List �
   pub refuted : All (λ n. IsNogood (problem_in library s) (choices_in s) (set_of n)) lines
   pub minimal : AreMinimal lines
   pub covers : AreCovered s lines s.named
-
--- the text lists such nogoods
-pub record ListsNogoods (library : List Stored) (s : State) (text : List ℕ) : Type 0 where
-  pub lines : List (List ℕ)
-  pub nogoods : AreNogoods library s lines
-  pub text_is : text ≡ nogoods_text s.premises lines

@@ -5,7 +5,8 @@ ghost use Rattle.prop_vocabulary.specs.Cells.{cells_named, is_cell_missing};
 ghost use Rattle.prop_refusals.specs.declared.refusal.Refusal.TheVariants.{Memory, NoSuchCell};
 ghost use Rattle.prop_procedures.specs.Fitting.{kind_at};
 ghost use Rattle.prop_language.specs.Said.{by_of, words};
-ghost use Rattle.prop_workbench.specs.Refusing.{is_unknown, given_by};
+ghost use Rattle.prop_compound.specs.Compounds.{given_by};
+ghost use Rattle.prop_workbench.specs.Refusing.{is_unknown};
 
 use crate::session::Session;
 use prop_cells::Cells;
@@ -84,7 +85,10 @@ impl<R: Rule + Drop, O: Order + Drop> Session<R, O> {
     ghost use Rattle.prop_refusals.specs.declared.refusal.Refusal.TheVariants.{Memory};
     ghost use Rattle.prop_language.specs.Commands as commands;
     ghost use Rattle.prop_language.specs.Said.{by_of, words};
-    ghost use Rattle.prop_workbench.specs.Refusing.{used, use_refusal, given_by};
+    ghost use Rattle.prop_compound.specs.Compounds.{given_by};
+    ghost use Rattle.prop_compound.specs.Expansion.{expanded};
+    ghost use Rattle.prop_workbench.specs.Effects.{used};
+    ghost use Rattle.prop_workbench.specs.Refusing.{use_refusal};
     ghost use Rattle.prop_procedures.specs.Fitting.{kind_at};
     ghost use Rattle.prop_compound.specs.Expanding.{expand_refusal};
     ghost use Rattle.prop_compound.specs.Flattened.{expansion_of_flat, IsFlatOver};
@@ -146,8 +150,9 @@ impl<R: Rule + Drop, O: Order + Drop> Session<R, O> {
             (given_by self.now.words (by_of by.entry)) ≡ None) }
         ensures ok { IfOk result (λ flat.
             expansion_of_flat (map (kind_at self.now.live.network.cells.kinds) cells.now) flat
-            ≡ used (library_of R.value_of self.now) (state_of self.now) name.now cells.now
-            (by_of by.entry)) }
+            ≡ expanded (library_of R.value_of self.now) self.now.words self.now.definitions name.now
+            (map (kind_at self.now.live.network.cells.kinds) cells.now)
+            (given_by self.now.words (by_of by.entry))) }
         ensures safe { IfOk result (λ flat.
             IsFlatOver (library_of R.value_of self.now) (length cells.now) flat) }
         ensures err { IfErr result (λ e.

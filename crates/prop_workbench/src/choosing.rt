@@ -7,8 +7,8 @@ ghost use Rattle.prop_vocabulary.specs.Said.{meant_of};
 ghost use Rattle.prop_vocabulary.specs.Vocabulary.{with_first_symbols};
 ghost use Rattle.prop_workbench.specs.inner.Choosing.{earlier, values_refusal};
 ghost use Rattle.prop_workbench.specs.inner.Choosing.{meanings_of, infos_meant};
-ghost use Rattle.prop_workbench.specs.Effects.{info_meant, with_meants};
-ghost use Rattle.prop_workbench.specs.Refusing.{with_meant, naming_limit, all_naming_limit};
+ghost use Rattle.prop_workbench.specs.inner.Effects.{info_meant, with_meants};
+ghost use Rattle.prop_workbench.specs.inner.Refusing.{with_meant, naming_limit, all_naming_limit};
 ghost use Rattle.prop_compound.specs.Kinds.{IsKnown};
 
 use crate::session::Session;
@@ -18,7 +18,7 @@ use prop_lattice::{Info, Kind, Limit, Refusal};
 use prop_procedures::Rule;
 use prop_scheduler::{Order, state_sides};
 use prop_vocabulary::{Meant, Vocabulary};
-use std::alloc::Global;
+use std::alloc::{AllocError, Global};
 
 /// Of what was met before, where there was anything, and what is met now, what comes first: of the
 /// refusals that a choice's name and values meet, the numbers are in the order of refusals.
@@ -127,9 +127,9 @@ impl<R: Rule + Drop, O: Order + Drop> Session<R, O> {
     ghost use Rattle.prop_cells.specs.Sides.{sides_at};
     ghost use Rattle.prop_vocabulary.specs.Said.{meant_of};
     ghost use Rattle.prop_workbench.specs.inner.Choosing.{IsMeaning};
-    ghost use Rattle.prop_workbench.specs.Effects.{chosen};
+    ghost use Rattle.prop_workbench.specs.inner.Effects.{chosen};
     ghost use Rattle.prop_workbench.specs.inner.Effects.{MayMean};
-    ghost use Rattle.prop_workbench.specs.Refusing.{choosing_limit, choosing_limit_at};
+    ghost use Rattle.prop_workbench.specs.inner.Refusing.{choosing_limit, choosing_limit_of};
     ghost use Rattle.prop_workbench.specs.Sessions.{state_of, IsInOrder};
     ghost use Rattle.prop_workbench.specs.inner.Sessions.{Keeps};
     ghost use Rattle.prop_workbench.specs.inner.Carrying.{IsDone, HasLeft, HasStirred};
@@ -189,11 +189,11 @@ impl<R: Rule + Drop, O: Order + Drop> Session<R, O> {
         requires few { length meants.now ≤ 8 }
         ensures keeps { Keeps R.value_of self.old self.new }
         ensures fits { OnOk result
-            (choosing_limit_at (state_of self.old) (Some (map meant_of meants.now)) ≡ None) }
+            (choosing_limit_of (state_of self.old) (map meant_of meants.now) ≡ None) }
         ensures ok { OnOk result (state_of self.new ≡ chosen (state_of self.old) choice.now cell
             (map meant_of meants.now)) }
         ensures err { IfErr result (λ e.
-            (choosing_limit_at (state_of self.old) (Some (map meant_of meants.now)) ≡ Some e)
+            (choosing_limit_of (state_of self.old) (map meant_of meants.now) ≡ Some e)
             ⊎ (e ≡ Memory)) }
         ensures err_same { OnErr result (state_of self.new ≡ state_of self.old) }
         ensures stirred { HasStirred self.old (self.old.search.list ++ 1 ∷ []) result self.new }
@@ -262,7 +262,7 @@ impl<R: Rule + Drop, O: Order + Drop> Session<R, O> {
     {
         let choice = match self.search.declare(choice, infos.len() as u8) {
             Ok(choice) => choice,
-            Err(refusal) => return Err(refusal),
+            Err(AllocError) => return Err(Refusal::Memory),
         };
         match state_sides(
             &mut self.live,

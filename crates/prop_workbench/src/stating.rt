@@ -5,7 +5,7 @@ ghost use Rattle.prop_refusals.specs.declared.refusal.Refusal.TheVariants.{Memor
 ghost use Rattle.prop_language.specs.Said.{value_of};
 ghost use Rattle.prop_vocabulary.specs.Said.{meant_of};
 ghost use Rattle.prop_vocabulary.specs.Texts.{elements_of_kind};
-ghost use Rattle.prop_workbench.specs.Refusing.{meaning_at};
+ghost use Rattle.prop_workbench.specs.inner.Refusing.{meaning_at};
 ghost use Rattle.prop_compound.specs.Kinds.{IsKnown};
 
 use crate::session::Session;
@@ -15,6 +15,7 @@ use prop_premises::Premise;
 use prop_procedures::Rule;
 use prop_scheduler::{Order, state};
 use prop_vocabulary::{Meant, Vocabulary, read_value};
+use std::alloc::AllocError;
 
 /// What a value means at a cell of a kind.
 pub(crate) fn meaning<'a>(
@@ -55,12 +56,13 @@ impl<R: Rule + Drop, O: Order + Drop> Session<R, O> {
     ghost use Rattle.prop_cells.specs.Refusing.{state_refusal};
     ghost use Rattle.prop_workbench.specs.inner.Effects.{name_of, name_under, stating, MayMean};
     ghost use Rattle.prop_workbench.specs.inner.Effects.{IsUnder};
-    ghost use Rattle.prop_workbench.specs.Effects.{stated, info_meant};
+    ghost use Rattle.prop_workbench.specs.inner.Effects.{stated, info_meant};
     ghost use Rattle.prop_vocabulary.specs.Said.{meant_of};
     ghost use Rattle.prop_vocabulary.specs.Values.{Known, Name};
     ghost use Rattle.prop_vocabulary.specs.Vocabulary.{with_symbol, symbol_number};
-    ghost use Rattle.prop_workbench.specs.Refusing.{telling_limit, statement_limit, stating_limit};
-    ghost use Rattle.prop_workbench.specs.Refusing.{with_meant};
+    ghost use Rattle.prop_workbench.specs.inner.Refusing.{telling_limit, statement_limit};
+    ghost use Rattle.prop_workbench.specs.inner.Refusing.{stating_limit};
+    ghost use Rattle.prop_workbench.specs.inner.Refusing.{with_meant};
     ghost use Rattle.prop_workbench.specs.inner.Refusing.{is_choice_told};
     ghost use Rattle.prop_workbench.specs.Sessions.{state_of, IsInOrder};
     ghost use Rattle.prop_workbench.specs.inner.Sessions.{Keeps};
@@ -134,16 +136,21 @@ impl<R: Rule + Drop, O: Order + Drop> Session<R, O> {
         ensures err_same { OnErr result (state_of self.new ≡ state_of self.old) }
         ensures stirred { HasStirred self.old self.old.search.list result self.new }
     {
+        match self.statement_limit(under) {
+            Some(refusal) => return Err(refusal),
+            None => {}
+        }
         match meant {
             Meant::Known(info) => self.state_said(under, cell, info),
             Meant::Name(symbol) => self.state_symbol(under, cell, symbol),
         }
     }
 
-    /// States that a cell is the symbol with a name, which may be new.
+    /// States that a cell is the symbol with a name, which may be new, where there is room.
     fn state_symbol(&mut self, under: Under, cell: usize, symbol: &str) -> Result<(), Refusal>
         requires sound { IsInOrder R.value_of self.old }
         requires under { IsUnder self.old.search.premises under }
+        requires room { statement_limit (state_of self.old) (name_under under) ≡ None }
         requires cell { cell < length self.old.live.network.cells.kinds }
         requires may { (kind_at self.old.live.network.cells.kinds cell).kind ≡ Kind.Symbol }
         ensures keeps { Keeps R.value_of self.old self.new }
@@ -158,10 +165,6 @@ impl<R: Rule + Drop, O: Order + Drop> Session<R, O> {
         ensures err_same { OnErr result (state_of self.new ≡ state_of self.old) }
         ensures stirred { HasStirred self.old self.old.search.list result self.new }
     {
-        match self.statement_limit(under) {
-            Some(refusal) => return Err(refusal),
-            None => {}
-        }
         let count = self.words.symbol_count();
         let number = match self.words.add_symbol(symbol) {
             Ok(number) => number,
@@ -193,21 +196,18 @@ impl<R: Rule + Drop, O: Order + Drop> Session<R, O> {
         }
     }
 
-    /// Makes a statement under this.
+    /// Makes a statement under this, where there is room.
     fn state_said(&mut self, under: Under, cell: usize, info: Info) -> Result<(), Refusal>
         requires sound { IsInOrder R.value_of self.old }
         requires under { IsUnder self.old.search.premises under }
+        requires room { statement_limit (state_of self.old) (name_under under) ≡ None }
         requires cell { cell < length self.old.live.network.cells.kinds }
         requires may { MayMean (kind_at self.old.live.network.cells.kinds cell) (Known info) }
         ensures keeps { Keeps R.value_of self.old self.new }
         ensures words { self.new.words ≡ self.old.words }
-        ensures fits { OnOk result (statement_limit (state_of self.old)
-            (name_under under.entry) ≡ None) }
         ensures ok { OnOk result (state_of self.new ≡ stated (state_of self.old)
             (name_under under.entry) cell self.old.words info) }
-        ensures err { IfErr result (λ e.
-            (statement_limit (state_of self.old) (name_under under.entry) ≡ Some e)
-            ⊎ (e ≡ Memory)) }
+        ensures err { IfErr result (λ e. e ≡ Memory) }
         ensures err_same { OnErr result (state_of self.new ≡ state_of self.old) }
         ensures stirred { HasStirred self.old self.old.search.list result self.new }
     {
@@ -241,16 +241,16 @@ impl<R: Rule + Drop, O: Order + Drop> Session<R, O> {
         Ok(())
     }
 
-    /// Makes a statement under a premise with a new name, which is believed.
+    /// Makes a statement under a premise with a new name, which is believed, where there is room.
     fn state_under_new(&mut self, name: &str, cell: usize, info: Info) -> Result<(), Refusal>
         requires sound { IsInOrder R.value_of self.old }
         requires told { is_choice self.old.search.premises name.now ≡ false }
         requires cell { cell < length self.old.live.network.cells.kinds }
         requires may { MayMean (kind_at self.old.live.network.cells.kinds cell) (Known info) }
         requires new { premise_number self.old.search.premises name.now ≡ None }
+        requires room { telling_limit (state_of self.old) name.now ≡ None }
         ensures keeps { Keeps R.value_of self.old self.new }
         ensures words { self.new.words ≡ self.old.words }
-        ensures fits { OnOk result (telling_limit (state_of self.old) name.now ≡ None) }
         ensures ok { OnOk result (state_of self.new
             ≡ record (state_of self.old) {
               premises = with_name (state_of self.old).premises name.now;
@@ -262,14 +262,13 @@ impl<R: Rule + Drop, O: Order + Drop> Session<R, O> {
                     info = info;
                   } ∷ [];
             }) }
-        ensures err { IfErr result (λ e. (telling_limit (state_of self.old) name.now ≡ Some e)
-            ⊎ (e ≡ Memory)) }
+        ensures err { IfErr result (λ e. e ≡ Memory) }
         ensures err_same { OnErr result (state_of self.new ≡ state_of self.old) }
         ensures stirred { HasStirred self.old self.old.search.list result self.new }
     {
         let premise = match self.search.intern(name) {
             Ok(premise) => premise,
-            Err(refusal) => return Err(refusal),
+            Err(AllocError) => return Err(Refusal::Memory),
         };
         match state(
             &mut self.live,

@@ -162,7 +162,7 @@ silent_works picks library old line is = record {
   step = λ named covers. record {
     now = named;
     covers = covers;
-    step = (Ok None, is, (refl, refl, refl));
+    step = (Ok None, is, record { answer_is = refl; new_is = refl; no_steps = refl });
   };
   fits = λ f. f;
   lean = (Ok None, is, tt);

@@ -14,8 +14,8 @@ use Rattle.prop_refusals.specs.Refusals.{first_of, when, number_of}
 use Rattle.prop_language.specs.Commands.{Value}
 use Rattle.prop_vocabulary.specs.Values.{Meant, Known}
 use Rattle.prop_vocabulary.specs.Vocabulary.{Vocabulary}
-use Rattle.prop_workbench.specs.Refusing.{meaning_at, is_error, with_meant}
-use Rattle.prop_workbench.specs.Effects.{info_meant}
+use Rattle.prop_workbench.specs.inner.Refusing.{meaning_at, is_error, with_meant}
+use Rattle.prop_workbench.specs.inner.Effects.{info_meant}
 
 -- what comes first, of what was met before and what is met now, where their numbers are in the
 -- order of refusals

@@ -1,18 +1,25 @@
 -- What a command that isn't refused does to the state.
-use Rattle.std.specs.Prelude.{◌≡◌, ℕ, false, IsTrue, List, Option, Some, None, ⊤}
+use Rattle.std.specs.Prelude.{◌≡◌, ℕ, suc, false, IsTrue, List, [], ◌∷◌, ◌++◌, length, Option, Some}
+use Rattle.std.specs.Prelude.{None, ⊤}
 use Rattle.std.specs.Borrow.{Bor}
-use Rattle.std.specs.Option.{option_map}
+use Rattle.std.specs.Option.{option_map, option_map_or}
+use Rattle.prop_lattice.specs.declared.info.Info.{Info}
+use Rattle.prop_lattice.specs.declared.info.Info.TheVariants.{Sym}
 use Rattle.prop_lattice.specs.declared.info.Kind.TheVariants as kinds
 use Rattle.prop_procedures.specs.declared.shape.Kinded.{Kinded}
 use Rattle.prop_language.specs.Commands.{Value, Command}
 use Rattle.prop_vocabulary.specs.Values.{Meant, Known, Name}
-use Rattle.prop_premises.specs.Origins.{Origin, premise_number, is_choice}
+use Rattle.prop_vocabulary.specs.Vocabulary.{Vocabulary, symbol_number}
+use Rattle.prop_premises.specs.Origins.{Origin, premise_number, is_choice, with_name, with_choice}
 use Rattle.prop_nogoods.specs.Stores.{lacking}
 use Rattle.prop_cells.specs.Refusing.{may_be_stated}
+use Rattle.prop_cells.specs.declared.instance.Statement.{Statement}
+use Rattle.prop_cells.specs.Forgetting.{not_under}
 use Rattle.prop_workbench.specs.declared.stating.Under.{Under}
 use Rattle.prop_workbench.specs.declared.stating.Under.TheVariants.{Nothing, Known as Found, New}
 use Rattle.prop_workbench.specs.Machine.{State}
 use Rattle.prop_workbench.specs.Effects.{number_given}
+use Rattle.prop_workbench.specs.inner.Refusing.{with_meant}
 
 -- what is meant may be stated at a cell of the kind
 abbrev pub MayMean : Kinded → Meant → Type 0
@@ -54,3 +61,45 @@ without_named (Some p) named = lacking named p
 -- the contradictions that were named, as far as they are known after the command
 abbrev pub named_after : State → Command → List (List ℕ) → List (List ℕ)
 named_after s command named = without_named (forgotten_in s command) named
+
+-- a symbol is told by its number: the next one where its name is new
+abbrev pub info_meant : Vocabulary → Meant → Info
+info_meant words (Known info) = info
+info_meant words (Name symbol) = Sym (symbol_number words symbol)
+
+-- one statement more, in a vocabulary that may have one symbol more
+abbrev pub stated : State → Option (List ℕ) → ℕ → Vocabulary → Info → State
+stated s premise cell words info = record s {
+  words = words;
+  premises = option_map_or (with_name s.premises) premise s.premises;
+  statements = s.statements ++ record {
+    premise = option_map (number_given s.premises) premise;
+    cell = cell;
+    info = info;
+  } ∷ [];
+}
+
+-- the statements of what each side says at a cell, where the first side has this number, and the
+-- words as far as they are known then
+abbrev pub sides_stated : Vocabulary → ℕ → ℕ → List Meant → List Statement
+sides_stated words side cell [] = []
+sides_stated words side cell (meant ∷ more) =
+    record { premise = Some side; cell = cell; info = info_meant words meant } ∷ sides_stated
+    (with_meant words meant) (suc side) cell more
+
+-- the vocabulary with the symbols that are named
+abbrev pub with_meants : Vocabulary → List Meant → Vocabulary
+with_meants words [] = words
+with_meants words (meant ∷ more) = with_meants (with_meant words meant) more
+
+-- a choice more, between what is meant at a cell: each is stated under a side
+abbrev pub chosen : State → List ℕ → ℕ → List Meant → State
+chosen s name cell meants = record s {
+  words = with_meants s.words meants;
+  premises = with_choice s.premises name (length meants);
+  statements = s.statements ++ sides_stated s.words (length s.premises) cell meants;
+}
+
+-- no statement under p, and no contradiction that was named with it
+abbrev pub forgetting : State → ℕ → State
+forgetting s p = record s { statements = not_under p s.statements; named = lacking s.named p }

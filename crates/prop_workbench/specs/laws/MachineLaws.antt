@@ -70,7 +70,8 @@ working_asks_by_prefix picks library old line answer new s = record {
 -- silence, or want of memory, leaves the state
 follows_somehow : (library : List Stored) (read : Result (Option Command) Refusal)
     → (answer : Answer) × ((s : State) → Follows library s read answer s 0)
-follows_somehow library (Ok None) = (Silent, λ s. (refl, refl, refl))
+follows_somehow library (Ok None) =
+    (Silent, λ s. record { answer_is = refl; new_is = refl; no_steps = refl })
 follows_somehow library (Ok (Some command)) =
     (Refused Memory, λ s. inr record { answer_is = refl; same = refl })
 follows_somehow library (Err refusal) =
@@ -122,7 +123,7 @@ working_is_total {O} picks library old line =
         step = λ named covers. record {
           now = named;
           covers = covers;
-          step = (Ok None, is, (refl, refl, refl));
+          step = (Ok None, is, record { answer_is = refl; new_is = refl; no_steps = refl });
         };
         fits = λ f. f;
         lean = (Ok None, is, tt);

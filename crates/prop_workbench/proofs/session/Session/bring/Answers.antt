@@ -1,16 +1,17 @@
 use Rattle.std.proofs.lemmas.Bool.{not-true, not-false}
-use Rattle.std.proofs.Common.{◌≡◌, ◌∙◌, Some, Err, true, false, refl, sym, ap}
+use Rattle.std.proofs.Common.{◌≡◌, ◌∙◌, Some, Ok, Err, true, false, refl, sym, ap}
 use Rattle.std.specs.Prelude.{is_some}
 use Rattle.prop_procedures.specs.Kept.{stored_of}
 use Rattle.prop_premises.specs.Origins.{premise_number, is_choice, with_belief_at}
 use Rattle.prop_amb.specs.Search.{Stand, users_of}
 use Rattle.prop_cells.specs.Data.{problem_of}
-use Rattle.prop_workbench.proofs.BeliefLemmas.{found_free}
+use Rattle.prop_workbench.proofs.BeliefLemmas.{found_free, believed_or_not, belief_refused}
+use Rattle.prop_workbench.proofs.ForgettingLemmas.{missing_from}
 use Rattle.prop_workbench.proofs.StandingLemmas.{believing_keeps, same_keeps, same_done}
 use Rattle.std.proofs.lemmas.Result.{err_from_is_err_and}
 use Rattle.prop_numbers.specs.Sets.{set_of}
 use Rattle.prop_scheduler.proofs.Behind.{touched_stirred}
-use Rattle.prop_workbench.specs.Sessions.{state_of, work_of}
+use Rattle.prop_workbench.specs.Sessions.{state_of, state_from, work_of}
 use Rattle.prop_workbench.proofs.AskLemmas.{believes_same}
 use Rattle.prop_workbench.proofs.WakingLemmas.{still_stirred}
 use Rattle.prop_workbench.proofs.session.Session.bring.Goals as goal
@@ -109,3 +110,36 @@ pub returns-in_err-premise-clause-wakes : goal.returns-in_err-premise-clause-wak
 returns-in_err-premise-clause-wakes g c =
     let told = err_from_is_err_and c.from_residual.result c.from_residual.ensures.1 in
     rw (told.1 ∙ ap Err told.2) refl
+
+-- ---- what the machine says
+
+pub returns-clause-step : goal.returns-clause-step
+returns-clause-step g c =
+    let s = c.args.self.now in
+    let p = c.in_ok-premise.premise in
+    let name = c.args.name.now in
+    let new = c.bring.new.self in
+    let was : users_of s.search p ≡ false =
+    not-true (users_of s.search p) (sym c.in_ok-before.ensures.was ∙ ap is_some c.in-Some.is) in
+    let made : new ≡ record s.search { premises = with_belief_at s.search.premises p true; worldview = new.worldview } =
+    c.in_ok-before.ensures.brought was in
+    let free = found_free (is_choice s.search.premises name) _ p refl
+    (rw c.premises.ensures at c.in_ok-premise.ensures.choice) in
+    believed_or_not (stored_of g.R.Rule.value_of s.live.network.library) (state_of s) _ true name (Ok tt) (
+      p,
+      rw c.premises.ensures at c.in_ok-premise.ensures.found,
+      free,
+      λ i. state_from s.names s.words s.definitions (ap (λ (t : Stand). t.premises) made i)
+          (ap (λ n. n.cells) c.alert_shifted.ensures.network i) s.limit,
+    ) tt tt
+
+pub returns-in_err-premise-clause-step : goal.returns-in_err-premise-clause-step
+returns-in_err-premise-clause-step g c =
+    let s = c.args.self.now in
+    let told = err_from_is_err_and c.from_residual.result c.from_residual.ensures.1 in
+    belief_refused (stored_of g.R.Rule.value_of s.live.network.library) (state_of s) true c.args.name.now
+    c.from_residual.result
+    c.in_err-premise.field-0.0 (told.1 ∙ ap Err told.2)
+    (missing_from (state_of s) c.args.name.now c.find.result c.in_err-premise.field-0.0 c.in_err-premise.was
+    c.find.ensures.why (rw c.premises.ensures at c.in_err-premise.ensures.found)
+    (rw c.premises.ensures at c.find.ensures.choice) (rw c.premises.ensures at c.find.ensures.none))

@@ -1,4 +1,4 @@
-use Rattle.std.proofs.Common.{◌≤◌, arith, None, Ok, Some, inl, length, map, refl}
+use Rattle.std.proofs.Common.{[], ◌≤◌, arith, None, Ok, Some, length, map, refl}
 use Rattle.std.proofs.lemmas.List.{length-map}
 use Rattle.prop_procedures.specs.Kept.{stored_of}
 use Rattle.prop_language.specs.Commands as commands
@@ -6,6 +6,8 @@ use Rattle.prop_language.specs.Said.{words, pairs_of, kind_of, step_of, by_of, v
 use Rattle.prop_engine.specs.Answers.{Silent, Done}
 use Rattle.prop_workbench.specs.Steps.{Shown}
 use Rattle.prop_workbench.specs.Sessions.{state_of, shown_of, work_of}
+use Rattle.prop_workbench.proofs.LimitLemmas.{as_many}
+use Rattle.prop_workbench.proofs.StepLemmas.{obeys}
 use Rattle.prop_workbench.proofs.AnsweredLemmas.{answered_carried, done_carried}
 use Rattle.prop_workbench.proofs.CoveringLemmas.{still_obeyed, refused_followed}
 use Rattle.prop_workbench.proofs.SoundLemmas.{stays, unchanged}
@@ -24,7 +26,7 @@ returns-in-Silent g c =
       keeps = stays (unchanged c.requires.sound);
       step = refused_followed (stored_of g.R.Rule.value_of s.live.network.library) (shown_of s) (shown_of s) (Ok None)
           Silent
-          0 (λ m covered. covered) (λ named. (refl, refl, refl));
+          0 (λ m covered. covered) (λ named. record { answer_is = refl; new_is = refl; no_steps = refl });
       rests = record { lean = tt; earned = tt; wakes = refl };
     })
 
@@ -135,7 +137,9 @@ returns-in-Limit g c =
       };
       step = still_obeyed (stored_of g.R.Rule.value_of s.live.network.library) (shown_of s) limited
           (commands.Command.Limit (Some c.in-Limit.steps)) Done 0 tt (λ m covered. covered)
-          (inl (record { answer_is = refl; new_is = refl; no_steps = refl }));
+          (obeys (stored_of g.R.Rule.value_of s.live.network.library) (state_of s) limited.state
+          (commands.Command.Limit (Some c.in-Limit.steps)) Done 0 (as_many [] (state_of s))
+          (record { answer_is = refl; new_is = refl; no_steps = refl }));
       rests = record { lean = tt; earned = tt; wakes = still_stirred (state_of s) limited.state (work_of s) };
     })
 

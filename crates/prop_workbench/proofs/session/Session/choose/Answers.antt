@@ -7,13 +7,13 @@ use Rattle.prop_procedures.specs.Kept.{stored_of}
 use Rattle.prop_language.specs.Commands as commands
 use Rattle.prop_language.specs.Said.{value_of}
 use Rattle.prop_vocabulary.specs.Said.{meant_of}
-use Rattle.prop_workbench.specs.Effects.{chosen}
-use Rattle.prop_workbench.specs.Refusing.{choosing_limit_at}
+use Rattle.prop_workbench.specs.inner.Effects.{chosen}
+use Rattle.prop_workbench.specs.inner.Refusing.{choosing_limit_of}
 use Rattle.prop_workbench.specs.Sessions.{state_of}
 use Rattle.prop_workbench.specs.inner.Choosing.{values_refusal, meanings_of, IsMeaning}
 use Rattle.prop_workbench.proofs.StepLemmas.{refuses, refuses_or_lacks}
 use Rattle.prop_workbench.proofs.ChoiceLemmas.{choice_taken, choice_nowhere, choice_stops, values_mean, chosen_or_not}
-use Rattle.prop_workbench.proofs.ChoiceLemmas.{free_name, is_nobodys, meanings_mean, meants_count}
+use Rattle.prop_workbench.proofs.ChoiceLemmas.{free_name, is_nobodys, meanings_mean, meants_count, some_values}
 use Rattle.prop_workbench.proofs.WakingLemmas.{left_stirred}
 use Rattle.prop_workbench.proofs.session.Session.choose.Goals as goal
 
@@ -24,7 +24,7 @@ returns-in-None-clause-step g c =
     let values = map value_of c.args.values.now in
     refuses library (state_of s) (state_of s) (commands.Command.Choose c.args.choice.now c.args.name.now values) _
     (choice_taken library (state_of s) c.args.choice.now c.args.name.now values (sym c.in-None.ensures.number)
-    (sym c.is_taken-is_taken.ensures ∙ c.if-is_taken.true)) refl
+    (some_values c.args.values.now c.requires.some) (sym c.is_taken-is_taken.ensures ∙ c.if-is_taken.true)) refl
 
 pub returns-in-None-2-clause-step : goal.returns-in-None-2-clause-step
 returns-in-None-2-clause-step g c =
@@ -33,7 +33,7 @@ returns-in-None-2-clause-step g c =
     let values = map value_of c.args.values.now in
     refuses library (state_of s) (state_of s) (commands.Command.Choose c.args.choice.now c.args.name.now values) _
     (choice_nowhere library (state_of s) c.args.choice.now c.args.name.now values (sym c.in-None-2.ensures.number)
-    (sym c.is_taken-is_taken.ensures ∙ c.if-is_taken.false)) refl
+    (some_values c.args.values.now c.requires.some) (sym c.is_taken-is_taken.ensures ∙ c.if-is_taken.false)) refl
 
 -- ---- each value means something there, and the name is free
 
@@ -120,10 +120,10 @@ returns-in-Ok-clause-step g c =
     ap (map meant_of) c.deref.ensures.value ∙ c.in-Ok.ensures.ok in
     chosen_or_not library (state_of s) (state_of new) choice c.args.name.now values cell kind
     c.is_taken-is_taken.result (sym c.in-Some.ensures.number) (ap (λ k. k.kind) same)
-    c.is_taken-is_taken.ensures c.in-Ok.ensures.none r
-    (subst (λ ms. OnOk r (choosing_limit_at (state_of s) (Some ms) ≡ None)) meants c.choose_meant.ensures.fits)
+    c.is_taken-is_taken.ensures (some_values c.args.values.now c.requires.some) c.in-Ok.ensures.none r
+    (subst (λ ms. OnOk r (choosing_limit_of (state_of s) ms ≡ None)) meants c.choose_meant.ensures.fits)
     (subst (λ ms. OnOk r (state_of new ≡ chosen (state_of s) choice cell ms)) meants c.choose_meant.ensures.ok)
-    (subst (λ ms. IfErr r (λ e. (choosing_limit_at (state_of s) (Some ms) ≡ Some e) ⊎ (e ≡ Memory))) meants
+    (subst (λ ms. IfErr r (λ e. (choosing_limit_of (state_of s) ms ≡ Some e) ⊎ (e ≡ Memory))) meants
     c.choose_meant.ensures.err) c.choose_meant.ensures.err_same
 
 pub returns-in-Ok-clause-wakes : goal.returns-in-Ok-clause-wakes

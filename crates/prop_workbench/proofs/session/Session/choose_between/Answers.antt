@@ -1,8 +1,8 @@
 use Rattle.std.proofs.Common.{◌≡◌, ◌∙◌, length, refl, sym, ap}
 use Rattle.prop_procedures.specs.Kept.{stored_of}
-use Rattle.prop_amb.specs.Moving.{declared, declare_refusal}
+use Rattle.prop_amb.specs.Moving.{declared}
 use Rattle.prop_workbench.specs.Sessions.{state_of}
-use Rattle.prop_workbench.proofs.ChosenLemmas.{declared_fits, declared_under_way, declared_watched, only_memory}
+use Rattle.prop_workbench.proofs.ChosenLemmas.{room_for_sides, declared_under_way, declared_watched}
 use Rattle.prop_workbench.proofs.ChosenLemmas.{chosen_at_work, chosen_covers}
 use Rattle.prop_workbench.proofs.StandingLemmas.{back_keeps, same_keeps}
 use Rattle.prop_numbers.specs.Sets.{set_of}
@@ -12,18 +12,17 @@ use Rattle.prop_workbench.proofs.AskLemmas.{believes_same}
 use Rattle.prop_workbench.proofs.WakingLemmas.{stirred_from, declared_beliefs}
 use Rattle.prop_workbench.proofs.session.Session.choose_between.Goals as goal
 
+-- ---- the choice has room
+
+pub declare-requires-clause-room : goal.declare-requires-clause-room
+declare-requires-clause-room g c =
+    room_for_sides (state_of c.args.self.now) (length c.args.infos.now) c.requires.fits
+
 -- ---- there was no memory for the choice
 
 pub returns-in-Err-clause-keeps : goal.returns-in-Err-clause-keeps
 returns-in-Err-clause-keeps g c = same_keeps g.R.Rule.value_of c.args.self.now c.declare.new.self c.requires.sound
     c.in-Err.ensures.err
-
-pub returns-in-Err-clause-err : goal.returns-in-Err-clause-err
-returns-in-Err-clause-err g c =
-    let s = c.args.self.now in
-    only_memory (declare_refusal s.search c.args.choice.now (length c.args.infos.now)) c.in-Err.refusal
-    (declared_fits s.search (state_of s) c.args.choice.now (length c.args.infos.now) c.requires.sound.at_work.well_made
-    refl c.requires.new c.requires.free c.requires.fits) c.in-Err.ensures.why
 
 -- ---- the choice is made
 

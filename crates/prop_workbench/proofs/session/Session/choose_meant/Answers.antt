@@ -3,6 +3,9 @@ use Rattle.prop_procedures.specs.Fitting.{kind_at}
 use Rattle.prop_procedures.specs.Stored.{span_kind}
 use Rattle.prop_vocabulary.specs.Said.{meant_of}
 use Rattle.prop_workbench.specs.Sessions.{state_of, state_from}
+use Rattle.prop_compound.specs.Numbered.{compounds_of}
+use Rattle.prop_workbench.specs.inner.Effects.{with_meants}
+use Rattle.prop_workbench.proofs.DefinedLemmas.{meants_relations}
 use Rattle.prop_workbench.proofs.ChoosingLemmas.{infos_may_be, few_elements, infos_count, chosen_state}
 use Rattle.prop_workbench.proofs.session.Session.choose_meant.Goals as goal
 
@@ -39,5 +42,9 @@ returns-in-Ok-choose_between-clause-ok g c =
     let infos = c.deref.ensures.value ∙ c.in-Ok.ensures.infos in
     chosen_state (state_of s) (state_from s.names c.infos_of.new.words s.definitions s.search.premises
     s.live.network.cells s.limit) _ c.args.choice.now c.args.cell (map meant_of c.args.meants.now) c.deref.result.now
-    (λ i. state_from s.names (c.in-Ok.ensures.words i) s.definitions s.search.premises s.live.network.cells s.limit)
+    ((λ i. state_from s.names (c.in-Ok.ensures.words i) s.definitions s.search.premises s.live.network.cells s.limit)
+    ∙ (λ i. record (state_of s) {
+      words = with_meants s.words (map meant_of c.args.meants.now);
+      definitions = compounds_of (meants_relations s.words (map meant_of c.args.meants.now) i) s.definitions;
+    }))
     infos c.in-Ok-choose_between.ensures.ok

@@ -4,7 +4,7 @@ use Rattle.prop_procedures.specs.Fitting.{kind_at}
 use Rattle.prop_procedures.specs.Kept.{stored_of}
 use Rattle.prop_cells.specs.Data.{Data}
 use Rattle.prop_language.specs.Said.{by_of}
-use Rattle.prop_workbench.specs.Refusing.{given_by}
+use Rattle.prop_compound.specs.Compounds.{given_by}
 use Rattle.prop_workbench.proofs.FlatLemmas.{still_fits, still_expanded, still_over, still_refused}
 use Rattle.prop_workbench.proofs.session.Session.expanded.Goals as goal
 

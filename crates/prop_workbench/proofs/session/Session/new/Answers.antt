@@ -1,4 +1,4 @@
-use Rattle.std.proofs.Common.{arith}
+use Rattle.std.proofs.Common.{arith, refl}
 use Rattle.std.proofs.lemmas.Option.{none-some}
 use Rattle.prop_workbench.proofs.StandLemmas.{no_stand_made, no_stand_search}
 use Rattle.prop_workbench.proofs.session.Session.new.Goals as goal
@@ -20,7 +20,12 @@ returns-clause-sound g c = record {
     };
     sized = rw (c.new-2.ensures.network, c.requires.empty) (λ k d l. absurd (omega (arith, l)));
     named = rw c.new-3.ensures (λ k d l. absurd (omega (arith, l)));
-    locals = rw c.new-4.ensures.none (λ k d l. absurd (omega (arith, l)));
+    locals = rw (c.new-4.ensures.none) (record {
+      locals = λ k d l. absurd (omega (arith, l));
+      relations = rw c.in_ok-words.ensures refl;
+      names = refl;
+      passed = λ k d l. absurd (omega (arith, l));
+    });
     defined = c.new-4.ensures.over _;
   };
   within = omega arith;

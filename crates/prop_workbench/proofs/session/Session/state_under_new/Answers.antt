@@ -7,12 +7,19 @@ use Rattle.prop_amb.specs.Moving.{interned}
 use Rattle.prop_workbench.proofs.StandingLemmas.{named_at_work, named_covers, new_number, new_stand, stated_at_work}
 use Rattle.prop_workbench.proofs.StandingLemmas.{stated_kinds, back_keeps, same_keeps}
 use Rattle.prop_amb.specs.Search.{Stand}
-use Rattle.prop_workbench.specs.Sessions.{work_of}
+use Rattle.prop_workbench.specs.Sessions.{work_of, state_of}
+use Rattle.prop_workbench.proofs.ChosenLemmas.{room_for_name}
 use Rattle.prop_workbench.proofs.AskLemmas.{believes_same}
 use Rattle.prop_workbench.proofs.WakingLemmas.{stirred_from, named_beliefs}
 use Rattle.prop_workbench.proofs.session.Session.state_under_new.Goals as goal
 
--- ---- the name is refused
+-- ---- the name has room
+
+pub intern-requires-clause-room : goal.intern-requires-clause-room
+intern-requires-clause-room g c =
+    room_for_name (state_of c.args.self.now) c.args.name.now c.requires.new c.requires.room
+
+-- ---- there was no memory for the name
 
 pub returns-in-Err-clause-keeps : goal.returns-in-Err-clause-keeps
 returns-in-Err-clause-keeps g c = same_keeps g.R.Rule.value_of c.args.self.now c.intern.new.self c.requires.sound

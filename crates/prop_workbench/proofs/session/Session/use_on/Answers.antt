@@ -1,4 +1,4 @@
-use Rattle.std.proofs.Common.{◌≡◌, ◌<◌, All, length, refl}
+use Rattle.std.proofs.Common.{◌≡◌, ◌∙◌, ◌<◌, All, length, refl, sym}
 use Rattle.std.proofs.lemmas.Result.{on_ok_weaker, on_err_weaker, IfErr-weaker}
 use Rattle.prop_numbers.specs.Sets.{set_of}
 use Rattle.prop_procedures.specs.Kept.{stored_of}
@@ -6,10 +6,11 @@ use Rattle.prop_cells.specs.Data.{Data, problem_of}
 use Rattle.prop_amb.specs.Search.{IsSearch}
 use Rattle.prop_language.specs.Said.{by_of}
 use Rattle.prop_scheduler.specs.Making.{with_flat}
-use Rattle.prop_workbench.specs.Refusing.{given_by}
+use Rattle.prop_compound.specs.Compounds.{given_by}
 use Rattle.prop_workbench.specs.Sessions.{state_of, state_from, AreKnown}
 use Rattle.prop_compound.specs.Kinds.{IsSized}
 use Rattle.prop_workbench.proofs.AttachLemmas.{may_make, sized_made, named_made, state_made}
+use Rattle.prop_workbench.proofs.NamesLemmas.{used_is}
 use Rattle.prop_workbench.proofs.AdditionLemmas.{search_added}
 use Rattle.prop_workbench.proofs.SoundLemmas.{made_or_not, unchanged}
 use Rattle.prop_workbench.proofs.RefusedLemmas.{unexpanded, no_room, with_room}
@@ -67,7 +68,7 @@ returns-in-Ok-clause-keeps g c = record {
         sized = made_or_not (λ (x : Data). All (IsSized s.words) x.kinds) d new made c.make.result c.make.ensures.ok
             c.make.ensures.err_same was.sized
             (sized_made library s.words s.definitions d c.args.name.now cells (given_by s.words (by_of c.args.by))
-            c.in-Ok.flat c.in-Ok.ensures.ok was.sized was.locals);
+            c.in-Ok.flat c.in-Ok.ensures.ok was.sized was.locals.locals);
         locals = was.locals;
         named = made_or_not (λ (x : Data). All (λ cell. cell < length x.kinds) s.names.cells) d new made c.make.result
             c.make.ensures.ok c.make.ensures.err_same was.named
@@ -84,7 +85,9 @@ returns-in-Ok-clause-fits g c =
     on_ok_weaker c.make.result (with_room (stored_of g.R.Rule.value_of s.live.network.library) s.names s.words
     s.definitions
     s.search.premises s.live.network.cells s.limit c.args.name.now c.args.cells.now (by_of c.args.by) c.in-Ok.flat
-    c.in-Ok.ensures.ok c.in-Ok.ensures.fits)
+    (c.in-Ok.ensures.ok ∙ sym (used_is (stored_of g.R.Rule.value_of s.live.network.library) s.names s.words
+    s.definitions s.search.premises s.live.network.cells s.limit c.args.name.now c.args.cells.now (by_of c.args.by)
+    c.requires.sound.locals)) c.in-Ok.ensures.fits c.requires.sound.locals)
     c.make.ensures.fits
 
 pub returns-in-Ok-clause-ok : goal.returns-in-Ok-clause-ok
@@ -93,7 +96,9 @@ returns-in-Ok-clause-ok g c =
     on_ok_weaker c.make.result (state_made (stored_of g.R.Rule.value_of s.live.network.library) s.names s.words
     s.definitions
     s.search.premises s.live.network.cells s.limit c.args.name.now c.args.cells.now (by_of c.args.by) c.in-Ok.flat
-    c.in-Ok.ensures.ok c.make.new.live.network.cells)
+    (c.in-Ok.ensures.ok ∙ sym (used_is (stored_of g.R.Rule.value_of s.live.network.library) s.names s.words
+    s.definitions s.search.premises s.live.network.cells s.limit c.args.name.now c.args.cells.now (by_of c.args.by)
+    c.requires.sound.locals)) c.make.new.live.network.cells)
     c.make.ensures.ok
 
 pub returns-in-Ok-clause-err : goal.returns-in-Ok-clause-err
@@ -101,7 +106,9 @@ returns-in-Ok-clause-err g c =
     let s = c.args.self.now in
     IfErr-weaker c.make.result _ _ (no_room (stored_of g.R.Rule.value_of s.live.network.library) s.names s.words
     s.definitions s.search.premises s.live.network.cells s.limit c.args.name.now c.args.cells.now (by_of c.args.by)
-    c.in-Ok.flat c.in-Ok.ensures.ok c.in-Ok.ensures.fits)
+    c.in-Ok.flat (c.in-Ok.ensures.ok ∙ sym (used_is (stored_of g.R.Rule.value_of s.live.network.library) s.names s.words
+    s.definitions s.search.premises s.live.network.cells s.limit c.args.name.now c.args.cells.now (by_of c.args.by)
+    c.requires.sound.locals)) c.in-Ok.ensures.fits c.requires.sound.locals)
     c.make.ensures.err
 
 pub returns-in-Ok-clause-err_same : goal.returns-in-Ok-clause-err_same
@@ -124,8 +131,9 @@ returns-in-Err-clause-keeps g c = unchanged c.requires.sound
 pub returns-in-Err-clause-err : goal.returns-in-Err-clause-err
 returns-in-Err-clause-err g c =
     let s = c.args.self.now in
-    unexpanded (stored_of g.R.Rule.value_of s.live.network.library) (state_of s) c.args.name.now c.args.cells.now
-    (by_of c.args.by) c.in-Err.refusal c.in-Err.ensures.err
+    unexpanded (stored_of g.R.Rule.value_of s.live.network.library) s.names s.words s.definitions s.search.premises
+    s.live.network.cells s.limit c.args.name.now c.args.cells.now (by_of c.args.by) c.in-Err.refusal
+    c.requires.sound.locals c.in-Err.ensures.err
 
 -- ---- what waits then
 
