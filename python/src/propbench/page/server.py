@@ -15,8 +15,6 @@ from http.server import BaseHTTPRequestHandler, ThreadingHTTPServer
 from importlib.resources import files
 from typing import Protocol
 
-from propbench.given import count_given
-
 LOCAL = "127.0.0.1"
 _MOST_PORT = 65_535
 # A question has so many bytes at the most.
@@ -84,7 +82,9 @@ class Server(ThreadingHTTPServer):
     def __init__(self, asked: Asked, port: int) -> None:
         """At this port of this machine, at any that is free where that is 0. Raises OSError, and
         TypeError and ValueError for what no port has."""
-        if not count_given(port, "a port") <= _MOST_PORT:
+        if not isinstance(port, int):
+            raise TypeError(f"a port is a whole number: {port!r}")
+        if not 0 <= port <= _MOST_PORT:
             raise ValueError(f"a port is a number from 0 to {_MOST_PORT}: {port}")
         self.asked = asked
         self.token = secrets.token_urlsafe(24)
