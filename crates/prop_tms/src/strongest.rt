@@ -10,6 +10,7 @@ ghost use Rattle.prop_tms.specs.Values.{entries_of};
 ghost use Rattle.prop_tms.specs.declared.supported.Supported.{Supported};
 
 use crate::gain::{Entry, Gain};
+use crate::few::few;
 use crate::gains::{count, gains};
 use crate::supported::Supported;
 use crate::values::Valued;
@@ -199,6 +200,18 @@ fn sole<'a, V: Partial>(
     Some(found)
 }
 
+/// The support of the entry, where it has fewer premises than the set, and else the set.
+#[inline]
+fn shorter<V: Partial>(
+    alone: Option<Entry<'_, V>>,
+    together: PremiseSet,
+) -> Result<PremiseSet, AllocError> {
+    match alone {
+        Some(entry) if count(entry.support) < count(&together) => entry.support.copy(),
+        _ => Ok(together),
+    }
+}
+
 /// What the believed entries say together, with the support of entries of which none can be left
 /// out. Entries of few premises come first, and no believed entry that says as much alone has fewer
 /// premises.
@@ -216,15 +229,16 @@ pub(crate) fn strongest<V: Partial>(
     ensures short { IfOk result (λ e.
         IsShort (entries_of values.now) (set_of worldview.now) e.value e.support) }
 {
+    if let Some(few) = few(values, worldview) {
+        let together = few.support()?;
+        let support = shorter(few.alone, together)?;
+        return Ok(Supported { value: few.value, support });
+    }
     let gains = gains(alloc, values, worldview)?;
     let value = said_together(&gains);
     let alone = alone(&gains, value);
     let together = thinned(alloc, gains, value)?;
-    let premises = count(&together);
-    let support = match alone {
-        Some(entry) if count(entry.support) < premises => entry.support.copy()?,
-        _ => together,
-    };
+    let support = shorter(alone, together)?;
     Ok(Supported { value, support })
 }
 
