@@ -85,7 +85,7 @@ def steps_tells() -> Optional[str]:
     nowhere = {**os.environ, "PATH": "/nowhere"}
     for words, env, wanted in (
         ([f"{TOP}/out/none"], None, "there is no program "),
-        (["/bin/true"], None, "/bin/true has no symbol prop_scheduler::runs::turn: "),
+        (["/bin/true"], None, "/bin/true has no symbol prop_cells::network::Network::call: "),
         (["/bin/true"], nowhere, "there is no nm: it is in Debian's package binutils"),
         (["/bin/true", "--only", "zzz"], None, "no session has 'zzz' in its name"),
     ):

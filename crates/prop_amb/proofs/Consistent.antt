@@ -1,7 +1,8 @@
 -- A settled network is consistent.
 use Rattle.std.proofs.Common.{List}
 use Rattle.prop_procedures.specs.Stored.{Stored}
-use Rattle.prop_cells.specs.Problems.{Premises, IsConsistent}
+use Rattle.prop_cells.specs.Problems.{IsConsistent}
+use Rattle.prop_cells.specs.inner.Problems.{Premises}
 use Rattle.prop_cells.specs.Data.{Data, beliefs, problem_of}
 use Rattle.prop_scheduler.specs.Turns.{IsSettled}
 

@@ -6,7 +6,8 @@ use Rattle.std.specs.List.{AllByRecursion}
 use Rattle.std.proofs.lemmas.Bool.{cases_eq, or_cases, and_parts, ltb-true, lt-leb, and_left}
 use Rattle.prop_numbers.specs.Sets.{set_of}
 use Rattle.prop_premises.specs.declared.choice.Choice.{Choice}
-use Rattle.prop_premises.specs.ChoiceLists.{hypothetical, hypotheticals_of, is_hypothetical, is_side_of, IsSide}
+use Rattle.prop_premises.specs.ChoiceLists.{hypothetical, hypotheticals_of, is_hypothetical, IsSide}
+use Rattle.prop_premises.specs.inner.ChoiceLists.{is_side_of}
 use Rattle.prop_premises.specs.ChoiceLists.{IsChoiceList, AreInOrder}
 use Rattle.prop_premises.specs.Origins.{Origin, believed_in, choices_of}
 use Rattle.prop_cells.specs.Problems.{Problem}

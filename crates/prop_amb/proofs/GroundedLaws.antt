@@ -3,10 +3,12 @@ use Rattle.std.proofs.Common.{◌≡◌, ℕ, ◌≤◌, IsTrue, Bool, true, fal
 use Rattle.std.proofs.lemmas.Bool.{true≢false}
 use Rattle.prop_numbers.specs.Sets.{Members}
 use Rattle.prop_premises.specs.declared.choice.Choice.{Choice}
-use Rattle.prop_premises.specs.ChoiceLists.{hypothetical, is_hypothetical, is_side_of}
+use Rattle.prop_premises.specs.ChoiceLists.{hypothetical, is_hypothetical}
+use Rattle.prop_premises.specs.inner.ChoiceLists.{is_side_of}
 use Rattle.prop_cells.specs.Problems.{Problem}
 use Rattle.prop_amb.specs.Moving.{IsFresh}
-use Rattle.prop_amb.specs.Refuted.{IsNogood, IsGrounded, IsUserPart}
+use Rattle.prop_amb.specs.Refuted.{IsNogood, IsGrounded}
+use Rattle.prop_amb.specs.inner.Refuted.{IsUserPart}
 use Rattle.prop_amb.proofs.RefutedLaws.{refuted_choice}
 use Rattle.prop_amb.proofs.SearchLaws.{both, side_is_of}
 

@@ -6,12 +6,15 @@ use Rattle.std.proofs.lemmas.Bool.{cases_eq, cases_Bool, eq-eqb, and_parts, leb-
 use Rattle.prop_numbers.specs.Sets.{Members, IsPart, union}
 use Rattle.prop_premises.specs.declared.choice.Choice.{Choice}
 use Rattle.prop_premises.specs.ChoiceLists.{hypothetical, IsSide, IsChoiceList, TakesSidesIn, hypotheticals_of}
-use Rattle.prop_premises.specs.ChoiceLists.{is_hypothetical, is_side_of, AreInOrder}
-use Rattle.prop_cells.specs.Problems.{Problem, IsContradictory}
+use Rattle.prop_premises.specs.ChoiceLists.{is_hypothetical, AreInOrder}
+use Rattle.prop_premises.specs.inner.ChoiceLists.{is_side_of}
+use Rattle.prop_cells.specs.Problems.{Problem}
+use Rattle.prop_cells.specs.inner.Problems.{IsContradictory}
 use Rattle.prop_amb.proofs.ProblemLaws.{contradictory_more}
 use Rattle.prop_nogoods.specs.Stores.{has_part}
 use Rattle.prop_nogoods.proofs.StoreLaws.{has_part-more}
-use Rattle.prop_amb.specs.Refuted.{IsRefuted, IsNogood, IsGrounded, IsUserPart, IsCovered}
+use Rattle.prop_amb.specs.Refuted.{IsRefuted, IsNogood, IsGrounded, IsCovered}
+use Rattle.prop_amb.specs.inner.Refuted.{IsUserPart}
 use Rattle.prop_amb.specs.inner.Joined.{IsJoined}
 use Rattle.prop_amb.proofs.ZipLemmas.{some_same, none_some, zip_at, zip_from}
 use Rattle.prop_amb.proofs.SearchLaws.{or_true_left, or_true_right, side_above, side_below}

@@ -11,7 +11,8 @@ use Rattle.prop_refusals.specs.Refusals.{most}
 use Rattle.prop_refusals.specs.declared.refusal.Limit.TheVariants.{Premises}
 use Rattle.prop_numbers.specs.Sets.{IsBelow, set_of}
 use Rattle.prop_premises.specs.declared.choice.Choice.{Choice}
-use Rattle.prop_premises.specs.ChoiceLists.{hypothetical, IsSide, is_side_of, hypotheticals_of, is_hypothetical}
+use Rattle.prop_premises.specs.ChoiceLists.{hypothetical, IsSide, hypotheticals_of, is_hypothetical}
+use Rattle.prop_premises.specs.inner.ChoiceLists.{is_side_of}
 use Rattle.prop_premises.specs.ChoiceLists.{AreInOrder, AreOfSides}
 use Rattle.prop_premises.specs.Origins.{Origin, User, Side, is_start, with_choice, choices_from, choices_of}
 use Rattle.prop_premises.proofs.ChoiceLemmas.{choices_of-with_choice, choices_of-take}

@@ -3,7 +3,8 @@ use Rattle.std.proofs.Common.{◌≡◌, ◌∙◌, ℕ, zero, suc, ◌+◌, ◌
 use Rattle.std.proofs.Common.{subst, false, arith, slice_get, slice_index_or}
 use Rattle.prop_numbers.specs.Sets.{Members, IsSame, union, without}
 use Rattle.prop_premises.specs.declared.choice.Choice.{Choice}
-use Rattle.prop_premises.specs.ChoiceLists.{hypothetical, is_hypothetical, is_side_of, IsSide}
+use Rattle.prop_premises.specs.ChoiceLists.{hypothetical, is_hypothetical, IsSide}
+use Rattle.prop_premises.specs.inner.ChoiceLists.{is_side_of}
 use Rattle.prop_cells.specs.Problems.{Problem}
 use Rattle.prop_amb.specs.inner.Joined.{others_of}
 use Rattle.prop_amb.specs.Search.{Stand, IsStand, choices_in, IsSearch}

@@ -12,7 +12,8 @@ use Rattle.prop_refusals.specs.Refusals.{most}
 use Rattle.prop_refusals.specs.declared.refusal.Limit.TheVariants.{Premises}
 use Rattle.prop_numbers.specs.Sets.{Members, IsSame, IsBelow, set_of, union}
 use Rattle.prop_premises.specs.ChoiceLists.{hypotheticals_of, is_hypothetical}
-use Rattle.prop_premises.specs.Origins.{Origin, User, Side, is_believed, is_user_at, is_start, believed_in}
+use Rattle.prop_premises.specs.Origins.{Origin, User, Side, is_user_at, is_start, believed_in}
+use Rattle.prop_premises.specs.inner.Origins.{is_believed}
 use Rattle.prop_premises.specs.Origins.{premise_number, with_name, choices_from, choices_of, IsNumbered}
 use Rattle.prop_premises.proofs.ChoiceLemmas.{choices_of-user}
 use Rattle.prop_premises.proofs.ChangeLemmas.{believed_in-with_name}

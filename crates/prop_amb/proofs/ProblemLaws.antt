@@ -1,7 +1,8 @@
 -- Contradictory sets with more premises, and with more statements.
 use Rattle.std.proofs.Common.{ℕ, IsTrue, Option, Some, None, get_or, refl}
 use Rattle.prop_numbers.specs.Sets.{Members, IsPart}
-use Rattle.prop_cells.specs.Problems.{Problem, Assignment, IsSolution, IsContradictory, is_member}
+use Rattle.prop_cells.specs.Problems.{Problem, Assignment, IsSolution, is_member}
+use Rattle.prop_cells.specs.inner.Problems.{IsContradictory}
 
 member_more : (s t : Members) → IsPart s t → (p : Option ℕ) → IsTrue (is_member s p) → IsTrue (is_member t p)
 member_more s t part None h = refl

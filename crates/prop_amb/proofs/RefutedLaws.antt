@@ -6,12 +6,14 @@ use Rattle.std.proofs.lemmas.Bool.{cases_order, le-leb, lt-ltb, and_from}
 use Rattle.prop_numbers.specs.Sets.{Members, IsPart, union}
 use Rattle.prop_premises.specs.declared.choice.Choice.{Choice}
 use Rattle.prop_premises.specs.ChoiceLists.{hypothetical, IsSide, IsChoiceList, TakesSidesIn, hypotheticals_of}
-use Rattle.prop_premises.specs.ChoiceLists.{worldview, is_hypothetical, is_side_of, IsBefore}
+use Rattle.prop_premises.specs.ChoiceLists.{worldview, is_hypothetical, IsBefore}
+use Rattle.prop_premises.specs.inner.ChoiceLists.{is_side_of}
 use Rattle.prop_cells.specs.Problems.{Problem, Extends}
 use Rattle.prop_cells.proofs.ProblemLaws.{contradictory_extends, related_extends}
 use Rattle.prop_nogoods.proofs.StoreLaws.{has_part-more}
 use Rattle.prop_amb.proofs.ProblemLaws.{contradictory_more}
-use Rattle.prop_amb.specs.Refuted.{IsRefuted, IsListRefuted, IsFirstConsistent, IsNogood, IsGrounded, IsCovered}
+use Rattle.prop_amb.specs.Refuted.{IsRefuted, IsFirstConsistent, IsNogood, IsGrounded, IsCovered}
+use Rattle.prop_amb.specs.inner.Refuted.{IsListRefuted}
 
 -- added statements and instances keep a refuted set refuted
 pub refuted_extends : (old new : Problem) (choices : List Choice) (n : Members) → Extends old new

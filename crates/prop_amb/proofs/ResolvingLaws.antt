@@ -5,7 +5,8 @@ use Rattle.std.proofs.Common.{slice_get, slice_index_or}
 use Rattle.std.proofs.lemmas.Bool.{cases_lt, cases_Bool, or_cases, and_parts, eqb-true, eq-eqb, lt-ltb, le-ltb}
 use Rattle.prop_numbers.specs.Sets.{Members, IsPart, IsSame, set_of, union, without}
 use Rattle.prop_premises.specs.declared.choice.Choice.{Choice}
-use Rattle.prop_premises.specs.ChoiceLists.{hypothetical, hypotheticals_of, is_side_of, IsSide, IsChoiceList}
+use Rattle.prop_premises.specs.ChoiceLists.{hypothetical, hypotheticals_of, IsSide, IsChoiceList}
+use Rattle.prop_premises.specs.inner.ChoiceLists.{is_side_of}
 use Rattle.prop_premises.specs.ChoiceLists.{TakesSidesIn, AreInOrder}
 use Rattle.prop_cells.specs.Problems.{Problem}
 use Rattle.prop_nogoods.specs.Stores.{has_part}

@@ -7,8 +7,10 @@ use Rattle.std.proofs.lemmas.Bool.{and_left, and_right}
 use Rattle.prop_numbers.specs.Sets.{Members, IsPart, union, set_of}
 use Rattle.prop_premises.specs.declared.choice.Choice.{Choice}
 use Rattle.prop_premises.specs.ChoiceLists.{hypothetical, IsSide, IsChoiceList, TakesSidesIn, hypotheticals_of}
-use Rattle.prop_premises.specs.ChoiceLists.{worldview, is_hypothetical, is_side_of, IsBefore, AreInOrder}
-use Rattle.prop_cells.specs.Problems.{Problem, IsContradictory}
+use Rattle.prop_premises.specs.ChoiceLists.{worldview, is_hypothetical, IsBefore, AreInOrder}
+use Rattle.prop_premises.specs.inner.ChoiceLists.{is_side_of}
+use Rattle.prop_cells.specs.Problems.{Problem}
+use Rattle.prop_cells.specs.inner.Problems.{IsContradictory}
 use Rattle.prop_amb.proofs.ProblemLaws.{contradictory_more}
 use Rattle.prop_nogoods.specs.Stores.{has_part}
 use Rattle.prop_nogoods.proofs.StoreLaws.{has_part-more}

@@ -4,8 +4,8 @@ use Rattle.prop_numbers.specs.Sets.{Members, IsPart, union}
 use Rattle.prop_premises.specs.declared.choice.Choice.{Choice}
 use Rattle.prop_premises.specs.ChoiceLists.{IsChoiceList, TakesSidesIn, hypotheticals_of, worldview}
 use Rattle.prop_premises.specs.ChoiceLists.{is_hypothetical, IsBefore}
-use Rattle.prop_cells.specs.Problems.{Problem, IsConsistent, IsContradictory}
-use Rattle.prop_cells.specs.Reach.{IsRelatedAt}
+use Rattle.prop_cells.specs.Problems.{Problem, IsConsistent}
+use Rattle.prop_cells.specs.Reach.{Reaches}
 use Rattle.prop_nogoods.specs.Stores.{has_part}
 
 -- The set names at most one side of each choice, and is contradictory with every choice list that
@@ -13,18 +13,12 @@ use Rattle.prop_nogoods.specs.Stores.{has_part}
 pub record IsRefuted (problem : Problem) (choices : List Choice) (n : Members) : Type 0 where
   pub one_side : (list : List ℕ) × IsChoiceList choices list × TakesSidesIn n choices list
   pub always : (list : List ℕ) → IsChoiceList choices list → TakesSidesIn n choices list
-      → IsContradictory problem (union n (hypotheticals_of choices list))
+      → ¬ (IsConsistent problem (union n (hypotheticals_of choices list)))
 
--- the worldview of the list is contradictory
-abbrev pub IsListRefuted : Problem → Members → List Choice → List ℕ → Type 0
-IsListRefuted problem believed choices list =
-    IsContradictory problem (worldview believed choices list)
-
--- every choice list before this one is refuted
+-- with every choice list before this one, what is believed is contradictory
 abbrev pub AllBeforeRefuted : Problem → Members → List Choice → List ℕ → Type 0
-AllBeforeRefuted problem believed choices list =
-    (earlier : List ℕ) → IsChoiceList choices earlier → IsBefore earlier list
-    → IsListRefuted problem believed choices earlier
+AllBeforeRefuted problem believed choices list = (earlier : List ℕ) → IsChoiceList choices earlier
+    → IsBefore earlier list → ¬ (IsConsistent problem (worldview believed choices earlier))
 
 -- the choice list that isn't refuted and before which every list is
 pub record IsFirstConsistent (problem : Problem) (believed : Members) (choices : List Choice)
@@ -33,26 +27,21 @@ pub record IsFirstConsistent (problem : Problem) (believed : Members) (choices :
   pub consistent : IsConsistent problem (worldview believed choices list)
   pub earlier : AllBeforeRefuted problem believed choices list
 
--- the user's premises of the first are in the second
-abbrev pub IsUserPart : List Choice → Members → Members → Type 0
-IsUserPart choices s t = (p : ℕ) → IsTrue (s p) → is_hypothetical choices p ≡ false → IsTrue (t p)
-
 -- a refuted set each of whose premises reaches one same cell
 pub record IsNogood (problem : Problem) (choices : List Choice) (n : Members) : Type 0 where
   pub refuted : IsRefuted problem choices n
   pub cell : ℕ
-  pub related : IsRelatedAt problem cell n
+  pub related : (p : ℕ) → IsTrue (n p) → Reaches problem p cell
 
 -- each user's premise in the set belongs to a nogood whose user's premises all lie in the set
 abbrev pub IsGrounded : Problem → List Choice → Members → Type 0
-IsGrounded problem choices n =
-    (p : ℕ) → IsTrue (n p) → is_hypothetical choices p ≡ false
-    → (m : Members) × IsTrue (m p) × IsNogood problem choices m × IsUserPart choices m n
+IsGrounded problem choices n = (p : ℕ) → IsTrue (n p) → is_hypothetical choices p ≡ false
+    → (m : Members) × IsTrue (m p) × IsNogood problem choices m
+    × ((q : ℕ) → IsTrue (m q) → is_hypothetical choices q ≡ false → IsTrue (n q))
 
 -- with every choice list, some listed set is part of the set and the list's hypothetical premises
 abbrev pub IsCovered : List Choice → List (List ℕ) → Members → Type 0
-IsCovered choices listed m =
-    (list : List ℕ) → IsChoiceList choices list
+IsCovered choices listed m = (list : List ℕ) → IsChoiceList choices list
     → IsTrue (has_part listed (union m (hypotheticals_of choices list)))
 
 -- Believed premises of the user's that are refuted, for reasons that lie in the set and are listed:

@@ -4,3 +4,4 @@ pub mod Refuting
 pub mod Settling
 pub mod Stepping
 pub mod Trying
+pub mod Refuted

@@ -13,9 +13,8 @@ use Rattle.prop_arith.specs.declared.kit.Kit.TheVariants.{Coimage}
 
 -- the rules in order
 abbrev pub in_order : List kits.Kit
-in_order =
-    Add ∷ Sub ∷ Mul ∷ Div ∷ Square ∷ Root ∷ Less ∷ Below ∷ Above ∷ Copy ∷ Alike ∷ Apart ∷ Switch
-    ∷ Not ∷ And ∷ AndBack ∷ Or ∷ OrBack ∷ Image ∷ Coimage ∷ []
+in_order = Add ∷ Sub ∷ Mul ∷ Div ∷ Square ∷ Root ∷ Less ∷ Below ∷ Above ∷ Copy ∷ Alike ∷ Apart
+    ∷ Switch ∷ Not ∷ And ∷ AndBack ∷ Or ∷ OrBack ∷ Image ∷ Coimage ∷ []
 
 -- the one form of each rule
 abbrev pub form_of : kits.Kit → Form

@@ -1,8 +1,10 @@
 -- The narrowest information that a rule can answer, and where it is answered.
 use Rattle.std.specs.Prelude.{◌≡◌, ℕ, ℤ, neg_ℤ, ◌+ℤ◌, ◌-ℤ◌, ◌≤ℤ◌, List, [], ◌∷◌, true}
-use Rattle.prop_intervals.specs.Quotients.{int_div_floor, int_div_ceil}
-use Rattle.prop_intervals.specs.Spans.{least_product, greatest_product, least_square}
-use Rattle.prop_intervals.specs.Spans.{greatest_square}
+use Rattle.prop_intervals.specs.Quotients.{int_div_ceil}
+use Rattle.prop_intervals.specs.inner.Parts.{int_div_floor}
+use Rattle.prop_intervals.specs.Spans.{least_product, greatest_product}
+use Rattle.prop_intervals.specs.inner.Parts.{least_square}
+use Rattle.prop_intervals.specs.inner.Parts.{greatest_square}
 use Rattle.prop_lattice.specs.Order.{Below}
 use Rattle.prop_lattice.specs.Points.{Point, Holds}
 use Rattle.prop_lattice.specs.Rank.{IsOf}

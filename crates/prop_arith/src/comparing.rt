@@ -2,7 +2,8 @@
 ghost use Rattle.std.specs.Prelude.{◌≡◌, ◌<◌, ◌∷◌, []};
 ghost use Rattle.prop_lattice.specs.Order.{merge_of, is_contradiction};
 ghost use Rattle.prop_procedures.specs.declared.shape.Param.{Param};
-ghost use Rattle.prop_arith.specs.Comparing.{is_single, first_element, others_of};
+ghost use Rattle.prop_arith.specs.Comparing.{is_single, others_of};
+ghost use Rattle.prop_arith.specs.inner.Compared.{first_element};
 ghost use Rattle.prop_arith.specs.Values.{value_of};
 ghost use Rattle.prop_arith.specs.declared.kit.Kit.TheVariants.{Less, Below, Above, Alike, Apart};
 

@@ -1,7 +1,7 @@
 //! What the rules of truth compute, a plain function for each.
 ghost use Rattle.std.specs.Prelude.{◌≡◌, ◌∷◌, []};
 ghost use Rattle.prop_procedures.specs.declared.shape.Param.{Param};
-ghost use Rattle.prop_arith.specs.Comparing.{is_just};
+ghost use Rattle.prop_arith.specs.inner.Compared.{is_just};
 ghost use Rattle.prop_arith.specs.Values.{value_of};
 ghost use Rattle.prop_arith.specs.declared.kit.Kit.TheVariants.{Switch, Not, And, AndBack, Or};
 ghost use Rattle.prop_arith.specs.declared.kit.Kit.TheVariants.{OrBack};

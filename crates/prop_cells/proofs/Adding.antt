@@ -14,7 +14,8 @@ use Rattle.prop_tms.specs.Beliefs.{belief_of}
 use Rattle.prop_tms.proofs.BeliefUses.{said_kept}
 use Rattle.prop_procedures.specs.declared.shape.Kinded.{Kinded}
 use Rattle.prop_procedures.specs.Stored.{span_kind}
-use Rattle.prop_cells.specs.Problems.{Premises, Assignment, AreOfKinds, MergesAt, is_member}
+use Rattle.prop_cells.specs.Problems.{Assignment, MergesAt, is_member}
+use Rattle.prop_cells.specs.inner.Problems.{Premises, AreOfKinds}
 use Rattle.prop_procedures.specs.Fitting.{kind_at}
 use Rattle.prop_cells.specs.Data.{Data, Entry, IsWellMade, AddsAt, Merges, beliefs, content_of, support_of}
 use Rattle.prop_cells.proofs.Fitted.{merge_of_kind}

@@ -11,7 +11,7 @@ use Rattle.prop_lattice.specs.Order.{merge_of}
 use Rattle.prop_numbers.specs.Sets.{Members, set_of, is_below, is_within, IsPart}
 use Rattle.prop_numbers.proofs.WithinLemmas.{within_has}
 use Rattle.prop_tms.specs.Beliefs.{believed_of, merge_of_all}
-use Rattle.prop_cells.specs.Problems.{Premises}
+use Rattle.prop_cells.specs.inner.Problems.{Premises}
 use Rattle.prop_cells.specs.Data.{Entry, AddsAt, TrimsAt, beliefs, content_of}
 use Rattle.prop_cells.specs.Forgetting.{not_on}
 use Rattle.prop_cells.specs.inner.Bearing.{BearOn, AreSame, UnitesAt}

@@ -17,13 +17,17 @@ use Rattle.prop_procedures.specs.Stored.{Stored}
 use Rattle.prop_procedures.specs.Fitting.{kind_at}
 use Rattle.prop_procedures.specs.declared.shape.Kinded.{Kinded}
 use Rattle.prop_cells.specs.declared.instance.Statement.{Statement}
-use Rattle.prop_cells.specs.Problems.{Problem, Premises, Assignment, Satisfies, Meets, IsSolution, Entails}
-use Rattle.prop_cells.specs.Problems.{IsContradictory, is_member}
-use Rattle.prop_cells.specs.Reach.{Reaches, IsRelatedAt}
+use Rattle.prop_cells.specs.Problems.{Problem, Assignment, IsSolution, Entails}
+use Rattle.prop_cells.specs.inner.Problems.{Premises, Satisfies, Meets}
+use Rattle.prop_cells.specs.Problems.{is_member}
+use Rattle.prop_cells.specs.inner.Problems.{IsContradictory}
+use Rattle.prop_cells.specs.Reach.{Reaches}
+use Rattle.prop_cells.specs.inner.Reach.{IsRelatedAt}
 use Rattle.prop_cells.specs.Reach.Reaches.{stated, passed}
 use Rattle.prop_cells.specs.Data.{Data, Entry, IsStated, IsWellMade, IsFounded, IsKept, beliefs, content_of, problem_of}
 use Rattle.prop_cells.specs.inner.Data.{IsStored}
-use Rattle.prop_cells.specs.Forgetting.{Forgets, forgotten, not_on, not_under, is_under}
+use Rattle.prop_cells.specs.Forgetting.{Forgets, forgotten, not_on, not_under}
+use Rattle.prop_cells.specs.inner.Forgetting.{is_under}
 
 -- ---- a problem
 
@@ -31,7 +35,7 @@ use Rattle.prop_cells.specs.Forgetting.{Forgets, forgotten, not_on, not_under, i
 solution_forgets : (old new : Problem) (p : ℕ) (s : Premises) (a : Assignment) → Forgets old new p → s p ≡ false
     → IsSolution new s a → IsSolution old s a
 solution_forgets old new p s a less out sol = record {
-  kinds = record { of_kind = λ cell k e. sol.kinds.of_kind cell k (less.cells cell k e) };
+  kinds = λ cell k e. sol.kinds cell k (less.cells cell k e);
   statements = λ k d l. at (get_or old.statements k d) (less.statements k d l);
   instances = λ k d l. All-contains (Meets a) new.constraints (get_or old.constraints k d) sol.instances
       (less.constraints k d l);

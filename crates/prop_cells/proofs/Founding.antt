@@ -15,7 +15,8 @@ use Rattle.prop_tms.specs.Beliefs.{belief_of, IsLean}
 use Rattle.prop_tms.proofs.BeliefLemmas.{belief_below}
 use Rattle.prop_tms.proofs.BeliefUses.{within_lean, lean_is_enough}
 use Rattle.prop_procedures.specs.Stored.{Stored}
-use Rattle.prop_cells.specs.Problems.{Problem, Premises, Assignment, IsSolution, Satisfies, Entails, IsContradictory}
+use Rattle.prop_cells.specs.Problems.{Problem, Assignment, IsSolution, Entails}
+use Rattle.prop_cells.specs.inner.Problems.{Premises, Satisfies, IsContradictory}
 use Rattle.prop_cells.specs.Problems.{is_member}
 use Rattle.prop_cells.specs.Reach.{Reaches, Explains, IsConflict}
 use Rattle.prop_cells.proofs.RowLemmas.{or_none}

@@ -7,7 +7,8 @@ use Rattle.prop_lattice.specs.declared.info.Info.{Info}
 use Rattle.prop_lattice.specs.declared.info.Info.TheVariants.{Nothing}
 use Rattle.prop_lattice.specs.Order.{merge_of}
 use Rattle.prop_tms.specs.Beliefs.{belief_of}
-use Rattle.prop_cells.specs.Problems.{Premises, MergesAt}
+use Rattle.prop_cells.specs.Problems.{MergesAt}
+use Rattle.prop_cells.specs.inner.Problems.{Premises}
 use Rattle.prop_cells.specs.Data.{Entry, beliefs}
 use Rattle.prop_cells.specs.Knowing.{known_at, AreBeliefs, ArePassed}
 

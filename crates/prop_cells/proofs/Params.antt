@@ -10,7 +10,7 @@ use Rattle.prop_procedures.specs.declared.shape.Param.TheVariants as params
 use Rattle.prop_procedures.specs.declared.shape.Need.{Need}
 use Rattle.prop_procedures.specs.declared.shape.Need.TheVariants as needs
 use Rattle.prop_procedures.specs.Rules.{is_scale}
-use Rattle.prop_procedures.specs.Fitting.{fitting_param}
+use Rattle.prop_procedures.specs.Rules.{fitting_param}
 use Rattle.prop_cells.specs.Instances.{param_in}
 
 given_fits : (need : Need) (given : Param) → is_none (fitting_param need (Some given)) ≡ false

@@ -13,7 +13,8 @@ use Rattle.prop_lattice.specs.declared.info.Info.{Info}
 use Rattle.prop_lattice.specs.declared.info.Info.TheVariants.{Nothing, Span, Set, Sym, Contradiction}
 use Rattle.prop_lattice.specs.declared.info.Kind.{Kind}
 use Rattle.prop_lattice.specs.declared.info.Kind.TheVariants as kinds
-use Rattle.prop_lattice.specs.Ends.{AreEnds, AreSome, ends_or_not, some_or_not}
+use Rattle.prop_lattice.specs.Ends.{AreEnds, ends_or_not, some_or_not}
+use Rattle.prop_lattice.specs.inner.Ends.{AreSome}
 use Rattle.prop_lattice.specs.Order.{Below, HasElement, is_contradiction}
 use Rattle.prop_lattice.specs.laws.OrderLaws.{info_laws}
 use Rattle.prop_lattice.specs.declared.span.Span as spans
@@ -24,9 +25,12 @@ use Rattle.prop_lattice.proofs.PartLemmas.{below_top}
 use Rattle.prop_procedures.specs.declared.shape.Kinded.{Kinded}
 use Rattle.prop_procedures.specs.declared.shape.Param.{Param}
 use Rattle.prop_procedures.specs.declared.shape.Shape.{Shape}
-use Rattle.prop_procedures.specs.Rules.{kind_of, ArePointsOf, EachHolds}
-use Rattle.prop_procedures.specs.Stored.{Stored, is_same, span_kind}
-use Rattle.prop_cells.specs.Problems.{Premises, AreOfKinds, Meets, IsSolution}
+use Rattle.prop_procedures.specs.Rules.{kind_of, EachHolds}
+use Rattle.prop_procedures.specs.inner.Places.{ArePointsOf}
+use Rattle.prop_procedures.specs.Stored.{Stored, span_kind}
+use Rattle.prop_procedures.specs.inner.Places.{is_same}
+use Rattle.prop_cells.specs.Problems.{IsSolution}
+use Rattle.prop_cells.specs.inner.Problems.{Premises, AreOfKinds, Meets}
 use Rattle.prop_procedures.specs.Fitting.{kind_at}
 use Rattle.prop_cells.specs.Instances.{Instance, IsFitting, IsWithin, constraint_of}
 use Rattle.prop_cells.specs.Points.{AreSoundBy, Attached, AreFitting, problem_of, ArePoints, EntailedHoldsPoints}
@@ -216,11 +220,11 @@ module _ (library : List Stored) (related : ℕ → Param → List Point → Poi
       (right_at q n.kinds x f.fits) inputs (in_range x.output w.output) in
       let holds = sound x.procedure q f.at (any_at q n.kinds x) x.param (map (λ c. single (points c)) x.inputs)
       (map points x.inputs) (points x.output) call at.0 at.1 (each_holds points x.inputs) r in
-      record { below = rw (f.at, singles_clear points x.inputs) (single_above _ _ holds) }
+      rw (f.at, singles_clear points x.inputs) (single_above _ _ holds)
 
   solved : IsSolution (problem_of library n) s (λ c. single (points c))
   solved = record {
-    kinds = singles_are_of_kinds;
+    kinds = singles_are_of_kinds.of_kind;
     statements = λ k d l h. single_above _ _ (p.stated k d l h);
     instances = All-map (Meets (λ c. single (points c))) (constraint_of library) n.instances
         (λ k d l. met (get_or n.instances k d) (fit.fitting k d l) (fit.within k d l) (p.together k d l));

@@ -19,7 +19,8 @@ use Rattle.prop_tms.proofs.BeliefUses.{belief_of-more}
 use Rattle.prop_procedures.specs.declared.shape.Kinded.{Kinded}
 use Rattle.prop_procedures.specs.Fitting.{kind_at}
 use Rattle.prop_cells.specs.declared.instance.Statement.{Statement}
-use Rattle.prop_cells.specs.Problems.{Premises, is_member}
+use Rattle.prop_cells.specs.Problems.{is_member}
+use Rattle.prop_cells.specs.inner.Problems.{Premises}
 use Rattle.prop_cells.specs.Data.{Data, Entry, IsStated, IsWellMade, TrimsAt, beliefs, content_of, derived_of}
 use Rattle.prop_cells.specs.Data.{most_derived, support_of, told_of}
 use Rattle.prop_cells.specs.inner.Data.{IsStored, AreTold}

@@ -1,20 +1,16 @@
 -- What is left where the statements under a premise go.
-use Rattle.std.specs.Prelude.{◌≡◌, ◌⊎◌, ◌==◌, ℕ, Bool, false, not, map, filter, All, Contains, List}
-use Rattle.std.specs.Prelude.{Option, Some, None, slice_get}
+use Rattle.std.specs.Prelude.{◌≡◌, ◌⊎◌, ◌==◌, ℕ, false, not, map, filter, All, Contains, List}
+use Rattle.std.specs.Prelude.{Some, slice_get}
+use Rattle.std.specs.Option.{option_map_or}
 use Rattle.prop_numbers.specs.Sets.{set_of}
 use Rattle.prop_procedures.specs.declared.shape.Kinded.{Kinded}
 use Rattle.prop_cells.specs.declared.instance.Statement.{Statement}
 use Rattle.prop_cells.specs.Problems.{Problem}
 use Rattle.prop_cells.specs.Data.{Data, Entry}
 
--- whether a statement with this premise, or with none, stands under p
-abbrev pub is_under : ℕ → Option ℕ → Bool
-is_under p None = false
-is_under p (Some q) = q == p
-
--- the statements that don't stand under p
+-- the statements that don't stand under p: those of other premises, or of none
 abbrev pub not_under : ℕ → List Statement → List Statement
-not_under p statements = filter (λ x. not (is_under p x.premise)) statements
+not_under p = filter (λ x. not (option_map_or (λ q. q == p) x.premise false))
 
 -- the entries that don't rest on p
 abbrev pub not_on : ℕ → List Entry → List Entry

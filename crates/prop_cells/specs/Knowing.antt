@@ -1,7 +1,7 @@
 -- What is known of what is believed.
 use Rattle.std.specs.Prelude.{◌≡◌, ◌<◌, ◌≤◌, ℕ, List, Option, Some, None, slice_index_or}
 use Rattle.prop_lattice.specs.declared.info.Info.{Info}
-use Rattle.prop_cells.specs.Problems.{Premises}
+use Rattle.prop_cells.specs.inner.Problems.{Premises}
 use Rattle.prop_cells.specs.Data.{Entry, beliefs}
 
 -- what is known of a cell, and nothing where there is no place for it

@@ -2,18 +2,18 @@
 use Rattle.std.specs.Prelude.{◌≡◌, ℕ, IsTrue, List, map, length, Some, All, slice_get}
 use Rattle.prop_lattice.specs.Points.{Point, Holds, IsPointOf}
 use Rattle.prop_lattice.specs.declared.info.Info.{Info}
+use Rattle.prop_numbers.specs.Sets.{Members}
 use Rattle.prop_procedures.specs.declared.shape.Kinded.{Kinded}
 use Rattle.prop_procedures.specs.declared.shape.Param.{Param}
 use Rattle.prop_procedures.specs.Rules.{IsSound}
 use Rattle.prop_procedures.specs.Stored.{Stored}
-use Rattle.prop_cells.specs.Problems.{Problem, Premises, Entails, IsConsistent, is_member}
+use Rattle.prop_cells.specs.Problems.{Problem, Entails, IsConsistent, is_member}
 use Rattle.prop_cells.specs.Instances.{Instance, IsFitting, IsWithin, constraint_of}
 use Rattle.prop_cells.specs.declared.instance.Statement.{Statement}
 
 -- the answers of each procedure hold the points that belong to points of its arguments
 abbrev pub AreSoundBy : List Stored → (ℕ → Param → List Point → Point → Type 0) → Type 0
-AreSoundBy library related =
-    (n : ℕ) (p : Stored) → slice_get library n ≡ Some p
+AreSoundBy library related = (n : ℕ) (p : Stored) → slice_get library n ≡ Some p
     → IsSound p.value (related n) p.ins p.out p.need
 
 -- cells, what was stated of them and what is attached to them
@@ -37,7 +37,7 @@ pub record AreFitting (library : List Stored) (n : Attached) : Type 0 where
 -- a point for each cell, of its kind, that lies in each statement of the set; the points of each
 -- instance belong together
 pub record ArePoints (related : ℕ → Param → List Point → Point → Type 0) (n : Attached)
-    (s : Premises) (points : ℕ → Point) : Type 0 where
+    (s : Members) (points : ℕ → Point) : Type 0 where
   pub of_kind : (cell : ℕ) (k : Kinded) → slice_get n.kinds cell ≡ Some k
       → IsPointOf k.kind k.size (points cell)
   pub stated : All (λ x. IsTrue (is_member s x.premise) → Holds x.info (points x.cell)) n.statements
@@ -47,12 +47,12 @@ pub record ArePoints (related : ℕ → Param → List Point → Point → Type 
 -- what a set entails holds such points
 abbrev pub EntailedHoldsPoints : List Stored → (ℕ → Param → List Point → Point → Type 0) → Type 0
 EntailedHoldsPoints library related =
-    (n : Attached) (s : Premises) (points : ℕ → Point) → AreFitting library n
+    (n : Attached) (s : Members) (points : ℕ → Point) → AreFitting library n
     → ArePoints related n s points → (cell : ℕ) (v : Info)
     → Entails (problem_of library n) s cell v → Holds v (points cell)
 
 -- a set that has such points is consistent
 abbrev pub PointsAreConsistent : List Stored → (ℕ → Param → List Point → Point → Type 0) → Type 0
 PointsAreConsistent library related =
-    (n : Attached) (s : Premises) (points : ℕ → Point) → AreFitting library n
+    (n : Attached) (s : Members) (points : ℕ → Point) → AreFitting library n
     → ArePoints related n s points → IsConsistent (problem_of library n) s

@@ -3,9 +3,12 @@ use Rattle.std.specs.Prelude.{◌≡◌, ℕ}
 use Rattle.prop_lattice.specs.declared.info.Info.{Info}
 use Rattle.prop_lattice.specs.declared.info.Info.TheVariants.{Contradiction}
 use Rattle.prop_numbers.specs.Sets.{IsPart}
-use Rattle.prop_cells.specs.Problems.{Problem, Premises, Assignment, IsLeastSolution, Entails}
-use Rattle.prop_cells.specs.Problems.{IsContradictory, Extends}
-use Rattle.prop_cells.specs.Reach.{Reaches, IsRelatedAt}
+use Rattle.prop_cells.specs.Problems.{Problem, Assignment, IsLeastSolution, Entails}
+use Rattle.prop_cells.specs.inner.Problems.{Premises}
+use Rattle.prop_cells.specs.Problems.{Extends}
+use Rattle.prop_cells.specs.inner.Problems.{IsContradictory}
+use Rattle.prop_cells.specs.Reach.{Reaches}
+use Rattle.prop_cells.specs.inner.Reach.{IsRelatedAt}
 
 -- two least solutions are one, cell by cell
 abbrev pub LeastIsUnique : Type 0

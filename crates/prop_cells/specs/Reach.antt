@@ -1,9 +1,9 @@
 -- Which cells a premise can bear on.
 use Rattle.std.specs.Prelude.{◌≡◌, ℕ, IsTrue, Some, Contains}
 use Rattle.prop_lattice.specs.declared.info.Info.{Info}
-use Rattle.prop_numbers.specs.Sets.{IsPart}
+use Rattle.prop_numbers.specs.Sets.{Members, IsPart}
 use Rattle.prop_cells.specs.declared.instance.Statement.{Statement}
-use Rattle.prop_cells.specs.Problems.{Premises, Problem, Constraint, Entails, IsContradictory}
+use Rattle.prop_cells.specs.Problems.{Problem, Constraint, Entails, IsConsistent}
 
 -- a premise reaches the cells of its statements and, with an instance's input, also its output
 pub data Reaches (problem : Problem) (p : ℕ) : ℕ → Type 0 where
@@ -12,21 +12,17 @@ pub data Reaches (problem : Problem) (p : ℕ) : ℕ → Type 0 where
   passed : (c : Constraint) (input : ℕ) → Contains problem.constraints c → Contains c.inputs input
       → Reaches problem p input → Reaches problem p c.output
 
--- each premise of the set reaches the cell
-abbrev pub IsRelatedAt : Problem → ℕ → Premises → Type 0
-IsRelatedAt problem cell s = (p : ℕ) → IsTrue (s p) → Reaches problem p cell
-
 -- the premises are a part of what is believed, entail at least the information at the cell by
 -- themselves, and each reaches the cell
-pub record Explains (problem : Problem) (believed : Premises) (cell : ℕ) (v : Info) (s : Premises) :
+pub record Explains (problem : Problem) (believed : Members) (cell : ℕ) (v : Info) (s : Members) :
     Type 0 where
   pub part : IsPart s believed
   pub entails : Entails problem s cell v
-  pub related : IsRelatedAt problem cell s
+  pub related : (p : ℕ) → IsTrue (s p) → Reaches problem p cell
 
 -- believed premises that are contradictory by themselves, each of which reaches one same cell
-pub record IsConflict (problem : Problem) (believed : Premises) (s : Premises) : Type 0 where
+pub record IsConflict (problem : Problem) (believed : Members) (s : Members) : Type 0 where
   pub part : IsPart s believed
-  pub contradictory : IsContradictory problem s
+  pub contradictory : ¬ (IsConsistent problem s)
   pub cell : ℕ
-  pub related : IsRelatedAt problem cell s
+  pub related : (p : ℕ) → IsTrue (s p) → Reaches problem p cell

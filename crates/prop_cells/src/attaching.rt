@@ -2,9 +2,11 @@
 ghost use Rattle.std.specs.Prelude.{◌≡◌, ◌<◌, ◌≤◌, ◌+◌, ◌++◌, ◌∷◌, [], nat_le, ℕ, List, length};
 ghost use Rattle.std.specs.Prelude.{map, zip, All, IfOk, Some, false, is_none, slice_index_or};
 ghost use Rattle.std.specs.List.{list_any};
-ghost use Rattle.prop_procedures.specs.Stored.{span_kind, sides_of};
+ghost use Rattle.prop_procedures.specs.Stored.{span_kind};
+ghost use Rattle.prop_procedures.specs.Rules.{sides_of};
 ghost use Rattle.prop_procedures.specs.Kept.{stored_as};
-ghost use Rattle.prop_procedures.specs.Fitting.{kind_at, kinds_fit, fitting_param};
+ghost use Rattle.prop_procedures.specs.Fitting.{kind_at, kinds_fit};
+ghost use Rattle.prop_procedures.specs.Rules.{fitting_param};
 ghost use Rattle.prop_cells.specs.Instances.{param_in, sides_given};
 ghost use Rattle.prop_cells.specs.Refusing.{may_be_stated};
 

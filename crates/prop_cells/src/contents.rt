@@ -66,6 +66,24 @@ pub(crate) fn known_belief(
     learn(contents, cell, worldview, known)
 }
 
+/// What is believed of a cell is worked out, written to a place, and known from then on where there
+/// is room. It takes no memory.
+#[inline(never)]
+fn learn_to(
+    contents: &[Tms<Info>],
+    cell: usize,
+    worldview: &Worldview,
+    known: &mut Known,
+    place: &mut Info,
+)
+    requires cell { cell < length contents.now }
+    requires known { AreBeliefs (set_of worldview.now) contents.now known.old }
+    ensures value { place.new ≡ beliefs (set_of worldview.now) contents.now cell }
+    ensures known { AreBeliefs (set_of worldview.now) contents.now known.new }
+{
+    *place = learn(contents, cell, worldview, known);
+}
+
 /// Writes what is believed of a cell, which is then known, to a place. It takes no memory.
 #[inline]
 fn write_belief(
@@ -80,11 +98,10 @@ fn write_belief(
     ensures value { place.new ≡ beliefs (set_of worldview.now) contents.now cell }
     ensures known { AreBeliefs (set_of worldview.now) contents.now known.new }
 {
-    if let Some(info) = known.find(cell) {
-        *place = *info;
-        return;
+    match known.find(cell) {
+        Some(info) => *place = *info,
+        None => learn_to(contents, cell, worldview, known, place),
     }
-    *place = learn(contents, cell, worldview, known);
 }
 
 /// Whether what is believed of a cell, which is then known, says as much as this. It takes no
@@ -173,7 +190,8 @@ pub(crate) fn strongest_of(
     ensures value { IfOk result (λ e. e.value ≡ beliefs (set_of worldview.now) contents.now cell) }
     ensures lean { IfOk result (λ e. IsLeanAt (set_of worldview.now) contents.now cell e.support) }
 {
-    contents[cell].strongest(worldview)
+    let value = belief_of(contents, cell, worldview);
+    contents[cell].strongest(worldview, value)
 }
 
 /// The first cell that is believed to hold a contradiction.
@@ -225,15 +243,17 @@ fn unite_support(
     contents: &[Tms<Info>],
     cell: usize,
     worldview: &Worldview,
+    known: &Known,
 ) -> Result<(), AllocError>
-    requires { cell < length contents.now }
+    requires cell { cell < length contents.now }
+    requires known { AreBeliefs (set_of worldview.now) contents.now known.now }
     ensures { OnOk result ((part : List ℕ) × IsLeanAt (set_of worldview.now) contents.now cell part
         × IsSame (set_of support.new) (union (set_of support.old) (set_of part))) }
 {
     if let Some(sole) = contents[cell].sole_support(worldview) {
         return support.unite(sole);
     }
-    unite_strongest(support, contents, cell, worldview)
+    unite_strongest(support, contents, cell, worldview, known)
 }
 
 /// Adds the premises of a lean support for a cell, whatever entries of it are believed.
@@ -243,12 +263,15 @@ fn unite_strongest(
     contents: &[Tms<Info>],
     cell: usize,
     worldview: &Worldview,
+    known: &Known,
 ) -> Result<(), AllocError>
-    requires { cell < length contents.now }
+    requires cell { cell < length contents.now }
+    requires known { AreBeliefs (set_of worldview.now) contents.now known.now }
     ensures { OnOk result ((part : List ℕ) × IsLeanAt (set_of worldview.now) contents.now cell part
         × IsSame (set_of support.new) (union (set_of support.old) (set_of part))) }
 {
-    let entry = strongest_of(contents, cell, worldview)?;
+    let value = belief_ahead(contents, cell, worldview, known);
+    let entry = contents[cell].strongest(worldview, value)?;
     support.unite(&entry.support)
 }
 
@@ -258,13 +281,15 @@ pub(crate) fn supports(
     contents: &[Tms<Info>],
     cells: &[usize],
     worldview: &Worldview,
+    known: &Known,
 ) -> Result<PremiseSet, AllocError>
-    requires { All (λ c. c < length contents.now) cells.now }
+    requires cells { All (λ c. c < length contents.now) cells.now }
+    requires known { AreBeliefs (set_of worldview.now) contents.now known.now }
     ensures { IfOk result (IsSupport (set_of worldview.now) contents.now cells.now) }
 {
     let mut support = PremiseSet::empty(alloc);
     for c in cells {
-        unite_support(&mut support, contents, *c, worldview)?;
+        unite_support(&mut support, contents, *c, worldview, known)?;
     }
     Ok(support)
 }

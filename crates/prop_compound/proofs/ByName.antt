@@ -44,9 +44,8 @@ use Rattle.prop_compound.specs.Expansion.{Walk, start, cell_at, cells_at, with_f
 use Rattle.prop_compound.specs.Expansion.{definition_expanded, spare_in, spare_of, spare_used, passes_something}
 use Rattle.prop_compound.specs.Expansion.{stands_for}
 use Rattle.prop_compound.specs.Expansion.{expanded}
-use Rattle.prop_compound.specs.Compounds.{Compound, compound_named, use_added, passed_by, steps_added, hands_on}
-use Rattle.prop_compound.specs.Compounds.{compound_of}
-use Rattle.prop_compound.specs.Compounds.{is_some_wrong, compound_refusal}
+use Rattle.prop_compound.specs.Compounds.{Compound, compound_named, use_added, compound_of}
+use Rattle.prop_compound.specs.inner.Compounds.{passed_by, steps_added, hands_on, is_some_wrong, compound_refused}
 use Rattle.prop_compound.specs.Numbered.{with_spare, added_in, compounds_of, passed_among}
 use Rattle.prop_compound.proofs.ByNumber.{pass_is, steps_spare, definition_spare, numbered_at, behind_is, pushed_from}
 use Rattle.prop_compound.proofs.ByNumber.{use_numbered, none_numbered, some_numbered, miscounted_numbered}
@@ -146,6 +145,13 @@ hands_same library words defs scope (Step.Use name cells (Passed.Said (By.Relati
 hands_same library words defs scope (Step.Use name cells Passed.Own ∷ steps) = refl
 
 -- ---- a definition that is not refused
+
+-- the first of some refusals, and of one more
+first_in : (rs : List (Option Refusal)) (r : Option Refusal)
+    → first_of (first_of rs ∷ r ∷ []) ≡ first_of (rs ++ r ∷ [])
+first_in [] r = refl
+first_in (None ∷ rs) r = first_in rs r
+first_in (Some x ∷ rs) r = refl
 
 when_none : (r : Refusal) (b : Bool) (rest : List (Option Refusal)) → first_of (when r b ∷ rest) ≡ None
     → (b ≡ false) × (first_of rest ≡ None)
@@ -374,13 +380,18 @@ module _ (library : List Stored) (words : Vocabulary) (whole : length words.rela
 
   -- it is refused for the same
   pub refusal_same : (name : List ℕ) (params : List (List ℕ)) (steps : List Step)
-      → compound_refusal library words cs name params steps ≡ define_refusal library words defs name params steps
+      → compound_refused library words cs name params steps ≡ define_refusal library words defs name params steps
   refusal_same name params steps =
       let again = has_repeat (scope_of params steps) in
       let taken : (is_some (compound_named library cs name) || again) ≡ is_name_taken library defs name params steps =
       ap (λ b. b || again) (some_numbered words.relations library defs same name)
       ∙ taken_by name again (procedure_number library name) (number_in defs.names name) in
-      λ i. first_of (
+      first_in (
+      when NameTaken (is_some (compound_named library cs name) || again)
+      ∷ map (λ reason. when reason (is_some_wrong library words cs params steps reason))
+      (NoSuchDomain ∷ NoSuchRelation ∷ NoSuchCell ∷ NoSuchProcedure ∷ WrongCount ∷ [])
+      ) (when (LimitReached TooMany) (nat_le (most TooMany) (length cs)))
+      ∙ λ i. first_of (
       when NameTaken (taken i)
       ∷ when NoSuchDomain (domain_wrong params steps i)
       ∷ when NoSuchRelation (relation_wrong params steps i)

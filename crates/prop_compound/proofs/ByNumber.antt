@@ -1,12 +1,15 @@
 -- Definitions by number add what those by name add.
 use Rattle.std.proofs.Common.{◌≡◌, ◌∙◌, ℕ, zero, suc, ◌+◌, ◌<◌, List, [], ◌∷◌, ◌++◌, Bool, true, false, cond, not, ◌||◌}
-use Rattle.std.proofs.Common.{◌&&◌, ◌==◌, Option, Some, None, map, length, get_or, is_none, is_some, refl, sym}
+use Rattle.std.proofs.Common.{◌&&◌, ◌==◌, find, bytes_eq, zip, Option, Some, None, map, length, get_or, is_none}
+use Rattle.std.proofs.Common.{is_some, refl, sym}
 use Rattle.std.proofs.Common.{ap, arith}
 use mathlib.Core.List.{reverse_aux}
 use Rattle.std.specs.Prelude.{reverse, slice_get}
-use Rattle.std.specs.List.{list_any}
+use Rattle.std.specs.List.{list_any, position_from, range_with_len}
+use Rattle.std.proofs.lemmas.Iterator.Adapters.{position_from-zero}
+use Rattle.std.proofs.lemmas.Slice.Eq.{bytes_eq-Decides}
 use Rattle.std.specs.Option.{option_map, option_map_or, option_and_then, option_or}
-use Rattle.std.proofs.lemmas.Bool.{ne_eqb}
+use Rattle.std.proofs.lemmas.Bool.{ne_eqb, false≢true}
 use Rattle.prop_procedures.specs.declared.shape.Param.{Param}
 use Rattle.prop_procedures.specs.Stored.{Stored, procedure_number}
 use Rattle.prop_procedures.specs.Fitting.{kind_at}
@@ -28,7 +31,8 @@ use Rattle.prop_vocabulary.specs.Vocabulary.{Vocabulary}
 use Rattle.prop_compound.specs.declared.definition.Passing.TheVariants as passings
 use Rattle.prop_compound.specs.Definitions as numbers
 use Rattle.prop_compound.specs.Expansion.{param_passed, with_placed}
-use Rattle.prop_compound.specs.Compounds.{Compound, procedure_at, compound_named, use_added, is_miscounted}
+use Rattle.prop_compound.specs.Compounds.{Compound, procedure_as, compound_named, use_added, is_miscounted}
+use Rattle.prop_compound.specs.inner.Compounds.{procedure_at}
 use Rattle.prop_compound.specs.Numbered.{with_spare, added_in, compounds_from, compounds_of, passed_among}
 
 -- ---- what is spare adds nothing
@@ -157,6 +161,97 @@ module _ (pass : Option Param → Passing → Option Param) where
 
 -- ---- by name
 
+module _ {X : Type 0} (test : X → Bool) where
+  found_append : (xs ys : List X) → find test (xs ++ ys) ≡ option_or (find test xs) (find test ys)
+  found_append [] ys = refl
+  found_append (x ∷ xs) ys = by (test x) (found_append xs ys)
+    where
+      by : (t : Bool) → find test (xs ++ ys) ≡ option_or (find test xs) (find test ys)
+          → cond t (Some x) (find test (xs ++ ys)) ≡ option_or (cond t (Some x) (find test xs)) (find test ys)
+      by true e = refl
+      by false e = e
+
+names_alike : (a b : List ℕ) → bytes_eq a b ≡ bytes_eq b a
+names_alike a b = by (bytes_eq a b) refl (bytes_eq b a) refl
+  where
+    by : (s : Bool) → bytes_eq a b ≡ s → (t : Bool) → bytes_eq b a ≡ t → s ≡ t
+    by true e true f = refl
+    by true e false f = absurd (false≢true (sym f ∙ (bytes_eq-Decides b a).1 (sym ((bytes_eq-Decides a b).0 e))))
+    by false e true f = absurd (false≢true (sym e ∙ (bytes_eq-Decides a b).1 (sym ((bytes_eq-Decides b a).0 f))))
+    by false e false f = refl
+
+module _ (name : List ℕ) where
+  abbrev is_named : Compound → Bool
+  is_named c = bytes_eq c.name name
+
+  -- the first definition with the name, those from k on being left
+  defined_from : (cs : List Compound) (k : ℕ) (rest : List Compound)
+      → ((n : ℕ) → slice_get cs (k + n) ≡ slice_get rest n)
+      → find is_named rest
+      ≡ option_and_then (slice_get cs) (position_from (bytes_eq name) k (map (λ (c : Compound). c.name) rest))
+  defined_from cs k [] at = refl
+  defined_from cs k (c ∷ rest) at =
+      (λ i. cond (names_alike c.name name i) (Some c) (find is_named rest))
+      ∙ by (bytes_eq name c.name) (defined_from cs (k + 1) rest (λ n. ap (slice_get cs) (omega arith) ∙ at (suc n)))
+    where
+      later : Option Compound
+      later = option_and_then (slice_get cs)
+          (position_from (bytes_eq name) (k + 1) (map (λ (x : Compound). x.name) rest))
+
+      by : (t : Bool) → find is_named rest ≡ later → cond t (Some c) (find is_named rest)
+          ≡ option_and_then (slice_get cs)
+          (cond t (Some k) (position_from (bytes_eq name) (k + 1) (map (λ (x : Compound). x.name) rest)))
+      by true e = sym (at 0) ∙ ap (slice_get cs) (omega arith)
+      by false e = e
+
+  found_defined : (cs : List Compound)
+      → find is_named cs ≡ option_and_then (slice_get cs) (number_in (map (λ (c : Compound). c.name) cs) name)
+  found_defined cs = defined_from cs 0 cs (λ n. ap (slice_get cs) (zero-add n))
+      ∙ ap (option_and_then (slice_get cs)) (sym (position_from-zero (bytes_eq name)
+      (map (λ (c : Compound). c.name) cs)))
+
+  abbrev numbered_from : ℕ → List Stored → List Compound
+  numbered_from k library = map procedure_as (zip (range_with_len k (length library)) library)
+
+  -- and the first procedure
+  stored_from : (library : List Stored) (k : ℕ) (rest : List Stored)
+      → ((n : ℕ) → slice_get library (k + n) ≡ slice_get rest n)
+      → find is_named (numbered_from k rest)
+      ≡ option_map (procedure_at library) (position_from (λ (p : Stored). bytes_eq p.name name) k rest)
+  stored_from library k [] at = refl
+  stored_from library k (p ∷ rest) at =
+      by (bytes_eq p.name name)
+      (stored_from library (k + 1) rest (λ n. ap (slice_get library) (omega arith) ∙ at (suc n)))
+    where
+      here : slice_get library k ≡ Some p
+      here = ap (slice_get library) (omega arith) ∙ at 0
+
+      named : Stored → Bool
+      named x = bytes_eq x.name name
+
+      by : (t : Bool) → find is_named (numbered_from (k + 1) rest)
+          ≡ option_map (procedure_at library) (position_from named (k + 1) rest)
+          → cond t (Some (procedure_as (k, p))) (find is_named (numbered_from (k + 1) rest))
+          ≡ option_map (procedure_at library) (cond t (Some k) (position_from named (k + 1) rest))
+      by true e = λ i. Some (record (procedure_as (k, p)) {
+        name = option_map_or (λ (x : Stored). x.name) (sym here i) [];
+        wants = option_map_or (λ (x : Stored). length x.ins + 1) (sym here i) 0;
+      })
+      by false e = e
+
+  found_stored : (library : List Stored) → find is_named (numbered_from 0 library)
+      ≡ option_map (procedure_at library) (procedure_number library name)
+  found_stored library = stored_from library 0 library (λ n. ap (slice_get library) (zero-add n))
+      ∙ ap (option_map (procedure_at library)) (sym (position_from-zero (λ (p : Stored). bytes_eq p.name name) library))
+
+-- procedures are looked at before definitions
+found_first : (library : List Stored) (cs : List Compound) (name : List ℕ) → compound_named library cs name
+    ≡ option_or (option_map (procedure_at library) (procedure_number library name))
+    (option_and_then (slice_get cs) (number_in (map (λ (c : Compound). c.name) cs) name))
+found_first library cs name =
+    found_append (is_named name) (numbered_from name 0 library) cs
+    ∙ (λ i. option_or (found_stored name library i) (found_defined name cs i))
+
 same_passed : (words : Vocabulary) (given : Option Param) (p : Passing)
     → param_passed words given p ≡ passed_among words.relations given p
 same_passed words given passings.Nothing = refl
@@ -207,7 +302,8 @@ module _ (relations : List Relation) (library : List Stored) (defs : Definitions
   -- what has the name is what it stands for by number
   pub named_number : (name : List ℕ) → compound_named library cs name
       ≡ option_map compound_used (used_named library defs name)
-  named_number name = named_by name (procedure_number library name) (number_in defs.names name) refl
+  named_number name = found_first library cs name
+      ∙ named_by name (procedure_number library name) (number_in defs.names name) refl
 
   -- a use of it adds the same, and what is spare
   use_one : (used : Used) (cells : List ℕ) (given : Option Param) (e : Walk)
@@ -255,7 +351,7 @@ module _ (relations : List Relation) (library : List Stored) (defs : Definitions
   counted_by count (Some (uses.Definition n)) = refl
 
   pub miscounted_numbered : (name : List ℕ) (count : ℕ)
-      → is_miscounted library cs name count ≡ numbers.is_miscounted library defs name count
+      → is_miscounted (compound_named library cs name) count ≡ numbers.is_miscounted library defs name count
   miscounted_numbered name count =
       ap (λ o. option_map_or (λ (c : Compound). not (count == c.wants)) o false) (named_number name)
       ∙ counted_by count (used_named library defs name)

@@ -13,7 +13,8 @@ use Rattle.std.proofs.lemmas.List.Concat.{flat_map-append, flat_map-cons, flat_m
 use Rattle.std.proofs.lemmas.List.Quantifiers.{position-Some}
 use Rattle.prop_refusals.specs.declared.refusal.Refusal.{Refusal}
 use Rattle.prop_refusals.specs.declared.refusal.Refusal.TheVariants.{NameTaken, Memory}
-use Rattle.prop_sets.specs.Names.{is_among, has_repeat}
+use Rattle.prop_sets.specs.Names.{has_repeat}
+use Rattle.prop_sets.specs.inner.Names.{is_among}
 use Rattle.prop_sets.proofs.NameLemmas.{no_repeat-push, repeat_from_before}
 use Rattle.prop_vocabulary.specs.Names.{number_in, is_missing}
 use Rattle.prop_vocabulary.proofs.Lookups.{nowhere}

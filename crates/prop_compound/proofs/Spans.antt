@@ -1,7 +1,7 @@
 -- Places of spans on which spans stand: they fit whatever is given.
 use Rattle.std.proofs.Common.{◌≡◌, ℕ, ◌+◌, ◌<◌, ◌≤◌, List, [], ◌∷◌, ◌++◌, All, Bool, true, false, Option, refl, subst}
 use Rattle.std.proofs.Common.{length, get_or, zip, map, take}
-use Rattle.std.specs.Prelude.{◌||◌}
+use Rattle.std.specs.Prelude.{unwrap_or}
 use Rattle.std.specs.List.{list_all}
 use Rattle.std.proofs.lemmas.List.Elements.{All-head, All-tail, All-push}
 use Rattle.prop_procedures.specs.declared.shape.Need.{Need}
@@ -9,7 +9,8 @@ use Rattle.prop_procedures.specs.declared.shape.Shape.{Shape}
 use Rattle.prop_procedures.specs.declared.shape.Shape.TheVariants.{Span}
 use Rattle.prop_procedures.specs.declared.shape.Kinded.{Kinded}
 use Rattle.prop_procedures.specs.Rules.{kind_of}
-use Rattle.prop_procedures.specs.Stored.{span_kind, is_open, is_same, kinds_among, are_right}
+use Rattle.prop_procedures.specs.contracts.shape.KindedPartialEq.TheImpl.{eq-value as same_kind}
+use Rattle.prop_procedures.specs.Stored.{span_kind, kind_among, are_right}
 use Rattle.prop_procedures.specs.Fitting.{kind_at}
 use Rattle.prop_sets.specs.declared.side.Side.{Side}
 use Rattle.prop_compound.proofs.Zips.{places_more, places_all}
@@ -17,17 +18,13 @@ use Rattle.prop_compound.proofs.Zips.{places_more, places_all}
 abbrev pub AreSpans : List (Shape × Kinded) → Type 0
 AreSpans places = All (λ place. place ≡ (Span, span_kind)) places
 
-or_true : (b : Bool) → (b || true) ≡ true
-or_true true = refl
-or_true false = refl
-
 each_right : (need : Need) (given : Option (Side × Side)) (all places : List (Shape × Kinded)) → AreSpans places
-    → list_all
-    (λ place. is_open need given place.0 || is_same place.1 (kind_of (kinds_among given all) place.0)) places ≡ true
+    → list_all (λ place. same_kind.it place.1
+    (kind_of (λ shape. unwrap_or (kind_among need given all shape) place.1) place.0)) places ≡ true
 each_right need given all [] h = refl
 each_right need given all (p ∷ places) h =
     let rest = each_right need given all places (All-tail (λ place. place ≡ (Span, span_kind)) p places h) in
-    rw (All-head (λ place. place ≡ (Span, span_kind)) p places h, or_true (is_open need given Span), rest) refl
+    rw (All-head (λ place. place ≡ (Span, span_kind)) p places h, rest) refl
 
 pub spans_right : (places : List (Shape × Kinded)) → AreSpans places → (need : Need) (given : Option (Side × Side))
     → are_right need given places ≡ true

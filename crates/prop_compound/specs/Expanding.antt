@@ -12,10 +12,12 @@ use Rattle.prop_refusals.specs.declared.refusal.Refusal.TheVariants.{WrongKind, 
 use Rattle.prop_refusals.specs.declared.refusal.Refusal.TheVariants.{LimitReached}
 use Rattle.prop_procedures.specs.declared.shape.Kinded.{Kinded}
 use Rattle.prop_procedures.specs.declared.shape.Param.{Param}
-use Rattle.prop_procedures.specs.Stored.{Stored, sides_of}
+use Rattle.prop_procedures.specs.Stored.{Stored}
+use Rattle.prop_procedures.specs.Rules.{sides_of}
 use Rattle.prop_vocabulary.specs.Vocabulary.{Vocabulary}
 use Rattle.prop_compound.specs.Definitions.{Definitions, used_named, is_miscounted}
-use Rattle.prop_procedures.specs.Fitting.{kinds_fit, fitting_param}
+use Rattle.prop_procedures.specs.Fitting.{kinds_fit}
+use Rattle.prop_procedures.specs.Rules.{fitting_param}
 use Rattle.prop_compound.specs.Expansion.{Placed, Expansion, expanded}
 
 -- the kinds of the instance's cells do not fit its procedure

@@ -14,10 +14,8 @@ use Rattle.prop_compound.specs.Definitions.{Definitions}
 
 -- the kind of the sets over the domain with the number
 abbrev pub domain_kind : Vocabulary → ℕ → Kinded
-domain_kind words domain = record {
-  kind = kinds.Set domain;
-  size = length (elements_of words domain);
-}
+domain_kind words domain =
+    record { kind = kinds.Set domain; size = length (elements_of words domain) }
 
 -- the kind that the word says, none where it names no domain
 abbrev pub kind_named : Vocabulary → KindWord → Option Kinded

@@ -4,3 +4,4 @@ pub mod Shortcuts
 pub mod Kept
 pub mod Flattened
 pub mod Frames
+pub mod Compounds

@@ -2,7 +2,8 @@
 ghost use Rattle.std.specs.Prelude.{◌≡◌, ◌≤◌, ◌+◌, ◌++◌, ◌∷◌, [], false, is_none, length, map};
 ghost use Rattle.std.specs.Prelude.{take, drop, IfErr, OnOk};
 ghost use Rattle.std.specs.List.{flat_map, list_any};
-ghost use Rattle.prop_sets.specs.Names.{is_among, has_repeat};
+ghost use Rattle.prop_sets.specs.Names.{has_repeat};
+ghost use Rattle.prop_sets.specs.inner.Names.{is_among};
 ghost use Rattle.prop_vocabulary.specs.Names.{number_in, is_missing};
 ghost use Rattle.prop_language.specs.Said.{words as words_of, step_of};
 ghost use Rattle.prop_compound.specs.Defining.{locals_of, scope_of, cells_in, is_cell_missing};

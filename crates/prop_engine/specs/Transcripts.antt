@@ -13,8 +13,7 @@ abbrev pub Run : {S : Type 0} → Machine S → S → List (List ℕ) → List A
 Run machine old [] [] new = new ≡ old
 Run {S = S} machine old (line ∷ lines) (answer ∷ answers) new = (mid : S)
     × machine old line answer mid × Run machine mid lines answers new
-Run machine old [] (answer ∷ answers) new = ⊥
-Run machine old (line ∷ lines) [] new = ⊥
+Run machine old lines answers new = ⊥
 
 -- What an input was answered: the texts of the answers to its lines, and how many were lines and
 -- refusals.

@@ -1,28 +1,22 @@
 -- What a clause reads of watched devices, and of what one call of them did.
 use Rattle.std.specs.Prelude.{◌≡◌, ℕ, ◌+◌, ◌-◌, ◌^◌, min, Bool, List, Result, ◌==◌, ◌&&◌}
-use Rattle.std.specs.Prelude.{not, true, false, Option, ◌++◌, ◌⊎◌}
+use Rattle.std.specs.Prelude.{not, true, false, Option, ◌++◌}
 use Rattle.std.specs.Io.KnownBytes.{Appends}
-use Rattle.prop_engine.specs.declared.watched.Watched.{Watched}
 use Rattle.prop_engine.specs.declared.watched.Devices.{Devices}
 
--- no call has failed or moved none of its bytes, and all that was written was passed on
-pub record IsFresh {T : Type 0} (w : Watched T) : Type 0 where
-  pub not_failed : w.has_failed ≡ false
-  pub not_stopped : w.has_stopped ≡ false
-  pub flushed : w.is_flushed ≡ true
+-- no read has failed, and none has told the end
+abbrev pub IsFresh : {Rd W : Type 0} → Devices Rd W → Type 0
+IsFresh d = (d.has_read_failed ≡ false) × (d.has_read_end ≡ false)
 
--- each reply was written whole and passed on
+-- no write has failed or taken none of its bytes, and each reply was written whole and passed on
 pub record IsPassedOn {Rd W : Type 0} (d : Devices Rd W) : Type 0 where
-  pub fresh : IsFresh d.writer
+  pub not_failed : d.has_write_failed ≡ false
+  pub flushed : d.is_flushed ≡ true
   pub paid : d.owed ≡ 0
-
--- a call has failed, or has moved none of its bytes
-abbrev pub IsFaulty : {T : Type 0} → Watched T → Type 0
-IsFaulty w = (w.has_failed ≡ true) ⊎ (w.has_stopped ≡ true)
 
 -- whether a reply is to be written or passed on
 abbrev pub waits : {Rd W : Type 0} → Devices Rd W → Bool
-waits d = not (d.owed == 0 && d.writer.is_flushed)
+waits d = not (d.owed == 0 && d.is_flushed)
 
 -- one more call, as it is counted
 abbrev pub one_more : ℕ → ℕ

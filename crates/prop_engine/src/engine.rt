@@ -3,7 +3,8 @@ ghost use Rattle.std.specs.Prelude.{◌≡◌, ◌≢◌, ◌↔◌, ◌⊎◌, 
 ghost use Rattle.std.specs.Prelude.{max, true, false, ◌++◌, ◌∷◌, take, drop, IfSome, None};
 ghost use Rattle.std.specs.Prelude.{OnOk, OnErr, IfOk, IfErr, MatchResult, IsErrOf};
 ghost use Rattle.std.specs.Io.KnownBytes.{Appends, Consumes};
-ghost use Rattle.prop_engine.specs.Watched.{AppendsFront, IsFaulty, IsFresh, IsPassedOn};
+ghost use Rattle.prop_engine.specs.Watched.{AppendsFront, IsFresh, IsPassedOn};
+ghost use Rattle.prop_engine.specs.inner.Watched.{HasNotRead};
 ghost use Rattle.prop_engine.specs.Answers.{Answer, Silent, text_written};
 ghost use Rattle.prop_engine.specs.inner.Progress.{CountsAnswer, Advances, Stops, GrowsAtMost};
 ghost use Rattle.prop_engine.specs.inner.Lines.{IsWithoutFeed};
@@ -33,16 +34,17 @@ fn answer<M: Interpreter, Rd: Read, W: Write>(
     ensures step { (answer : Answer)
         × M.machine (M.setting interpreter.old) (M.state interpreter.old) line.now answer
         (M.state interpreter.new) × MatchResult result
-        (λ _. Appends (W.contents devices.old.writer.device)
-        (W.contents devices.new.writer.device) (text_written answer)
+        (λ _. Appends (W.contents devices.old.writer)
+        (W.contents devices.new.writer) (text_written answer)
         × CountsAnswer counts.old counts.new answer)
-        (λ _. AppendsFront (W.contents devices.old.writer.device)
-        (W.contents devices.new.writer.device) (text_written answer) × (answer ≢ Silent)) }
-    ensures fault { IfErr result (λ e. (e ≡ EngineFault.Write) × IsFaulty devices.new.writer) }
-    ensures reader { devices.new.reader ≡ devices.old.reader }
+        (λ _. AppendsFront (W.contents devices.old.writer)
+        (W.contents devices.new.writer) (text_written answer) × (answer ≢ Silent)) }
+    ensures fault { IfErr result
+        (λ e. (e ≡ EngineFault.Write) × (devices.new.has_write_failed ≡ true)) }
+    ensures reader { HasNotRead devices.old devices.new }
     ensures in_turn { devices.new.has_gone_ahead ≡ devices.old.has_gone_ahead }
     ensures passed_on { OnOk result (IsPassedOn devices.new) }
-    ensures needed { devices.new.writer.has_flushed_idly ≡ devices.old.writer.has_flushed_idly }
+    ensures usage { devices.new.usage ≡ devices.old.usage }
 {
     let reply = devices.carry_out(interpreter, line);
     write_reply(devices, &reply)?;
@@ -82,23 +84,24 @@ fn feed<M: Interpreter, Rd: Read, W: Write>(
     requires refused { counts.old.refused + length piece.now < 2 ^ 127 }
     ensures ready { M.is_ready interpreter.new }
     ensures same { M.setting interpreter.new ≡ M.setting interpreter.old }
-    ensures ok { OnOk result ((output : List ℕ) × Appends (W.contents devices.old.writer.device)
-        (W.contents devices.new.writer.device) output
+    ensures ok { OnOk result ((output : List ℕ) × Appends (W.contents devices.old.writer)
+        (W.contents devices.new.writer) output
         × Advances (M.machine (M.setting interpreter.old))
         (M.state interpreter.old) pending.old counts.old piece.now output
         (M.state interpreter.new) pending.new counts.new) }
     ensures err { OnErr result
-        ((output : List ℕ) × Appends (W.contents devices.old.writer.device)
-        (W.contents devices.new.writer.device) output
+        ((output : List ℕ) × Appends (W.contents devices.old.writer)
+        (W.contents devices.new.writer) output
         × Stops (M.machine (M.setting interpreter.old))
         (M.state interpreter.old) pending.old counts.old piece.now output
         (M.state interpreter.new)) }
     ensures bounded { OnOk result (GrowsAtMost counts.old counts.new (length piece.now)) }
-    ensures fault { IfErr result (λ e. (e ≡ EngineFault.Write) × IsFaulty devices.new.writer) }
-    ensures reader { devices.new.reader ≡ devices.old.reader }
+    ensures fault { IfErr result
+        (λ e. (e ≡ EngineFault.Write) × (devices.new.has_write_failed ≡ true)) }
+    ensures reader { HasNotRead devices.old devices.new }
     ensures in_turn { devices.new.has_gone_ahead ≡ devices.old.has_gone_ahead }
     ensures passed_on { OnOk result (IsPassedOn devices.new) }
-    ensures needed { devices.new.writer.has_flushed_idly ≡ devices.old.writer.has_flushed_idly }
+    ensures usage { devices.new.usage ≡ devices.old.usage }
 {
     let mut left = piece;
     while let Some(end) = line_end(left) {
@@ -120,7 +123,7 @@ pub fn run_session<M: Interpreter, Rd: Read, W: Write>(
     reads: u64,
 ) -> Result<Counts, EngineFault>
     requires ready { M.is_ready interpreter.old }
-    requires reader { IsFresh devices.old.reader }
+    requires reader { IsFresh devices.old }
     requires writer { IsPassedOn devices.old }
     ensures ready { M.is_ready interpreter.new }
     ensures same { M.setting interpreter.new ≡ M.setting interpreter.old }
@@ -128,39 +131,40 @@ pub fn run_session<M: Interpreter, Rd: Read, W: Write>(
     // What was written is a transcript of all that the reader had left.
     ensures transcript { IfOk result
         (λ counts. WritesTranscript (M.machine (M.setting interpreter.old))
-        (Rd.remaining devices.old.reader.device)
-        (W.contents devices.old.writer.device) (W.contents devices.new.writer.device) counts
+        (Rd.remaining devices.old.reader)
+        (W.contents devices.old.writer) (W.contents devices.new.writer) counts
         (M.state interpreter.old) (M.state interpreter.new)) }
     // At a fault it is the prefix of an allowed one.
     ensures prefix { OnErr result (WritesPrefix (M.machine (M.setting interpreter.old))
-        (Rd.remaining devices.old.reader.device)
-        (W.contents devices.old.writer.device) (W.contents devices.new.writer.device)
+        (Rd.remaining devices.old.reader)
+        (W.contents devices.old.writer) (W.contents devices.new.writer)
         (M.state interpreter.old)) }
     // Which lines were carried out, by what the reads gave.
     ensures told { (input : List ℕ) × (output : List ℕ)
-        × Consumes (Rd.remaining devices.old.reader.device)
-        (Rd.remaining devices.new.reader.device) input
-        × Appends (W.contents devices.old.writer.device)
-        (W.contents devices.new.writer.device) output
+        × Consumes (Rd.remaining devices.old.reader)
+        (Rd.remaining devices.new.reader) input
+        × Appends (W.contents devices.old.writer)
+        (W.contents devices.new.writer) output
         × Tells (M.machine (M.setting interpreter.old)) result
-        (Rd.remaining devices.new.reader.device) devices.new.reader.has_stopped
+        (Rd.remaining devices.new.reader) devices.new.has_read_end
         (M.state interpreter.old) input output (M.state interpreter.new) }
 
     // When each fault comes.
-    ensures read { IsErrOf result EngineFault.Read ↔ (devices.new.reader.has_failed ≡ true) }
-    ensures write { IsErrOf result EngineFault.Write → IsFaulty devices.new.writer }
-    ensures reads { IsErrOf result EngineFault.Reads → (devices.new.reader.has_stopped ≡ false)
-        × (devices.new.reader.calls ≡ min (devices.old.reader.calls + reads) u64.MAX) }
+    ensures read { IsErrOf result EngineFault.Read ↔ (devices.new.has_read_failed ≡ true) }
+    ensures write { IsErrOf result EngineFault.Write → devices.new.has_write_failed ≡ true }
+    ensures reads { IsErrOf result EngineFault.Reads → devices.new.has_read_end ≡ false }
     // No read came and no line was carried out before each reply so far was written whole and
     // passed on.
     ensures in_turn { devices.new.has_gone_ahead ≡ devices.old.has_gone_ahead }
     // Where no write stopped it, so was the last.
     ensures passed_on { IsErrOf result EngineFault.Write ⊎ IsPassedOn devices.new }
     // No flush had nothing to pass on, as one at a silent line would.
-    ensures needed { devices.new.writer.has_flushed_idly ≡ devices.old.writer.has_flushed_idly }
-    ensures at_most { devices.new.reader.calls ≤ devices.old.reader.calls + reads }
-    ensures pieces { devices.new.reader.widest ≤ max devices.old.reader.widest 4096 }
-    ensures no_smaller { min devices.old.reader.narrowest 4096 ≤ devices.new.reader.narrowest }
+    ensures needed { devices.new.usage.has_flushed_idly ≡ devices.old.usage.has_flushed_idly }
+    ensures all_reads { IsErrOf result EngineFault.Reads
+        → devices.new.usage.reads ≡ min (devices.old.usage.reads + reads) u64.MAX }
+    ensures at_most { devices.new.usage.reads ≤ devices.old.usage.reads + reads }
+    ensures pieces { devices.new.usage.widest ≤ max devices.old.usage.widest 4096 }
+    ensures no_smaller { min devices.old.usage.narrowest 4096 ≤ devices.new.usage.narrowest }
 {
     run(interpreter, devices, reads)
 }
@@ -171,28 +175,29 @@ fn run<M: Interpreter, Rd: Read, W: Write>(
     reads: u64,
 ) -> Result<Counts, EngineFault>
     requires ready { M.is_ready interpreter.old }
-    requires reader { IsFresh devices.old.reader }
+    requires reader { IsFresh devices.old }
     requires writer { IsPassedOn devices.old }
     ensures ready { M.is_ready interpreter.new }
     ensures same { M.setting interpreter.new ≡ M.setting interpreter.old }
     ensures told { (input : List ℕ) × (output : List ℕ)
-        × Consumes (Rd.remaining devices.old.reader.device)
-        (Rd.remaining devices.new.reader.device) input
-        × Appends (W.contents devices.old.writer.device)
-        (W.contents devices.new.writer.device) output
+        × Consumes (Rd.remaining devices.old.reader)
+        (Rd.remaining devices.new.reader) input
+        × Appends (W.contents devices.old.writer)
+        (W.contents devices.new.writer) output
         × Tells (M.machine (M.setting interpreter.old)) result
-        (Rd.remaining devices.new.reader.device) devices.new.reader.has_stopped
+        (Rd.remaining devices.new.reader) devices.new.has_read_end
         (M.state interpreter.old) input output (M.state interpreter.new) }
-    ensures read { IsErrOf result EngineFault.Read ↔ (devices.new.reader.has_failed ≡ true) }
-    ensures write { IsErrOf result EngineFault.Write → IsFaulty devices.new.writer }
-    ensures reads { IsErrOf result EngineFault.Reads → (devices.new.reader.has_stopped ≡ false)
-        × (devices.new.reader.calls ≡ min (devices.old.reader.calls + reads) u64.MAX) }
+    ensures read { IsErrOf result EngineFault.Read ↔ (devices.new.has_read_failed ≡ true) }
+    ensures write { IsErrOf result EngineFault.Write → devices.new.has_write_failed ≡ true }
+    ensures reads { IsErrOf result EngineFault.Reads → devices.new.has_read_end ≡ false }
     ensures in_turn { devices.new.has_gone_ahead ≡ devices.old.has_gone_ahead }
     ensures passed_on { IsErrOf result EngineFault.Write ⊎ IsPassedOn devices.new }
-    ensures needed { devices.new.writer.has_flushed_idly ≡ devices.old.writer.has_flushed_idly }
-    ensures at_most { devices.new.reader.calls ≤ devices.old.reader.calls + reads }
-    ensures pieces { devices.new.reader.widest ≤ max devices.old.reader.widest 4096 }
-    ensures no_smaller { min devices.old.reader.narrowest 4096 ≤ devices.new.reader.narrowest }
+    ensures needed { devices.new.usage.has_flushed_idly ≡ devices.old.usage.has_flushed_idly }
+    ensures all_reads { IsErrOf result EngineFault.Reads
+        → devices.new.usage.reads ≡ min (devices.old.usage.reads + reads) u64.MAX }
+    ensures at_most { devices.new.usage.reads ≤ devices.old.usage.reads + reads }
+    ensures pieces { devices.new.usage.widest ≤ max devices.old.usage.widest 4096 }
+    ensures no_smaller { min devices.old.usage.narrowest 4096 ≤ devices.new.usage.narrowest }
 {
     let mut piece = [0; 4096];
     let mut pending = Pending::new();

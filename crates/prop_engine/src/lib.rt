@@ -7,8 +7,9 @@
 //! alone (`run_session`).
 //!
 //! A reply is written whole, or the fault is told and a prefix of it was written (`write_reply`).
-//! What the devices' calls told is kept, and how much of a reply is owed (`Devices`). A call that a
-//! signal interrupts is tried again, 65,536 times at the most (`Patient`).
+//! What the devices' calls told is kept, and how much of a reply is owed (`Devices`), and so is how
+//! they were used (`Usage`). A call that a signal interrupts is tried again, 65,536 times at the
+//! most (`Patient`).
 #![tactic(auto)]
 
 mod engine;
@@ -20,6 +21,7 @@ mod patient;
 mod pending;
 mod reply;
 mod sending;
+mod usage;
 mod watched;
 
 pub use engine::run_session;

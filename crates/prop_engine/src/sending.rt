@@ -2,9 +2,8 @@
 ghost use Rattle.std.specs.Prelude.{◌≡◌, ◌<◌, ◌≤◌, ◌-◌, ◌++◌, ◌∷◌, ◌||◌, [], length, OnOk, OnErr};
 ghost use Rattle.std.specs.Prelude.{IfErr, IsOk, true, false};
 ghost use Rattle.std.specs.Io.KnownBytes.{Appends, Keeps};
-ghost use Rattle.prop_engine.specs.Watched.{AppendsFront, IsFaulty};
-ghost use Rattle.prop_engine.specs.Watched.{IsFresh, IsPassedOn};
-ghost use Rattle.prop_engine.specs.inner.Watched.{IsUnharmed};
+ghost use Rattle.prop_engine.specs.Watched.{AppendsFront, IsPassedOn};
+ghost use Rattle.prop_engine.specs.inner.Watched.{HasNotRead};
 ghost use Rattle.prop_engine.specs.Answers.{Silent, text_written, answer_of};
 
 use crate::outcome::EngineFault;
@@ -16,15 +15,17 @@ use std::io::{Read, Write};
 /// Writes all the bytes, or stops at the first write that fails or takes none.
 fn put<Rd: Read, W: Write>(devices: &mut Devices<Rd, W>, bytes: &[u8]) -> Result<(), EngineFault>
     requires owed { length bytes.now ≤ devices.old.owed }
-    ensures ok { OnOk result (Appends (W.contents devices.old.writer.device)
-        (W.contents devices.new.writer.device) bytes.now) }
-    ensures err { OnErr result (AppendsFront (W.contents devices.old.writer.device)
-        (W.contents devices.new.writer.device) bytes.now) }
-    ensures fault { IfErr result (λ e. (e ≡ EngineFault.Write) × IsFaulty devices.new.writer) }
-    ensures unharmed { OnOk result (IsUnharmed devices.old.writer devices.new.writer) }
-    ensures waits { OnOk result (0 < length bytes.now → devices.new.writer.is_flushed ≡ false) }
-    ensures needed { devices.new.writer.has_flushed_idly ≡ devices.old.writer.has_flushed_idly }
-    ensures reader { devices.new.reader ≡ devices.old.reader }
+    ensures ok { OnOk result (Appends (W.contents devices.old.writer)
+        (W.contents devices.new.writer) bytes.now) }
+    ensures err { OnErr result (AppendsFront (W.contents devices.old.writer)
+        (W.contents devices.new.writer) bytes.now) }
+    ensures fault { IfErr result
+        (λ e. (e ≡ EngineFault.Write) × (devices.new.has_write_failed ≡ true)) }
+    ensures unharmed { OnOk result (devices.new.has_write_failed
+        ≡ devices.old.has_write_failed) }
+    ensures waits { OnOk result (0 < length bytes.now → devices.new.is_flushed ≡ false) }
+    ensures usage { devices.new.usage ≡ devices.old.usage }
+    ensures reader { HasNotRead devices.old devices.new }
     ensures owed { OnOk result (devices.new.owed ≡ devices.old.owed - length bytes.now) }
     ensures in_turn { devices.new.has_gone_ahead ≡ devices.old.has_gone_ahead }
 {
@@ -44,14 +45,17 @@ fn put<Rd: Read, W: Write>(devices: &mut Devices<Rd, W>, bytes: &[u8]) -> Result
 
 /// Passes on what was written.
 fn flush<Rd: Read, W: Write>(devices: &mut Devices<Rd, W>) -> Result<(), EngineFault>
-    ensures bytes { Keeps (W.contents devices.old.writer.device)
-        (W.contents devices.new.writer.device) }
-    ensures fault { IfErr result (λ e. (e ≡ EngineFault.Write) × IsFaulty devices.new.writer) }
-    ensures unharmed { OnOk result (IsUnharmed devices.old.writer devices.new.writer) }
-    ensures flushed { OnOk result (devices.new.writer.is_flushed ≡ true) }
-    ensures needed { devices.new.writer.has_flushed_idly
-        ≡ (devices.old.writer.has_flushed_idly || devices.old.writer.is_flushed) }
-    ensures reader { devices.new.reader ≡ devices.old.reader }
+    ensures bytes { Keeps (W.contents devices.old.writer)
+        (W.contents devices.new.writer) }
+    ensures fault { IfErr result
+        (λ e. (e ≡ EngineFault.Write) × (devices.new.has_write_failed ≡ true)) }
+    ensures unharmed { OnOk result (devices.new.has_write_failed
+        ≡ devices.old.has_write_failed) }
+    ensures flushed { OnOk result (devices.new.is_flushed ≡ true) }
+    ensures needed { devices.new.usage ≡ record devices.old.usage {
+      has_flushed_idly = (devices.old.usage.has_flushed_idly || devices.old.is_flushed);
+    } }
+    ensures reader { HasNotRead devices.old devices.new }
     ensures owed { devices.new.owed ≡ devices.old.owed }
     ensures in_turn { devices.new.has_gone_ahead ≡ devices.old.has_gone_ahead }
 {
@@ -65,15 +69,17 @@ fn flush<Rd: Read, W: Write>(devices: &mut Devices<Rd, W>) -> Result<(), EngineF
 fn send<Rd: Read, W: Write>(devices: &mut Devices<Rd, W>, bytes: &[u8]) -> Result<(), EngineFault>
     requires some { 0 < length bytes.now }
     requires owed { devices.old.owed ≡ length bytes.now }
-    ensures ok { OnOk result (Appends (W.contents devices.old.writer.device)
-        (W.contents devices.new.writer.device) bytes.now) }
-    ensures err { OnErr result (AppendsFront (W.contents devices.old.writer.device)
-        (W.contents devices.new.writer.device) bytes.now) }
-    ensures fault { IfErr result (λ e. (e ≡ EngineFault.Write) × IsFaulty devices.new.writer) }
-    ensures unharmed { OnOk result (IsUnharmed devices.old.writer devices.new.writer) }
-    ensures flushed { OnOk result (devices.new.writer.is_flushed ≡ true) }
-    ensures needed { devices.new.writer.has_flushed_idly ≡ devices.old.writer.has_flushed_idly }
-    ensures reader { devices.new.reader ≡ devices.old.reader }
+    ensures ok { OnOk result (Appends (W.contents devices.old.writer)
+        (W.contents devices.new.writer) bytes.now) }
+    ensures err { OnErr result (AppendsFront (W.contents devices.old.writer)
+        (W.contents devices.new.writer) bytes.now) }
+    ensures fault { IfErr result
+        (λ e. (e ≡ EngineFault.Write) × (devices.new.has_write_failed ≡ true)) }
+    ensures unharmed { OnOk result (devices.new.has_write_failed
+        ≡ devices.old.has_write_failed) }
+    ensures flushed { OnOk result (devices.new.is_flushed ≡ true) }
+    ensures usage { devices.new.usage ≡ devices.old.usage }
+    ensures reader { HasNotRead devices.old devices.new }
     ensures paid { OnOk result (devices.new.owed ≡ 0) }
     ensures in_turn { devices.new.has_gone_ahead ≡ devices.old.has_gone_ahead }
 {
@@ -91,15 +97,17 @@ pub fn write_reply<Rd: Read, W: Write>(
     reply: &Reply,
 ) -> Result<(), EngineFault>
     requires owed { devices.old.owed ≡ length (text_written (answer_of reply.now)) }
-    ensures ok { OnOk result (Appends (W.contents devices.old.writer.device)
-        (W.contents devices.new.writer.device) (text_written (answer_of reply.now))) }
-    ensures err { OnErr result (AppendsFront (W.contents devices.old.writer.device)
-        (W.contents devices.new.writer.device) (text_written (answer_of reply.now))) }
-    ensures fault { IfErr result (λ e. (e ≡ EngineFault.Write) × IsFaulty devices.new.writer) }
-    ensures fresh { OnOk result (IsFresh devices.old.writer → IsPassedOn devices.new) }
-    ensures needed { devices.new.writer.has_flushed_idly ≡ devices.old.writer.has_flushed_idly }
+    ensures ok { OnOk result (Appends (W.contents devices.old.writer)
+        (W.contents devices.new.writer) (text_written (answer_of reply.now))) }
+    ensures err { OnErr result (AppendsFront (W.contents devices.old.writer)
+        (W.contents devices.new.writer) (text_written (answer_of reply.now))) }
+    ensures fault { IfErr result
+        (λ e. (e ≡ EngineFault.Write) × (devices.new.has_write_failed ≡ true)) }
+    ensures passed_on { OnOk result (devices.old.has_write_failed ≡ false
+        → devices.old.is_flushed ≡ true → IsPassedOn devices.new) }
+    ensures usage { devices.new.usage ≡ devices.old.usage }
     ensures silent { answer_of reply.now ≡ Silent → (devices.new ≡ devices.old) × IsOk result }
-    ensures reader { devices.new.reader ≡ devices.old.reader }
+    ensures reader { HasNotRead devices.old devices.new }
     ensures in_turn { devices.new.has_gone_ahead ≡ devices.old.has_gone_ahead }
 {
     match reply {

@@ -3,9 +3,12 @@ use Rattle.std.proofs.Common.{◌≡◌, ◌∙◌, ◌+◌, ◌-◌, ◌*◌, �
 use Rattle.std.proofs.Common.{None, get_or, length, refl, sym, ap, subst, arith}
 use Rattle.prop_lattice.specs.declared.info.Info.{Info}
 use Rattle.prop_lattice.specs.Order.{Below}
+use Rattle.prop_lattice.specs.laws.OrderLaws.{info_laws}
 use Rattle.prop_numbers.specs.Sets.{Members, IsPart, set_of, without}
 use Rattle.prop_procedures.specs.Stored.{Stored}
-use Rattle.prop_cells.specs.Problems.{Problem, Assignment, IsSolution, Entails, IsConsistent, Meets, is_member}
+use Rattle.prop_cells.specs.Problems.{Problem, Assignment, IsSolution, Entails, IsConsistent}
+use Rattle.prop_cells.specs.Problems.{is_member}
+use Rattle.prop_cells.specs.inner.Problems.{Meets}
 use Rattle.prop_cells.specs.Reach.{IsConflict}
 use Rattle.prop_cells.specs.Data.{Data, problem_of, beliefs}
 use Rattle.prop_scheduler.specs.Agendas.{Waiting}
@@ -24,6 +27,14 @@ use Rattle.prop_explain.proofs.TryingLaws.{AreHeld, few_more, held_next, lacks_i
 pub settled_below : (library : List Stored) (s : Members) (d : Data) (cell : ℕ) (v : Info) → IsSettled library s d
     → Entails (problem_of library d) s cell v → Below v (beliefs s d.contents cell)
 settled_below library s d cell v settled e = e.below (beliefs s d.contents) settled.least.solves
+
+-- and entailed where it is no more than that
+pub settled_entails : (library : List Stored) (s : Members) (d : Data) (cell : ℕ) (v : Info) → IsSettled library s d
+    → Below v (beliefs s d.contents cell) → Entails (problem_of library d) s cell v
+settled_entails library s d cell v settled less = record {
+  below = λ a sol. info_laws.transitive v (beliefs s d.contents cell) (a cell) less
+      ((settled.least.least cell).below a sol);
+}
 
 member_more : (s t : Members) → IsPart s t → (p : Option ℕ) → IsTrue (is_member s p) → IsTrue (is_member t p)
 member_more s t part None h = refl

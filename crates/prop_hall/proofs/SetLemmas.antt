@@ -9,7 +9,8 @@ use Rattle.std.proofs.Math.Pow.{pow-lt}
 use Rattle.std.proofs.lemmas.Bool.{cases_lt}
 use Rattle.std.proofs.lemmas.Nat.{or_lt, or_comm, ones_le_self}
 use Rattle.std.proofs.lemmas.Nat.Bits.{bit_at-zero, bit_at_above, bit_at-pow_same, bit_at-trailing_zeros}
-use Rattle.prop_lattice.specs.Ends.{AreSome, some_or_not, elements_if, elements_from}
+use Rattle.prop_lattice.specs.Ends.{some_or_not, elements_from}
+use Rattle.prop_lattice.specs.inner.Ends.{AreSome, elements_if}
 use Rattle.prop_lattice.specs.Order.{Below, HasElement}
 use Rattle.prop_lattice.specs.Points.{Point, Element, Holds}
 use Rattle.prop_lattice.specs.declared.elements.Elements as sets

@@ -4,7 +4,8 @@ use Rattle.std.proofs.Common.{List, [], ◌∷◌, map, length, arith, sym, subs
 use Rattle.std.specs.List.{AllByRecursion as Each}
 use Rattle.std.proofs.lemmas.Bool.{cases_lt}
 use Rattle.std.proofs.lemmas.Int.{ints}
-use Rattle.prop_lattice.specs.Ends.{AreEnds, ends_or_not, span_if, span_from, numbers_in}
+use Rattle.prop_lattice.specs.Ends.{AreEnds, ends_or_not, span_from, numbers_in}
+use Rattle.prop_lattice.specs.inner.Ends.{span_if}
 use Rattle.prop_lattice.specs.Order.{Below}
 use Rattle.prop_lattice.specs.declared.info.Info.{Info}
 use Rattle.prop_lattice.specs.declared.info.Info.TheVariants.{Span}

@@ -1,5 +1,5 @@
 -- Two spans are the arguments of one call.
-use Rattle.std.proofs.Common.{[], ◌∷◌}
+use Rattle.std.proofs.Common.{[], ◌∷◌, None, refl}
 use Rattle.prop_lattice.specs.declared.span.Span as spans
 use Rattle.prop_lattice.specs.declared.info.Info.TheVariants.{Span as span}
 use Rattle.prop_procedures.specs.declared.shape.Param.TheVariants.{Plain}
@@ -12,7 +12,7 @@ pub spans_call : (x y : spans.Span) → IsCall (Span ∷ Span ∷ []) Nothing Pl
 spans_call x y = (
   (λ n. span_kind),
   record {
-    admits = tt;
+    admits = (None, refl);
     sides = tt;
     of_kinds = (tt, (tt, tt));
     clear = ((λ e. cc), ((λ e. cc), tt));

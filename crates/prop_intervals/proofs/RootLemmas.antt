@@ -4,7 +4,7 @@ use Rattle.std.specs.Prelude.{if◌then◌else◌}
 use Rattle.std.specs.Int.{IsIsqrt}
 use Rattle.std.proofs.Common.{arith, refl, ap, ◌∙◌, zero, suc, negsuc}
 use Rattle.std.proofs.lemmas.Int.{ints}
-use Rattle.prop_intervals.specs.Roots.{root_floor, least_root, greatest_root}
+use Rattle.prop_intervals.specs.inner.Roots.{root_floor, least_root, greatest_root}
 use Rattle.prop_intervals.specs.laws.RootLaws.{root_floor-is, root_floor-parts}
 
 pub greatest_root_is : (m z r : ℤ) → pos 0 ≤ℤ m → z ≡ m → IsIsqrt z r → r ≡ pos (greatest_root m)

@@ -5,13 +5,14 @@ use Rattle.std.proofs.Common.{FitsSigned, w64, arith, unsigned_abs, to_z, of_z}
 use Rattle.std.specs.Int.{w128}
 use lib.Signed.{mag}
 use Rattle.std.specs.Prelude.{Bool, true, false, int_lt, if◌then◌else◌}
-use Rattle.prop_intervals.specs.Spans.{least_factor}
+use Rattle.prop_intervals.specs.inner.Parts.{least_factor}
 use Rattle.std.specs.Int.{int_min, int_max}
 use Rattle.prop_lattice.specs.declared.span.TheConstants.{B}
 use Rattle.prop_lattice.specs.declared.span.Span as spans
 use Rattle.std.proofs.lemmas.Int.{ints, clamps, unsigned_abs-mul, to_z-of_z}
 use Rattle.std.proofs.lemmas.Nat.{mul-le}
-use Rattle.prop_intervals.specs.Quotients.{int_div_floor, int_div_ceil}
+use Rattle.prop_intervals.specs.Quotients.{int_div_ceil}
+use Rattle.prop_intervals.specs.inner.Parts.{int_div_floor}
 use Rattle.prop_intervals.specs.laws.QuotientLaws.{le-floor, floor-lt, product-le, product-ge}
 
 -- a product of two numbers of these sizes

@@ -17,21 +17,6 @@ yes_bits = 1
 abbrev pub no_bits : ℕ
 no_bits = 2
 
--- whether a number of x is less than one of y
-abbrev pub less_of : spans.Span → spans.Span → Info
-less_of x y = if int_lt x.hi y.lo then elements_from yes_bits
-    else (if int_le y.hi x.lo then elements_from no_bits else Nothing)
-
--- the numbers of which t says whether they are less than one of y
-abbrev pub below_of : sets.Elements → spans.Span → Info
-below_of t y = if t.bits == yes_bits then span_from (neg_ℤ B) (y.hi -ℤ pos 1)
-    else (if t.bits == no_bits then span_from y.lo B else Nothing)
-
--- the numbers of which t says whether one of x is less than they are
-abbrev pub above_of : sets.Elements → spans.Span → Info
-above_of t x = if t.bits == yes_bits then span_from (x.lo +ℤ pos 1) B
-    else (if t.bits == no_bits then span_from (neg_ℤ B) x.hi else Nothing)
-
 -- v is a number of y other than x
 abbrev pub IsOther : spans.Span → ℤ → ℤ → Type 0
 IsOther y x v = (y.lo ≤ℤ v) × (v ≤ℤ y.hi) × (v ≢ x)

@@ -5,4 +5,5 @@ pub mod Quotients
 pub mod Roots
 pub mod Spans
 pub mod Comparisons
+pub mod inner
 pub mod laws

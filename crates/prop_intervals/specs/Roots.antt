@@ -1,30 +1,11 @@
 -- Square roots.
-use Rattle.std.specs.Prelude.{ℕ, ◌*◌, ℤ, pos, neg_ℤ, ◌*ℤ◌, ◌≤ℤ◌, nat_le, int_le, int_lt}
-use Rattle.std.specs.Prelude.{if◌then◌else◌, Option, Some, None}
-use Rattle.std.specs.Int.{int_max, int_min}
-use Rattle.std.proofs.Common.{zero, suc, negsuc}
+use Rattle.std.specs.Prelude.{◌+◌, ◌&&◌, ℤ, pos, neg_ℤ, ◌+ℤ◌, ◌-ℤ◌, ◌*ℤ◌, ◌≤ℤ◌, int_le}
+use Rattle.std.specs.Prelude.{unsigned_abs, Option, Some, None}
+use Rattle.std.specs.List.{position_or_len, range_with_len}
 use Rattle.prop_lattice.specs.declared.span.TheConstants.{B}
 use Rattle.prop_lattice.specs.Ends.{span_from}
 use Rattle.prop_lattice.specs.declared.span.Span as spans
 use Rattle.prop_lattice.specs.declared.info.Info.{Info}
-use Rattle.prop_lattice.specs.declared.info.Info.TheVariants.{Contradiction}
-
--- the greatest number whose square is at most n
-unfoldable pub root_floor : ℕ → ℕ
-root_floor zero = zero
-root_floor (suc n) =
-    if nat_le (suc (root_floor n) * suc (root_floor n)) (suc n) then suc (root_floor n)
-    else root_floor n
-
--- the least number, not below 0, whose square is at least m
-unfoldable pub least_root : ℤ → ℕ
-least_root (pos (suc n)) = suc (root_floor n)
-least_root m = zero
-
--- the greatest number whose square is at most m, where that is not below 0
-unfoldable pub greatest_root : ℤ → ℕ
-greatest_root (pos n) = root_floor n
-greatest_root (negsuc n) = zero
 
 -- the ends of x, and those of the whole range where there is no x
 abbrev pub first_of : Option spans.Span → ℤ
@@ -42,20 +23,14 @@ pub record IsRoot (y : spans.Span) (x : Option spans.Span) (v : ℤ) : Type 0 wh
   pub square_from : y.lo ≤ℤ (v *ℤ v)
   pub square_to : (v *ℤ v) ≤ℤ y.hi
 
--- the span of the numbers from lo to hi whose distance from 0 is at least `least` and at most
--- `greatest`: it begins below 0 where there is such a number there, and ends above 0 where there is
--- one there
-abbrev pub span_at_distance : ℤ → ℤ → ℤ → ℤ → Info
-span_at_distance least greatest lo hi =
-    span_from (if int_le (int_max lo (neg_ℤ greatest)) (int_min hi (neg_ℤ least)) then int_max lo
-    (neg_ℤ greatest) else int_max lo least)
-    (if int_le (int_max lo least) (int_min hi greatest) then int_min hi greatest else int_min hi
-    (neg_ℤ least))
-
--- of the numbers from lo to hi those whose square is in y
-abbrev pub roots_between : spans.Span → ℤ → ℤ → Info
-roots_between y lo hi = if int_lt y.hi (pos 0) then Contradiction
-    else span_at_distance (pos (least_root y.lo)) (pos (greatest_root y.hi)) lo hi
+-- the numbers from lo to hi whose square is in y: the span from the first that is met on the way up
+-- from lo to the first that is met on the way down from hi, a contradiction where there is none
+unfoldable pub roots_between : spans.Span → ℤ → ℤ → Info
+roots_between y lo hi =
+    let is_root = λ (v : ℤ). int_le y.lo (v *ℤ v) && int_le (v *ℤ v) y.hi in
+    let steps = range_with_len 0 (unsigned_abs (hi -ℤ lo) + 1) in
+    span_from (lo +ℤ pos (position_or_len (λ n. is_root (lo +ℤ pos n)) steps))
+    (hi -ℤ pos (position_or_len (λ n. is_root (hi -ℤ pos n)) steps))
 
 -- the same of those of x, or of the whole range where there is no x
 abbrev pub root_of : spans.Span → Option spans.Span → Info

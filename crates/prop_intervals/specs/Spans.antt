@@ -1,9 +1,9 @@
 -- What the operations on spans answer.
 use Rattle.std.specs.Prelude.{Bool, ℤ, pos, neg_ℤ, ◌+ℤ◌, ◌-ℤ◌, ◌*ℤ◌, int_le, int_lt, ◌&&◌}
 use Rattle.std.specs.Prelude.{if◌then◌else◌}
-use Rattle.std.specs.Int.{int_max, int_min}
+use Rattle.std.specs.Int.{int_max, int_min, int_div_euclid}
 use Rattle.prop_intervals.specs.Clip.{clip}
-use Rattle.prop_intervals.specs.Quotients.{int_div_floor, int_div_ceil}
+use Rattle.prop_intervals.specs.Quotients.{int_div_ceil}
 use Rattle.prop_lattice.specs.declared.span.Span as spans
 use Rattle.prop_lattice.specs.declared.info.Info.{Info}
 use Rattle.prop_lattice.specs.declared.info.Info.TheVariants.{Nothing}
@@ -33,47 +33,23 @@ greatest_product = end_product int_max
 
 -- the products by units of 1/k, rounded outwards
 abbrev pub product_of : spans.Span → spans.Span → ℤ → Info
-product_of x y k = clip (int_div_floor (end_product int_min x y) k)
+product_of x y k = clip (int_div_euclid (end_product int_min x y) k)
     (int_div_ceil (end_product int_max x y) k)
-
--- ---- squares
-
--- the least square of a number of x
-abbrev pub least_square : spans.Span → ℤ
-least_square x = if holds_zero x then pos 0 else int_min (x.lo *ℤ x.lo) (x.hi *ℤ x.hi)
-
--- the greatest square of a number of x
-abbrev pub greatest_square : spans.Span → ℤ
-greatest_square x = int_max (x.lo *ℤ x.lo) (x.hi *ℤ x.hi)
-
-abbrev pub square_of : spans.Span → Info
-square_of x = clip (least_square x) (greatest_square x)
 
 -- ---- quotients
 
--- the least number above k times the number before z's least
-abbrev pub least_dividend : spans.Span → ℤ → ℤ
-least_dividend z k = (k *ℤ (z.lo -ℤ pos 1)) +ℤ pos 1
-
--- the greatest number below k times the number after z's greatest
-abbrev pub greatest_dividend : spans.Span → ℤ → ℤ
-greatest_dividend z k = (k *ℤ (z.hi +ℤ pos 1)) -ℤ pos 1
-
--- the least number that is at least a when multiplied by lo or by hi, where 0 < lo ≤ hi
-abbrev pub least_factor : ℤ → ℤ → ℤ → ℤ
-least_factor a lo hi = if int_lt (pos 0) a then int_div_ceil a hi else int_div_ceil a lo
-
--- the greatest number that is at most b when multiplied by lo or by hi, where 0 < lo ≤ hi
-abbrev pub greatest_factor : ℤ → ℤ → ℤ → ℤ
-greatest_factor b lo hi = if int_le (pos 0) b then int_div_floor b lo else int_div_floor b hi
-
+-- the numbers from the least that is at least a when multiplied by lo or by hi to the greatest that
+-- is at most b when it is, where 0 < lo ≤ hi
 abbrev pub factors_of : ℤ → ℤ → ℤ → ℤ → Info
-factors_of a b lo hi = clip (least_factor a lo hi) (greatest_factor b lo hi)
+factors_of a b lo hi = clip (if int_lt (pos 0) a then int_div_ceil a hi else int_div_ceil a lo)
+    (if int_le (pos 0) b then int_div_euclid b lo else int_div_euclid b hi)
 
--- the quotients of z by y, where a product and a number of z are less than a unit of 1/k apart
+-- the quotients of z by y, where a product and a number of z are less than a unit of 1/k apart: the
+-- products are above k times the number before z's least, and below k times that after its greatest
 abbrev pub quotient_of : spans.Span → spans.Span → ℤ → Info
-quotient_of z y k = if holds_zero y then Nothing
-    else (if int_lt (pos 0) y.lo
-    then factors_of (least_dividend z k) (greatest_dividend z k) y.lo y.hi
-    else factors_of (neg_ℤ (greatest_dividend z k)) (neg_ℤ (least_dividend z k)) (neg_ℤ y.hi)
-    (neg_ℤ y.lo))
+quotient_of z y k =
+    let least = (k *ℤ (z.lo -ℤ pos 1)) +ℤ pos 1 in
+    let greatest = (k *ℤ (z.hi +ℤ pos 1)) -ℤ pos 1 in
+    if holds_zero y then Nothing
+    else (if int_lt (pos 0) y.lo then factors_of least greatest y.lo y.hi
+    else factors_of (neg_ℤ greatest) (neg_ℤ least) (neg_ℤ y.hi) (neg_ℤ y.lo))

@@ -1,6 +1,6 @@
 //! Comparisons of spans.
 ghost use Rattle.std.specs.Prelude.{◌≡◌};
-ghost use Rattle.prop_intervals.specs.Comparisons.{less_of, below_of, above_of};
+ghost use Rattle.prop_intervals.specs.inner.Parts.{less_of, below_of, above_of};
 
 use prop_lattice::span::B;
 use prop_lattice::{Elements, Info, Span};

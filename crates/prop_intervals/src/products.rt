@@ -2,10 +2,11 @@
 ghost use Rattle.std.specs.Prelude.{◌≡◌, ◌^◌, pos, neg_ℤ, ◌≤ℤ◌};
 ghost use Rattle.prop_lattice.specs.Ends.{AreEnds};
 ghost use Rattle.prop_intervals.specs.Narrowest.{IsNarrowest};
-ghost use Rattle.prop_intervals.specs.Quotients.{int_div_floor, int_div_ceil};
+ghost use Rattle.prop_intervals.specs.Quotients.{int_div_ceil};
+ghost use Rattle.prop_intervals.specs.inner.Parts.{int_div_floor};
 ghost use Rattle.prop_intervals.specs.Relations.{IsProduct, IsSquare, BelongsToOne, BelongsToTwo};
 ghost use Rattle.prop_intervals.specs.Spans.{least_product, greatest_product, product_of};
-ghost use Rattle.prop_intervals.specs.Spans.{least_square, greatest_square, square_of};
+ghost use Rattle.prop_intervals.specs.inner.Parts.{least_square, greatest_square, square_of};
 
 use crate::clipping::clipped;
 use crate::wide::{div_ceil, div_floor, product};

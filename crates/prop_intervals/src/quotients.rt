@@ -1,7 +1,8 @@
 //! Quotients of spans.
 ghost use Rattle.std.specs.Prelude.{◌≡◌, ◌^◌, pos, neg_ℤ, ◌≤ℤ◌, ◌<ℤ◌};
-ghost use Rattle.prop_intervals.specs.Spans.{least_dividend, greatest_dividend, least_factor};
-ghost use Rattle.prop_intervals.specs.Spans.{greatest_factor, factors_of, quotient_of};
+ghost use Rattle.prop_intervals.specs.inner.Parts.{least_dividend, greatest_dividend, least_factor};
+ghost use Rattle.prop_intervals.specs.Spans.{factors_of, quotient_of};
+ghost use Rattle.prop_intervals.specs.inner.Parts.{greatest_factor};
 
 use crate::clipping::clipped;
 use crate::wide::{div_ceil, div_floor, product};

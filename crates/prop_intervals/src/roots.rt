@@ -2,8 +2,9 @@
 ghost use Rattle.std.specs.Prelude.{◌≡◌, pos, ◌≤ℤ◌};
 ghost use Rattle.prop_lattice.specs.declared.span.TheConstants.{B};
 ghost use Rattle.prop_intervals.specs.Narrowest.{IsNarrowest};
-ghost use Rattle.prop_intervals.specs.Roots.{least_root, greatest_root, span_at_distance, IsRoot};
-ghost use Rattle.prop_intervals.specs.Roots.{root_of};
+ghost use Rattle.prop_intervals.specs.Roots.{IsRoot, root_of};
+ghost use Rattle.prop_intervals.specs.inner.Roots.{least_root, greatest_root, span_at_distance};
+ghost use Rattle.prop_intervals.specs.inner.Roots.{roots_at_distance};
 
 use prop_lattice::span::B;
 use prop_lattice::{Info, Span};
@@ -13,6 +14,13 @@ use prop_lattice::{Info, Span};
 pub fn root(y: Span, x: Option<Span>) -> Info
     ensures value { result ≡ root_of y x }
     ensures narrowest { IsNarrowest (IsRoot y x) result }
+{
+    by_distance(y, x)
+}
+
+/// The same, by the distances from zero that its numbers have.
+fn by_distance(y: Span, x: Option<Span>) -> Info
+    ensures { result ≡ roots_at_distance y x }
 {
     if y.hi() < 0 {
         return Info::Contradiction;

@@ -1,6 +1,7 @@
 //! Products and quotients in 128 bits.
 ghost use Rattle.std.specs.Prelude.{◌≡◌, ◌^◌, pos, neg_ℤ, ◌*ℤ◌, ◌≤ℤ◌, ◌<ℤ◌};
-ghost use Rattle.prop_intervals.specs.Quotients.{int_div_floor, int_div_ceil};
+ghost use Rattle.prop_intervals.specs.Quotients.{int_div_ceil};
+ghost use Rattle.prop_intervals.specs.inner.Parts.{int_div_floor};
 
 /// The product.
 pub(crate) fn product(a: i64, b: i64) -> i128
@@ -12,7 +13,6 @@ pub(crate) fn product(a: i64, b: i64) -> i128
 }
 
 /// The quotient rounded down.
-#[tactic(auto, unfolding(crate::specs::Quotients::int_div_floor))]
 pub(crate) fn div_floor(a: i128, d: i128) -> i128
     requires { pos 0 <ℤ d }
     ensures { result ≡ int_div_floor a d }

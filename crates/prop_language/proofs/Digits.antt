@@ -1,12 +1,16 @@
 -- Numbers, a digit at a time.
 use Rattle.std.proofs.Common.{◌≡◌, ℕ, ◌+◌, ◌-◌, ◌*◌, ◌<◌, ◌≤◌, List, [], ◌∷◌, length, Bool, true, false, cond, refl}
-use Rattle.std.proofs.Common.{sym, ◌∙◌, ap, arith, inl, inr, ℤ, ◌≤ℤ◌, pos, negsuc, FitsSigned, w64, subst}
-use Rattle.std.specs.Prelude.{Option, Some, None, int_le, ◌&&◌}
+use Rattle.std.proofs.Common.{sym, ◌∙◌, ap, arith, inl, inr, ℤ, ◌≤ℤ◌, pos, negsuc, FitsSigned, w64, subst, suc}
+use Rattle.std.specs.Prelude.{Option, Some, None, int_le, ◌&&◌, ◌==◌, nat_lt, neg_ℤ, unsigned_abs, drop}
+use Rattle.std.specs.Char.{digit_value}
+use Rattle.std.specs.Str.{all_ascii_digits}
+use Rattle.std.specs.Str.Parse.{digits_value, digits_value_after}
 use Rattle.std.specs.Bool.{then_some}
 use Rattle.std.proofs.lemmas.Int.{ints}
-use Rattle.std.specs.Option.{option_and_then}
-use Rattle.std.proofs.lemmas.Bool.Decides.{leb_tells}
-use Rattle.prop_language.specs.Names.{is_digit, number_after}
+use Rattle.std.specs.Option.{option_map, option_and_then}
+use Rattle.std.proofs.lemmas.Bool.Decides.{leb_tells, nat_tests}
+use Rattle.prop_language.specs.Names.{whole_number, number_in}
+use Rattle.prop_language.specs.inner.Digits.{is_digit, number_after, digits_number, number_read, number_read_in}
 use Rattle.prop_language.specs.inner.Parts.{up_to, number_up_to}
 
 pub of_some_digits : (most : ℕ) (digits : List ℕ) → 0 < length digits
@@ -113,3 +117,62 @@ pub first_fails : (low low' n n' high : ℤ) (b : Bool) → low' ≡ low → n' 
 first_fails low low' n n' high b e f h k =
     let first : int_le low n ≡ false = ap (λ z. int_le z n) (sym e) ∙ ap (int_le low') (sym f) ∙ h in
     k ∙ ap (λ p. p && int_le n high) (sym first)
+
+-- ---- the words of the standard library
+
+digit_is : (b : ℕ) → is_digit b ≡ true → digit_value b ≡ b - 48
+digit_is b h =
+    let low : nat_lt b 48 ≡ false = grind (arith, nat_tests) in
+    let high : nat_lt b 58 ≡ true = grind (arith, nat_tests) in
+    rw (low, high) refl
+
+after_is : (n : ℕ) (digits : List ℕ)
+    → number_after n digits ≡ cond (all_ascii_digits digits) (Some (digits_value_after 10 n digits)) None
+after_is n [] = refl
+after_is n (b ∷ digits) = by (is_digit b) refl (after_is (n * 10 + (b - 48)) digits)
+  where
+    by : (t : Bool) → is_digit b ≡ t → number_after (n * 10 + (b - 48)) digits ≡ cond (all_ascii_digits digits)
+        (Some (digits_value_after 10 (n * 10 + (b - 48)) digits)) None →
+        cond t (number_after (n * 10 + (b - 48)) digits) None ≡ cond
+        (t && all_ascii_digits digits) (Some (digits_value_after 10 (n * 10 + digit_value b) digits)) None
+    by true e more = rw (digit_is b e) more
+    by false e more = refl
+
+-- one or more digits
+abbrev are_digits : List ℕ → Bool
+are_digits digits = nat_lt 0 (length digits) && all_ascii_digits digits
+
+some_digits : (n : ℕ) → nat_lt 0 (suc n) ≡ true
+some_digits n = grind (arith, nat_tests)
+
+digits_is : (digits : List ℕ) → digits_number digits ≡ cond (are_digits digits) (Some (digits_value 10 digits)) None
+digits_is [] = refl
+digits_is (b ∷ digits) = rw (some_digits (length digits)) (after_is 0 (b ∷ digits))
+
+mapped : (f : ℕ → ℤ) (n : ℕ) (t : Bool) → option_map f (cond t (Some n) None) ≡ then_some t (f n)
+mapped f n true = refl
+mapped f n false = refl
+
+pub number_is : (word : List ℕ) → number_read word ≡ whole_number word
+number_is [] = refl
+number_is (b ∷ bytes) = by (b == 45) (b == 43) refl
+  where
+    by : (minus plus : Bool) → (b == 43) ≡ plus →
+        cond minus (option_map (λ n. neg_ℤ (pos n)) (digits_number bytes)) (option_map pos (digits_number (b ∷ bytes)))
+        ≡ then_some (are_digits (drop (cond minus 1 0) (b ∷ bytes)))
+        (cond minus (neg_ℤ (pos (digits_value 10 (cond minus bytes (drop (cond plus 1 0) (b ∷ bytes))))))
+        (pos (digits_value 10 (cond minus bytes (drop (cond plus 1 0) (b ∷ bytes))))))
+    by true plus p = ap (option_map (λ n. neg_ℤ (pos n))) (digits_is bytes)
+        ∙ mapped (λ n. neg_ℤ (pos n)) (digits_value 10 bytes) (are_digits bytes)
+    by false false p = ap (option_map pos) (digits_is (b ∷ bytes))
+        ∙ mapped pos (digits_value 10 (b ∷ bytes)) (are_digits (b ∷ bytes))
+    by false true p =
+        let no : is_digit b ≡ false = grind (arith, nat_tests) in
+        rw (no, some_digits (length bytes)) refl
+
+-- the same of a number from 0 on
+pub natural_from : (r : Option ℕ) (high : ℕ) (word : List ℕ)
+    → r ≡ option_map unsigned_abs (number_read_in (pos 0) (pos high) word)
+    → r ≡ option_map unsigned_abs (number_in (pos 0) (pos high) word)
+natural_from r high word e =
+    e ∙ ap (λ w. option_map unsigned_abs (option_and_then (inside (pos 0) (pos high)) w)) (number_is word)

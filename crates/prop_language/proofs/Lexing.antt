@@ -3,15 +3,20 @@ use Rattle.std.proofs.Common.{◌≡◌, ℕ, List, [], ◌∷◌, ◌++◌, tak
 use Rattle.std.proofs.Common.{subst, zero, suc}
 use Rattle.std.specs.Prelude.{◌||◌, Option, Some, None, is_some}
 use Rattle.std.specs.List.{AllByRecursion}
+use Rattle.std.specs.Option.{option_map_or}
 use Rattle.std.proofs.lemmas.List.{take-append-drop}
 use Rattle.std.proofs.lemmas.Bool.{false≢true}
-use Rattle.prop_language.specs.Tokens.{Token, Word, tokens, front_word, with_word, onto_front, is_blank, mark_of}
+use Rattle.prop_language.specs.Tokens.{Token, Word, tokens, front_word, with_word, is_blank, mark_of}
 use Rattle.prop_language.specs.inner.Parts.{IsInWord, StartsPast, EndsWord}
+
+-- a byte that is no blank, before a word and the tokens after it
+abbrev put : Option Token → ℕ → List ℕ × List Token → List ℕ × List Token
+put mark b front = option_map_or (λ mark. ([], mark ∷ with_word front)) mark (b ∷ front.0, front.1)
 
 -- a word ends before what ends it
 ended_by : (blank : Bool) (mark : Option Token) (b : ℕ) (ts : List Token) (front : List ℕ × List Token)
     → (blank || is_some mark) ≡ true → cond blank ([], ts)
-    (onto_front mark b front) ≡ ([], with_word (cond blank ([], ts) (onto_front mark b front)))
+    (put mark b front) ≡ ([], with_word (cond blank ([], ts) (put mark b front)))
 ended_by true mark b ts front e = refl
 ended_by false (Some mark) b ts front e = refl
 ended_by false None b ts front e = absurd (false≢true e)

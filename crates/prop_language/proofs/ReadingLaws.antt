@@ -13,8 +13,10 @@ use Rattle.prop_language.specs.Names.{is_among}
 use Rattle.prop_language.specs.Commands.{Value, Command}
 use Rattle.prop_language.specs.Spelling.{command_words}
 use Rattle.prop_language.specs.inner.Grammar.{Spells, AreTwoToEight, command_in_range}
-use Rattle.prop_language.specs.Reading.{without_return, is_silent, begins_as_command, AskFor}
-use Rattle.prop_language.specs.Reading.{IsReadingOf, IsReading, HaveOneReading}
+use Rattle.prop_language.specs.Reading.{is_silent, begins_as_command, AskFor}
+use Rattle.prop_language.specs.inner.Lines.{without_return}
+use Rattle.prop_language.specs.Reading.{IsReading, HaveOneReading}
+use Rattle.prop_language.specs.inner.Lines.{IsReadingOf}
 use Rattle.prop_language.specs.Said.{Reads}
 use Rattle.prop_language.specs.declared.command.Command as made
 use Rattle.prop_language.specs.inner.Forms.{forms}

@@ -19,7 +19,7 @@ use Rattle.prop_language.proofs.ValueLaws.{value_read, choice_read, one_spelled,
 use Rattle.prop_language.proofs.StepLaws.{Head, Headed, Headless, head, words_alone, before_equals, after_equals}
 use Rattle.prop_language.proofs.StepLaws.{bodiless, bodied}
 use Rattle.prop_language.specs.inner.Grammar.{Spells, SpellsStep, SpellsSteps, StandsFor, Gives, Passes, HaveNoBy}
-use Rattle.prop_language.specs.Spelling.{tokens_of_value, IsLocal}
+use Rattle.prop_language.specs.inner.Grammar.{tokens_of_value, IsLocal}
 
 -- what is read from a line's tokens, where there is a form for it
 abbrev pub read_form : List Token → Option Command

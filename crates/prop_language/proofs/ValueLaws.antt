@@ -9,7 +9,7 @@ use Rattle.std.proofs.lemmas.Bool.{le-leb, leb-true}
 use Rattle.prop_language.specs.Tokens.{Token, Word, Open, Close}
 use Rattle.prop_language.specs.Commands.{Value, Bare, Braces, Command}
 use Rattle.prop_language.specs.inner.Forms.{join, values, in_braces, one_value, sides, two_to_eight, choose}
-use Rattle.prop_language.specs.Spelling.{tokens_of_value}
+use Rattle.prop_language.specs.inner.Grammar.{tokens_of_value}
 use Rattle.prop_language.specs.inner.Grammar.{Spells, AreTwoToEight}
 use Rattle.prop_language.specs.inner.Parts.{sides_in, few_sides_in}
 use Rattle.prop_language.proofs.Forming.{Filled, filled}

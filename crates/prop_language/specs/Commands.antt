@@ -8,9 +8,7 @@ pub data Value : Type 0 where
 
 -- a word for a kind: of numbers, of truths, of symbols, or a domain's name
 pub data KindWord : Type 0 where
-  Spans : KindWord
-  Truths : KindWord
-  Symbols : KindWord
+  Spans Truths Symbols : KindWord
   Named : List ℕ → KindWord
 
 -- what follows `by`
@@ -40,13 +38,7 @@ pub data Command : Type 0 where
   Fix : (cell : List ℕ) → (value : Value) → Command
   Tell : (premise : List ℕ) → (cell : List ℕ) → (value : Value) → Command
   Choose : (name cell : List ℕ) → (values : List Value) → Command
-  Kick : (premise : List ℕ) → Command
-  Bring : (premise : List ℕ) → Command
-  Forget : (premise : List ℕ) → Command
+  Kick Bring Forget : (premise : List ℕ) → Command
   Limit : (steps : Option ℕ) → Command
-  Settle : Command
-  Ask : (cell : List ℕ) → Command
-  Why : (cell : List ℕ) → Command
-  Core : (cell : List ℕ) → Command
-  Worldview : Command
-  Nogoods : Command
+  Ask Why Core : (cell : List ℕ) → Command
+  Settle Worldview Nogoods : Command

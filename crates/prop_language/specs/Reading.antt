@@ -2,6 +2,7 @@
 use Rattle.std.specs.Prelude.{◌≡◌, ◌⊎◌, ℕ, ◌<◌, ◌≤◌, List, [], ◌∷◌, Bool, true, false, cond}
 use Rattle.std.specs.Prelude.{not, ◌==◌, length, Option, Some, None, Result, Ok, Err, map, IsUtf8}
 use Rattle.std.specs.List.{list_all}
+use Rattle.std.specs.Str.Lines.{strip_carriage_return}
 use Rattle.prop_refusals.specs.declared.refusal.Refusal.{Refusal}
 use Rattle.prop_refusals.specs.declared.refusal.Refusal.TheVariants.{LineTooLong, NotUtf8}
 use Rattle.prop_refusals.specs.declared.refusal.Refusal.TheVariants.{UnknownCommand, WrongForm}
@@ -9,13 +10,7 @@ use Rattle.prop_refusals.specs.declared.refusal.Refusal.TheVariants.{NotAName, N
 use Rattle.prop_language.specs.Tokens.{Token, Word, tokens, is_blank}
 use Rattle.prop_language.specs.Names.{is_among}
 use Rattle.prop_language.specs.Commands.{Command}
-use Rattle.prop_language.specs.Spelling.{Part, token_of, is_named, is_ranged, Spells, command_words}
-
--- the bytes but for one carriage return at their end
-abbrev pub without_return : List ℕ → List ℕ
-without_return [] = []
-without_return (b ∷ []) = cond (b == 13) [] (b ∷ [])
-without_return (b ∷ c ∷ bytes) = b ∷ without_return (c ∷ bytes)
+use Rattle.prop_language.specs.Spelling.{Part, Spells, command_words}
 
 -- spaces and tabs alone, or a number sign as the first other character
 abbrev pub is_silent : List ℕ → Bool
@@ -27,31 +22,23 @@ abbrev pub begins_as_command : List Token → Bool
 begins_as_command (Word w ∷ ts) = is_among command_words w
 begins_as_command ts = false
 
--- the command that the parts spell, where its names are names and its numbers in range
-abbrev pub judged : List Part → Command → Result (Option Command) Refusal
-judged ps command = cond (not (list_all is_named ps)) (Err NotAName)
-    (cond (not (list_all is_ranged ps)) (Err NotANumber) (Ok (Some command)))
-
--- what tokens ask for: the command that they spell; those that spell none are refused
+-- what tokens ask for: the command that they spell, where its names are names and its numbers in
+-- range; those that spell none are refused
 abbrev pub AskFor : List Token → Result (Option Command) Refusal → Type 0
 AskFor ts read =
-    ((ps : List Part) × (command : Command) × (map token_of ps ≡ ts) × Spells ps command
-    × (read ≡ judged ps command))
-    ⊎ (((ps : List Part) (command : Command) → map token_of ps ≡ ts → ¬ (Spells ps command))
+    ((ps : List Part) × (command : Command) × (map (λ p. p.token) ps ≡ ts) × Spells ps command
+    × (read ≡ cond (not (list_all (λ p. p.is_named) ps)) (Err NotAName)
+    (cond (not (list_all (λ p. p.is_ranged) ps)) (Err NotANumber) (Ok (Some command)))))
+    ⊎ (((ps : List Part) (command : Command) → map (λ p. p.token) ps ≡ ts → ¬ (Spells ps command))
     × (read ≡ Err (cond (begins_as_command ts) WrongForm UnknownCommand)))
 
--- what a line without its carriage return asks for, None where it gets no reply
-abbrev pub IsReadingOf : List ℕ → Result (Option Command) Refusal → Type 0
-IsReadingOf bytes read =
-    (¬ (IsUtf8 bytes) × (read ≡ Err NotUtf8))
-    ⊎ (IsUtf8 bytes × (is_silent bytes ≡ true) × (read ≡ Ok None))
-    ⊎ (IsUtf8 bytes × (is_silent bytes ≡ false) × AskFor (tokens bytes) read)
-
--- what a line asks for
+-- what a line asks for, None where it gets no reply; its text is without a return at the end
 abbrev pub IsReading : List ℕ → Result (Option Command) Refusal → Type 0
-IsReading line read =
+IsReading line read = let text = strip_carriage_return line in
     ((4096 < length line) × (read ≡ Err LineTooLong))
-    ⊎ ((length line ≤ 4096) × IsReadingOf (without_return line) read)
+    ⊎ ((length line ≤ 4096) × ((¬ (IsUtf8 text) × (read ≡ Err NotUtf8))
+    ⊎ (IsUtf8 text × (is_silent text ≡ true) × (read ≡ Ok None))
+    ⊎ (IsUtf8 text × (is_silent text ≡ false) × AskFor (tokens text) read)))
 
 -- it holds of what the line asks for
 abbrev pub AsRead : List ℕ → (Result (Option Command) Refusal → Type 0) → Type 0

@@ -1,3 +1,6 @@
+pub mod Digits
+pub mod Judged
+pub mod Lines
 pub mod Forms
 pub mod Parsing
 pub mod Parts

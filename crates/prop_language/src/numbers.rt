@@ -2,6 +2,7 @@
 ghost use Rattle.std.specs.Prelude.{◌≡◌, pos, unsigned_abs};
 ghost use Rattle.std.specs.Option.{option_map};
 ghost use Rattle.prop_language.specs.Names.{looks_like_number, number_in};
+ghost use Rattle.prop_language.specs.inner.Digits.{number_read_in};
 ghost use Rattle.prop_language.specs.inner.Parts.{number_up_to};
 
 /// Whether the word begins as a number does: with a minus sign or an ASCII digit.
@@ -32,7 +33,7 @@ fn unsigned(digits: &[u8]) -> Option<u64>
 
 /// The number that the word is, where an `i64` holds it.
 fn signed(word: &[u8]) -> Option<i64>
-    ensures { result ≡ number_in i64.MIN i64.MAX word.now }
+    ensures { result ≡ number_read_in i64.MIN i64.MAX word.now }
 {
     match word.split_first() {
         Some((b'-', digits)) => 0i64.checked_sub_unsigned(unsigned(digits)?),

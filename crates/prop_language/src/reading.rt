@@ -3,7 +3,8 @@ ghost use Rattle.std.specs.Prelude.{◌≡◌, List, map, find, bytes_eq, IfSome
 ghost use Rattle.std.specs.List.{list_all};
 ghost use Rattle.prop_language.specs.Tokens as words;
 ghost use Rattle.prop_language.specs.Tokens.{tokens};
-ghost use Rattle.prop_language.specs.Reading.{is_silent, without_return, IsReading, HaveOneReading};
+ghost use Rattle.prop_language.specs.Reading.{is_silent, IsReading, HaveOneReading};
+ghost use Rattle.prop_language.specs.inner.Lines.{without_return};
 ghost use Rattle.prop_language.specs.inner.Parsing.{reading_of, command_of, by_form_of};
 ghost use Rattle.prop_language.specs.inner.Parsing.{command_in_form};
 ghost use Rattle.prop_language.specs.inner.Parts.{form_of, form_entry, read_by, word_of, is_worded};

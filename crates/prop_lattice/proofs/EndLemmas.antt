@@ -4,7 +4,8 @@ use Rattle.prop_lattice.specs.declared.span.TheConstants.{B}
 use Rattle.prop_lattice.specs.declared.span.Span as spans
 use Rattle.prop_lattice.specs.declared.elements.Elements as sets
 use Rattle.prop_lattice.specs.declared.info.Info.TheVariants.{Span, Set, Contradiction}
-use Rattle.prop_lattice.specs.Ends.{AreEnds, AreSome, ends_or_not, some_or_not, span_if, elements_if, span_from}
+use Rattle.prop_lattice.specs.Ends.{AreEnds, ends_or_not, some_or_not, span_from}
+use Rattle.prop_lattice.specs.inner.Ends.{AreSome, span_if, elements_if}
 use Rattle.prop_lattice.specs.Ends.{elements_from}
 use Rattle.prop_lattice.specs.laws.OrderLaws.{same_span, same_elements}
 

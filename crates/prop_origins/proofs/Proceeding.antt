@@ -17,13 +17,16 @@ use Rattle.prop_procedures.specs.declared.shape.Kinded.{Kinded}
 use Rattle.prop_procedures.specs.Stored.{Stored, span_kind}
 use Rattle.prop_procedures.specs.Fitting.{kind_at}
 use Rattle.prop_cells.specs.declared.instance.Statement.{Statement}
-use Rattle.prop_cells.specs.Problems.{Problem, Premises, Assignment, AreOfKinds, Constraint, Entails, Meets, MergesAt}
-use Rattle.prop_cells.specs.Problems.{OthersMeet, Satisfies, value_at}
+use Rattle.prop_cells.specs.Problems.{Problem, Assignment, Constraint, Entails, MergesAt}
+use Rattle.prop_cells.specs.inner.Problems.{Premises, AreOfKinds, Meets}
+use Rattle.prop_cells.specs.Problems.{OthersMeet, value_at}
+use Rattle.prop_cells.specs.inner.Problems.{Satisfies}
 use Rattle.prop_cells.specs.Instances.{Instance, constraint_of, readers_of}
 use Rattle.prop_cells.specs.Data.{Data, problem_of}
 use Rattle.prop_cells.proofs.Fitted.{merge_of_kind}
 use Rattle.prop_cells.proofs.Fixpoint.{others_meet-step, merges_grow}
 use Rattle.prop_cells.proofs.Reading.{readers_are, few_readers}
+use Rattle.prop_scheduler.proofs.Bounds.{most_ranks}
 use Rattle.prop_scheduler.specs.Agendas.{AllAlerted}
 use Rattle.prop_scheduler.specs.Potential.{input_places, potential, most_steps}
 use Rattle.prop_scheduler.proofs.Falls.{ranks_fall}
@@ -198,7 +201,7 @@ proceeds_idle library d line a i x are at below = record {
         let y = from_map (constraint_of library) d.instances i c (rw own.1 at e) in
         let same : y.0 ≡ x = (let b = y.1 in cc) in
         let is : c ≡ constraint_of library x = y.2 ∙ ap (constraint_of library) same in
-        subst (λ (z : Constraint). Meets a z) (sym is) (record { below = below })
+        subst (λ (z : Constraint). Meets a z) (sym is) below
     by o j c e idle (inr other) = o.met j c e (λ w. idle (behind i j line w other.1))
 
 -- ---- statements
@@ -230,7 +233,7 @@ pub most_at_start : (library : List Stored) (d : Data) (count : ℕ) → count �
 most_at_start library d count is =
     let n = length-map d.instances (constraint_of library) in
     let m = length-range_with_len 0 count in
-    omega (arith, n, m, is)
+    omega (arith, n, m, is, most_ranks (problem_of library d))
 
 none_left : (line : List ℕ) → length line ≡ 0 → line ≡ []
 none_left [] e = refl
@@ -242,7 +245,7 @@ pub known_at_rest : (library : List Stored) (d : Data) (s : Premises) (cell : �
     → All (Satisfies s a) d.statements → (b : Assignment) → OthersMeet (problem_of library d).constraints start b
     → Proceeds (problem_of library d) n start line b a → line ≡ [] → Below v (a cell)
 known_at_rest library d s cell v a start line n entails heard b waited went none = entails.below a (record {
-  kinds = went.of_kinds;
+  kinds = went.of_kinds.of_kind;
   statements = heard;
   instances = λ k c l.
       (subst (λ (w : List ℕ). OthersMeet (problem_of library d).constraints w a) none (went.met waited)).met k _

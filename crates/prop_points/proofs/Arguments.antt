@@ -10,7 +10,8 @@ use Rattle.prop_lattice.specs.declared.info.Kind.TheVariants as kinds
 use Rattle.prop_lattice.specs.declared.span.Span as spans
 use Rattle.prop_procedures.specs.declared.shape.Kinded.{Kinded}
 use Rattle.prop_procedures.specs.declared.shape.Shape.{Shape}
-use Rattle.prop_procedures.specs.Rules.{AreOf, kind_of}
+use Rattle.prop_procedures.specs.Rules.{kind_of}
+use Rattle.prop_procedures.specs.inner.Places.{AreOf}
 use Rattle.prop_intervals.specs.laws.Relations.{IsInRange}
 use Rattle.prop_points.specs.Singles.{IsSingle, AreSingle}
 

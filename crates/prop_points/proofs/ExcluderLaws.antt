@@ -6,7 +6,8 @@ use Rattle.std.specs.List.{AllByRecursion as Each}
 use Rattle.std.proofs.Common.{arith, refl, rules, ap, sym, subst, ◌∙◌, inl, inr, eqb-true, eq-eqb}
 use Rattle.std.proofs.lemmas.Int.{ints}
 use Rattle.std.proofs.lemmas.Nat.Bits.{bit_at_ones}
-use Rattle.prop_lattice.specs.Ends.{AreSome, some_or_not, elements_if, elements_from}
+use Rattle.prop_lattice.specs.Ends.{some_or_not, elements_from}
+use Rattle.prop_lattice.specs.inner.Ends.{AreSome, elements_if}
 use Rattle.prop_lattice.specs.Order.{Below, HasElement}
 use Rattle.prop_lattice.specs.Points.{Point, Number, Element, Symbol, Holds, IsPointOf}
 use Rattle.prop_lattice.specs.declared.elements.Elements as sets
@@ -20,7 +21,9 @@ use Rattle.prop_procedures.specs.declared.shape.Param.TheVariants.{Plain, Scale,
 use Rattle.prop_procedures.specs.declared.shape.Shape.{Shape}
 use Rattle.prop_procedures.specs.declared.shape.Shape.TheVariants.{Any, From}
 use Rattle.prop_procedures.specs.declared.shape.Need.TheVariants as needs
-use Rattle.prop_procedures.specs.Rules.{Admits, AreOf, AreSides}
+use Rattle.prop_procedures.specs.laws.Admitted.{may_be_given}
+use Rattle.prop_procedures.specs.inner.Places.{Admits, AreSides}
+use Rattle.prop_procedures.specs.inner.Places.{AreOf}
 use Rattle.prop_sets.specs.laws.NarrowestLaws.{bit_from_held}
 use Rattle.prop_hall.specs.Excluder.{IsAnother, among, beside, left_by, others_of}
 use Rattle.prop_hall.specs.Excluding.{excluded_of, told, told_by}
@@ -262,6 +265,7 @@ among_exact any (Scale k) args points point s o e p h a = absurd a
 
 pub excluders_are_exact : ExcludersAreExact
 excluders_are_exact Eight ins out need f any param args points point c e p h =
-    among_exact any param args points point c.sides (rw f.0 at c.of_kinds) e (rw f.1 at p) h (rw f.2 at c.admits)
+    among_exact any param args points point c.sides (rw f.0 at c.of_kinds) e (rw f.1 at p) h
+    (rw f.2 at (may_be_given need param c.admits))
 excluders_are_exact rule ins out need f any param args points point c e p h =
     beside_exact any (others_of rule) args points point (rw f.0 at c.of_kinds) e h

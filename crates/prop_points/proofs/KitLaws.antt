@@ -15,10 +15,13 @@ use Rattle.prop_procedures.specs.declared.shape.Param.{Param}
 use Rattle.prop_procedures.specs.declared.shape.Param.TheVariants.{Plain, Scale, Rows}
 use Rattle.prop_procedures.specs.declared.shape.Shape.{Shape}
 use Rattle.prop_procedures.specs.declared.shape.Shape.TheVariants as shapes
-use Rattle.prop_procedures.specs.Rules.{Admits, AreOf, AreSides, is_scale}
+use Rattle.prop_procedures.specs.laws.Admitted.{may_be_given}
+use Rattle.prop_procedures.specs.Rules.{is_scale}
+use Rattle.prop_procedures.specs.inner.Places.{Admits, AreSides}
+use Rattle.prop_procedures.specs.inner.Places.{AreOf}
 use Rattle.prop_sets.specs.Truth.{IsNot, IsAnd, IsOr}
 use Rattle.prop_sets.specs.laws.TruthLaws.{not_just, and_just, and_back_just, or_just, or_back_just}
-use Rattle.prop_arith.specs.Comparing.{is_just}
+use Rattle.prop_arith.specs.inner.Compared.{is_just}
 use Rattle.prop_arith.specs.Points.{Related}
 use Rattle.prop_arith.specs.Values.{value_of}
 use Rattle.prop_arith.specs.declared.kit.Kit.TheVariants.{Add, Sub, Mul, Div, Square, Root, Less, Below, Above, Copy}
@@ -196,7 +199,8 @@ kit_is_exact Sub ins out need f any param args points point c e p =
     two_numbers any (value_of Sub param) (Related Sub param) (λ a b z x y i. difference_exact a b z x y) args points
     point (rw f.0 at c.of_kinds) e (rw f.1 at p)
 kit_is_exact Mul ins out need f any param args points point c e p =
-    multiplied any param (rw f.2 at c.admits) args points point (rw f.0 at c.of_kinds) e (rw f.1 at p)
+    multiplied any param (rw f.2 at (may_be_given need param c.admits)) args points point (rw f.0 at c.of_kinds) e
+    (rw f.1 at p)
 kit_is_exact Div ins out need f any param args points point c e p = λ h. tt
 kit_is_exact Square ins out need f any param args points point c e p =
     one_number any (value_of Square param) (Related Square param) (λ a x y i. square_exact a x y) args points point
@@ -242,6 +246,8 @@ kit_is_exact OrBack ins out need f any param args points point c e p =
     (λ x y i j z l d g h. two_truths_exact (λ z y x. IsOr x y z) x y _ i j z (or_back_just x y) l d g h)
     args points point (rw f.0 at c.of_kinds) e (rw f.1 at p)
 kit_is_exact Image ins out need f any param args points point c e p =
-    imaged any param (rw f.2 at c.admits) c.sides args points point (rw f.0 at c.of_kinds) e (rw f.1 at p)
+    imaged any param (rw f.2 at (may_be_given need param c.admits)) c.sides args points point (rw f.0 at c.of_kinds) e
+    (rw f.1 at p)
 kit_is_exact Coimage ins out need f any param args points point c e p =
-    coimaged any param (rw f.2 at c.admits) c.sides args points point (rw f.0 at c.of_kinds) e (rw f.1 at p)
+    coimaged any param (rw f.2 at (may_be_given need param c.admits)) c.sides args points point (rw f.0 at c.of_kinds)
+    e (rw f.1 at p)

@@ -16,10 +16,12 @@ use Rattle.prop_procedures.specs.declared.shape.Shape.{Shape}
 use Rattle.prop_procedures.specs.Fitting.{kind_at}
 use Rattle.prop_procedures.specs.Forms.{Form, library_of, related_in, stored_rule}
 use Rattle.prop_procedures.specs.Rules.{kind_of}
-use Rattle.prop_procedures.specs.Stored.{Stored, is_same, span_kind}
+use Rattle.prop_procedures.specs.Stored.{Stored, span_kind}
+use Rattle.prop_procedures.specs.inner.Places.{is_same}
 use Rattle.prop_cells.specs.Instances.{Instance, IsFitting, IsWithin, constraint_of}
 use Rattle.prop_cells.specs.Points.{Attached, AreFitting, ArePoints, problem_of}
-use Rattle.prop_cells.specs.Problems.{Assignment, IsSolution, Meets, Premises}
+use Rattle.prop_cells.specs.Problems.{Assignment, IsSolution}
+use Rattle.prop_cells.specs.inner.Problems.{Meets, Premises}
 use Rattle.prop_cells.proofs.Fitted.{and_both, same_kinded, any_at, right_at, is_call_at}
 use Rattle.prop_points.specs.Networks.{AreExactBy, AreSettled, SinglesSolve}
 use Rattle.prop_points.specs.Singles.{IsExact, AreSingle}
@@ -73,7 +75,7 @@ module _ (library : List Stored) (related : ℕ → Param → List Point → Poi
   where
     of_kind : (cell : ℕ) (k : Kinded) → slice_get n.kinds cell ≡ Some k → IsPointOf k.kind k.size (points cell)
     of_kind cell k at =
-        single_of_kind k.kind k.size (a cell) (points cell) (solves.kinds.of_kind cell k at)
+        single_of_kind k.kind k.size (a cell) (points cell) (solves.kinds cell k at)
         (settled.single cell (in_list n.kinds cell k at))
       where
         in_list : (kinds : List Kinded) (cell : ℕ) (k : Kinded) → slice_get kinds cell ≡ Some k → cell < length kinds
@@ -88,9 +90,9 @@ module _ (library : List Stored) (related : ℕ → Param → List Point → Poi
         let p = f.procedure in
         let any = any_at p n.kinds x in
         let none = clear n a points settled x.inputs w.inputs in
-        let call = is_call_at p n.kinds x a f.fits w solves.kinds none in
+        let call = is_call_at p n.kinds x a f.fits w (record { of_kind = solves.kinds }) none in
         let held : Holds (p.value x.param (map a x.inputs)) (points x.output) =
-        below_single _ (a x.output) (points x.output) (rw (f.at, none) at m.below)
+        below_single _ (a x.output) (points x.output) (rw (f.at, none) at m)
         (settled.single x.output w.output) in
         let kind = out_kind any p.ins p.out n.kinds x.inputs x.output f.fits.count (right_at p n.kinds x f.fits) in
         exact x.procedure p f.at any x.param (map a x.inputs) (map points x.inputs) (points x.output) call

@@ -5,18 +5,23 @@ use Rattle.std.specs.Int.{int_max, int_min}
 use Rattle.std.proofs.Common.{arith, refl, ap, sym, subst, ◌∙◌, inl, inr, eqb-true, eq-eqb}
 use Rattle.std.proofs.lemmas.Int.{ints, clamps, by_lt_z}
 use Rattle.prop_intervals.specs.Clip.{clip}
-use Rattle.prop_intervals.specs.Comparisons.{yes_bits, no_bits, less_of, below_of, above_of}
-use Rattle.prop_intervals.specs.Quotients.{int_div_floor, int_div_ceil}
+use Rattle.prop_intervals.specs.Comparisons.{yes_bits, no_bits}
+use Rattle.prop_intervals.specs.inner.Parts.{less_of, below_of, above_of}
+use Rattle.prop_intervals.specs.Quotients.{int_div_ceil}
+use Rattle.prop_intervals.specs.inner.Parts.{int_div_floor}
 use Rattle.prop_intervals.specs.Relations.{IsSum, IsProduct, IsSquare, SaysLess}
 use Rattle.prop_intervals.specs.Roots.{IsRoot, root_of}
-use Rattle.prop_intervals.specs.Spans.{sum_of, difference_of, product_of, square_of, least_product, greatest_product}
+use Rattle.prop_intervals.specs.Spans.{sum_of, difference_of, product_of, least_product}
+use Rattle.prop_intervals.specs.Spans.{greatest_product}
+use Rattle.prop_intervals.specs.inner.Parts.{square_of}
 use Rattle.prop_intervals.specs.Spans.{holds_zero}
 use Rattle.prop_intervals.specs.laws.QuotientLaws.{product-add, product-le, floor-parts, ceil-parts}
 use Rattle.prop_intervals.specs.laws.RootLaws.{root_of-narrowest}
 use Rattle.prop_intervals.specs.laws.SquareLaws.{zero_in}
 use Rattle.prop_intervals.specs.Narrowest.{IsNarrowest}
 use Rattle.prop_lattice.specs.declared.span.TheConstants.{B}
-use Rattle.prop_lattice.specs.Ends.{AreEnds, ends_or_not, span_if, span_from, elements_from}
+use Rattle.prop_lattice.specs.Ends.{AreEnds, ends_or_not, span_from, elements_from}
+use Rattle.prop_lattice.specs.inner.Ends.{span_if}
 use Rattle.prop_lattice.specs.Points.{Number, Element, Holds}
 use Rattle.prop_lattice.specs.declared.elements.Elements as sets
 use Rattle.prop_lattice.specs.declared.info.Info.{Info}

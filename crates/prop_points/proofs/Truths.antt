@@ -14,7 +14,9 @@ use Rattle.prop_sets.specs.Images.{image_of, coimage_of}
 use Rattle.prop_sets.specs.Relation.{Relation, HasPair}
 use Rattle.prop_sets.specs.Truth.{LeavesJust, IsLeftByOne, IsLeftByTwo}
 use Rattle.prop_sets.specs.laws.ImageLaws.{image_just, coimage_just}
-use Rattle.prop_arith.specs.Comparing.{comparer_of, is_just, is_single}
+use Rattle.prop_arith.specs.Comparing.{is_single}
+use Rattle.prop_arith.specs.inner.Compared.{is_just}
+use Rattle.prop_arith.specs.inner.Compared.{comparer_of}
 use Rattle.prop_arith.specs.laws.SingleLaws.{single_stays}
 use Rattle.prop_hall.specs.laws.HullLaws.{below_holds, never}
 use Rattle.prop_points.specs.Singles.{IsSingle}

@@ -12,7 +12,10 @@ use Rattle.prop_procedures.specs.declared.shape.Param.{Param}
 use Rattle.prop_procedures.specs.declared.shape.Param.TheVariants.{Plain, Scale, Rows}
 use Rattle.prop_procedures.specs.declared.shape.Shape.{Shape}
 use Rattle.prop_procedures.specs.declared.shape.Shape.TheVariants as shapes
-use Rattle.prop_procedures.specs.Rules.{Admits, AreOf, is_scale}
+use Rattle.prop_procedures.specs.laws.Admitted.{may_be_given}
+use Rattle.prop_procedures.specs.Rules.{is_scale}
+use Rattle.prop_procedures.specs.inner.Places.{Admits}
+use Rattle.prop_procedures.specs.inner.Places.{AreOf}
 use Rattle.prop_arith.specs.laws.NumberLaws.{at_least_one}
 use Rattle.prop_hall.specs.laws.HullLaws.{never}
 use Rattle.prop_wide.specs.Points.{Related}
@@ -129,9 +132,11 @@ wide_is_exact CountBack [] out need f any param args points point c e p = absurd
 wide_is_exact CountBack (s ∷ ins) out need f any param args points point c e p =
     last_counted any param ins f.0.1 args points point (rw f.0.0 at c.of_kinds) e (rw f.1 at p)
 wide_is_exact Square ins out need f any param args points point c e p =
-    squared any param (rw f.2 at c.admits) args points point (rw f.0 at c.of_kinds) e (rw f.1 at p)
+    squared any param (rw f.2 at (may_be_given need param c.admits)) args points point (rw f.0 at c.of_kinds) e
+    (rw f.1 at p)
 wide_is_exact Root ins out need f any param args points point c e p =
-    rooted any param (rw f.2 at c.admits) args points point (rw f.0 at c.of_kinds) e (rw f.1 at p)
+    rooted any param (rw f.2 at (may_be_given need param c.admits)) args points point (rw f.0 at c.of_kinds) e
+    (rw f.1 at p)
 wide_is_exact Quotient ins out need f any param args points point c e p =
     two_numbers any (value_of Quotient param) (Related Quotient param) quotient_exact args points point
     (rw f.0 at c.of_kinds) e (rw f.1 at p)

@@ -4,8 +4,8 @@ use Rattle.std.specs.Prelude.{◌&&◌, if◌then◌else◌, int_lt, int_le, uns
 use Rattle.std.specs.Int.{int_max, int_min}
 use Rattle.std.proofs.Common.{arith, refl, ap, sym, subst, ◌∙◌, inl, inr}
 use Rattle.std.proofs.lemmas.Int.{ints, clamps, by_lt_z}
-use Rattle.prop_intervals.specs.Quotients.{int_div_floor}
-use Rattle.prop_intervals.specs.Roots.{least_root, greatest_root}
+use Rattle.prop_intervals.specs.inner.Parts.{int_div_floor}
+use Rattle.prop_intervals.specs.inner.Roots.{least_root, greatest_root}
 use Rattle.prop_intervals.specs.laws.QuotientLaws.{floor-parts, neg-product, product-add, product-le}
 use Rattle.prop_intervals.specs.laws.Relations.{IsInRange}
 use Rattle.prop_intervals.specs.laws.RootLaws.{least_root-to, greatest_root-to}

@@ -15,10 +15,11 @@ use Rattle.prop_lattice.specs.declared.span.Span as spans
 use Rattle.prop_procedures.specs.declared.shape.Kinded.{Kinded}
 use Rattle.prop_procedures.specs.declared.shape.Shape.{Shape}
 use Rattle.prop_procedures.specs.declared.shape.Shape.TheVariants as shapes
-use Rattle.prop_procedures.specs.Rules.{AreOf}
-use Rattle.prop_sets.specs.Images.{is_set}
+use Rattle.prop_procedures.specs.inner.Places.{AreOf}
+use Rattle.prop_sets.specs.inner.Words.{is_set}
 use Rattle.prop_sets.specs.Truth.{leaves}
-use Rattle.prop_arith.specs.Comparing.{is_just, is_single}
+use Rattle.prop_arith.specs.Comparing.{is_single}
+use Rattle.prop_arith.specs.inner.Compared.{is_just}
 use Rattle.prop_hall.specs.laws.HullLaws.{never}
 use Rattle.prop_wide.specs.Choices.{agree, choose_of, decide_of}
 use Rattle.prop_wide.specs.Counts.{yes_among, sure_of, possible_of, count_of, count_back_of, may_lie}

@@ -4,7 +4,8 @@ use Rattle.prop_lattice.specs.Points.{Point}
 use Rattle.prop_procedures.specs.declared.shape.Param.{Param}
 use Rattle.prop_procedures.specs.Stored.{Stored}
 use Rattle.prop_cells.specs.Points.{Attached, AreFitting, ArePoints, problem_of}
-use Rattle.prop_cells.specs.Problems.{Assignment, IsSolution, Premises}
+use Rattle.prop_cells.specs.Problems.{Assignment, IsSolution}
+use Rattle.prop_cells.specs.inner.Problems.{Premises}
 use Rattle.prop_points.specs.Singles.{IsExact, IsSingle}
 
 -- each procedure's answers to single points hold those alone that are related

@@ -5,8 +5,10 @@ use Rattle.std.proofs.Common.{length-append}
 use Rattle.std.specs.Option.{option_map_or}
 use Rattle.std.proofs.lemmas.Bool.{cases_lt}
 use Rattle.prop_numbers.specs.Sets.{IsSame}
-use Rattle.prop_premises.specs.Origins.{Origin, User, Side, sides_below, with_name, with_choice, believed_in}
-use Rattle.prop_premises.specs.Origins.{is_believed, is_user, is_user_at, is_start, premise_number}
+use Rattle.prop_premises.specs.Origins.{Origin, User, Side, with_name, with_choice, believed_in}
+use Rattle.prop_premises.specs.inner.Origins.{sides_below}
+use Rattle.prop_premises.specs.Origins.{is_user, is_user_at, is_start, premise_number}
+use Rattle.prop_premises.specs.inner.Origins.{is_believed}
 use Rattle.prop_premises.proofs.ChoiceLemmas.{length-sides, slice_get-sides, slice_get-skip}
 use Rattle.prop_premises.proofs.EntryLemmas.{take-front}
 use Rattle.prop_premises.proofs.OriginLemmas.{believed_in-at, believed_in-past, is_user_at-at}

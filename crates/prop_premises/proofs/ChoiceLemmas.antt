@@ -1,11 +1,13 @@
 -- The choices among premises, and what new names, beliefs and dropped names do to them.
 use Rattle.std.proofs.Common.{◌≡◌, ℕ, zero, suc, ◌+◌, ◌<◌, ◌≤◌, Bool, true, false, cond, List, [], ◌∷◌, ◌++◌, length}
 use Rattle.std.proofs.Common.{take, filter, refl, sym, ap, ◌∙◌, inl, inr, arith, ◌==◌, nat_lt, slice_get, Some}
-use Rattle.std.proofs.Common.{append-nil, length-append, is_some}
+use Rattle.std.proofs.Common.{append-nil, is_some}
 use Rattle.std.proofs.lemmas.Bool.{cases_lt}
+use Rattle.std.proofs.lemmas.List.FromFn.{map-range_with_len_more, length-map-range_with_len}
 use Rattle.std.proofs.lemmas.Bool.Decides.{nat_tests}
 use Rattle.prop_premises.specs.declared.choice.Choice.{Choice}
-use Rattle.prop_premises.specs.Origins.{Origin, User, Side, sides_below, with_choice, with_name, with_belief_at}
+use Rattle.prop_premises.specs.Origins.{Origin, User, Side, with_choice, with_name, with_belief_at}
+use Rattle.prop_premises.specs.inner.Origins.{sides_below}
 use Rattle.prop_premises.specs.Origins.{choices_from, choices_of, premise_number}
 
 put_after : (b : Bool) (c : Choice) (xs ys zs : List Choice) → xs ≡ ys ++ zs
@@ -24,10 +26,16 @@ choices_from-append n (Side name side sides ∷ xs) ys m e =
 
 -- ---- the sides of one choice
 
+-- the last of them
+pub sides_more : (name : List ℕ) (sides n : ℕ)
+    → sides_below name sides (suc n) ≡ sides_below name sides n ++ Side name (suc n) sides ∷ []
+sides_more name sides n =
+    let next : suc n ≡ n + 1 = omega arith in
+    ap (λ k. sides_below name sides k) next
+    ∙ map-range_with_len_more (λ side. Side name side sides) 1 n (suc n) (omega arith)
+
 pub length-sides : (name : List ℕ) (sides n : ℕ) → length (sides_below name sides n) ≡ n
-length-sides name sides zero = refl
-length-sides name sides (suc n) = length-append (sides_below name sides n) (Side name (suc n) sides ∷ [])
-    ∙ omega (arith, length-sides name sides n)
+length-sides name sides n = length-map-range_with_len (λ side. Side name side sides) 1 n
 
 pub slice_get-skip : {X : Type 0} (xs ys : List X) (i p : ℕ) → p ≡ length xs + i
     → slice_get (xs ++ ys) p ≡ slice_get ys i
@@ -45,7 +53,7 @@ pub slice_get-sides : (name : List ℕ) (sides n i : ℕ) → i < n
 slice_get-sides name sides zero i l = absurd (omega (arith, l))
 slice_get-sides name sides (suc n) i l =
     let len = length-sides name sides n in
-    elim (cases_lt i n) [
+    ap (λ os. slice_get os i) (sides_more name sides n) ∙ elim (cases_lt i n) [
       | inl below ↦ slice_get-front (sides_below name sides n) (Side name (suc n) sides ∷ []) i
           (omega (arith, below, len)) ∙ slice_get-sides name sides n i below
       | inr above ↦ (
@@ -60,7 +68,8 @@ pub choices_from-sides : (n : ℕ) (name : List ℕ) (sides k : ℕ)
 choices_from-sides n name sides zero = refl
 choices_from-sides n name sides (suc k) =
     let later : (suc (suc k) == 1) ≡ false = grind (arith, nat_tests) in
-    choices_from-append n (sides_below name sides (suc k)) (Side name (suc (suc k)) sides ∷ [])
+    ap (λ os. choices_from n os) (sides_more name sides (suc k))
+    ∙ choices_from-append n (sides_below name sides (suc k)) (Side name (suc (suc k)) sides ∷ [])
     (n + length (sides_below name sides (suc k))) refl
     ∙ ap (λ l. l ++ cond (suc (suc k) == 1)
     (record { first = n + length (sides_below name sides (suc k)); sides = sides } ∷ []) [])

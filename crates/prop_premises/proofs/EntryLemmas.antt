@@ -14,7 +14,8 @@ use Rattle.indexmap.specs.Layout.{set_value_at}
 use Rattle.prop_premises.specs.declared.named.Named.{Named}
 use Rattle.prop_premises.specs.declared.named.Kind.{Kind}
 use Rattle.prop_premises.specs.declared.named.Kind.TheVariants as kind
-use Rattle.prop_premises.specs.Origins.{Origin, User, Side, is_user, is_user_at, is_user_called, premise_number}
+use Rattle.prop_premises.specs.Origins.{Origin, User, Side, is_user, is_user_at, premise_number}
+use Rattle.prop_premises.specs.inner.Origins.{is_user_called}
 use Rattle.prop_premises.specs.Origins.{is_start, starts, with_belief_at, name_of}
 use Rattle.prop_premises.specs.inner.Named.{width, origins_of_kind, origins_of, places_from, IsKind, AreNumberedFrom}
 use Rattle.prop_premises.specs.inner.Named.{number_of, user_number}

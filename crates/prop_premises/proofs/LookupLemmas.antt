@@ -10,11 +10,12 @@ use Rattle.std.proofs.lemmas.List.Folds.{list_any-append}
 use Rattle.prop_premises.specs.declared.named.Named.{Named}
 use Rattle.prop_premises.specs.declared.named.Kind.{Kind}
 use Rattle.prop_premises.specs.declared.named.Kind.TheVariants as kind
-use Rattle.prop_premises.specs.Origins.{Origin, Side, sides_below, is_user_called, is_side_called, premise_number}
+use Rattle.prop_premises.specs.Origins.{Origin, Side, premise_number}
+use Rattle.prop_premises.specs.inner.Origins.{sides_below, is_user_called, is_side_called}
 use Rattle.prop_premises.specs.Origins.{is_choice}
 use Rattle.prop_premises.specs.inner.Named.{width, origins_of_kind, origins_of, IsKind, AreNumberedFrom, number_of}
 use Rattle.prop_premises.specs.inner.Named.{is_choices, user_number, is_choice_kind}
-use Rattle.prop_premises.proofs.ChoiceLemmas.{length-sides}
+use Rattle.prop_premises.proofs.ChoiceLemmas.{length-sides, sides_more}
 
 skip_one : (b : Bool) (n : ℕ) (rest : Bool) (here there : Option ℕ) → (b || rest) ≡ false
     → (rest ≡ false → here ≡ there) → cond b (Some n) here ≡ there
@@ -36,7 +37,8 @@ found_none t n (o ∷ os) h = skip_one (t o) n (list_any t os) (position_from t 
 pub no_user : (name other : List ℕ) (sides k : ℕ) → list_any (is_user_called name) (sides_below other sides k) ≡ false
 no_user name other sides zero = refl
 no_user name other sides (suc k) =
-    list_any-append (is_user_called name) (sides_below other sides k) (Side other (suc k) sides ∷ [])
+    ap (list_any (is_user_called name)) (sides_more other sides k)
+    ∙ list_any-append (is_user_called name) (sides_below other sides k) (Side other (suc k) sides ∷ [])
     ∙ ap (λ b. b || false) (no_user name other sides k)
 
 pub all_called : (name other : List ℕ) (sides k : ℕ) → 1 ≤ k
@@ -48,7 +50,8 @@ all_called name other sides (suc zero) l = by (bytes_eq name other)
     by true = refl
     by false = refl
 all_called name other sides (suc (suc k)) l =
-    list_any-append (is_side_called name) (sides_below other sides (suc k)) (Side other (suc (suc k)) sides ∷ [])
+    ap (list_any (is_side_called name)) (sides_more other sides (suc k))
+    ∙ list_any-append (is_side_called name) (sides_below other sides (suc k)) (Side other (suc (suc k)) sides ∷ [])
     ∙ ap (λ b. b || (bytes_eq name other || false)) (all_called name other sides (suc k) (omega arith))
     ∙ by (bytes_eq name other)
   where

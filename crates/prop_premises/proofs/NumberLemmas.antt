@@ -9,8 +9,10 @@ use Rattle.prop_premises.specs.declared.choice.Choice.{Choice}
 use Rattle.prop_premises.specs.declared.named.Named.{Named}
 use Rattle.prop_premises.specs.declared.named.Kind.{Kind}
 use Rattle.prop_premises.specs.declared.named.Kind.TheVariants as kind
-use Rattle.prop_premises.specs.ChoiceLists.{is_side_of, is_hypothetical, AreInOrder, AreOfSides}
-use Rattle.prop_premises.specs.Origins.{Origin, User, sides_below, choices_from, choices_of, is_user, is_user_at}
+use Rattle.prop_premises.specs.ChoiceLists.{is_hypothetical, AreInOrder, AreOfSides}
+use Rattle.prop_premises.specs.inner.ChoiceLists.{is_side_of}
+use Rattle.prop_premises.specs.Origins.{Origin, User, choices_from, choices_of, is_user, is_user_at}
+use Rattle.prop_premises.specs.inner.Origins.{sides_below}
 use Rattle.prop_premises.specs.Origins.{IsNumbered}
 use Rattle.prop_premises.specs.inner.Named.{width, origins_of_kind, origins_of, IsKind, AreNumberedFrom}
 use Rattle.prop_premises.proofs.ChoiceLemmas.{choices_from-append, choices_from-sides, length-sides, slice_get-sides}

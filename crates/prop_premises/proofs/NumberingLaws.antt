@@ -6,8 +6,11 @@ use Rattle.std.proofs.lemmas.Bool.{cases_lt, or_cases}
 use Rattle.std.proofs.lemmas.Bool.Decides.{nat_tests}
 use Rattle.std.proofs.lemmas.List.Folds.{list_any-append}
 use Rattle.prop_premises.specs.declared.choice.Choice.{Choice}
-use Rattle.prop_premises.specs.ChoiceLists.{is_hypothetical, is_side_of, AreInOrder, AreOfSides}
-use Rattle.prop_premises.specs.Origins.{Origin, User, Side, is_user, is_user_at, with_belief, with_belief_at, with_name}
+use Rattle.prop_premises.specs.ChoiceLists.{is_hypothetical, AreInOrder, AreOfSides}
+use Rattle.prop_premises.specs.inner.ChoiceLists.{is_side_of}
+use Rattle.prop_premises.specs.Origins.{Origin, User, Side, is_user, is_user_at, with_belief_at}
+use Rattle.prop_premises.specs.Origins.{with_name}
+use Rattle.prop_premises.specs.inner.Origins.{with_belief}
 use Rattle.prop_premises.specs.Origins.{with_choice, premise_number, choices_of, IsNumbered}
 use Rattle.prop_premises.proofs.ChoiceLemmas.{choices_of-with_choice, choices_of-user, choices_of-with_belief_at}
 use Rattle.prop_premises.proofs.ChangeLemmas.{is_user_at-append, is_user_at-with_choice, length-with_choice}

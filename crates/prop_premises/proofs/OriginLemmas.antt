@@ -3,7 +3,8 @@ use Rattle.std.proofs.Common.{◌≡◌, ℕ, zero, suc, ◌<◌, Bool, true, fa
 use Rattle.std.proofs.Common.{slice_get, IsTrue, None, ◌≤◌, ◌||◌, ◌&&◌, ◌==◌, not, ◌∙◌, sym}
 use Rattle.std.proofs.lemmas.Bool.Decides.{nat_tests}
 use Rattle.std.specs.Option.{option_map_or}
-use Rattle.prop_premises.specs.Origins.{Origin, User, Side, is_user_at, is_believed, is_user, believed_in, with_belief}
+use Rattle.prop_premises.specs.Origins.{Origin, User, Side, is_user_at, is_user, believed_in}
+use Rattle.prop_premises.specs.inner.Origins.{is_believed, with_belief}
 use Rattle.prop_premises.specs.Origins.{with_belief_at, side_of, side_at, starts, is_start}
 use Rattle.prop_numbers.specs.Sets.{set_of, union, without, IsSame}
 

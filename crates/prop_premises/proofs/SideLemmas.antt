@@ -6,7 +6,8 @@ use Rattle.std.proofs.lemmas.Bool.Decides.{nat_tests}
 use Rattle.prop_numbers.specs.Sets.{Members}
 use Rattle.std.proofs.lemmas.List.Folds.{list_any_at}
 use Rattle.prop_premises.specs.declared.choice.Choice.{Choice}
-use Rattle.prop_premises.specs.ChoiceLists.{is_side_of, is_hypothetical, IsChoiceList, hypotheticals_of}
+use Rattle.prop_premises.specs.ChoiceLists.{is_hypothetical, IsChoiceList, hypotheticals_of}
+use Rattle.prop_premises.specs.inner.ChoiceLists.{is_side_of}
 
 -- What is told of a choice of the list and the side that is taken of it.
 pub record Taken (choices : List Choice) (sides : List ℕ) (k : ℕ) (d : Choice) (e : ℕ) : Type 0 where

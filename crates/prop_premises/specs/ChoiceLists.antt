@@ -1,5 +1,5 @@
 -- Choices, lists that take one side of each, and what is believed with such a list.
-use Rattle.std.specs.Prelude.{◌≡◌, ℕ, ◌+◌, ◌-◌, ◌*◌, ◌<◌, ◌≤◌, Bool, false, ◌==◌, ◌||◌, ◌&&◌}
+use Rattle.std.specs.Prelude.{◌≡◌, ℕ, ◌+◌, ◌-◌, ◌*◌, ◌<◌, ◌≤◌, false, ◌==◌, ◌||◌, ◌&&◌}
 use Rattle.std.specs.Prelude.{nat_le, nat_lt, IsTrue, List, [], ◌∷◌, ◌⊎◌, ⊤}
 use Rattle.std.specs.List.{AllZip, AllByRecursion, list_any}
 use Rattle.prop_numbers.specs.Sets.{Members, union}
@@ -12,13 +12,9 @@ hypothetical choice side = choice.first + (side - 1)
 abbrev pub IsSide : Choice → ℕ → Type 0
 IsSide choice side = (1 ≤ side) × (side ≤ choice.sides)
 
--- the premise is a side of the choice
-abbrev pub is_side_of : Choice → ℕ → Bool
-is_side_of choice p = nat_le choice.first p && nat_lt p (choice.first + choice.sides)
-
 -- the premise is a side of some choice, so no user's
 abbrev pub is_hypothetical : List Choice → Members
-is_hypothetical choices p = list_any (λ choice. is_side_of choice p) choices
+is_hypothetical choices p = list_any (λ c. nat_le c.first p && nat_lt p (c.first + c.sides)) choices
 
 -- one side of each choice, in order of declaration
 abbrev pub IsChoiceList : List Choice → List ℕ → Type 0
@@ -32,9 +28,8 @@ hypotheticals_of choices list p = false
 
 -- the list takes each side that is in the set
 abbrev pub TakesSidesIn : Members → List Choice → List ℕ → Type 0
-TakesSidesIn n choices list =
-    AllZip (λ choice side. (i : ℕ) → IsSide choice i → IsTrue (n (hypothetical choice i))
-    → i ≡ side) choices list
+TakesSidesIn n = AllZip
+    (λ choice side. (i : ℕ) → IsSide choice i → IsTrue (n (hypothetical choice i)) → i ≡ side)
 
 -- what is believed with a choice list
 abbrev pub worldview : Members → List Choice → List ℕ → Members

@@ -1,8 +1,8 @@
 -- Premises in order of number: where each comes from, and which of the user's are believed.
 use Rattle.std.specs.Prelude.{◌≡◌, ◌<◌, ℕ, zero, suc, ◌==◌, Bool, true, false, cond, bytes_eq}
 use Rattle.std.specs.Prelude.{IsTrue, List, [], ◌∷◌, ◌++◌, length, position, Option, Some, None}
-use Rattle.std.specs.Prelude.{is_some}
-use Rattle.std.specs.List.{list_any}
+use Rattle.std.specs.Prelude.{is_some, map}
+use Rattle.std.specs.List.{list_any, range_with_len}
 use Rattle.prop_numbers.specs.Sets.{Members}
 use Rattle.prop_premises.specs.declared.choice.Choice.{Choice}
 use Rattle.prop_premises.specs.ChoiceLists.{is_hypothetical, AreInOrder, AreOfSides}
@@ -21,68 +21,45 @@ abbrev pub is_user : Origin → Bool
 is_user (User name believed) = true
 is_user (Side choice side sides) = false
 
-abbrev pub is_user_called : List ℕ → Origin → Bool
-is_user_called name (User other believed) = bytes_eq name other
-is_user_called name (Side choice side sides) = false
-
-abbrev pub is_side_called : List ℕ → Origin → Bool
-is_side_called name (User other believed) = false
-is_side_called name (Side choice side sides) = bytes_eq name choice
-
 -- the number of the user's premise with this name
 abbrev pub premise_number : List Origin → List ℕ → Option ℕ
-premise_number origins name = position (is_user_called name) origins
+premise_number os name = position (elim [ User other _ ↦ bytes_eq name other | _ ↦ false ]) os
 
 -- a choice has the name
 abbrev pub is_choice : List Origin → List ℕ → Bool
-is_choice origins name = list_any (is_side_called name) origins
+is_choice os name = list_any (elim [ Side choice _ _ ↦ bytes_eq name choice | _ ↦ false ]) os
 
 abbrev pub is_user_at : List Origin → ℕ → Bool
 is_user_at [] p = false
 is_user_at (o ∷ os) zero = is_user o
 is_user_at (o ∷ os) (suc p) = is_user_at os p
 
-abbrev pub is_believed : Origin → Bool
-is_believed (User name believed) = believed
-is_believed (Side choice side sides) = false
-
 -- the believed premises of the user's
 abbrev pub believed_in : List Origin → Members
 believed_in [] p = false
-believed_in (o ∷ os) zero = is_believed o
+believed_in (o ∷ os) zero = elim o [ User _ believed ↦ believed | Side _ _ _ ↦ false ]
 believed_in (o ∷ os) (suc p) = believed_in os p
-
-abbrev pub with_belief : Bool → Origin → Origin
-with_belief believed (User name before) = User name believed
-with_belief believed (Side choice side sides) = Side choice side sides
 
 -- the user's premise with this number is believed or not, and all else stays
 abbrev pub with_belief_at : List Origin → ℕ → Bool → List Origin
-with_belief_at [] p believed = []
-with_belief_at (o ∷ os) zero believed = with_belief believed o ∷ os
-with_belief_at (o ∷ os) (suc p) believed = o ∷ with_belief_at os p believed
+with_belief_at [] p b = []
+with_belief_at (o ∷ os) zero b = elim o [ User name _ ↦ User name b | Side n i k ↦ Side n i k ] ∷ os
+with_belief_at (o ∷ os) (suc p) b = o ∷ with_belief_at os p b
 
 -- a new name is the last premise, and believed; a known one changes nothing
 abbrev pub with_name : List Origin → List ℕ → List Origin
-with_name origins name = cond (is_some (premise_number origins name)) origins
-    (origins ++ User name true ∷ [])
-
--- the first n sides of a choice with so many
-abbrev pub sides_below : List ℕ → ℕ → ℕ → List Origin
-sides_below name sides zero = []
-sides_below name sides (suc n) = sides_below name sides n ++ Side name (suc n) sides ∷ []
+with_name os name = cond (is_some (premise_number os name)) os (os ++ User name true ∷ [])
 
 -- a new choice has the next numbers, one for each side
 abbrev pub with_choice : List Origin → List ℕ → ℕ → List Origin
-with_choice origins name sides = origins ++ sides_below name sides sides
+with_choice os name sides = os ++ map (λ side. Side name side sides) (range_with_len 1 sides)
 
 -- the choices among premises of which the first has this number
 abbrev pub choices_from : ℕ → List Origin → List Choice
 choices_from n [] = []
 choices_from n (User name believed ∷ os) = choices_from (suc n) os
-choices_from n (Side name side sides ∷ os) =
-    cond (side == 1) (record { first = n; sides = sides } ∷ choices_from (suc n) os)
-    (choices_from (suc n) os)
+choices_from n (Side name side sides ∷ os) = cond (side == 1)
+    (record { first = n; sides = sides } ∷ choices_from (suc n) os) (choices_from (suc n) os)
 
 -- the choices in order of declaration
 abbrev pub choices_of : List Origin → List Choice

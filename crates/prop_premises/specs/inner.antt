@@ -1,1 +1,3 @@
+pub mod ChoiceLists
 pub mod Named
+pub mod Origins

@@ -1,7 +1,8 @@
 //! What names stand for.
 
 ghost use Rattle.std.specs.Prelude.{◌≡◌};
-ghost use Rattle.prop_premises.specs.Origins.{is_believed, side_of};
+ghost use Rattle.prop_premises.specs.Origins.{side_of};
+ghost use Rattle.prop_premises.specs.inner.Origins.{is_believed};
 ghost use Rattle.prop_premises.specs.inner.Named.{width, is_believed_kind, told};
 
 use crate::premise_set::Premise;

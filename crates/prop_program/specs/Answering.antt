@@ -1,75 +1,56 @@
 -- What a session of a program writes, by its procedures and its prelude.
-use Rattle.std.specs.Prelude.{◌≡◌, ◌⊎◌, ℕ, List, Option}
+use Rattle.std.specs.Prelude.{◌≡◌, ◌⊎◌, ℕ, List, [], ◌++◌, Option, IfSome, false}
+use Rattle.std.specs.List.{list_any}
+use Rattle.std.specs.Io.KnownBytes.{Appends}
 use Rattle.prop_procedures.specs.Stored.{Stored}
 use Rattle.prop_engine.specs.declared.outcome.Counts.{Counts}
-use Rattle.prop_engine.specs.Endings.{WritesTranscript, WritesPrefix}
-use Rattle.prop_engine.specs.Transcripts.{Machine}
+use Rattle.prop_engine.specs.Answers.{Answer, is_refusal}
+use Rattle.prop_engine.specs.Transcripts.{Machine, Run, IsTranscript}
 use Rattle.prop_scheduler.specs.Orders.{picks_first, picks_last, picks_mixed}
-use Rattle.prop_workbench.specs.Machine.{new_state}
-use Rattle.prop_workbench.specs.Engine.{workbench, working, new_standing}
+use Rattle.prop_workbench.specs.Engine.{working, new_standing}
 use Rattle.prop_workbench.specs.Questions.{Picks}
-use Rattle.prop_workbench.specs.Loading.{Loads}
 use Rattle.prop_program.specs.declared.chosen.Pick.{Pick}
 use Rattle.prop_program.specs.declared.chosen.Pick.TheVariants.{Fifo, Lifo, Mixed}
 
--- what a program comes with: its procedures, and the lines that a session begins with
-pub record Stock : Type 0 where
-  pub library : List Stored
-  pub prelude : List (List ℕ)
+-- What a session writes: from where it begins the machine carried out the lines of the prelude,
+-- none of them refused, and then all that the reader had left, where that is known. Of this the
+-- writer got a transcript, but for the rest of it.
+abbrev pub IsAnswered : {S : Type 0} → Machine S → S → List (List ℕ) → Option (List ℕ)
+    → Option (List ℕ) → Option (List ℕ) → List ℕ → Counts → Type 0
+IsAnswered {S = S} machine begun prelude left held held' rest counts =
+    (loaded : List Answer) × (first new : S) × Run machine begun prelude loaded first
+    × (list_any is_refusal loaded ≡ false)
+    × IfSome left (λ input. (output : List ℕ) × Appends held held' output
+    × IsTranscript machine first input (output ++ rest) counts.lines counts.refused new)
 
--- these procedures and these lines
-abbrev pub stocked : List Stored → List (List ℕ) → Stock
-stocked library prelude = record { library = library; prelude = prelude }
-
--- a writer got a transcript of all that the reader had left, where that is known, of a session that
--- loaded the prelude where it began
-abbrev pub IsAnsweredBy : {S : Type 0} → Machine S → S → List (List ℕ) → Option (List ℕ)
-    → Option (List ℕ) → Option (List ℕ) → Counts → Type 0
-IsAnsweredBy {S = S} machine begun prelude left held held' counts =
-    (first new : S) × Loads machine begun prelude first
-    × WritesTranscript machine left held held' counts first new
-
--- a writer got nothing, or the prefix of such a transcript
-abbrev pub IsAnsweredInPartBy : {S : Type 0} → Machine S → S → List (List ℕ) → Option (List ℕ)
+-- the writer got nothing, or such a transcript but for some rest
+abbrev pub IsAnsweredInPart : {S : Type 0} → Machine S → S → List (List ℕ) → Option (List ℕ)
     → Option (List ℕ) → Option (List ℕ) → Type 0
-IsAnsweredInPartBy {S = S} machine begun prelude left held held' =
-    (held' ≡ held) ⊎ ((first : S) × Loads machine begun prelude first
-    × WritesPrefix machine left held held' first)
+IsAnsweredInPart machine begun prelude left held held' =
+    (held' ≡ held) ⊎ ((rest : List ℕ) × (counts : Counts)
+    × IsAnswered machine begun prelude left held held' rest counts)
 
--- the same of a session with the program's procedures that begins without cells, and with no
--- contradictions named
-abbrev pub IsAnswered : Stock → Option (List ℕ) → Option (List ℕ) → Option (List ℕ) → ℕ → Counts
-    → Type 0
-IsAnswered stock left held held' limit counts =
-    IsAnsweredBy (workbench stock.library) (new_state limit) stock.prelude left held held' counts
+-- the same of a session with these procedures that calls them by an order: each text is earned by
+-- the steps that were taken
+abbrev pub IsWorkedBy : {O : Type 0} → Picks O → O → List Stored → List (List ℕ) → ℕ
+    → Option (List ℕ) → Option (List ℕ) → Option (List ℕ) → Counts → Type 0
+IsWorkedBy picks order library prelude limit left held held' =
+    IsAnswered (working picks library) (new_standing limit order) prelude left held held' []
 
-abbrev pub IsAnsweredInPart : Stock → Option (List ℕ) → Option (List ℕ) → Option (List ℕ) → ℕ
-    → Type 0
-IsAnsweredInPart stock left held held' limit =
-    IsAnsweredInPartBy (workbench stock.library) (new_state limit) stock.prelude left held held'
-
--- the same of one that calls the procedures by an order: each text is earned by the steps that were
--- taken
-abbrev pub IsWorkedBy : {O : Type 0} → Stock → Picks O → O → ℕ → Option (List ℕ) → Option (List ℕ)
-    → Option (List ℕ) → Counts → Type 0
-IsWorkedBy stock picks order limit =
-    IsAnsweredBy (working picks stock.library) (new_standing limit order) stock.prelude
-
-abbrev pub IsWorkedInPartBy : {O : Type 0} → Stock → Picks O → O → ℕ → Option (List ℕ)
-    → Option (List ℕ) → Option (List ℕ) → Type 0
-IsWorkedInPartBy stock picks order limit =
-    IsAnsweredInPartBy (working picks stock.library) (new_standing limit order) stock.prelude
+abbrev pub IsWorkedInPartBy : {O : Type 0} → Picks O → O → List Stored → List (List ℕ) → ℕ
+    → Option (List ℕ) → Option (List ℕ) → Option (List ℕ) → Type 0
+IsWorkedInPartBy picks order library prelude limit =
+    IsAnsweredInPart (working picks library) (new_standing limit order) prelude
 
 -- by the order that was chosen, which a seed may begin
-abbrev pub IsWorked : Stock → Pick → ℕ → ℕ → Option (List ℕ) → Option (List ℕ) → Option (List ℕ)
-    → Counts → Type 0
-IsWorked stock Fifo seed limit = IsWorkedBy stock picks_first (record {}) limit
-IsWorked stock Lifo seed limit = IsWorkedBy stock picks_last (record {}) limit
-IsWorked stock Mixed seed limit = IsWorkedBy stock picks_mixed (record { number = seed }) limit
+abbrev pub IsWorked : Pick → ℕ → List Stored → List (List ℕ) → ℕ → Option (List ℕ)
+    → Option (List ℕ) → Option (List ℕ) → Counts → Type 0
+IsWorked Fifo seed = IsWorkedBy picks_first (record {})
+IsWorked Lifo seed = IsWorkedBy picks_last (record {})
+IsWorked Mixed seed = IsWorkedBy picks_mixed (record { number = seed })
 
-abbrev pub IsWorkedInPart : Stock → Pick → ℕ → ℕ → Option (List ℕ) → Option (List ℕ)
-    → Option (List ℕ) → Type 0
-IsWorkedInPart stock Fifo seed limit = IsWorkedInPartBy stock picks_first (record {}) limit
-IsWorkedInPart stock Lifo seed limit = IsWorkedInPartBy stock picks_last (record {}) limit
-IsWorkedInPart stock Mixed seed limit =
-    IsWorkedInPartBy stock picks_mixed (record { number = seed }) limit
+abbrev pub IsWorkedInPart : Pick → ℕ → List Stored → List (List ℕ) → ℕ → Option (List ℕ)
+    → Option (List ℕ) → Option (List ℕ) → Type 0
+IsWorkedInPart Fifo seed = IsWorkedInPartBy picks_first (record {})
+IsWorkedInPart Lifo seed = IsWorkedInPartBy picks_last (record {})
+IsWorkedInPart Mixed seed = IsWorkedInPartBy picks_mixed (record { number = seed })

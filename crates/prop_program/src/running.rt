@@ -1,13 +1,13 @@
 //! A session with a program's procedures, over a reader and a writer.
-ghost use Rattle.std.specs.Prelude.{◌≡◌, IfOk, OnErr, map};
+ghost use Rattle.std.specs.Prelude.{◌≡◌, IfOk, OnErr, [], map};
 ghost use Rattle.prop_language.specs.Said.{words};
 ghost use Rattle.prop_procedures.specs.Kept.{AllMean, stored_as};
 ghost use Rattle.prop_engine.specs.Watched.{IsFresh, IsPassedOn};
-ghost use Rattle.prop_program.specs.Faults.{TellsDevices};
-ghost use Rattle.prop_program.specs.Answering.{IsAnswered, IsAnsweredBy, IsAnsweredInPart};
-ghost use Rattle.prop_program.specs.Answering.{IsAnsweredInPartBy, IsWorked};
-ghost use Rattle.prop_program.specs.Answering.{IsWorkedInPart, stocked};
-ghost use Rattle.prop_workbench.specs.Engine.{standing_of, working_of};
+ghost use Rattle.prop_program.specs.Faults.{TellsDevices, IsThrifty};
+ghost use Rattle.prop_program.specs.Answering.{IsAnswered, IsAnsweredInPart, IsWorked};
+ghost use Rattle.prop_program.specs.Answering.{IsWorkedInPart};
+ghost use Rattle.prop_workbench.specs.Engine.{standing_of, workbench, working_of};
+ghost use Rattle.prop_workbench.specs.Machine.{new_state};
 ghost use Rattle.prop_workbench.specs.Sessions.{IsSound, IsMeant};
 
 use crate::chosen::{Options, Pick};
@@ -32,29 +32,30 @@ pub fn run<R: Rule + Drop, Rd: Read, W: Write>(
     options: Options,
     devices: &mut Devices<Rd, W>,
 ) -> Result<Counts, Fault>
-    requires reader { IsFresh devices.old.reader }
+    requires reader { IsFresh devices.old }
     requires writer { IsPassedOn devices.old }
     requires means { AllMean R.value_of procedures.items }
+    // What was written is a transcript, of which no rest is missing.
     ensures ok { IfOk result (IsAnswered
-        (stocked (map (stored_as R.value_of) procedures.items) (words prelude.now))
-        (Rd.remaining devices.old.reader.device) (W.contents devices.old.writer.device)
-        (W.contents devices.new.writer.device) options.limit) }
+        (workbench (map (stored_as R.value_of) procedures.items)) (new_state options.limit)
+        (words prelude.now) (Rd.remaining devices.old.reader) (W.contents devices.old.writer)
+        (W.contents devices.new.writer) []) }
+    // At a fault it is nothing, or the prefix of one.
     ensures err { OnErr result (IsAnsweredInPart
-        (stocked (map (stored_as R.value_of) procedures.items) (words prelude.now))
-        (Rd.remaining devices.old.reader.device) (W.contents devices.old.writer.device)
-        (W.contents devices.new.writer.device) options.limit) }
+        (workbench (map (stored_as R.value_of) procedures.items)) (new_state options.limit)
+        (words prelude.now) (Rd.remaining devices.old.reader) (W.contents devices.old.writer)
+        (W.contents devices.new.writer)) }
     // Each text is earned by steps that were taken, in the order that was chosen.
-    ensures earned { IfOk result (IsWorked
-        (stocked (map (stored_as R.value_of) procedures.items) (words prelude.now))
-        options.order options.seed options.limit
-        (Rd.remaining devices.old.reader.device) (W.contents devices.old.writer.device)
-        (W.contents devices.new.writer.device)) }
-    ensures earned_in_part { OnErr result (IsWorkedInPart
-        (stocked (map (stored_as R.value_of) procedures.items) (words prelude.now))
-        options.order options.seed options.limit
-        (Rd.remaining devices.old.reader.device) (W.contents devices.old.writer.device)
-        (W.contents devices.new.writer.device)) }
+    ensures earned { IfOk result (IsWorked options.order options.seed
+        (map (stored_as R.value_of) procedures.items) (words prelude.now) options.limit
+        (Rd.remaining devices.old.reader) (W.contents devices.old.writer)
+        (W.contents devices.new.writer)) }
+    ensures earned_in_part { OnErr result (IsWorkedInPart options.order options.seed
+        (map (stored_as R.value_of) procedures.items) (words prelude.now) options.limit
+        (Rd.remaining devices.old.reader) (W.contents devices.old.writer)
+        (W.contents devices.new.writer)) }
     ensures devices { TellsDevices result devices.old devices.new }
+    ensures thrift { IsThrifty result devices.old devices.new }
 {
     let network = Network::new(alloc, Library::new(procedures));
     let Options { limit, order, seed } = options;
@@ -74,19 +75,20 @@ fn serve<R: Rule + Drop, O: Order + Drop, Rd: Read, W: Write>(
     prelude: &[&str],
     devices: &mut Devices<Rd, W>,
 ) -> Result<Counts, Fault>
-    requires reader { IsFresh devices.old.reader }
+    requires reader { IsFresh devices.old }
     requires writer { IsPassedOn devices.old }
     requires means { IsMeant R.value_of session }
     requires sound { IsSound R.value_of session }
-    ensures ok { IfOk result (IsAnsweredBy (working_of O.picks R.value_of session)
+    ensures ok { IfOk result (IsAnswered (working_of O.picks R.value_of session)
         (standing_of session) (words prelude.now)
-        (Rd.remaining devices.old.reader.device) (W.contents devices.old.writer.device)
-        (W.contents devices.new.writer.device)) }
-    ensures err { OnErr result (IsAnsweredInPartBy (working_of O.picks R.value_of session)
+        (Rd.remaining devices.old.reader) (W.contents devices.old.writer)
+        (W.contents devices.new.writer) []) }
+    ensures err { OnErr result (IsAnsweredInPart (working_of O.picks R.value_of session)
         (standing_of session) (words prelude.now)
-        (Rd.remaining devices.old.reader.device) (W.contents devices.old.writer.device)
-        (W.contents devices.new.writer.device)) }
+        (Rd.remaining devices.old.reader) (W.contents devices.old.writer)
+        (W.contents devices.new.writer)) }
     ensures devices { TellsDevices result devices.old devices.new }
+    ensures thrift { IsThrifty result devices.old devices.new }
 {
     let counts = answer(&mut session, prelude, devices);
     // One call in place of the drop of each part, which a proof would go through one by one.
@@ -100,19 +102,20 @@ fn answer<R: Rule + Drop, O: Order + Drop, Rd: Read, W: Write>(
     prelude: &[&str],
     devices: &mut Devices<Rd, W>,
 ) -> Result<Counts, Fault>
-    requires reader { IsFresh devices.old.reader }
+    requires reader { IsFresh devices.old }
     requires writer { IsPassedOn devices.old }
     requires means { IsMeant R.value_of session.old }
     requires sound { IsSound R.value_of session.old }
-    ensures ok { IfOk result (IsAnsweredBy (working_of O.picks R.value_of session.old)
+    ensures ok { IfOk result (IsAnswered (working_of O.picks R.value_of session.old)
         (standing_of session.old) (words prelude.now)
-        (Rd.remaining devices.old.reader.device) (W.contents devices.old.writer.device)
-        (W.contents devices.new.writer.device)) }
-    ensures err { OnErr result (IsAnsweredInPartBy (working_of O.picks R.value_of session.old)
+        (Rd.remaining devices.old.reader) (W.contents devices.old.writer)
+        (W.contents devices.new.writer) []) }
+    ensures err { OnErr result (IsAnsweredInPart (working_of O.picks R.value_of session.old)
         (standing_of session.old) (words prelude.now)
-        (Rd.remaining devices.old.reader.device) (W.contents devices.old.writer.device)
-        (W.contents devices.new.writer.device)) }
+        (Rd.remaining devices.old.reader) (W.contents devices.old.writer)
+        (W.contents devices.new.writer)) }
     ensures devices { TellsDevices result devices.old devices.new }
+    ensures thrift { IsThrifty result devices.old devices.new }
 {
     match session.load_prelude(prelude) {
         Ok(()) => {}

@@ -10,7 +10,7 @@ use Rattle.prop_lattice.specs.declared.info.Info.{Info}
 use Rattle.prop_lattice.specs.laws.OrderLaws.{info_laws}
 use Rattle.prop_numbers.specs.Sets.{is_within}
 use Rattle.prop_cells.specs.declared.instance.Statement.{Statement}
-use Rattle.prop_cells.specs.Problems.{Premises}
+use Rattle.prop_cells.specs.inner.Problems.{Premises}
 use Rattle.prop_cells.specs.Instances.{readers_of, writers_of}
 use Rattle.prop_cells.specs.Data.{Data, States, beliefs, support_of}
 use Rattle.prop_cells.proofs.Adding.{adds_merges}

@@ -1,6 +1,6 @@
 -- No potential is more than the most steps of its problem.
 use Rattle.std.proofs.Common.{◌≡◌, ◌≢◌, ℕ, ◌<◌, ◌≤◌, ◌==◌, Bool, false, cond, List, [], ◌∷◌, Option, Some, None, All}
-use Rattle.std.proofs.Common.{length, get_or, slice_get, count_by, refl, sym, ap, arith, inl, inr}
+use Rattle.std.proofs.Common.{length, get_or, slice_get, ◌+◌, sum_by, count_by, refl, sym, ap, arith, inl, inr}
 use Rattle.std.specs.List.{IsDistinct}
 use Rattle.std.proofs.lemmas.Bool.{eq-eqb, eqb-true}
 use Rattle.std.proofs.lemmas.Bool.Decides.{eqb_tells}
@@ -16,9 +16,12 @@ use Rattle.prop_lattice.specs.declared.info.Kind.TheVariants.{Span as SpanKind, 
 use Rattle.prop_lattice.specs.Rank.{IsOf, rank_of}
 use Rattle.prop_lattice.proofs.RankLemmas.{rank_falls}
 use Rattle.prop_procedures.specs.declared.shape.Kinded.{Kinded}
-use Rattle.prop_cells.specs.Problems.{Assignment, AreOfKinds}
+use Rattle.prop_cells.specs.Problems.{Assignment}
+use Rattle.prop_cells.specs.inner.Problems.{AreOfKinds}
+use Rattle.prop_cells.specs.Problems.{Problem}
 use Rattle.prop_cells.proofs.Keeping.{All-at}
-use Rattle.prop_scheduler.specs.Potential.{rank_in, input_places}
+use Rattle.prop_lattice.specs.Rank.{largest_rank}
+use Rattle.prop_scheduler.specs.Potential.{rank_in, input_places, most_steps}
 use Rattle.prop_scheduler.specs.Bounds.{IsSmall, MostIsMost, MostOfSmall}
 
 -- ---- the line
@@ -73,13 +76,26 @@ rank_at kinds a are cell (Some k) at = rank_within k.kind k.size (a cell) (are.o
 
 -- ---- both
 
+abbrev most_at : Option Kinded → ℕ
+most_at k = elim k [ None ↦ 0 | Some k ↦ largest_rank k.kind k.size ]
+
+most_in : (k : Option Kinded) → most_at k ≡ rank_in k Nothing
+most_in None = refl
+most_in (Some k) = refl
+
+-- most_steps takes the ranks of nothing
+pub most_ranks : (problem : Problem) → most_steps problem ≡ length problem.constraints
+    + sum_by (λ cell. rank_in (slice_get problem.cells cell) Nothing) (input_places problem)
+most_ranks problem i = length problem.constraints
+    + sum_by (λ cell. most_in (slice_get problem.cells cell) i) (input_places problem)
+
 pub most_is_most : MostIsMost
 most_is_most problem a line are is =
     let few = few_below line (length problem.constraints) is.once is.below in
     let ranks = sum_by-le-sum_by (λ cell. rank_in (slice_get problem.cells cell) (a cell))
     (λ cell. rank_in (slice_get problem.cells cell) Nothing) (input_places problem)
     (λ cell. rank_at problem.cells a are cell (slice_get problem.cells cell) refl) in
-    omega (arith, few, ranks)
+    omega (arith, few, ranks, most_ranks problem)
 
 -- ---- sets and symbols
 
@@ -99,4 +115,4 @@ most_of_small problem small =
     let ranks = sum_by-le (λ cell. rank_in (slice_get problem.cells cell) Nothing) 65 (input_places problem)
     (λ i d l. small_at problem.cells small (get_or (input_places problem) i d)
     (slice_get problem.cells (get_or (input_places problem) i d)) refl) in
-    omega (arith, ranks)
+    omega (arith, ranks, most_ranks problem)

@@ -10,7 +10,8 @@ use Rattle.prop_lattice.specs.laws.OrderLaws.{info_laws}
 use Rattle.prop_numbers.specs.Sets.{IsPart}
 use Rattle.prop_tms.proofs.BeliefUses.{belief_of-more}
 use Rattle.prop_procedures.specs.Stored.{Stored}
-use Rattle.prop_cells.specs.Problems.{Premises, Assignment, AreOfKinds, MergesAt, Constraint, Meets, value_at}
+use Rattle.prop_cells.specs.Problems.{Assignment, MergesAt, Constraint, value_at}
+use Rattle.prop_cells.specs.inner.Problems.{Premises, AreOfKinds, Meets}
 use Rattle.prop_cells.specs.Instances.{Instance, IsWithin, constraint_of, readers_of}
 use Rattle.prop_cells.specs.Data.{Data, IsWellMade, beliefs, content_of, problem_of}
 use Rattle.prop_cells.proofs.Adding.{beliefs_of_kinds}
@@ -114,7 +115,7 @@ module _ (library : List Stored) (s t : Premises) (d : Data) (old new : List ℕ
       let b = beliefs t d.contents in
       meets_same a b (constraint_of library x)
       (map_agree a b x.inputs (All-from_contains (λ k. a k ≡ b k) x.inputs (read_same j x at idle)))
-      (info_laws.transitive (value_at (constraint_of library x) a) (a x.output) (b x.output) met.below
+      (info_laws.transitive (value_at (constraint_of library x) a) (a x.output) (b x.output) met
       (beliefs_rise s t d more x.output))
 
   pub under_way_grown : IsUnderWay library t d new

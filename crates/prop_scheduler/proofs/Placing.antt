@@ -18,9 +18,11 @@ use Rattle.prop_refusals.specs.declared.refusal.Refusal.TheVariants.{LimitReache
 use Rattle.prop_procedures.specs.declared.shape.Param.{Param}
 use Rattle.prop_procedures.specs.declared.shape.Param.TheVariants.{Plain}
 use Rattle.prop_procedures.specs.declared.shape.Need.{Need}
-use Rattle.prop_procedures.specs.Stored.{Stored, sides_of}
+use Rattle.prop_procedures.specs.Stored.{Stored}
+use Rattle.prop_procedures.specs.Rules.{sides_of}
 use Rattle.prop_cells.specs.Data.{Data}
-use Rattle.prop_procedures.specs.Fitting.{kinds_fit, fitting_param}
+use Rattle.prop_procedures.specs.Fitting.{kinds_fit}
+use Rattle.prop_procedures.specs.Rules.{fitting_param}
 use Rattle.prop_cells.specs.Instances.{Instance, sides_given, param_in, attached, instance_of}
 use Rattle.prop_cells.specs.Refusing.{refusal_at, attach_refusal}
 use Rattle.prop_procedures.specs.declared.flat.Placed as flats

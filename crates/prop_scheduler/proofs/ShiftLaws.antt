@@ -7,7 +7,8 @@ use Rattle.std.proofs.lemmas.List.Elements.{All-contains, All-weaker}
 use Rattle.prop_lattice.specs.declared.info.Info.{Info}
 use Rattle.prop_lattice.specs.Order.{Below}
 use Rattle.prop_procedures.specs.Stored.{Stored}
-use Rattle.prop_cells.specs.Problems.{Premises, Constraint, Meets, value_at}
+use Rattle.prop_cells.specs.Problems.{Constraint, value_at}
+use Rattle.prop_cells.specs.inner.Problems.{Premises, Meets}
 use Rattle.prop_cells.specs.Instances.{Instance, IsWithin, constraint_of, readers_of, writers_of}
 use Rattle.prop_cells.specs.Data.{Data, beliefs}
 use Rattle.prop_cells.proofs.Fixpoint.{All-from_contains, map_agree, meets_same}
@@ -122,7 +123,7 @@ module _ (library : List Stored) (s t : Premises) (d : Data) (old new : List ℕ
       let b = beliefs t d.contents in
       meets_same a b (constraint_of library x)
       (map_agree a b x.inputs (All-from_contains (λ k. a k ≡ b k) x.inputs (read_same j x at idle)))
-      (subst (λ (v : Info). Below (value_at (constraint_of library x) a) v) (written_same j x at idle) met.below)
+      (subst (λ (v : Info). Below (value_at (constraint_of library x) a) v) (written_same j x at idle) met)
 
   pub under_way_shifted : IsUnderWay library t d new
   under_way_shifted = record {

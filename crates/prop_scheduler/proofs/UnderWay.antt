@@ -18,7 +18,8 @@ use Rattle.prop_procedures.specs.declared.shape.Kinded.{Kinded}
 use Rattle.prop_procedures.specs.declared.shape.Param.{Param}
 use Rattle.prop_procedures.specs.Stored.{Stored}
 use Rattle.prop_cells.specs.declared.instance.Statement.{Statement}
-use Rattle.prop_cells.specs.Problems.{Premises, OthersMeet, Constraint, Meets, MergesAt}
+use Rattle.prop_cells.specs.Problems.{OthersMeet, Constraint, MergesAt}
+use Rattle.prop_cells.specs.inner.Problems.{Premises, Meets}
 use Rattle.prop_cells.specs.Instances.{Instance, constraint_of, readers_of}
 use Rattle.prop_cells.specs.Data.{Data, Entry, IsKept, States, beliefs, support_of}
 use Rattle.prop_cells.proofs.Adding.{adds_merges, adds_same}
@@ -270,7 +271,7 @@ under_way_sides library s d new line line' first cell infos u kept same states k
     let met : (j : ℕ) (x : Instance) → slice_get d.instances j ≡ Some x → (Contains line' j → ⊥) → Meets a (of x)
     → Meets b (of x) = λ j x at idle m.
     meets_same a b (of x) (map_agree a b x.inputs (All-from_contains (λ k. a k ≡ b k) x.inputs (agree j x at idle)))
-    (info_laws.transitive _ _ _ m.below (at_cell.grown x.output)) in
+    (info_laws.transitive _ _ _ m (at_cell.grown x.output)) in
     record {
       kept = kept;
       line_below = rw same below;

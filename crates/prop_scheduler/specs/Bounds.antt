@@ -2,7 +2,8 @@
 use Rattle.std.specs.Prelude.{◌≢◌, ℕ, ◌+◌, ◌*◌, ◌≤◌, List, All, length}
 use Rattle.prop_lattice.specs.declared.info.Kind.TheVariants.{Span}
 use Rattle.prop_procedures.specs.declared.shape.Kinded.{Kinded}
-use Rattle.prop_cells.specs.Problems.{Problem, Assignment, AreOfKinds}
+use Rattle.prop_cells.specs.Problems.{Problem, Assignment}
+use Rattle.prop_cells.specs.inner.Problems.{AreOfKinds}
 use Rattle.prop_scheduler.specs.Agendas.{IsLine}
 use Rattle.prop_scheduler.specs.Potential.{input_places, potential, most_steps}
 

@@ -12,8 +12,10 @@ use Rattle.prop_procedures.specs.declared.shape.Kinded.{Kinded}
 use Rattle.prop_procedures.specs.declared.shape.Param.{Param}
 use Rattle.prop_procedures.specs.declared.shape.Param.TheVariants.{Plain}
 use Rattle.prop_procedures.specs.Flats.{cells_of, param_at, cell_placed}
-use Rattle.prop_procedures.specs.Stored.{Stored, sides_of}
-use Rattle.prop_procedures.specs.Fitting.{kinds_fit, fitting_param}
+use Rattle.prop_procedures.specs.Stored.{Stored}
+use Rattle.prop_procedures.specs.Rules.{sides_of}
+use Rattle.prop_procedures.specs.Fitting.{kinds_fit}
+use Rattle.prop_procedures.specs.Rules.{fitting_param}
 use Rattle.prop_cells.specs.Data.{Data}
 use Rattle.prop_cells.specs.Instances.{Instance}
 

@@ -1,8 +1,7 @@
 -- How many steps a run can take.
 use Rattle.std.specs.Prelude.{ℕ, ◌+◌, List, length, sum_by, flat_map, Option, Some, None, slice_get}
 use Rattle.prop_lattice.specs.declared.info.Info.{Info}
-use Rattle.prop_lattice.specs.declared.info.Info.TheVariants.{Nothing}
-use Rattle.prop_lattice.specs.Rank.{rank_of}
+use Rattle.prop_lattice.specs.Rank.{largest_rank, rank_of}
 use Rattle.prop_procedures.specs.declared.shape.Kinded.{Kinded}
 use Rattle.prop_cells.specs.Problems.{Problem, Assignment}
 
@@ -21,8 +20,9 @@ potential problem believed waiting =
     length waiting + sum_by (λ cell. rank_in (slice_get problem.cells cell) (believed cell))
     (input_places problem)
 
--- no potential of the problem is larger: every instance waits, and nothing is believed
+-- No potential of the problem is larger: every instance waits, and at no input place is anything
+-- known, so that each can wake its instance as often as what is known there can grow.
 abbrev pub most_steps : Problem → ℕ
-most_steps problem =
-    length problem.constraints + sum_by (λ cell. rank_in (slice_get problem.cells cell) Nothing)
-    (input_places problem)
+most_steps problem = length problem.constraints + sum_by
+    (λ cell. elim (slice_get problem.cells cell) [ None ↦ 0 | Some k ↦ largest_rank k.kind k.size ])
+    (flat_map (λ c. c.inputs) problem.constraints)

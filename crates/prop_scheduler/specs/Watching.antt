@@ -1,7 +1,7 @@
 -- Which cells are to be looked at.
 use Rattle.std.specs.Prelude.{◌≡◌, ◌<◌, ℕ, List, All, Contains, length}
 use Rattle.prop_lattice.specs.declared.info.Info.TheVariants.{Contradiction}
-use Rattle.prop_cells.specs.Problems.{Premises}
+use Rattle.prop_cells.specs.inner.Problems.{Premises}
 use Rattle.prop_cells.specs.Data.{Data, beliefs}
 
 -- the watched cells are cells, and each that is believed to hold a contradiction is watched

@@ -8,7 +8,7 @@ ghost use Rattle.prop_refusals.specs.declared.refusal.Limit.TheVariants.{Cells, 
 ghost use Rattle.prop_procedures.specs.Flats.{cell_placed};
 ghost use Rattle.prop_procedures.specs.Kept.{stored_of};
 ghost use Rattle.prop_cells.specs.Data.{Data as Held, IsKept, IsWellMade};
-ghost use Rattle.prop_cells.specs.Problems.{Premises};
+ghost use Rattle.prop_cells.specs.inner.Problems.{Premises};
 ghost use Rattle.prop_cells.specs.Knowing.{known_at};
 ghost use Rattle.prop_cells.specs.inner.Back.{GoesBackTo};
 ghost use Rattle.prop_cells.specs.Refusing.{cell_refusal};

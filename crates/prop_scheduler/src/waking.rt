@@ -2,7 +2,7 @@
 ghost use Rattle.std.specs.Prelude.{◌≡◌, ◌<◌, ◌≤◌, ℕ, Contains, length};
 ghost use Rattle.prop_numbers.specs.Sets.{set_of, IsPart};
 ghost use Rattle.prop_procedures.specs.Kept.{stored_of};
-ghost use Rattle.prop_cells.specs.Problems.{Premises};
+ghost use Rattle.prop_cells.specs.inner.Problems.{Premises};
 ghost use Rattle.prop_cells.specs.Forgetting.{forgotten};
 ghost use Rattle.prop_cells.specs.Knowing.{AreBeliefs};
 ghost use Rattle.prop_scheduler.specs.Turns.{IsUnderWay};

@@ -14,7 +14,8 @@ use Rattle.std.proofs.lemmas.Option.{slice_get_within, slice_get-get_or, get_or_
 use Rattle.std.proofs.lemmas.Slice.Eq.{bytes_eq-Decides}
 use Rattle.std.specs.Borrow.{Bor}
 use Rattle.std.proofs.lemmas.List.{take_more}
-use Rattle.prop_sets.specs.Names.{texts_of, names_of, is_among, has_repeat}
+use Rattle.prop_sets.specs.Names.{texts_of, names_of, has_repeat}
+use Rattle.prop_sets.specs.inner.Names.{is_among}
 
 -- ---- the names that a set keeps
 

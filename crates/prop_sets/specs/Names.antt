@@ -16,14 +16,10 @@ texts_of names = map (λ name. name.now) names
 abbrev pub names_of : {A : Type 0} → List (String A) → List (List ℕ)
 names_of names = map string_bytes names
 
--- the name is one of the names
-abbrev pub is_among : List ℕ → List (List ℕ) → Bool
-is_among name names = list_any (bytes_eq name) names
-
 -- a name stands twice
 abbrev pub has_repeat : List (List ℕ) → Bool
 has_repeat [] = false
-has_repeat (name ∷ names) = is_among name names || has_repeat names
+has_repeat (name ∷ names) = list_any (bytes_eq name) names || has_repeat names
 
 -- the names may be those of a domain's elements
 pub record AreElements (names : List (List ℕ)) : Type 0 where

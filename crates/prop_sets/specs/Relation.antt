@@ -29,8 +29,7 @@ no_pairs a b = record { from = a; to = b; rows = replicate a.size 0 }
 
 -- one pair more
 abbrev pub with_pair : Relation → ℕ → ℕ → Relation
-with_pair m i j =
-    record m { rows = slice_set m.rows i (bit_or (slice_index m.rows i) (2 ^ j)) }
+with_pair m i j = record m { rows = slice_set m.rows i (bit_or (slice_index m.rows i) (2 ^ j)) }
 
 -- the pairs of the second are those of the first and (i, j)
 abbrev pub AddsPair : Relation → Relation → ℕ → ℕ → Type 0

@@ -2,12 +2,12 @@
 use Rattle.std.specs.Prelude.{◌≡◌, ◌↔◌, ℕ, ◌<◌, Bool, true, false, not, ◌&&◌, ◌||◌, ◌==◌}
 use Rattle.std.specs.Prelude.{if◌then◌else◌}
 use Rattle.std.specs.Bool.{beq}
+use Rattle.std.specs.Int.{bit_at}
 use Rattle.prop_lattice.specs.Ends.{elements_from}
 use Rattle.prop_lattice.specs.Points.{Element, Holds}
 use Rattle.prop_lattice.specs.declared.info.Info.{Info}
 use Rattle.prop_lattice.specs.declared.info.Info.TheVariants.{Nothing, Set}
 use Rattle.prop_sets.specs.Chosen.{bits_where, any_below}
-use Rattle.prop_sets.specs.Images.{is_set}
 
 -- ---- which truths belong together
 
@@ -27,25 +27,19 @@ is_not x y = beq (y == 0) (not (x == 0))
 
 -- the information leaves the element
 abbrev pub leaves : Info → ℕ → Bool
-leaves Nothing t = true
-leaves (Set s) t = is_set s.bits t
-leaves a t = false
+leaves x t = elim x [ Nothing ↦ true | Set s ↦ bit_at s.bits t == 1 | _ ↦ false ]
 
 abbrev pub is_nothing : Info → Bool
-is_nothing Nothing = true
-is_nothing a = false
+is_nothing x = elim x [ Nothing ↦ true | _ ↦ false ]
 
--- the truths with these bits, a contradiction where there are none; both, found where an input is
--- unknown, are nothing
-abbrev pub told : Bool → ℕ → Info
-told unknown bits = if unknown && (bits == 3) then Nothing else elements_from bits
-
--- what x and y tell of the output that is related to them: the truths z to which some truths belong
--- that x and y leave
+-- What x and y tell of the output that is related to them: the truths z to which some truths belong
+-- that x and y leave, a contradiction where there are none. Both truths, found where x or y is
+-- unknown, are nothing.
 abbrev pub truth_of : (ℕ → ℕ → ℕ → Bool) → Info → Info → Info
-truth_of related x y = told (is_nothing x || is_nothing y)
-    (bits_where 2 (λ z. any_below 2 (λ a. any_below 2
-    (λ b. (leaves x a && leaves y b) && related a b z))))
+truth_of related x y =
+    let bits = bits_where 2 (λ z. any_below 2
+    (λ a. any_below 2 (λ b. (leaves x a && leaves y b) && related a b z))) in
+    if (is_nothing x || is_nothing y) && (bits == 3) then Nothing else elements_from bits
 
 -- ---- the same, said of each truth
 

@@ -1,3 +1,4 @@
+pub mod Names
 pub mod Ties
 pub mod Truths
 pub mod Words

@@ -3,7 +3,8 @@ ghost use Rattle.std.specs.Prelude.{◌≡◌, ◌<◌, ◌++◌, ◌∷◌, [],
 ghost use Rattle.std.specs.Prelude.{bytes_eq, position, slice_get, Some, IfSome, IfOk, OnOk};
 ghost use Rattle.std.specs.Prelude.{MatchResult};
 ghost use Rattle.std.specs.List.{list_any};
-ghost use Rattle.prop_sets.specs.Names.{texts_of, names_of, is_among, has_repeat, AreElements};
+ghost use Rattle.prop_sets.specs.Names.{texts_of, names_of, has_repeat, AreElements};
+ghost use Rattle.prop_sets.specs.inner.Names.{is_among};
 ghost use Rattle.prop_sets.specs.Names.{IsWhy};
 
 use indexmap::IndexSet;

@@ -1,11 +1,12 @@
 //! The functions of truth, on informations. Truth is the set kind over the domain 0: element 0 is
 //! `yes`, element 1 is `no`.
 ghost use Rattle.std.specs.Prelude.{◌≡◌, ◌↔◌, ◌⊎◌, ◌+◌, ◌*◌, ◌<◌, ◌||◌, cond, true, IsTrue};
-ghost use Rattle.prop_sets.specs.Images.{is_set};
+ghost use Rattle.prop_sets.specs.inner.Words.{is_set};
 ghost use Rattle.prop_sets.specs.Promises.{IsMonotoneInOne, IsMonotoneInTwo, IsSoundInOne};
 ghost use Rattle.prop_sets.specs.Promises.{IsSoundInTwo};
 ghost use Rattle.prop_sets.specs.Truth.{IsAnd, IsOr, IsNot, IsLeftByOne, IsLeftByTwo, LeavesJust};
-ghost use Rattle.prop_sets.specs.Truth.{leaves, is_nothing, told, and_of, and_back_of, or_of};
+ghost use Rattle.prop_sets.specs.Truth.{leaves, is_nothing, and_of, and_back_of, or_of};
+ghost use Rattle.prop_sets.specs.inner.Truths.{told};
 ghost use Rattle.prop_sets.specs.Truth.{or_back_of, not_of};
 
 use prop_lattice::{Elements, Info};

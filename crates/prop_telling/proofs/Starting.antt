@@ -7,13 +7,12 @@ use Rattle.prop_engine.specs.Endings.{WritesTranscript, WritesPrefix}
 use Rattle.prop_workbench.specs.Engine.{Standing, new_standing}
 use Rattle.prop_workbench.specs.Questions.{Picks}
 use Rattle.prop_workbench.specs.Loading.{Loads}
-use Rattle.prop_program.specs.Answering.{Stock}
 use Rattle.prop_program.specs.declared.chosen.Pick.{Pick}
 use Rattle.prop_program.specs.declared.chosen.Pick.TheVariants.{Fifo, Lifo, Mixed}
 use Rattle.prop_program.specs.declared.fault.Fault.{Fault}
 use Rattle.prop_telling.specs.Notes.{no_notes}
 use Rattle.prop_telling.specs.Telling.{Told, telling, new_told}
-use Rattle.prop_telling.specs.Answering.{IsToldBy, IsToldInPartBy, IsToldInPart}
+use Rattle.prop_telling.specs.Answering.{Stock, IsToldBy, IsToldInPartBy, IsToldInPart}
 use Rattle.prop_telling.specs.inner.Answering.{Writes}
 
 -- before anything was written

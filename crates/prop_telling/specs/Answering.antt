@@ -6,10 +6,18 @@ use Rattle.prop_engine.specs.Endings.{WritesTranscript, WritesPrefix}
 use Rattle.prop_scheduler.specs.Orders.{picks_first, picks_last, picks_mixed}
 use Rattle.prop_workbench.specs.Questions.{Picks}
 use Rattle.prop_workbench.specs.Loading.{Loads}
-use Rattle.prop_program.specs.Answering.{Stock}
 use Rattle.prop_program.specs.declared.chosen.Pick.{Pick}
 use Rattle.prop_program.specs.declared.chosen.Pick.TheVariants.{Fifo, Lifo, Mixed}
 use Rattle.prop_telling.specs.Telling.{telling, Told, new_told}
+
+-- what a program comes with: its procedures, and the lines that a session begins with
+pub record Stock : Type 0 where
+  pub library : List Stored
+  pub prelude : List (List ℕ)
+
+-- these procedures and these lines
+abbrev pub stocked : List Stored → List (List ℕ) → Stock
+stocked library prelude = record { library = library; prelude = prelude }
 
 -- a writer got a transcript of all that the reader had left, where that is known, of a session with
 -- a teller around it that loaded the prelude where it began

@@ -10,7 +10,7 @@ use Rattle.prop_procedures.specs.Stored.{Stored}
 use Rattle.prop_language.specs.Commands.{Command}
 use Rattle.prop_language.specs.Reading.{AsRead}
 use Rattle.prop_vocabulary.specs.Cells.{cell_named}
-use Rattle.prop_cells.specs.Problems.{Premises}
+use Rattle.prop_cells.specs.inner.Problems.{Premises}
 use Rattle.prop_cells.specs.Data.{Data, beliefs, problem_of, IsLeanAt}
 use Rattle.prop_scheduler.specs.Potential.{most_steps}
 use Rattle.prop_origins.specs.declared.part.Origin.{Origin}

@@ -23,7 +23,8 @@ use Rattle.prop_amb.specs.Going.{Work}
 use Rattle.prop_engine.specs.Answers.{Answer, Text, Refused}
 use Rattle.prop_texts.specs.Texts.{premises_text}
 use Rattle.prop_texts.specs.inner.Listed.{label_at}
-use Rattle.prop_workbench.specs.Machine.{State, text_at}
+use Rattle.prop_workbench.specs.Machine.{State}
+use Rattle.prop_workbench.specs.inner.Machine.{text_at}
 use Rattle.prop_workbench.specs.Engine.{Standing}
 use Rattle.prop_telling.specs.Texts.{procedure_text}
 use Rattle.prop_telling.specs.Notes.{Notes}

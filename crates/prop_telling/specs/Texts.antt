@@ -10,7 +10,8 @@ use Rattle.prop_procedures.specs.Stored.{Stored}
 use Rattle.prop_cells.specs.Instances.{Instance}
 use Rattle.prop_lattice.specs.declared.info.Info.{Info}
 use Rattle.prop_texts.specs.Texts.{premises_text, equation, because}
-use Rattle.prop_workbench.specs.Machine.{State, text_at}
+use Rattle.prop_workbench.specs.Machine.{State}
+use Rattle.prop_workbench.specs.inner.Machine.{text_at}
 
 -- a cell by its name, or by `#` and its number where it has none
 abbrev pub cell_text : CellNames → ℕ → List ℕ

@@ -4,6 +4,7 @@ pub mod BeliefLemmas
 pub mod LeanLemmas
 pub mod ValueLemmas
 pub mod GainLemmas
+pub mod FewLemmas
 pub mod BeliefUses
 pub mod TrimLemmas
 pub mod PurgeLemmas

@@ -14,6 +14,7 @@
 //! alone; a purge just the entries that don't hold the premise (`trim`, `purge`).
 #![tactic(auto)]
 
+mod few;
 mod gain;
 mod gains;
 mod purging;

@@ -9,6 +9,7 @@ ghost use Rattle.prop_tms.specs.inner.Gains.{AreGains, AreRanked, entry_of, gain
 ghost use Rattle.prop_tms.specs.Values.{entries_of};
 ghost use Rattle.prop_tms.specs.declared.supported.Supported.{Supported};
 
+use crate::few::few;
 use crate::gain::{Entry, Gain};
 use crate::gains::{count, gains};
 use crate::supported::Supported;
@@ -28,7 +29,7 @@ pub(crate) fn believes_any(worldview: &Worldview, supports: &[PremiseSet]) -> bo
 /// Whether the value is believed, and says more than what was merged of others. Of one support it
 /// is quick to tell whether it is believed, so that comes first.
 #[inline(always)]
-fn adds<V: Partial>(valued: &Valued<V>, worldview: &Worldview, merged: V) -> bool
+pub(crate) fn adds<V: Partial>(valued: &Valued<V>, worldview: &Worldview, merged: V) -> bool
     ensures more { IsTrue result
         → IsTrue (list_any (λ s. is_within (set_of worldview.now) s) valued.now.supports.items) }
     ensures none { result ≡ false
@@ -202,7 +203,7 @@ fn sole<'a, V: Partial>(
 /// What the believed entries say together, with the support of entries of which none can be left
 /// out. Entries of few premises come first, and no believed entry that says as much alone has fewer
 /// premises.
-pub(crate) fn strongest<V: Partial>(
+fn ranked<V: Partial>(
     alloc: Global,
     values: &[Valued<V>],
     worldview: &Worldview,
@@ -226,6 +227,30 @@ pub(crate) fn strongest<V: Partial>(
         _ => together,
     };
     Ok(Supported { value, support })
+}
+
+/// The support of entries that say this, which is all that is believed, and of which none can be
+/// left out. Where few entries do, the others are not put in a row.
+pub(crate) fn strongest<V: Partial>(
+    alloc: Global,
+    values: &[Valued<V>],
+    worldview: &Worldview,
+    value: V,
+) -> Result<Supported<V>, AllocError>
+    requires { value ≡ belief_of V.bottom V.join (set_of worldview.now) (entries_of values.now) }
+    ensures nothing { belief_of V.bottom V.join (set_of worldview.now)
+        (entries_of values.now) ≡ V.bottom → IsOk result }
+    ensures value { IfOk result (λ e.
+        e.value ≡ belief_of V.bottom V.join (set_of worldview.now) (entries_of values.now)) }
+    ensures lean { IfOk result (λ e.
+        IsLean V.bottom V.join (entries_of values.now) (set_of worldview.now) e.value e.support) }
+    ensures short { IfOk result (λ e.
+        IsShort (entries_of values.now) (set_of worldview.now) e.value e.support) }
+{
+    if let Some(support) = few(values, worldview, value)? {
+        return Ok(Supported { value, support });
+    }
+    ranked(alloc, values, worldview)
 }
 
 /// The support of the only believed entry, where there is just one and it says something.

@@ -133,10 +133,11 @@ impl<V: Partial> Tms<V> {
         may_shift(&self.values, shift)
     }
 
-    /// What the believed entries say together, with the support of believed entries that say so,
-    /// none of which can be left out. It has no more premises than any believed entry that alone
-    /// says as much. Where they say nothing it takes no memory.
-    pub fn strongest(&self, worldview: &Worldview) -> Result<Supported<V>, AllocError>
+    /// What the believed entries say together, which is this value, with the support of believed
+    /// entries that say so, none of which can be left out. It has no more premises than any
+    /// believed entry that alone says as much. Where they say nothing it takes no memory.
+    pub fn strongest(&self, worldview: &Worldview, value: V) -> Result<Supported<V>, AllocError>
+        requires { value ≡ belief_of V.bottom V.join (set_of worldview.now) self.now }
         ensures value { IfOk result (λ e.
             e.value ≡ belief_of V.bottom V.join (set_of worldview.now) self.now) }
         ensures nothing { belief_of V.bottom V.join (set_of worldview.now) self.now ≡ V.bottom
@@ -149,7 +150,7 @@ impl<V: Partial> Tms<V> {
         ensures short { IfOk result (λ e.
             IsShort self.now (set_of worldview.now) e.value e.support) }
     {
-        strongest(*self.values.allocator(), &self.values, worldview)
+        strongest(*self.values.allocator(), &self.values, worldview, value)
     }
 
     /// The support of the only believed entry, where there is just one and it says something: with

@@ -87,8 +87,19 @@ pub(crate) struct Survey<V: Copy> {
     pub may_cover: bool,
 }
 
-/// What the entries are to this one; nothing where it says nothing new. It looks at each value
-/// once.
+/// Whether the value says as much as one of these.
+fn covers_any<V: Partial>(values: &[Valued<V>], value: V) -> bool
+    ensures { result ≡ false → All (λ x. ¬ (V.below x.value value)) values.now }
+{
+    for valued in values {
+        if value.implies(valued.value) {
+            return true;
+        }
+    }
+    false
+}
+
+/// What the entries are to this one; nothing where it says nothing new.
 pub(crate) fn surveyed<V: Partial>(values: &[Valued<V>], entry: &Supported<V>) -> Option<Survey<V>>
     requires { length (entries_of values.now) < 2 ^ 64 }
     ensures known { result ≡ None → IsNeedless V.below V.bottom (entries_of values.now) entry.now }
@@ -105,23 +116,23 @@ pub(crate) fn surveyed<V: Partial>(values: &[Valued<V>], entry: &Supported<V>) -
     }
     let mut count = 0;
     let mut said = V::nothing();
-    let mut covers = false;
     for valued in values {
-        if has_part(&valued.supports, &entry.support) {
+        let supports = valued.supports.as_slice();
+        if has_part(supports, &entry.support) {
             if valued.value.implies(entry.value) {
                 return None;
             }
-            if has_same(&valued.supports, &entry.support) {
+            if has_same(supports, &entry.support) {
                 said = said.merge(valued.value);
             }
         }
-        covers |= entry.value.implies(valued.value);
-        count += valued.supports.len();
+        count += supports.len();
     }
+    let value = entry.value.merge(said);
     Some(Survey {
         count,
-        value: entry.value.merge(said),
-        may_cover: covers || !V::nothing().implies(said),
+        value,
+        may_cover: covers_any(values, value),
     })
 }
 

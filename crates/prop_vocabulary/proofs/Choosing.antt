@@ -22,7 +22,8 @@ use Rattle.prop_sets.specs.laws.ChosenLaws.{bits_where-has, bits_where-passes}
 use Rattle.prop_sets.specs.Names.{AreElements}
 use Rattle.prop_sets.proofs.NameLemmas.{position_at}
 use Rattle.prop_language.specs.Names.{is_among}
-use Rattle.prop_vocabulary.specs.Values.{bits_named, set_value}
+use Rattle.prop_vocabulary.specs.Values.{set_value}
+use Rattle.prop_vocabulary.specs.inner.SetBits.{bits_named}
 use Rattle.prop_language.specs.Said.{words}
 
 -- ---- the place of a word

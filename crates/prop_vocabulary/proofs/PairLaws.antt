@@ -12,12 +12,13 @@ use Rattle.prop_sets.specs.declared.side.Side as sides
 use Rattle.prop_sets.proofs.TieLemmas.{adds-pair}
 use Rattle.prop_vocabulary.specs.Names.{number_in}
 use Rattle.prop_vocabulary.specs.Promises.{IsNamedPair, HasJust, HaveJustTheirPairs}
-use Rattle.prop_vocabulary.specs.Pairs.{place_of, with_pairs, is_outside}
+use Rattle.prop_vocabulary.specs.Pairs.{is_outside}
+use Rattle.prop_vocabulary.specs.inner.Between.{place_of, with_pairs}
 use Rattle.prop_vocabulary.specs.inner.Named.{is_pair_outside}
 use Rattle.prop_vocabulary.specs.Vocabulary.{Vocabulary, domain_number, elements_at, elements_of, side_at, IsWhole}
 use Rattle.prop_vocabulary.proofs.Lookups.{number_below}
 use Rattle.prop_vocabulary.proofs.RefusalLemmas.{nothing_outside}
-use Rattle.prop_vocabulary.proofs.SideLemmas.{side_from-size}
+use Rattle.prop_vocabulary.proofs.SideLemmas.{side_at-size}
 use Rattle.prop_vocabulary.proofs.WholeLemmas.{elements-are}
 
 no_bit : (n i j : ℕ) → bit_at (get_or (replicate n 0) i 0) j ≡ 0
@@ -94,5 +95,4 @@ just_their_pairs v from to pairs w e =
     let b = unwrap_or (domain_number v to) 0 in
     let outside = nothing_outside v from to pairs e in
     just_pairs (elements_of v a) (elements_of v b) (side_at v a) (side_at v b) pairs
-    (side_from-size a (length (elements_of v a)) (few_at v a w))
-    (side_from-size b (length (elements_of v b)) (few_at v b w)) outside
+    (side_at-size v a (few_at v a w)) (side_at-size v b (few_at v b w)) outside

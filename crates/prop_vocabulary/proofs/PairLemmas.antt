@@ -7,12 +7,14 @@ use Rattle.std.proofs.lemmas.List.{take_more, map-append}
 use Rattle.std.proofs.lemmas.List.Sums.{fold-append}
 use Rattle.prop_refusals.specs.declared.refusal.Refusal.TheVariants.{NotInTheDomain}
 use Rattle.prop_sets.specs.Relation.{Relation, with_pair, no_pairs}
-use Rattle.prop_vocabulary.specs.Pairs.{texts_of_pairs, place_of, with_pairs}
+use Rattle.prop_vocabulary.specs.Pairs.{texts_of_pairs}
+use Rattle.prop_vocabulary.specs.inner.Between.{place_of, with_pairs}
 use Rattle.prop_vocabulary.specs.inner.Named.{with_named_pair, is_pair_outside}
 use Rattle.prop_vocabulary.specs.Pairs.{is_outside}
 use Rattle.prop_vocabulary.specs.Refusing.{pairs_refusal}
 use Rattle.prop_vocabulary.specs.inner.Named.{is_word_outside}
-use Rattle.prop_vocabulary.specs.Vocabulary.{Vocabulary, domain_number, elements_of, side_at, relation_between}
+use Rattle.prop_vocabulary.specs.Vocabulary.{Vocabulary, domain_number, elements_of, side_at}
+use Rattle.prop_vocabulary.specs.inner.Between.{relation_between}
 use Rattle.prop_vocabulary.specs.Vocabulary.{HasSides}
 use Rattle.prop_vocabulary.proofs.RefusalLemmas.{word_outside, pairs_allowed}
 

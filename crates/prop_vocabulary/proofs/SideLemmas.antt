@@ -1,10 +1,11 @@
 -- What a side is by its domain and its size.
-use Rattle.std.proofs.Common.{◌≡◌, ℕ, ◌<◌, ◌≤◌, ◌⊎◌, inl, inr, refl, arith}
+use Rattle.std.proofs.Common.{◌≡◌, ℕ, ◌≤◌, length, sym, ◌∙◌, ap, arith}
+use Rattle.std.specs.Prelude.{min}
+use Rattle.std.proofs.Math.Nat.{min-eq_left}
 use Rattle.std.proofs.Props.{props}
-use Rattle.std.proofs.lemmas.Bool.{cases_lt}
 use mathlib.Core.HLevel.{is_prop→PathP}
 use Rattle.prop_sets.specs.declared.side.Side as sides
-use Rattle.prop_vocabulary.specs.Sides.{side_if, side_from}
+use Rattle.prop_vocabulary.specs.Vocabulary.{Vocabulary, elements_of, side_at}
 
 -- sides of the same domain with the same size are one
 pub same_side : (a b : sides.Side) → a.domain ≡ b.domain → a.size ≡ b.size → a ≡ b
@@ -15,19 +16,12 @@ same_side a b p q = λ i. record {
 }
 
 -- a side is the one of its domain and its size
-pub side_is : (domain size : ℕ) (s : sides.Side) → s.domain ≡ domain → s.size ≡ size → s ≡ side_from domain size
-unfolding side_from
-side_is domain size s p q = by (cases_lt 64 size)
-  where
-    by : (d : (64 < size) ⊎ (size ≤ 64)) → s ≡ side_if domain size d
-    by (inl over) = absurd (omega (arith, s.fits, q, over))
-    by (inr fits) = same_side s (record { domain = domain; size = size; fits = fits }) p q
+pub side_is : (v : Vocabulary) (d : ℕ) (s : sides.Side) → s.domain ≡ d → s.size ≡ length (elements_of v d)
+    → s ≡ side_at v d
+side_is v d s p q =
+    same_side s (side_at v d) p (sym (min-eq_left (omega (arith, s.fits, q))) ∙ ap (λ n. min n 64) q)
 
 -- where the size fits, the side has it
-pub side_from-size : (domain size : ℕ) → size ≤ 64 → (side_from domain size).size ≡ size
-unfolding side_from
-side_from-size domain size l = by (cases_lt 64 size)
-  where
-    by : (d : (64 < size) ⊎ (size ≤ 64)) → (side_if domain size d).size ≡ size
-    by (inl over) = absurd (omega (arith, l, over))
-    by (inr fits) = refl
+pub side_at-size : (v : Vocabulary) (d : ℕ) → length (elements_of v d) ≤ 64
+    → (side_at v d).size ≡ length (elements_of v d)
+side_at-size v d l = min-eq_left l

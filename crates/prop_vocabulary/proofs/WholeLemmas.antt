@@ -10,7 +10,9 @@ use Rattle.prop_refusals.specs.declared.refusal.Limit.TheVariants.{Domains, Rela
 use Rattle.prop_sets.specs.Names.{AreElements}
 use Rattle.prop_sets.specs.Relation.{Relation}
 use Rattle.prop_sets.specs.declared.side.Side as sides
-use Rattle.prop_vocabulary.specs.Vocabulary.{Vocabulary, truth_elements, elements_at, with_domain, with_new_relation}
+use Rattle.prop_vocabulary.specs.Vocabulary.{Vocabulary, elements_at, with_domain}
+use Rattle.prop_vocabulary.specs.inner.Truth.{truth_elements}
+use Rattle.prop_vocabulary.specs.inner.Between.{with_new_relation}
 use Rattle.prop_vocabulary.specs.Vocabulary.{IsSideOf, HasSides, IsWhole}
 
 -- what a domain has stays, with one domain more

@@ -1,6 +1,5 @@
 pub mod Names
 pub mod Cells
-pub mod Sides
 pub mod Pairs
 pub mod Vocabulary
 pub mod Refusing

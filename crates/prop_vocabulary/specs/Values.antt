@@ -1,6 +1,6 @@
 -- What a value on a line says at a cell of a kind.
 use Rattle.std.specs.Prelude.{ℕ, ℤ, neg_ℤ, int_lt, List, [], ◌∷◌, length, slice_index_or, cond}
-use Rattle.std.specs.Prelude.{◌==◌, ◌&&◌, Option, Some, None, Result, Ok, Err}
+use Rattle.std.specs.Prelude.{◌==◌, ◌&&◌, Option, Some, None, Result, Ok, Err, unwrap_or}
 use Rattle.std.specs.List.{list_all}
 use Rattle.prop_lattice.specs.declared.span.TheConstants.{B}
 use Rattle.prop_refusals.specs.declared.refusal.Refusal.{Refusal}
@@ -15,41 +15,31 @@ use Rattle.prop_sets.specs.Chosen.{bits_where}
 use Rattle.prop_language.specs.Names.{number_in, is_name, is_among}
 use Rattle.prop_language.specs.Commands.{Value, Bare, Braces}
 
--- a byte before the part that stands before two dots
-abbrev pub onto_left : ℕ → List ℕ × Option (List ℕ) → List ℕ × Option (List ℕ)
-onto_left b (left, right) = (b ∷ left, right)
-
 -- what stands before the first two dots in a row, and what after them, where there are any
 abbrev pub halves : List ℕ → List ℕ × Option (List ℕ)
 halves [] = ([], None)
 halves (a ∷ []) = (a ∷ [], None)
-halves (a ∷ b ∷ bytes) = cond ((a == 46) && (b == 46)) ([], Some bytes)
-    (onto_left a (halves (b ∷ bytes)))
+halves (a ∷ b ∷ bytes) = let rest = halves (b ∷ bytes) in
+    cond ((a == 46) && (b == 46)) ([], Some bytes) (a ∷ rest.0, rest.1)
 
 -- a number of the largest magnitude at most
 abbrev pub bounded_number : List ℕ → Option ℤ
 bounded_number word = number_in (neg_ℤ B) B word
 
+-- the numbers from one to the other
 abbrev pub ends_value : Option ℤ → Option ℤ → Result Info Refusal
-ends_value (Some low) (Some high) =
-    cond (int_lt high low) (Err EmptyValue) (Ok (span_from low high))
-ends_value low high = Err NotANumber
+ends_value (Some a) (Some b) = cond (int_lt b a) (Err EmptyValue) (Ok (span_from a b))
+ends_value a b = Err NotANumber
 
--- A, or A..B
+-- A..B, or A, which stands for A..A
 abbrev pub span_value : List ℕ × Option (List ℕ) → Result Info Refusal
-span_value (word, None) = ends_value (bounded_number word) (bounded_number word)
-span_value (left, Some right) = ends_value (bounded_number left) (bounded_number right)
-
--- the names that are among the words, each by the bit of its place
-abbrev pub bits_named : List (List ℕ) → List (List ℕ) → ℕ
-bits_named names words = bits_where (length names) (λ i. is_among words (slice_index_or names i []))
+span_value (left, right) = ends_value (bounded_number left) (bounded_number (unwrap_or right left))
 
 -- the set of the elements that the words name: each word is one of the names, and there is one
 abbrev pub set_value : List (List ℕ) → List (List ℕ) → Result Info Refusal
 set_value names [] = Err EmptyValue
-set_value names (w ∷ words) =
-    cond (list_all (is_among names) (w ∷ words)) (Ok (elements_from (bits_named names (w ∷ words))))
-    (Err NotInTheDomain)
+set_value names words = cond (list_all (is_among names) words) (Ok (elements_from (bits_where
+    (length names) (λ i. is_among words (slice_index_or names i []))))) (Err NotInTheDomain)
 
 -- an information, or the name of a symbol
 pub data Meant : Type 0 where

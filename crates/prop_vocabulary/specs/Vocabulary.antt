@@ -1,15 +1,16 @@
 -- The vocabulary of a session: its domains, relations and symbols by name.
-use Rattle.std.specs.Prelude.{◌≡◌, ℕ, ◌+◌, ◌<◌, ◌≤◌, List, [], ◌∷◌, ◌++◌, All, Option, Some, codes}
-use Rattle.std.specs.Prelude.{is_some, if◌then◌else◌, length, slice_get, take, unwrap_or}
+use Rattle.std.specs.Prelude.{◌≡◌, ℕ, ◌+◌, ◌<◌, ◌≤◌, min, List, [], ◌∷◌, ◌++◌, All, Option, Some}
+use Rattle.std.specs.Prelude.{codes, fold, is_some, if◌then◌else◌, length, slice_get, take}
+use Rattle.std.specs.Prelude.{unwrap_or}
 use Rattle.std.specs.Option.{option_map, option_and_then}
+use Rattle.std.proofs.Math.Nat.{min-le_right}
 use Rattle.prop_refusals.specs.Refusals.{most}
 use Rattle.prop_refusals.specs.declared.refusal.Limit.TheVariants.{Domains, Relations, Symbols}
 use Rattle.prop_sets.specs.Names.{AreElements}
-use Rattle.prop_sets.specs.Relation.{Relation, no_pairs}
+use Rattle.prop_sets.specs.Relation.{Relation, no_pairs, with_pair}
 use Rattle.prop_sets.specs.declared.side.Side as sides
 use Rattle.prop_vocabulary.specs.Names.{number_in}
-use Rattle.prop_vocabulary.specs.Pairs.{with_pairs}
-use Rattle.prop_vocabulary.specs.Sides.{side_from}
+use Rattle.prop_vocabulary.specs.inner.Truth.{truth_elements}
 
 -- the names of the declared domains, the elements of each domain by its number, that of truth
 -- first, the names of the relations and the relations, and the names of the symbols
@@ -20,19 +21,10 @@ pub record Vocabulary : Type 0 where
   pub relations : List Relation
   pub symbols : List (List ℕ)
 
--- the elements of truth
-abbrev pub truth_elements : List (List ℕ)
-truth_elements = codes "yes" ∷ codes "no" ∷ []
-
--- nothing is declared
+-- nothing is declared, and truth has its elements
 abbrev pub start_vocabulary : Vocabulary
-start_vocabulary = record {
-  domain_names = [];
-  domains = truth_elements ∷ [];
-  relation_names = [];
-  relations = [];
-  symbols = [];
-}
+start_vocabulary = let truth = (codes "yes" ∷ codes "no" ∷ []) ∷ [] in
+    record { domain_names = []; domains = truth; relation_names = []; relations = []; symbols = [] }
 
 -- ---- domains
 
@@ -54,33 +46,26 @@ with_domain v name elements =
 
 -- the relation with the name
 abbrev pub relation_named : Vocabulary → List ℕ → Option Relation
-relation_named v name = option_and_then (λ n. slice_get v.relations n)
-    (number_in v.relation_names name)
+relation_named v name = option_and_then (slice_get v.relations) (number_in v.relation_names name)
 
--- the domain with the number as a side of a relation
+-- the domain with the number as a side of a relation; a domain has up to 64 elements
 abbrev pub side_at : Vocabulary → ℕ → sides.Side
-side_at v d = side_from d (length (elements_of v d))
+side_at v d = let size = length (elements_of v d) in
+    record { domain = d; size = min size 64; fits = min-le_right size 64 }
 
--- the relation between two domains, by their numbers, with just these pairs of elements
-abbrev pub relation_between : Vocabulary → ℕ → ℕ → List (List ℕ × List ℕ) → Relation
-relation_between v first second pairs =
-    with_pairs (elements_of v first) (elements_of v second)
-    (no_pairs (side_at v first) (side_at v second)) pairs
-
--- the same, of declared domains by their names
+-- the relation between two declared domains, by their names, with just these pairs of elements, by
+-- theirs
 abbrev pub relation_of : Vocabulary → List ℕ → List ℕ → List (List ℕ × List ℕ) → Relation
 relation_of v from to pairs =
-    relation_between v (unwrap_or (domain_number v from) 0) (unwrap_or (domain_number v to) 0) pairs
-
--- one relation more
-abbrev pub with_new_relation : Vocabulary → List ℕ → Relation → Vocabulary
-with_new_relation v name m =
-    record v { relation_names = v.relation_names ++ name ∷ []; relations = v.relations ++ m ∷ [] }
+    let d = unwrap_or (domain_number v from) 0 in let e = unwrap_or (domain_number v to) 0 in
+    let at = λ (d : ℕ) (name : List ℕ). unwrap_or (number_in (elements_of v d) name) 0 in
+    fold (λ m p. with_pair m (at d p.0) (at e p.1)) (no_pairs (side_at v d) (side_at v e)) pairs
 
 -- one relation more, with just these pairs
 abbrev pub with_relation : Vocabulary → List ℕ → List ℕ → List ℕ → List (List ℕ × List ℕ)
     → Vocabulary
-with_relation v name from to pairs = with_new_relation v name (relation_of v from to pairs)
+with_relation v name from to pairs = let m = relation_of v from to pairs in
+    record v { relation_names = v.relation_names ++ name ∷ []; relations = v.relations ++ m ∷ [] }
 
 -- ---- symbols
 

@@ -1,7 +1,8 @@
 //! Pairs of elements by their names.
 ghost use Rattle.std.specs.Prelude.{◌≡◌, ◌<◌, length};
 ghost use Rattle.std.specs.List.{list_any};
-ghost use Rattle.prop_vocabulary.specs.Pairs.{texts_of_pairs, place_of, with_pairs};
+ghost use Rattle.prop_vocabulary.specs.Pairs.{texts_of_pairs};
+ghost use Rattle.prop_vocabulary.specs.inner.Between.{place_of, with_pairs};
 ghost use Rattle.prop_vocabulary.specs.Pairs.{is_outside};
 ghost use Rattle.prop_vocabulary.specs.inner.Named.{is_pair_outside};
 

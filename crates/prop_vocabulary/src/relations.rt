@@ -5,7 +5,8 @@ ghost use Rattle.prop_sets.specs.Relation.{no_pairs};
 ghost use Rattle.prop_vocabulary.specs.Promises.{HaveJustTheirPairs};
 ghost use Rattle.prop_vocabulary.specs.Pairs.{texts_of_pairs};
 ghost use Rattle.prop_vocabulary.specs.Vocabulary.{elements_of, side_at, domain_number};
-ghost use Rattle.prop_vocabulary.specs.Vocabulary.{relation_named, relation_between, relation_of};
+ghost use Rattle.prop_vocabulary.specs.Vocabulary.{relation_named, relation_of};
+ghost use Rattle.prop_vocabulary.specs.inner.Between.{relation_between};
 ghost use Rattle.prop_vocabulary.specs.Vocabulary.{with_relation, IsSideOf, HasSides};
 ghost use Rattle.prop_vocabulary.specs.Refusing.{pairs_refusal, relation_refusal};
 

@@ -2,7 +2,8 @@
 ghost use Rattle.std.specs.Prelude.{◌≡◌, ◌<◌, ◌==◌, IfOk, string_bytes, option_copied};
 ghost use Rattle.std.specs.Int.{bit_at};
 ghost use Rattle.prop_sets.specs.Names.{texts_of};
-ghost use Rattle.prop_vocabulary.specs.Texts.{span_text, in_braces, names_in, domain_of};
+ghost use Rattle.prop_vocabulary.specs.Texts.{in_braces, names_in};
+ghost use Rattle.prop_vocabulary.specs.inner.TextParts.{span_text, domain_of};
 ghost use Rattle.prop_vocabulary.specs.Texts.{elements_of_kind, value_text};
 ghost use Rattle.prop_vocabulary.specs.inner.Named.{symbol_text};
 

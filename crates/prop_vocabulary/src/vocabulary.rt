@@ -1,6 +1,7 @@
 //! The vocabulary of a session: what its lines can name beside cells, procedures and premises.
 ghost use Rattle.std.specs.Prelude.{◌≡◌, IfOk};
-ghost use Rattle.prop_vocabulary.specs.Vocabulary.{start_vocabulary, truth_elements};
+ghost use Rattle.prop_vocabulary.specs.Vocabulary.{start_vocabulary};
+ghost use Rattle.prop_vocabulary.specs.inner.Truth.{truth_elements};
 
 use crate::names::Names;
 use prop_sets::{Domain, Relation};

@@ -4,7 +4,8 @@ use Rattle.prop_lattice.specs.Points.{Point, Holds, IsPointOf}
 use Rattle.prop_lattice.specs.Rank.{IsOf}
 use Rattle.prop_lattice.specs.declared.span.TheConstants.{B}
 use Rattle.prop_lattice.specs.declared.info.Info.{Info}
-use Rattle.prop_procedures.specs.Rules.{ArePointsOf, EachHolds, IsCallAt, kind_of}
+use Rattle.prop_procedures.specs.Rules.{EachHolds, IsCallAt, kind_of}
+use Rattle.prop_procedures.specs.inner.Places.{ArePointsOf}
 use Rattle.prop_procedures.specs.declared.shape.Kinded.{Kinded}
 use Rattle.prop_procedures.specs.declared.shape.Need.{Need}
 use Rattle.prop_procedures.specs.declared.shape.Param.{Param}

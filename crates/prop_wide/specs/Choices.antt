@@ -1,6 +1,7 @@
 -- One of two values, as a truth says.
 use Rattle.std.specs.Prelude.{Bool, not, if◌then◌else◌}
-use Rattle.prop_arith.specs.Comparing.{comparer_of, is_just}
+use Rattle.prop_arith.specs.inner.Compared.{is_just}
+use Rattle.prop_arith.specs.inner.Compared.{comparer_of}
 use Rattle.prop_intervals.specs.Comparisons.{no_bits}
 use Rattle.prop_lattice.specs.declared.info.Info.{Info}
 use Rattle.prop_lattice.specs.declared.info.Info.TheVariants.{Contradiction}

@@ -1,7 +1,7 @@
 -- Squares and roots by a scale.
 use Rattle.std.specs.Prelude.{ℤ, pos, ◌+ℤ◌, ◌-ℤ◌, ◌*ℤ◌, int_lt, if◌then◌else◌}
 use Rattle.prop_intervals.specs.Relations.{IsProduct}
-use Rattle.prop_intervals.specs.Roots.{least_root, greatest_root}
+use Rattle.prop_intervals.specs.inner.Roots.{least_root, greatest_root}
 use Rattle.prop_intervals.specs.Spans.{product_of}
 use Rattle.prop_lattice.specs.declared.info.Info.{Info}
 use Rattle.prop_lattice.specs.declared.info.Info.TheVariants.{Span, Contradiction}

@@ -1,6 +1,7 @@
 //! One of two values as a truth says, and back to the truth.
 ghost use Rattle.std.specs.Prelude.{◌≡◌, not};
-ghost use Rattle.prop_arith.specs.Comparing.{comparer_of, is_just};
+ghost use Rattle.prop_arith.specs.inner.Compared.{is_just};
+ghost use Rattle.prop_arith.specs.inner.Compared.{comparer_of};
 ghost use Rattle.prop_intervals.specs.Comparisons.{no_bits};
 ghost use Rattle.prop_wide.specs.Choices.{choose_of, decide_of, agree};
 

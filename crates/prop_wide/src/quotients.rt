@@ -1,6 +1,6 @@
 //! Quotients that are rounded down, what they leave, and back to the divisor.
 ghost use Rattle.std.specs.Prelude.{◌≡◌, ◌≤ℤ◌, ◌<ℤ◌, pos, neg_ℤ, ◌^◌};
-ghost use Rattle.prop_intervals.specs.Quotients.{int_div_floor};
+ghost use Rattle.prop_intervals.specs.inner.Parts.{int_div_floor};
 ghost use Rattle.prop_wide.specs.Quotients.{least_quotient, greatest_quotient, quotients_of};
 ghost use Rattle.prop_wide.specs.Quotients.{quotient_of, is_zero, remainder_of};
 ghost use Rattle.prop_wide.specs.Quotients.{divisors_above};
@@ -13,7 +13,6 @@ use prop_lattice::Info;
 use prop_lattice::span::B;
 
 /// The quotient rounded down.
-#[tactic(auto, unfolding(prop_intervals::specs::Quotients::int_div_floor))]
 fn floor(a: i128, d: i128) -> i128
     requires { pos 0 <ℤ d }
     ensures { result ≡ int_div_floor a d }

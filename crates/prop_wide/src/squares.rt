@@ -1,6 +1,6 @@
 //! Squares and roots by a scale.
 ghost use Rattle.std.specs.Prelude.{◌≡◌, ◌≤ℤ◌, ◌<ℤ◌, ◌+ℤ◌, ◌-ℤ◌, ◌*ℤ◌, pos, neg_ℤ, ◌^◌};
-ghost use Rattle.prop_intervals.specs.Roots.{least_root, greatest_root};
+ghost use Rattle.prop_intervals.specs.inner.Roots.{least_root, greatest_root};
 ghost use Rattle.prop_wide.specs.Squares.{square_of, times_itself, least_square};
 ghost use Rattle.prop_wide.specs.Squares.{greatest_square, root_of};
 

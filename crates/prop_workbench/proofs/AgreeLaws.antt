@@ -17,11 +17,14 @@ use Rattle.prop_language.proofs.ReadingLaws.{one_reading}
 use Rattle.prop_texts.specs.Texts.{equation, because}
 use Rattle.prop_engine.specs.Answers.{Answer, Done, Text, Refused}
 use Rattle.prop_engine.specs.Transcripts.{Run}
-use Rattle.prop_workbench.specs.Machine.{State, naming, text_at, problem_in, users_in, choices_in, worldview_at}
+use Rattle.prop_workbench.specs.Machine.{State, problem_in, choices_in, worldview_at}
+use Rattle.prop_workbench.specs.inner.Machine.{naming, text_at, users_in}
 use Rattle.prop_workbench.specs.Refusing.{refusal_of}
 use Rattle.prop_workbench.specs.Effects.{effect}
 use Rattle.prop_workbench.specs.Running.{named_by, Settled, MayEnd, Replies, IsRest, IsValueReply, IsExplainedReply}
-use Rattle.prop_workbench.specs.Steps.{Runs, Lists, AtOnce, CarriesUnless, Follows, Step}
+use Rattle.prop_workbench.specs.Steps.{Runs, AtOnce, Follows, Step}
+use Rattle.prop_workbench.specs.Steps.{CarriesUnless}
+use Rattle.prop_workbench.specs.inner.Steps.{Lists}
 use Rattle.prop_workbench.specs.Engine.{workbench}
 use Rattle.prop_workbench.specs.Agreeing.{AreAlike, HaveMemory, RunsMeet, AnswersMeet, IsCoreMark, SayOneValue}
 use Rattle.prop_workbench.specs.Agreeing.{SettledTextsMeet, SettledIsFree}
@@ -153,7 +156,7 @@ runs_meet_from library s t first second (line ∷ lines) [] ks e r q n m = absur
 runs_meet_from library s t first second (line ∷ lines) (a ∷ ls) [] e r q n m = absurd q
 runs_meet_from library s t first second (line ∷ lines) (a ∷ ls) (b ∷ ks) e (mid, step, rest) (mid', step', rest') n m =
     runs_meet_from library mid mid' first second lines ls ks
-    (steps_meet library s t mid mid' line a b step.steps step'.steps e step.step step'.step
+    (steps_meet library s t mid mid' line a b step.0 step'.0 e step.1 step'.1
     (All-head IsNoWant a ls n) (All-head IsNoWant b ks m)).0
     rest rest' (All-tail IsNoWant a ls n) (All-tail IsNoWant b ks m)
 
@@ -171,7 +174,7 @@ same_cell s name c d e f = let g : Some d ≡ Some c = sym f ∙ e in cc
 same_value : (library : List Stored) (s : State) (list : List ℕ) (c d : ℕ) (v w : Info) (a b : Assignment) → d ≡ c
     → v ≡ a c → w ≡ b d → IsRest library s list a → IsRest library s list b → w ≡ v
 same_value library s list c d v w a b e f g r q = g ∙ ap b e
-    ∙ sym (least_unique (problem_in library s) (worldview_at s list) a b r.least q.least c) ∙ sym f
+    ∙ sym (least_unique (problem_in library s) (worldview_at s list) a b r.0 q.0 c) ∙ sym f
 
 same_text : (s : State) (name behind : List ℕ) (c d : ℕ) (v w : Info) → d ≡ c → w ≡ v
     → equation name (text_at s d w) behind ≡ equation name (text_at s c v) behind
@@ -182,38 +185,40 @@ values_meet : (library : List Stored) (s : State) (list name text also : List �
     → also ≡ text
 values_meet library s list name text also r q =
     let e = same_cell s name r.cell q.cell r.cell_is q.cell_is in
-    let f = same_value library s list r.cell q.cell r.v q.v r.value.solution q.value.solution e r.value.value
-    q.value.value r.value.rest q.value.rest in
+    let f = same_value library s list r.cell q.cell r.v q.v r.value.0 q.value.0 e r.value.2 q.value.2 r.value.1
+    q.value.1 in
     q.text_is ∙ same_text s name [] r.cell q.cell r.v q.v e f ∙ sym r.text_is
 
 whys_meet : (library : List Stored) (s : State) (list name mark also_mark text also : List ℕ)
     → IsExplainedReply library s (Settled list) name mark text
     → IsExplainedReply library s (Settled list) name also_mark also → SayOneValue s name mark also_mark text also
 whys_meet library s list name mark also_mark text also r q =
-    let e = same_cell s name r.cell q.cell r.cell_is q.cell_is in
-    let f = same_value library s list r.cell q.cell r.v q.v r.value.solution q.value.solution e r.value.value
-    q.value.value r.value.rest q.value.rest in
+    let a = r.says in
+    let b = q.says in
+    let e = same_cell s name a.cell b.cell a.cell_is b.cell_is in
+    let f = same_value library s list a.cell b.cell a.v b.v a.value.0 b.value.0 e a.value.2 b.value.2 a.value.1
+    b.value.1 in
     record {
-      cell = r.cell;
-      cell_is = r.cell_is;
-      v = r.v;
+      cell = a.cell;
+      cell_is = a.cell_is;
+      v = a.v;
       premises = r.premises;
       others = q.premises;
-      text_is = r.text_is;
-      also_is = q.text_is ∙ same_text s name (because s.premises also_mark q.premises) r.cell q.cell r.v q.v e f;
+      text_is = a.text_is;
+      also_is = b.text_is ∙ same_text s name (because s.premises also_mark q.premises) a.cell b.cell a.v b.v e f;
     }
 
 -- a settled core explains, whether it is reduced or not
 core_explained : (library : List Stored) (s : State) (list name text : List ℕ) (steps : ℕ)
     → Replies library s (commands.Command.Core name) (Settled list) steps text
     → (mark : List ℕ) × IsCoreMark mark × IsExplainedReply library s (Settled list) name mark text
-core_explained library s list name text steps (inl r) = ([], inl refl, r.explained)
+core_explained library s list name text steps (inl r) = ([], inl refl, r.0)
 core_explained library s list name text steps (inr r) = (codes " not reduced", inr refl, r.0)
 
 -- two settled ends of one state stand on one list
 one_list : (library : List Stored) (s : State) (l m : List ℕ) → MayEnd library s (Settled l)
     → MayEnd library s (Settled m) → m ≡ l
-one_list library s l m r q = sym (first_unique (problem_in library s) (users_in s) (choices_in s) l m r.first q.first)
+one_list library s l m r q = sym (first_unique (problem_in library s) (users_in s) (choices_in s) l m r.0 q.0)
 
 -- what may be replied where the run settled on a list
 texts_meet : (library : List Stored) (s : State) (command : Command) (list text also : List ℕ) (steps others : ℕ)
@@ -260,5 +265,5 @@ believed_is_user (o ∷ os) (suc p) h = believed_is_user os p h
 pub settled_is_free : (library : List Stored) → SettledIsFree library
 settled_is_free library s list premises numbered settles contradicts =
     believed_refutes (problem_in library s) (choices_in s) (users_in s) (set_of premises)
-    (λ p h. numbered.users p (believed_is_user s.premises p (contradicts.believes p h))) contradicts.believes
-    contradicts.refuted list settles.first.is_list settles.first.consistent
+    (λ p h. numbered.users p (believed_is_user s.premises p (contradicts.0 p h))) contradicts.0
+    contradicts.1 list settles.0.is_list settles.0.consistent

@@ -35,16 +35,18 @@ use Rattle.prop_language.specs.Commands as commands
 use Rattle.prop_language.specs.Commands.{Command}
 use Rattle.prop_vocabulary.specs.Vocabulary.{Vocabulary}
 use Rattle.prop_engine.specs.Answers.{Answer, Says, Text}
-use Rattle.prop_workbench.specs.Machine.{State, problem_in, text_at, worldview_at}
+use Rattle.prop_workbench.specs.Machine.{State, problem_in, worldview_at}
+use Rattle.prop_workbench.specs.inner.Machine.{text_at}
 use Rattle.prop_refusals.specs.Refusals.{first_of, when}
 use Rattle.prop_workbench.specs.Refusing.{refusal_of, passed}
 use Rattle.prop_workbench.proofs.LimitLemmas.{as_many}
 use Rattle.prop_workbench.specs.declared.asking.Question.{Question}
 use Rattle.prop_workbench.specs.declared.asking.Question.TheVariants.{Settle, Worldview, Ask, Why}
 use Rattle.prop_workbench.specs.inner.Questions.{command_of, IsNamed, MaySay, HasRun}
-use Rattle.prop_workbench.specs.Running.{Outcome, Settled, Unsettled, Contradiction, worldview_of, Replies, IsValue}
-use Rattle.prop_workbench.specs.Running.{IsValueReply, IsSettledValue, IsUnsettledValue, IsExplainedReply}
-use Rattle.prop_workbench.specs.Running.{IsTooFewToReduce}
+use Rattle.prop_workbench.specs.Running.{Outcome, Settled, Unsettled, Contradiction, worldview_of, Replies}
+use Rattle.prop_workbench.specs.Running.{IsValueReply, IsExplainedReply}
+use Rattle.prop_workbench.specs.inner.Running.{IsHeldValue, IsSettledValue, IsUnsettledValue}
+use Rattle.prop_workbench.specs.inner.Running.{IsTooFewToReduce}
 use Rattle.prop_workbench.specs.inner.Running.{Explained}
 use Rattle.prop_workbench.specs.inner.Carrying.{IsAtRest}
 use Rattle.prop_workbench.specs.Sessions.{state_from, state_of, library_of, work_of, AreKnown, IsInOrder}
@@ -96,20 +98,27 @@ may_contradict library s command support answer steps in_order (inr m) = inr m
 -- what is said of a value, and what explains one
 pub may_say_value : (library : List Stored) (s : State) (command : Command) (outcome : Outcome) (name : List ℕ)
     (cell : ℕ) (v : Info) (mark : List ℕ) (answer : Answer) (steps : ℕ) → cell_named s.names name ≡ Some cell
-    → IsValue library s outcome cell v →
+    → IsHeldValue library s outcome cell v →
     ((text : List ℕ) → IsValueReply library s outcome name mark text → Replies library s command outcome steps text)
     → Says answer (equation name (text_at s cell v) mark) → MaySay library s command outcome steps answer
 may_say_value library s command outcome name cell v mark answer steps named value replies (inl e) =
     inl (
       equation name (text_at s cell v) mark,
-      replies _ (record { cell = cell; cell_is = named; v = v; value = value; text_is = refl }),
+      replies _ (record {
+        cell = cell;
+        cell_is = named;
+        v = v;
+        value = value.0;
+        points = value.1;
+        text_is = refl;
+      }),
       e,
     )
 may_say_value library s command outcome name cell v mark answer steps named value replies (inr m) = inr m
 
 pub may_explain : (library : List Stored) (s : State) (command : Command) (outcome : Outcome) (name : List ℕ) (cell : ℕ)
     (v : Info) (mark : List ℕ) (answer : Answer) (steps : ℕ) → cell_named s.names name ≡ Some cell
-    → IsValue library s outcome cell v →
+    → IsHeldValue library s outcome cell v →
     ((text : List ℕ) → IsExplainedReply library s outcome name mark text → Replies library s command outcome steps text)
     → Explained library s (worldview_of s outcome) cell v name mark answer
     → MaySay library s command outcome steps answer
@@ -118,14 +127,17 @@ may_explain library s command outcome name cell v mark answer steps named value 
     inl (
       equation name (text_at s cell v) (because s.premises mark ps),
       replies _ (record {
-        cell = cell;
-        cell_is = named;
-        v = v;
-        value = value;
         premises = ps;
         in_order = in_order;
+        says = record {
+          cell = cell;
+          cell_is = named;
+          v = v;
+          value = value.0;
+          points = value.1;
+          text_is = refl;
+        };
         explains = explains;
-        text_is = refl;
       }),
       e,
     )
@@ -138,14 +150,17 @@ abbrev settled_reply : (library : List Stored) (s : State) (list name : List ℕ
     IsExplainedReply library s (Settled list) name mark (equation name (text_at s cell v) (because s.premises mark ps))
 settled_reply library s list name cell v mark ps named value in_order explains =
     record {
-      cell = cell;
-      cell_is = named;
-      v = v;
-      value = value;
       premises = ps;
       in_order = in_order;
+      says = record {
+        cell = cell;
+        cell_is = named;
+        v = v;
+        value = value.0;
+        points = value.1;
+        text_is = refl;
+      };
       explains = explains;
-      text_is = refl;
     }
 
 -- premises of which none can be left out, and those that were left when every step was used
@@ -158,10 +173,7 @@ pub may_be_least : (library : List Stored) (s : State) (list name : List ℕ) (c
 may_be_least library s list name cell v ps answer steps named value in_order explains least (inl e) =
     inl (
       equation name (text_at s cell v) (because s.premises [] ps),
-      inl (record {
-        explained = settled_reply library s list name cell v [] ps named value in_order explains;
-        least = least;
-      }),
+      inl (settled_reply library s list name cell v [] ps named value in_order explains, least),
       e,
     )
 may_be_least library s list name cell v ps answer steps named value in_order explains least (inr m) = inr m
@@ -217,13 +229,11 @@ pub settled_value : (library : List Stored) (names : CellNames) (words : Vocabul
     (premises : List Origin) (d : Data) (limit : ℕ) (list : List ℕ) (cell : ℕ) (v : Info) → IsKept library d
     → IsSettled library (worldview_in premises list) d → v ≡ beliefs (worldview_in premises list) d.contents cell →
     IsSettledValue library (state_from names words definitions premises d limit) list cell v
-settled_value library names words definitions premises d limit list cell v kept settled is_v = record {
-  solution = beliefs (worldview_in premises list) d.contents;
-  rest = record { least = settled.least; free = settled.free };
-  value = is_v;
-  points = entailed_holds_points library (state_from names words definitions premises d limit)
-      (worldview_in premises list) cell v (kept_fits library d kept) (rw is_v (settled.least.least cell));
-}
+settled_value library names words definitions premises d limit list cell v kept settled is_v = (
+  (beliefs (worldview_in premises list) d.contents, (settled.least, settled.free), is_v),
+  entailed_holds_points library (state_from names words definitions premises d limit)
+      (worldview_in premises list) cell v (kept_fits library d kept) (rw is_v (settled.least.least cell)),
+)
 
 unsettled_value : (library : List Stored) (names : CellNames) (words : Vocabulary) (definitions : Definitions)
     (premises : List Origin) (d : Data) (limit : ℕ) (list : List ℕ) (cell : ℕ) (name : List ℕ) (v : Info)
@@ -231,17 +241,18 @@ unsettled_value : (library : List Stored) (names : CellNames) (words : Vocabular
     IsKept library d → v ≡ beliefs (worldview_in premises list) d.contents cell
     → IsUnsettledValue library (state_from names words definitions premises d limit) list cell v
 unsettled_value library names words definitions premises d limit list cell name v found named kept is_v =
-    let l : cell < length d.kinds = of_named (λ k. k < length d.kinds) names name cell named found in
-    record {
-      of_kind = rw is_v ((beliefs_of_kinds d kept.made (worldview_in premises list)).of_kind cell (kind_at d.kinds cell)
-          (slice_get-get_or d.kinds cell span_kind l));
-      entailed = rw is_v (believed_entailed library d (worldview_in premises list) kept cell);
-      stated = λ k x m believed here. rw (is_v, ← here)
-          ((kept.made.stated k x m).below (worldview_in premises list) believed);
-      points = entailed_holds_points library (state_from names words definitions premises d limit)
+    let l : cell < length d.kinds = of_named (λ k. k < length d.kinds) names name cell named found in (
+      (
+        rw is_v ((beliefs_of_kinds d kept.made (worldview_in premises list)).of_kind cell (kind_at d.kinds cell)
+            (slice_get-get_or d.kinds cell span_kind l)),
+        rw is_v (believed_entailed library d (worldview_in premises list) kept cell),
+        λ k x m believed here. rw (is_v, ← here)
+            ((kept.made.stated k x m).below (worldview_in premises list) believed),
+      ),
+      entailed_holds_points library (state_from names words definitions premises d limit)
           (worldview_in premises list) cell v (kept_fits library d kept)
-          (rw is_v (believed_entailed library d (worldview_in premises list) kept cell));
-    }
+          (rw is_v (believed_entailed library d (worldview_in premises list) kept cell)),
+    )
 
 -- the cell with a name is there
 pub cell_there : {R O : Type 0} {X : Type 0} {F : X → Type 0} {g : _} {value : R → Param → List Info → Info}
@@ -354,12 +365,12 @@ ended_so value s before problem library ended.Settled n same library_is kept sta
     let rest = subst (λ (b : Members). IsSettled (library_of value s) b s.live.network.cells)
     (believes_whole s.search stand here.full) at_rest in
     record {
-      ends = record {
-        first = subst (λ (q : Problem). IsFirstConsistent q (search.users_of s.search) (search.choices_in s.search)
-            s.search.list) same here.first;
-        solution = beliefs (worldview_in s.search.premises s.search.list) s.live.network.cells.contents;
-        rest = record { least = rest.least; free = rest.free };
-      };
+      ends = (
+        subst (λ (q : Problem). IsFirstConsistent q (search.users_of s.search) (search.choices_in s.search)
+            s.search.list) same here.first,
+        beliefs (worldview_in s.search.premises s.search.list) s.live.network.cells.contents,
+        (rest.least, rest.free),
+      );
       covered = tt;
       full = λ e. here.full;
       settled = λ e. at_rest;
@@ -371,13 +382,13 @@ ended_so value s before problem library ended.Unsettled n same library_is kept s
     within moves used =
     let here = used refl in
     record {
-      ends = record {
-        is_list = stand.is_list;
-        earlier = subst (λ (q : Problem). AllBeforeRefuted q (search.users_of s.search) (search.choices_in s.search)
-            s.search.list) same earlier;
-        few = subst (λ (q : Problem). s.limit + 1 < lists.lists_count (search.choices_in s.search) * (most_steps q + 1))
-            same here.earned;
-      };
+      ends = (
+        stand.is_list,
+        subst (λ (q : Problem). AllBeforeRefuted q (search.users_of s.search) (search.choices_in s.search)
+            s.search.list) same earlier,
+        subst (λ (q : Problem). s.limit + 1 < lists.lists_count (search.choices_in s.search) * (most_steps q + 1))
+            same here.earned,
+      );
       covered = tt;
       full = λ e. cc e;
       settled = λ e. cc e;
@@ -390,14 +401,14 @@ ended_so value s before problem library (ended.Contradiction ps) n same library_
     let out = subst (λ (q : Problem). IsRuledOut q (search.users_of s.search) (search.choices_in s.search)
     s.search.listed (set_of ps)) same contradiction in
     record {
-      ends = record {
-        believes = out.believes;
-        refuted = out.refuted;
-        grounded = out.grounded;
-        points = none_satisfy (library_of value s) (state_of s) ps (kept_fits (library_of value s)
+      ends = (
+        out.believes,
+        out.refuted,
+        out.grounded,
+        none_satisfy (library_of value s) (state_of s) ps (kept_fits (library_of value s)
             s.live.network.cells kept)
-            stand.numbered out.believes out.refuted;
-      };
+            stand.numbered out.believes out.refuted,
+      );
       covered = out.covered;
       full = λ e. cc e;
       settled = λ e. cc e;

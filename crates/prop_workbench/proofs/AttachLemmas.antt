@@ -1,6 +1,7 @@
 -- Putting procedures and definitions between cells: what is refused and made is what the machine says.
 use Rattle.std.proofs.Common.{◌≡◌, ◌∙◌, ℕ, ◌<◌, ◌≤◌, ◌+◌, ◌-◌, ◌^◌, Bool, true, false, not, List, [], ◌∷◌, ◌++◌, Option}
-use Rattle.std.proofs.Common.{Some, None, All, map, drop, length, get_or, zip, is_none, unwrap_or, slice_get, Result}
+use Rattle.std.proofs.Common.{Some, None, All, map, drop, length, get_or, take, zip, is_none, unwrap_or, slice_get}
+use Rattle.std.proofs.Common.{Result}
 use Rattle.std.proofs.Common.{Ok, Err, OnOk, OnErr, IfErr, ◌||◌, cond, ◌⊎◌, inl, inr, refl, sym, ap, subst, arith}
 use Rattle.std.specs.Prelude.{⊤, nat_lt}
 use Rattle.std.specs.List.{list_any}
@@ -18,10 +19,12 @@ use Rattle.prop_refusals.specs.declared.refusal.Refusal.TheVariants.{LimitReache
 use Rattle.prop_procedures.specs.declared.shape.Kinded.{Kinded}
 use Rattle.prop_procedures.specs.declared.shape.Param.{Param}
 use Rattle.prop_procedures.specs.declared.shape.Param.TheVariants.{Plain}
-use Rattle.prop_procedures.specs.Stored.{Stored, span_kind, sides_of, are_right}
+use Rattle.prop_procedures.specs.Stored.{Stored, span_kind, are_right}
+use Rattle.prop_procedures.specs.Rules.{sides_of}
 use Rattle.prop_premises.specs.Origins.{Origin}
 use Rattle.prop_cells.specs.Data.{Data}
-use Rattle.prop_procedures.specs.Fitting.{kind_at, kinds_fit, fitting_param}
+use Rattle.prop_procedures.specs.Fitting.{kind_at, kinds_fit}
+use Rattle.prop_procedures.specs.Rules.{fitting_param}
 use Rattle.prop_language.specs.Commands as commands
 use Rattle.prop_language.specs.Commands.{By}
 use Rattle.prop_compound.specs.Definitions.{Definitions, used_named, is_miscounted}
@@ -37,19 +40,22 @@ use Rattle.prop_engine.specs.Answers.{Done, Refused, answer_done}
 use Rattle.prop_vocabulary.specs.Cells.{CellNames, cells_named, is_cell_missing}
 use Rattle.prop_vocabulary.specs.Vocabulary.{Vocabulary}
 use Rattle.prop_scheduler.specs.Making.{room_refusal, made_of, with_flat, MayBeMade, MayMake}
-use Rattle.prop_workbench.specs.Effects.{inputs_of, output_of, instance_placed, with_use}
+use Rattle.prop_workbench.specs.Effects.{instance_placed}
+use Rattle.prop_workbench.specs.inner.Effects.{with_use}
 use Rattle.prop_workbench.specs.Machine.{State}
-use Rattle.prop_compound.specs.Compounds.{given_by, compound_named, is_miscounted as is_count_wrong}
-use Rattle.prop_workbench.specs.Refusing.{refusal_of, passed, is_unknown, use_refusal}
+use Rattle.prop_compound.specs.Compounds.{given_by}
+use Rattle.prop_workbench.specs.Refusing.{refusal_of, passed}
+use Rattle.prop_workbench.specs.inner.Refusing.{is_unknown}
+use Rattle.prop_workbench.specs.inner.Refusing.{use_reasons, use_refusal}
 use Rattle.prop_workbench.specs.Effects.{used}
-use Rattle.prop_workbench.specs.Sessions.{state_from, AreNumbered}
+use Rattle.prop_workbench.specs.Sessions.{state_from, AreNumbered, HasRoom}
 use Rattle.prop_workbench.proofs.NamesLemmas.{use_refusal_is}
 use Rattle.prop_compound.specs.Numbered.{compounds_of}
 use Rattle.prop_compound.specs.Kinds.{IsSized, AreLocalsOf}
-use Rattle.prop_workbench.specs.Steps.{Obeys}
+use Rattle.prop_workbench.specs.inner.Steps.{Obeys}
 use Rattle.prop_workbench.proofs.UseLemmas.{kind_of_place, kinds_of_use}
-use Rattle.prop_workbench.proofs.StepLemmas.{obeys, refuses_or_lacks}
-use Rattle.prop_workbench.proofs.LimitLemmas.{few_used}
+use Rattle.prop_workbench.proofs.StepLemmas.{obeys, refuses_or_lacks, first_of-one}
+use Rattle.prop_workbench.proofs.LimitLemmas.{more_used}
 
 -- ---- the rows of refusals
 
@@ -62,15 +68,6 @@ holds_not : (refusal : Refusal) (b : Bool) → when refusal b ≡ None → b ≡
 holds_not refusal true e = cc
 holds_not refusal false e = refl
 
-attach_rows : (library : List Stored) (s : State) (name : List ℕ) (cells : List (List ℕ)) (by : By) (numbers : List ℕ)
-    → is_unknown s.words by ≡ false → is_cell_missing s.names cells ≡ false → numbers ≡ cells_named s.names cells →
-    refusal_of library s (commands.Command.Attach name cells by) ≡ first_of (use_refusal library s name numbers by
-    ∷ passed s (with_use library s numbers (used library s name numbers by)))
-attach_rows library s name cells by numbers relation missing same =
-    λ i. first_of (when NoSuchRelation (relation i) ∷ when NoSuchCell (missing i)
-    ∷ use_refusal library s name (sym same i) by
-    ∷ passed s (with_use library s (sym same i) (used library s name (sym same i) by)))
-
 small_if : (refusal : Refusal) (k n : ℕ) → when refusal (nat_lt k n) ≡ None → n ≤ k
 small_if refusal k n e = ltb-false k n (holds_not refusal (nat_lt k n) e)
 
@@ -78,55 +75,69 @@ none_of : (a b : Option Refusal) → option_or a b ≡ None → (a ≡ None) × 
 none_of (Some x) b e = cc
 none_of None b e = (refl, e)
 
-last_of_seven : (a b c d e f g : Option Refusal) → first_of (a ∷ b ∷ c ∷ d ∷ e ∷ f ∷ g ∷ []) ≡ None → g ≡ None
-last_of_seven (Some x) b c d e f g h = cc
-last_of_seven None (Some x) c d e f g h = cc
-last_of_seven None None (Some x) d e f g h = cc
-last_of_seven None None None (Some x) e f g h = cc
-last_of_seven None None None None (Some x) f g h = cc
-last_of_seven None None None None None (Some x) g h = cc
-last_of_seven None None None None None None None h = refl
-last_of_seven None None None None None None (Some x) h = cc
+-- the first of some, and then of others
+first_behind : (rs others : List (Option Refusal)) → first_of (rs ++ others) ≡ first_of (rs ++ first_of others ∷ [])
+first_behind [] others = sym (first_of-one (first_of others))
+first_behind (None ∷ rs) others = first_behind rs others
+first_behind (Some refusal ∷ rs) others = refl
 
--- what is not refused passes no limit
-few_made : (library : List Stored) (s : State) (name : List ℕ) (cells : List ℕ) (by : By)
-    → use_refusal library s name cells by ≡ None
-    → first_of (passed s (with_use library s cells (used library s name cells by))) ≡ None
-few_made library s name cells by fits =
+-- what passes a limit is that for which there is no room
+used_passes : (library : List Stored) (s : State) (name : List ℕ) (cells : List ℕ) (by : By)
+    → length s.kinds ≤ most Cells → length s.instances ≤ most Instances →
+    first_of (passed s (with_use library s cells (used library s name cells by))) ≡ room_refusal
+    (length s.kinds + (length (used library s name cells by).kinds - length cells))
+    (length s.instances + length (used library s name cells by).placed)
+used_passes library s name cells by few_cells few_instances =
     let e = used library s name cells by in
-    let room = last_of_seven (when NoSuchProcedure (is_none (compound_named library s.definitions name)))
-    (when WrongCount (is_count_wrong library s.definitions name (length cells)))
-    (when (LimitReached Cells) (nat_lt (most Cells) (length e.kinds - length cells)))
-    (when (LimitReached Instances) (nat_lt (most Instances) (length e.placed)))
-    (when WrongKind (list_any (is_kind_wrong library e.kinds) e.placed))
-    (when WrongParameter (e.spare || list_any (is_param_wrong library) e.placed))
-    (room_refusal (length s.kinds + (length e.kinds - length cells)) (length s.instances + length e.placed)) fits in
-    let apart = none_of (when (LimitReached Cells) (nat_lt (most Cells)
-    (length s.kinds + (length e.kinds - length cells)))) (when (LimitReached Instances)
-    (nat_lt (most Instances) (length s.instances + length e.placed))) room in
     let fresh = drop (length cells) e.kinds in
     let made = map (instance_placed library cells (length s.kinds)) e.placed in
-    let kinds = small_if (LimitReached Cells) (most Cells) (length s.kinds + (length e.kinds - length cells)) apart.0 in
-    let instances = small_if (LimitReached Instances) (most Instances) (length s.instances + length e.placed) apart.1
-    in
     let all_kinds : length (s.kinds ++ fresh) ≡ length s.kinds + (length e.kinds - length cells) =
     length-append s.kinds fresh ∙ ap (λ n. length s.kinds + n) (length-drop (length cells) e.kinds) in
     let all_made : length (s.instances ++ made) ≡ length s.instances + length e.placed =
     length-append s.instances made
     ∙ ap (λ n. length s.instances + n) (length-map e.placed (instance_placed library cells (length s.kinds))) in
-    few_used s (s.kinds ++ fresh) (s.instances ++ made) (subst (λ n. n ≤ most Cells) (sym all_kinds) kinds)
-    (subst (λ n. n ≤ most Instances) (sym all_made) instances)
+    more_used s (s.kinds ++ fresh) (s.instances ++ made) (length e.kinds - length cells) (length e.placed) few_cells
+    few_instances all_kinds all_made
+
+attach_rows : (library : List Stored) (s : State) (name : List ℕ) (cells : List (List ℕ)) (by : By) (numbers : List ℕ)
+    → is_unknown s.words by ≡ false → is_cell_missing s.names cells ≡ false → numbers ≡ cells_named s.names cells →
+    (length s.kinds ≤ most Cells) × (length s.instances ≤ most Instances)
+    → refusal_of library s (commands.Command.Attach name cells by) ≡ use_refusal library s name numbers by
+attach_rows library s name cells by numbers relation missing same room =
+    (λ i. first_of (when NoSuchRelation (relation i) ∷ when NoSuchCell (missing i)
+    ∷ use_reasons library s name (sym same i) by
+    ++ passed s (with_use library s (sym same i) (used library s name (sym same i) by))))
+    ∙ first_behind (use_reasons library s name numbers by)
+    (passed s (with_use library s numbers (used library s name numbers by)))
+    ∙ (λ i. first_of (use_reasons library s name numbers by
+    ++ used_passes library s name numbers by room.0 room.1 i ∷ []))
+
+-- there is room for what is made, where it is not refused
+pub room_made : (library : List Stored) (d new : Data) (cells : List ℕ) (flat : Flat) (r : Result ⊤ Refusal)
+    → OnOk r (room_refusal (length d.kinds + length flat.fresh.items) (length d.instances
+    + length flat.instances.items) ≡ None) → OnOk r (new ≡ with_flat library d cells flat) → OnErr r (new ≡ d)
+    → HasRoom d → HasRoom new
+room_made library d new cells flat (Err refusal) fits ok err room = subst HasRoom (sym err) room
+room_made library d new cells flat (Ok t) fits ok err room =
+    let apart = none_of (when (LimitReached Cells) (nat_lt (most Cells) (length d.kinds + length flat.fresh.items)))
+    (when (LimitReached Instances) (nat_lt (most Instances) (length d.instances + length flat.instances.items))) fits in
+    let kinds = small_if (LimitReached Cells) (most Cells) (length d.kinds + length flat.fresh.items) apart.0 in
+    let instances = small_if (LimitReached Instances) (most Instances)
+    (length d.instances + length flat.instances.items) apart.1 in
+    let made = map (made_of library flat.params.items cells (length d.kinds)) flat.instances.items in
+    let all_kinds = length-append d.kinds flat.fresh.items in
+    let all_made = length-append d.instances made in
+    let of_made = length-map flat.instances.items (made_of library flat.params.items cells (length d.kinds)) in
+    subst HasRoom (sym ok) (omega (arith, kinds, all_kinds), omega (arith, instances, all_made, of_made))
 
 attached_step : (library : List Stored) (s new : State) (name : List ℕ) (cells : List (List ℕ)) (by : By)
     (numbers : List ℕ) → is_unknown s.words by ≡ false → is_cell_missing s.names cells ≡ false
-    → numbers ≡ cells_named s.names cells →
+    → numbers ≡ cells_named s.names cells → (length s.kinds ≤ most Cells) × (length s.instances ≤ most Instances) →
     use_refusal library s name numbers by ≡ None → new ≡ with_use library s numbers (used library s name numbers by)
     → Obeys library s (commands.Command.Attach name cells by) Done new 0
-attached_step library s new name cells by numbers relation missing same fits e =
+attached_step library s new name cells by numbers relation missing same room fits e =
     obeys library s new (commands.Command.Attach name cells by) Done 0
-    (attach_rows library s name cells by numbers relation missing same
-    ∙ (λ i. first_of (fits i ∷ passed s (with_use library s numbers (used library s name numbers by))))
-    ∙ few_made library s name numbers by fits)
+    (attach_rows library s name cells by numbers relation missing same room ∙ fits)
     (record {
       answer_is = refl;
       new_is = e
@@ -136,27 +147,26 @@ attached_step library s new name cells by numbers relation missing same fits e =
 
 unattached_step : (library : List Stored) (s new : State) (name : List ℕ) (cells : List (List ℕ)) (by : By)
     (numbers : List ℕ) (refusal : Refusal) → is_unknown s.words by ≡ false → is_cell_missing s.names cells ≡ false
-    → numbers ≡ cells_named s.names cells →
+    → numbers ≡ cells_named s.names cells → (length s.kinds ≤ most Cells) × (length s.instances ≤ most Instances) →
     (use_refusal library s name numbers by ≡ Some refusal) ⊎ (refusal ≡ Memory) → new ≡ s
     → Obeys library s (commands.Command.Attach name cells by) (Refused refusal) new 0
-unattached_step library s new name cells by numbers refusal relation missing same (inl e) back =
+unattached_step library s new name cells by numbers refusal relation missing same room (inl e) back =
     refuses_or_lacks library s new (commands.Command.Attach name cells by) refusal
-    (inl (attach_rows library s name cells by numbers relation missing same
-    ∙ (λ i. first_of (e i ∷ passed s (with_use library s numbers (used library s name numbers by)))))) back
-unattached_step library s new name cells by numbers refusal relation missing same (inr m) back =
+    (inl (attach_rows library s name cells by numbers relation missing same room ∙ e)) back
+unattached_step library s new name cells by numbers refusal relation missing same room (inr m) back =
     refuses_or_lacks library s new (commands.Command.Attach name cells by) refusal (inr m) back
 
 pub attached_or_not : (library : List Stored) (s new : State) (name : List ℕ) (cells : List (List ℕ)) (by : By)
     (numbers : List ℕ) → is_unknown s.words by ≡ false → is_cell_missing s.names cells ≡ false
-    → numbers ≡ cells_named s.names cells →
+    → numbers ≡ cells_named s.names cells → (length s.kinds ≤ most Cells) × (length s.instances ≤ most Instances) →
     (r : Result ⊤ Refusal) → OnOk r (use_refusal library s name numbers by ≡ None)
     → OnOk r (new ≡ with_use library s numbers (used library s name numbers by))
     → IfErr r (λ e. (use_refusal library s name numbers by ≡ Some e) ⊎ (e ≡ Memory)) → OnErr r (new ≡ s) →
     Obeys library s (commands.Command.Attach name cells by) (answer_done r) new 0
-attached_or_not library s new name cells by numbers relation missing same (Ok t) fits made why back =
-    attached_step library s new name cells by numbers relation missing same fits made
-attached_or_not library s new name cells by numbers relation missing same (Err refusal) fits made why back =
-    unattached_step library s new name cells by numbers refusal relation missing same why back
+attached_or_not library s new name cells by numbers relation missing same room (Ok t) fits made why back =
+    attached_step library s new name cells by numbers relation missing same room fits made
+attached_or_not library s new name cells by numbers relation missing same room (Err refusal) fits made why back =
+    unattached_step library s new name cells by numbers refusal relation missing same room why back
 
 pub no_relation_step : (library : List Stored) (s : State) (name : List ℕ) (cells : List (List ℕ)) (by : By)
     → is_unknown s.words by ≡ true → refusal_of library s (commands.Command.Attach name cells by) ≡ Some NoSuchRelation
@@ -178,24 +188,37 @@ no_cells library s name cells by refusal e (inr (r, f)) =
 
 -- ---- what a use stands for, as it is handed out
 
-inputs_of-push : (f : ℕ → ℕ) (ins : List ℕ) (out : ℕ) → inputs_of (map f (ins ++ out ∷ [])) ≡ map f ins
-inputs_of-push f [] out = refl
-inputs_of-push f (a ∷ []) out = refl
-inputs_of-push f (a ∷ b ∷ ins) out = ap (λ l. f a ∷ l) (inputs_of-push f (b ∷ ins) out)
+behind_push : (f : ℕ → ℕ) (ins : List ℕ) (out : ℕ) → length (map f (ins ++ out ∷ [])) - 1 ≡ length ins
+behind_push f ins out =
+    let placed = length-map (ins ++ out ∷ []) f in
+    let all = length-append ins (out ∷ []) in
+    omega (arith, placed, all)
 
-output_of-push : (f : ℕ → ℕ) (ins : List ℕ) (out : ℕ) → output_of (map f (ins ++ out ∷ [])) ≡ f out
-output_of-push f [] out = refl
-output_of-push f (a ∷ []) out = refl
-output_of-push f (a ∷ b ∷ ins) out = output_of-push f (b ∷ ins) out
+inputs-push : (f : ℕ → ℕ) (ins : List ℕ) (out : ℕ)
+    → take (length (map f (ins ++ out ∷ [])) - 1) (map f (ins ++ out ∷ [])) ≡ map f ins
+inputs-push f ins out = ap (λ n. take n (map f (ins ++ out ∷ []))) (behind_push f ins out) ∙ by ins
+  where
+    by : (ins : List ℕ) → take (length ins) (map f (ins ++ out ∷ [])) ≡ map f ins
+    by [] = refl
+    by (a ∷ ins) = ap (λ l. f a ∷ l) (by ins)
+
+output-push : (f : ℕ → ℕ) (ins : List ℕ) (out : ℕ)
+    → get_or (map f (ins ++ out ∷ [])) (length (map f (ins ++ out ∷ [])) - 1) 0 ≡ f out
+output-push f ins out = ap (λ n. get_or (map f (ins ++ out ∷ [])) n 0) (behind_push f ins out) ∙ by ins
+  where
+    by : (ins : List ℕ) → get_or (map f (ins ++ out ∷ [])) (length ins) 0 ≡ f out
+    by [] = refl
+    by (a ∷ ins) = by ins
 
 -- the instance that is made is the one that stands at its places
 is_placed : (library : List Stored) (params : List Param) (cells : List ℕ) (next : ℕ) (x : flats.Placed)
     → made_of library params cells next x ≡ instance_placed library cells next (placed_of params x)
 is_placed library params cells next x =
-    let inputs : map (cell_placed cells next) x.inputs.items ≡ inputs_of (map (cell_placed cells next) (cells_of x)) =
-    sym (inputs_of-push (cell_placed cells next) x.inputs.items x.output) in
-    let output : cell_placed cells next x.output ≡ output_of (map (cell_placed cells next) (cells_of x)) =
-    sym (output_of-push (cell_placed cells next) x.inputs.items x.output) in
+    let at = map (cell_placed cells next) (cells_of x) in
+    let inputs : map (cell_placed cells next) x.inputs.items ≡ take (length at - 1) at =
+    sym (inputs-push (cell_placed cells next) x.inputs.items x.output) in
+    let output : cell_placed cells next x.output ≡ get_or at (length at - 1) 0 =
+    sym (output-push (cell_placed cells next) x.inputs.items x.output) in
     λ i. record {
       procedure = x.procedure;
       param = unwrap_or (option_and_then (λ p. fitting_param p.need (param_at params x.param))

@@ -14,7 +14,8 @@ use Rattle.prop_refusals.specs.Refusals.{first_of}
 use Rattle.prop_workbench.specs.Effects.{number_given}
 use Rattle.prop_workbench.specs.Refusing.{refusal_of, belief_reasons}
 use Rattle.prop_workbench.proofs.LimitLemmas.{as_believed}
-use Rattle.prop_workbench.specs.Steps.{Obeys, Carries}
+use Rattle.prop_workbench.specs.Steps.{Carries}
+use Rattle.prop_workbench.specs.inner.Steps.{Obeys}
 use Rattle.prop_workbench.proofs.StepLemmas.{obeys_done}
 
 -- the command that has a premise believed, or no longer

@@ -39,7 +39,7 @@ use Rattle.prop_workbench.specs.inner.Effects.{chosen}
 use Rattle.prop_workbench.specs.inner.Refusing.{meaning_at, is_error, choosing_limit_of}
 use Rattle.prop_workbench.proofs.SaidLemmas.{AreMeant, refused_found, chosen_said, chosen_limit}
 use Rattle.prop_workbench.specs.Machine.{State}
-use Rattle.prop_workbench.specs.Steps.{Obeys}
+use Rattle.prop_workbench.specs.inner.Steps.{Obeys}
 use Rattle.prop_workbench.proofs.StepLemmas.{obeys, refuses_or_lacks}
 use Rattle.prop_workbench.proofs.ValueLemmas.{IsValueRefusal, value_refusal}
 use Rattle.prop_workbench.proofs.ValueLemmas.IsValueRefusal.{no_name, no_number, wrong_kind, outside as not_inside}

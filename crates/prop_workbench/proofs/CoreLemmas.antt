@@ -31,7 +31,8 @@ use Rattle.prop_engine.specs.Answers.{Answer}
 use Rattle.prop_workbench.specs.inner.Carrying.{SaysBecause}
 use Rattle.prop_workbench.specs.Machine.{State, problem_in, choices_in, worldview_at}
 use Rattle.prop_workbench.specs.inner.Questions.{MaySay}
-use Rattle.prop_workbench.specs.Running.{Settled, IsSettledValue, IsTooFewToReduce}
+use Rattle.prop_workbench.specs.Running.{Settled}
+use Rattle.prop_workbench.specs.inner.Running.{IsSettledValue, IsTooFewToReduce}
 use Rattle.prop_workbench.specs.declared.session.Session.{Session}
 use Rattle.prop_workbench.specs.Sessions.{state_from, AreKnown, IsInOrder}
 use Rattle.prop_workbench.specs.inner.Sessions.{Keeps}
@@ -87,6 +88,7 @@ rested_keeps value s new sound same rest alive = record {
     };
     sized = rw rest sound.sized;
     locals = sound.locals;
+    room = rw rest sound.room;
     named = rw rest sound.named;
     defined = rw same sound.defined;
   };

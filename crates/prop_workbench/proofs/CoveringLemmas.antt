@@ -9,11 +9,14 @@ use Rattle.prop_procedures.specs.Stored.{Stored}
 use Rattle.prop_language.specs.Commands as commands
 use Rattle.prop_language.specs.Commands.{Command}
 use Rattle.prop_engine.specs.Answers.{Answer, Done}
-use Rattle.prop_workbench.specs.Machine.{State, naming, choices_in}
+use Rattle.prop_workbench.specs.Machine.{State, choices_in}
+use Rattle.prop_workbench.specs.inner.Machine.{naming}
 use Rattle.prop_workbench.specs.Refusing.{refusal_of}
 use Rattle.prop_workbench.specs.Effects.{effect}
 use Rattle.prop_workbench.specs.inner.Effects.{named_after}
-use Rattle.prop_workbench.specs.Steps.{Shown, Covers, AtOnce, Carries, CarriesUnless, Obeys, Follows}
+use Rattle.prop_workbench.specs.Steps.{Shown, Covers, AtOnce, Carries, Follows}
+use Rattle.prop_workbench.specs.Steps.{CarriesUnless}
+use Rattle.prop_workbench.specs.inner.Steps.{Obeys}
 use Rattle.prop_workbench.specs.inner.Steps.{IsObeyed, IsFollowed}
 use Rattle.prop_workbench.proofs.NamingLaws.{refusal_naming, effect_naming}
 

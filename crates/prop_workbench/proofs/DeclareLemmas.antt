@@ -1,13 +1,12 @@
 -- Why a domain, a relation or a definition is refused: its own reasons, and then the limit that is met.
 use Rattle.std.proofs.Common.{◌≡◌, ◌∙◌, ◌+◌, ℕ, Bool, true, false, ◌||◌, List, [], ◌∷◌, ◌++◌, length, Option, Some}
-use Rattle.std.proofs.Common.{None, refl, sym, ap, map, is_some, is_none}
+use Rattle.std.proofs.Common.{None, refl, sym, is_some}
 use Rattle.std.specs.Prelude.{nat_le}
 use Rattle.std.proofs.lemmas.List.{length-append}
 use Rattle.prop_refusals.specs.declared.refusal.Limit.TheVariants.{Relations, Definitions as TooMany}
 use Rattle.prop_refusals.specs.declared.refusal.Refusal.{Refusal}
 use Rattle.prop_refusals.specs.declared.refusal.Refusal.TheVariants.{NameTaken, NoSuchDomain, NotInTheDomain}
-use Rattle.prop_refusals.specs.declared.refusal.Refusal.TheVariants.{LimitReached, NoSuchProcedure, WrongCount}
-use Rattle.prop_refusals.specs.declared.refusal.Refusal.TheVariants.{NoSuchRelation, NoSuchCell}
+use Rattle.prop_refusals.specs.declared.refusal.Refusal.TheVariants.{LimitReached}
 use Rattle.prop_refusals.specs.Refusals.{first_of, most, when}
 use Rattle.prop_sets.specs.Names.{has_repeat}
 use Rattle.prop_procedures.specs.Stored.{Stored}
@@ -17,9 +16,8 @@ use Rattle.prop_vocabulary.specs.Names.{number_in}
 use Rattle.prop_vocabulary.specs.Refusing.{domain_refusal, relation_refusal, is_domain_missing}
 use Rattle.prop_vocabulary.specs.inner.Named.{domain_limit, is_word_outside}
 use Rattle.prop_vocabulary.specs.Vocabulary.{relation_of}
-use Rattle.std.specs.List.{flat_map}
-use Rattle.prop_compound.specs.Compounds.{Compound, compound_named, compound_of, compound_refusal, is_some_wrong}
-use Rattle.prop_compound.specs.Defining.{locals_of}
+use Rattle.prop_compound.specs.Compounds.{Compound, compound_of, compound_refusal}
+use Rattle.prop_compound.specs.inner.Compounds.{compound_refused}
 use Rattle.prop_workbench.specs.Machine.{State}
 use Rattle.prop_workbench.specs.Effects.{effect}
 use Rattle.prop_workbench.specs.Refusing.{refusal_of, passed}
@@ -61,16 +59,10 @@ relation_refused library s name from to pairs =
     by false false false =
         more_relations s name (relation_of s.words from to pairs) ∙ sym (first_of-one limit)
 
--- where nothing is the first, the last is nothing
-last_none : (rs : List (Option Refusal)) (x : Option Refusal) → first_of (rs ++ x ∷ []) ≡ None → x ≡ None
-last_none [] x h = sym (first_of-one x) ∙ h
-last_none (None ∷ rs) x h = last_none rs x h
-last_none (Some r ∷ rs) x h = cc
-
 pub define_refused : (library : List Stored) (s : State) (name : List ℕ) (params : List (List ℕ)) (steps : List Step)
     → refusal_of library s (commands.Command.Define name params steps)
-    ≡ compound_refusal library s.words s.definitions name params steps
-define_refused library s name params steps = by (compound_refusal library s.words s.definitions name params steps) refl
+    ≡ compound_refused library s.words s.definitions name params steps
+define_refused library s name params steps = by (compound_refusal library s.words s.definitions name params steps)
   where
     after : List Compound
     after = s.definitions ++ compound_of library s.words s.definitions name params steps ∷ []
@@ -78,19 +70,11 @@ define_refused library s name params steps = by (compound_refusal library s.word
     more : length after ≡ length s.definitions + 1
     more = length-append s.definitions (compound_of library s.words s.definitions name params steps ∷ [])
 
-    few : compound_refusal library s.words s.definitions name params steps ≡ None
-        → first_of (passed s (record s { definitions = after })) ≡ None
-    few e = more_definitions s after
-        ∙ one_grows TooMany (length s.definitions) (length after) more
-        ∙ last_none (when NameTaken (is_some (compound_named library s.definitions name) || has_repeat
-        (params ++ flat_map locals_of steps))
-        ∷ map (λ reason. when reason (is_some_wrong library s.words s.definitions params steps reason))
-        (NoSuchDomain ∷ NoSuchRelation ∷ NoSuchCell ∷ NoSuchProcedure ∷ WrongCount ∷ []))
-        (when (LimitReached TooMany) (nat_le (most TooMany) (length s.definitions))) e
+    limit : Option Refusal
+    limit = when (LimitReached TooMany) (nat_le (most TooMany) (length s.definitions))
 
-    by : (r : Option Refusal) → compound_refusal library s.words s.definitions name params steps ≡ r
-        → first_of (compound_refusal library s.words s.definitions name params steps
-        ∷ passed s (record s { definitions = after }))
-        ≡ compound_refusal library s.words s.definitions name params steps
-    by (Some x) e = (λ i. first_of (e i ∷ passed s (record s { definitions = after }))) ∙ sym e
-    by None e = (λ i. first_of (e i ∷ passed s (record s { definitions = after }))) ∙ few e ∙ sym e
+    by : (r : Option Refusal)
+        → first_of (r ∷ passed s (record s { definitions = after })) ≡ first_of (r ∷ limit ∷ [])
+    by (Some x) = refl
+    by None = more_definitions s after ∙ one_grows TooMany (length s.definitions) (length after) more
+        ∙ sym (first_of-one limit)

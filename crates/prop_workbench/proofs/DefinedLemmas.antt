@@ -17,7 +17,8 @@ use Rattle.prop_procedures.specs.Stored.{Stored}
 use Rattle.prop_procedures.specs.Fitting.{kind_at}
 use Rattle.prop_vocabulary.specs.Names.{number_in}
 use Rattle.prop_vocabulary.specs.Refusing.{IsReason}
-use Rattle.prop_vocabulary.specs.Vocabulary.{Vocabulary, with_domain, with_new_relation, with_symbol}
+use Rattle.prop_vocabulary.specs.Vocabulary.{Vocabulary, with_domain, with_symbol}
+use Rattle.prop_vocabulary.specs.inner.Between.{with_new_relation}
 use Rattle.prop_vocabulary.specs.Values.{Meant, Known, Name}
 use Rattle.prop_vocabulary.proofs.Lookups.{number_below}
 use Rattle.prop_language.specs.Commands.{By, Passed, Step}
@@ -31,7 +32,8 @@ use Rattle.prop_compound.specs.Defining.{is_relation_missing}
 use Rattle.prop_compound.specs.Expansion.{Walk, cell_at, cells_at, with_fresh, use_expanded, steps_expanded}
 use Rattle.prop_compound.specs.Expansion.{definition_expanded, spare_in}
 use Rattle.prop_compound.specs.Kinds.{IsSized, AreLocalsOf}
-use Rattle.prop_compound.specs.Compounds.{compound_of, compound_refusal}
+use Rattle.prop_compound.specs.Compounds.{compound_of}
+use Rattle.prop_compound.specs.inner.Compounds.{compound_refused}
 use Rattle.prop_compound.specs.Numbered.{with_spare, added_in, compounds_from, compounds_of, passed_among}
 use Rattle.prop_compound.proofs.Unrolling.{Adds}
 use Rattle.prop_compound.proofs.ByName.{compounds_more, refusal_same, allowed_rightly}
@@ -276,12 +278,12 @@ module _ (library : List Stored) (words : Vocabulary) (old new : Definitions) (n
 
   -- and are refused for what numbers are refused for
   pub defined_allowed : (r : Result ⊤ Refusal) → OnOk r (define_refusal library words old name params steps ≡ None)
-      → OnOk r (compound_refusal library words (compounds_of words.relations old) name params steps ≡ None)
+      → OnOk r (compound_refused library words (compounds_of words.relations old) name params steps ≡ None)
   defined_allowed (Ok t) allowed = refusal_same library words whole old numbered.names name params steps ∙ allowed
   defined_allowed (Err e) allowed = tt
 
   pub defined_why : (r : Result ⊤ Refusal) → IfErr r (IsReason (define_refusal library words old name params steps))
-      → IfErr r (λ e. (compound_refusal library words (compounds_of words.relations old) name params steps ≡ Some e)
+      → IfErr r (λ e. (compound_refused library words (compounds_of words.relations old) name params steps ≡ Some e)
       ⊎ (e ≡ Memory))
   defined_why (Ok t) why = tt
   defined_why (Err e) (inl why) = inl (refusal_same library words whole old numbered.names name params steps ∙ why)

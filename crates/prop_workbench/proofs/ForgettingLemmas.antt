@@ -18,7 +18,8 @@ use Rattle.prop_language.specs.Commands as commands
 use Rattle.prop_engine.specs.Answers.{Done, answer_done}
 use Rattle.prop_amb.specs.Refuted.{IsCovered}
 use Rattle.prop_workbench.specs.inner.Effects.{forgetting}
-use Rattle.prop_workbench.specs.Machine.{State, naming, choices_in}
+use Rattle.prop_workbench.specs.Machine.{State, choices_in}
+use Rattle.prop_workbench.specs.inner.Machine.{naming}
 use Rattle.prop_refusals.specs.Refusals.{first_of}
 use Rattle.prop_workbench.specs.Effects.{number_given}
 use Rattle.prop_workbench.specs.Refusing.{refusal_of, belief_reasons}

@@ -8,8 +8,11 @@ use Rattle.prop_refusals.specs.declared.refusal.Refusal.TheVariants.{Memory, Not
 use Rattle.prop_procedures.specs.Stored.{Stored}
 use Rattle.prop_language.specs.Commands.{Command}
 use Rattle.prop_language.specs.Tokens.{Token, Word, tokens, is_blank, front_word}
-use Rattle.prop_language.specs.Reading.{AskFor, IsReading, AsRead, judged, is_silent, without_return}
-use Rattle.prop_language.specs.Spelling.{Part, is_named, is_ranged}
+use Rattle.prop_language.specs.Reading.{AskFor, IsReading, AsRead, is_silent}
+use Rattle.prop_language.specs.inner.Judged.{judged}
+use Rattle.prop_language.specs.inner.Lines.{without_return}
+use Rattle.prop_language.specs.Spelling.{Part}
+use Rattle.prop_language.specs.inner.Judged.{is_named, is_ranged}
 use Rattle.prop_language.proofs.ReadingLaws.{have_one_reading}
 use Rattle.prop_language.specs.Said.{KeepsWords}
 use Rattle.prop_engine.specs.Answers.{Refused}

@@ -16,7 +16,8 @@ use Rattle.prop_premises.specs.Origins.{Origin, choices_of, with_belief_at}
 use Rattle.prop_premises.proofs.ChoiceLemmas.{choices_of-with_belief_at}
 use Rattle.prop_premises.proofs.NumberingLaws.{length-with_belief_at}
 use Rattle.prop_tms.proofs.ValueLemmas.{filter_length}
-use Rattle.prop_cells.specs.Forgetting.{is_under, not_under}
+use Rattle.prop_cells.specs.Forgetting.{not_under}
+use Rattle.prop_cells.specs.inner.Forgetting.{is_under}
 use Rattle.prop_cells.specs.declared.instance.Statement.{Statement}
 use Rattle.prop_cells.specs.Instances.{Instance}
 use Rattle.prop_procedures.specs.declared.shape.Kinded.{Kinded}
@@ -24,9 +25,13 @@ use Rattle.prop_sets.specs.Relation.{Relation}
 use Rattle.prop_compound.specs.Compounds.{Compound}
 use Rattle.prop_vocabulary.specs.Cells.{CellNames}
 use Rattle.prop_vocabulary.specs.inner.Named.{domain_limit}
-use Rattle.prop_vocabulary.specs.Vocabulary.{elements_at, with_domain, with_new_relation}
+use Rattle.prop_vocabulary.specs.Vocabulary.{elements_at, with_domain}
+use Rattle.prop_vocabulary.specs.inner.Between.{with_new_relation}
+use Rattle.prop_scheduler.specs.Making.{room_refusal}
+use Rattle.std.specs.Option.{option_or}
 use Rattle.prop_workbench.specs.Machine.{State}
-use Rattle.prop_workbench.specs.Refusing.{grows, passed}
+use Rattle.prop_workbench.specs.Refusing.{passed}
+use Rattle.prop_workbench.specs.inner.Refusing.{grows}
 
 -- ---- one limit
 
@@ -73,6 +78,17 @@ pub more_grows : (limit : Limit) (n m k : ℕ) → m ≡ n + k → 0 < k
     → grows limit n m ≡ when (LimitReached limit) (nat_lt (most limit) (n + k))
 more_grows limit n m k e l =
     λ i. when (LimitReached limit) (lt-ltb n m (omega (arith, e, l)) i && nat_lt (most limit) (e i))
+
+-- there are so many more, or none, where there were no more than there can be
+pub room_grows : (limit : Limit) (n m k : ℕ) → m ≡ n + k → n ≤ most limit
+    → grows limit n m ≡ when (LimitReached limit) (nat_lt (most limit) (n + k))
+room_grows limit n m k e few = by (cases_lt (most limit) m)
+  where
+    by : (most limit < m) ⊎ (m ≤ most limit)
+        → grows limit n m ≡ when (LimitReached limit) (nat_lt (most limit) (n + k))
+    by (inl l) = λ i. when (LimitReached limit) (lt-ltb n m (omega (arith, l, few)) i && nat_lt (most limit) (e i))
+    by (inr h) = fit_grows limit n m h
+        ∙ sym (ap (when (LimitReached limit)) (le-ltb (most limit) (n + k) (omega (arith, e, h))))
 
 -- ---- all of them
 
@@ -149,13 +165,15 @@ more_cells s names kinds =
     alone None = refl
     alone (Some refusal) = refl
 
--- cells and instances are no more than there can be
-pub few_used : (s : State) (kinds : List Kinded) (instances : List Instance) → length kinds ≤ most Cells
-    → length instances ≤ most Instances
-    → first_of (passed s (record s { kinds = kinds; instances = instances })) ≡ None
-few_used s kinds instances few_cells few_instances =
-    λ i. first_of (fit_grows Cells (length s.kinds) (length kinds) few_cells i
-    ∷ fit_grows Instances (length s.instances) (length instances) few_instances i
+-- there may be more cells and instances, where there were no more than there can be
+pub more_used : (s : State) (kinds : List Kinded) (instances : List Instance) (fresh made : ℕ)
+    → length s.kinds ≤ most Cells → length s.instances ≤ most Instances → length kinds ≡ length s.kinds + fresh →
+    length instances ≡ length s.instances + made
+    → first_of (passed s (record s { kinds = kinds; instances = instances })) ≡ room_refusal (length s.kinds + fresh)
+    (length s.instances + made)
+more_used s kinds instances fresh made few_cells few_instances cells_are instances_are =
+    (λ i. first_of (room_grows Cells (length s.kinds) (length kinds) fresh cells_are few_cells i
+    ∷ room_grows Instances (length s.instances) (length instances) made instances_are few_instances i
     ∷ same Premises (length s.premises) i
     ∷ same Choices (length (choices_of s.premises)) i
     ∷ same Statements (length s.statements) i
@@ -163,7 +181,15 @@ few_used s kinds instances few_cells few_instances =
     ∷ no_elements s.words.domains i
     ∷ same Relations (length s.words.relation_names) i
     ∷ same TooMany (length s.definitions) i
-    ∷ same Symbols (length s.words.symbols) i ∷ [])
+    ∷ same Symbols (length s.words.symbols) i ∷ []))
+    ∙ both (when (LimitReached Cells) (nat_lt (most Cells) (length s.kinds + fresh)))
+    (when (LimitReached Instances) (nat_lt (most Instances) (length s.instances + made)))
+  where
+    both : (a b : Option Refusal)
+        → first_of (a ∷ b ∷ None ∷ None ∷ None ∷ None ∷ None ∷ None ∷ None ∷ None ∷ []) ≡ option_or a b
+    both None None = refl
+    both None (Some refusal) = refl
+    both (Some refusal) b = refl
 
 -- there may be more definitions
 pub more_definitions : (s : State) (definitions : List Compound)

@@ -50,12 +50,3 @@ stops_at machine old mid new lines i line refusal l at loaded step = (
   loaded,
   step,
 )
-
--- lines that one machine carried out, as another does whose states are seen in its own
-pub loads_seen : {S T : Type 0} (machine : Machine S) (other : Machine T) (view : S → T)
-    → ((old : S) (line : List ℕ) (answer : Answer) (new : S) → machine old line answer new
-    → other (view old) line answer (view new)) →
-    (old new : S) (lines : List (List ℕ)) → Loads machine old lines new → Loads other (view old) lines (view new)
-loads_seen machine other view step old new [] same = ap view same
-loads_seen machine other view step old new (line ∷ lines) (answer, mid, free, one, rest) =
-    (answer, view mid, free, step old line answer mid one, loads_seen machine other view step mid new lines rest)

@@ -3,13 +3,13 @@ use Rattle.std.proofs.Common.{ℕ, List, [], ◌∷◌, ◌++◌, refl}
 use Rattle.prop_procedures.specs.Stored.{Stored}
 use Rattle.prop_engine.specs.Answers.{Answer}
 use Rattle.prop_engine.specs.Transcripts.{Run}
-use Rattle.prop_workbench.specs.Machine.{naming}
+use Rattle.prop_workbench.specs.inner.Machine.{naming}
 use Rattle.prop_workbench.specs.Steps.{Shown, Covers}
 use Rattle.prop_workbench.specs.Engine.{workbench, learning}
 use Rattle.prop_workbench.specs.inner.Shown.{ShownTranscripts, ShownPrefixes}
 
 -- a run that a session shows is one of the machine, whichever contradictions were named before
-run_named : (library : List Stored) (old new : Shown) (lines : List (List ℕ)) (answers : List Answer)
+pub run_named : (library : List Stored) (old new : Shown) (lines : List (List ℕ)) (answers : List Answer)
     → Run (learning library) old lines answers new →
     (named : List (List ℕ)) → Covers old named
     → (now : List (List ℕ)) × Covers new now
@@ -20,7 +20,7 @@ run_named library old new (line ∷ lines) [] r named covers = absurd r
 run_named library old new (line ∷ lines) (a ∷ ls) (mid, shows, rest) named covers =
     let step = shows.step named covers in
     let more = run_named library mid new lines ls rest step.now step.covers in
-    (more.0, more.1, (naming mid.state step.now, record { steps = shows.steps; step = step.step }, more.2))
+    (more.0, more.1, (naming mid.state step.now, (shows.steps, step.step), more.2))
 
 pub shown_transcripts : (library : List Stored) → ShownTranscripts library
 shown_transcripts library old new input output lines refused t named covers =

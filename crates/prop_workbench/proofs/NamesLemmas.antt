@@ -27,7 +27,7 @@ use Rattle.prop_compound.proofs.ByName.{used_same}
 use Rattle.prop_scheduler.specs.Making.{room_refusal}
 use Rattle.prop_workbench.specs.Machine.{State}
 use Rattle.prop_workbench.specs.Effects.{used}
-use Rattle.prop_workbench.specs.Refusing.{use_refusal}
+use Rattle.prop_workbench.specs.inner.Refusing.{use_refusal}
 use Rattle.prop_workbench.specs.Sessions.{state_from, AreNumbered}
 
 -- refusals that are looked at in turn

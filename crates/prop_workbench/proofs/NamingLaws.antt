@@ -3,7 +3,8 @@ use Rattle.std.proofs.Common.{◌≡◌, ◌∙◌, List, [], ℕ, Option, Some,
 use Rattle.prop_procedures.specs.Stored.{Stored}
 use Rattle.prop_language.specs.Commands as commands
 use Rattle.prop_language.specs.Commands.{Command}
-use Rattle.prop_workbench.specs.Machine.{State, naming}
+use Rattle.prop_workbench.specs.Machine.{State}
+use Rattle.prop_workbench.specs.inner.Machine.{naming}
 use Rattle.prop_workbench.specs.Refusing.{refusal_of}
 use Rattle.prop_workbench.specs.Effects.{effect}
 use Rattle.prop_workbench.specs.inner.Effects.{named_after, forgotten_in, without_named}

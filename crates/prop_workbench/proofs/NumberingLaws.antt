@@ -13,7 +13,8 @@ use Rattle.prop_engine.specs.Answers.{Answer}
 use Rattle.prop_workbench.specs.Machine.{State}
 use Rattle.prop_workbench.specs.Refusing.{refusal_of}
 use Rattle.prop_workbench.specs.Agreeing.{StepsKeepNumbers}
-use Rattle.prop_workbench.specs.Steps.{CarriesUnless, Follows}
+use Rattle.prop_workbench.specs.Steps.{Follows}
+use Rattle.prop_workbench.specs.Steps.{CarriesUnless}
 
 -- ---- each line
 

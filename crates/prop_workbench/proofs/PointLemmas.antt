@@ -12,8 +12,10 @@ use Rattle.prop_cells.specs.Points.{AreSoundBy, AreFitting}
 use Rattle.prop_cells.proofs.PointLaws.{entailed_holds, points_consistent}
 use Rattle.prop_amb.specs.Refuted.{IsRefuted}
 use Rattle.prop_amb.proofs.RefutedLaws.{believed_refutes}
-use Rattle.prop_workbench.specs.Machine.{State, problem_in, users_in, choices_in}
-use Rattle.prop_workbench.specs.Points.{attached_in, AreHeld, HoldsPoints, NoneSatisfy, RelatedSatisfy}
+use Rattle.prop_workbench.specs.Machine.{State, problem_in, choices_in}
+use Rattle.prop_workbench.specs.inner.Machine.{users_in}
+use Rattle.prop_workbench.specs.Points.{attached_in, AreHeld, NoneSatisfy, RelatedSatisfy}
+use Rattle.prop_workbench.specs.inner.Points.{HoldsPoints}
 use Rattle.prop_workbench.proofs.AgreeLaws.{believed_is_user}
 
 -- each procedure's answers hold the points that it holds

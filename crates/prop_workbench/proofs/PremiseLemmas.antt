@@ -11,8 +11,10 @@ use Rattle.prop_tms.specs.Beliefs.{merge_of_all, believed_of}
 use Rattle.prop_tms.proofs.KeptLemmas.{contains_here, contains_there}
 use Rattle.prop_procedures.specs.Stored.{Stored}
 use Rattle.prop_cells.specs.declared.instance.Statement.{Statement}
-use Rattle.prop_cells.specs.Problems.{Problem, Premises}
-use Rattle.prop_cells.specs.Reach.{Reaches, IsRelatedAt}
+use Rattle.prop_cells.specs.Problems.{Problem}
+use Rattle.prop_cells.specs.inner.Problems.{Premises}
+use Rattle.prop_cells.specs.Reach.{Reaches}
+use Rattle.prop_cells.specs.inner.Reach.{IsRelatedAt}
 use Rattle.prop_cells.specs.Reach.Reaches.{stated, passed}
 use Rattle.prop_cells.specs.Data.{Data, Entry, IsKept, IsFounded, beliefs, content_of, problem_of}
 use Rattle.prop_scheduler.specs.Turns.{IsUnderWay}

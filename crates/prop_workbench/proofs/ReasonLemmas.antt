@@ -11,7 +11,8 @@ use Rattle.prop_engine.specs.Answers.{Answer, Says, Silent, Done, Text, Refused}
 use Rattle.prop_workbench.specs.declared.asking.Question.{Question}
 use Rattle.prop_workbench.specs.declared.asking.Question.TheVariants.{Settle, Worldview, Ask, Why}
 use Rattle.prop_workbench.specs.inner.Questions.{command_of, SaysSoFar}
-use Rattle.prop_workbench.specs.Machine.{State, text_at}
+use Rattle.prop_workbench.specs.Machine.{State}
+use Rattle.prop_workbench.specs.inner.Machine.{text_at}
 use Rattle.prop_workbench.specs.Reasons.{IsLeanExplanation, IsContradiction, IsLeanReply, IsLeanAnswer}
 use Rattle.prop_amb.specs.Going.{Work}
 use Rattle.prop_workbench.specs.Sessions.{state_from}

@@ -17,7 +17,7 @@ use Rattle.prop_vocabulary.specs.Vocabulary.{Vocabulary}
 use Rattle.prop_scheduler.specs.Making.{room_refusal}
 use Rattle.prop_compound.specs.Compounds.{given_by}
 use Rattle.prop_workbench.specs.Effects.{used}
-use Rattle.prop_workbench.specs.Refusing.{use_refusal}
+use Rattle.prop_workbench.specs.inner.Refusing.{use_refusal}
 use Rattle.prop_workbench.specs.Sessions.{state_from, AreNumbered}
 use Rattle.prop_workbench.proofs.NamesLemmas.{use_refusal_is}
 use Rattle.prop_workbench.proofs.AttachLemmas.{use_rows}

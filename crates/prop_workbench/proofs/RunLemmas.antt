@@ -12,7 +12,8 @@ use Rattle.prop_engine.specs.Answers.{Answer, Refused, Says}
 use Rattle.prop_texts.specs.Texts.{nogoods_text}
 use Rattle.std.specs.List.Sorted.{IsStrictlyIncreasing}
 use Rattle.prop_nogoods.specs.Stores.{AreMinimal}
-use Rattle.prop_workbench.specs.Machine.{State, naming, problem_in, choices_in}
+use Rattle.prop_workbench.specs.Machine.{State, problem_in, choices_in}
+use Rattle.prop_workbench.specs.inner.Machine.{naming}
 use Rattle.prop_amb.specs.declared.outcome.Outcome as ends
 use Rattle.prop_amb.specs.declared.outcome.Outcome.TheVariants as ended
 use Rattle.prop_workbench.specs.Questions.{outcome_of}
@@ -20,7 +21,8 @@ use Rattle.prop_amb.specs.Settling.{IfContradiction}
 use Rattle.prop_workbench.specs.inner.Questions.{MaySay}
 use Rattle.prop_workbench.specs.Refusing.{refusal_of}
 use Rattle.prop_workbench.specs.Running.{Outcome, Settled, Unsettled, Contradiction, named_by, MayEnd, IsRest, IsValue}
-use Rattle.prop_workbench.specs.Running.{IsValueReply, IsExplainedReply, Replies}
+use Rattle.prop_workbench.specs.Running.{IsValueReply, IsExplainedReply, Replies, worldview_of}
+use Rattle.prop_workbench.specs.inner.Points.{HoldsPoints}
 use Rattle.prop_procedures.specs.declared.shape.Param.{Param}
 use Rattle.prop_workbench.specs.declared.session.Session.{Session}
 use Rattle.prop_workbench.specs.inner.Sessions.{Keeps}
@@ -33,28 +35,26 @@ use Rattle.prop_workbench.proofs.CoveringLemmas.{KeepsCover, covers_still, cover
 
 rest_named : (library : List Stored) (s : State) (named : List (List ℕ)) (list : List ℕ) (a : ℕ → Info)
     → IsRest library s list a → IsRest library (naming s named) list a
-rest_named library s named list a r = record { least = r.least; free = r.free }
+rest_named library s named list a r = r
 
 may_end_named : (library : List Stored) (s : State) (named : List (List ℕ)) (outcome : Outcome)
     → MayEnd library s outcome → MayEnd library (naming s named) outcome
-may_end_named library s named (Settled list) r =
-    record { first = r.first; solution = r.solution; rest = rest_named library s named list r.solution r.rest }
-may_end_named library s named (Unsettled list) r = record { is_list = r.is_list; earlier = r.earlier; few = r.few }
-may_end_named library s named (Contradiction ps) r =
-    record { believes = r.believes; refuted = r.refuted; grounded = r.grounded; points = r.points }
+may_end_named library s named (Settled list) r = r
+may_end_named library s named (Unsettled list) r = r
+may_end_named library s named (Contradiction ps) r = r
 
 value_named : (library : List Stored) (s : State) (named : List (List ℕ)) (outcome : Outcome) (cell : ℕ) (v : Info)
     → IsValue library s outcome cell v → IsValue library (naming s named) outcome cell v
-value_named library s named (Settled list) cell v r =
-    record {
-      solution = r.solution;
-      rest = rest_named library s named list r.solution r.rest;
-      value = r.value;
-      points = r.points;
-    }
-value_named library s named (Unsettled list) cell v r =
-    record { of_kind = r.of_kind; entailed = r.entailed; stated = r.stated; points = r.points }
+value_named library s named (Settled list) cell v r = r
+value_named library s named (Unsettled list) cell v r = r
 value_named library s named (Contradiction ps) cell v r = absurd r
+
+points_named : (library : List Stored) (s : State) (named : List (List ℕ)) (outcome : Outcome) (cell : ℕ) (v : Info)
+    → HoldsPoints library s (worldview_of s outcome) cell v
+    → HoldsPoints library (naming s named) (worldview_of (naming s named) outcome) cell v
+points_named library s named (Settled list) cell v r = r
+points_named library s named (Unsettled list) cell v r = r
+points_named library s named (Contradiction ps) cell v r = r
 
 value_reply_named : (library : List Stored) (s : State) (named : List (List ℕ)) (outcome : Outcome)
     (name mark text : List ℕ) → IsValueReply library s outcome name mark text
@@ -65,6 +65,7 @@ value_reply_named library s named outcome name mark text r =
       cell_is = r.cell_is;
       v = r.v;
       value = value_named library s named outcome r.cell r.v r.value;
+      points = points_named library s named outcome r.cell r.v r.points;
       text_is = r.text_is;
     }
 
@@ -72,28 +73,34 @@ abbrev settled_reply_named : (library : List Stored) (s : State) (named : List (
     → IsExplainedReply library s (Settled list) name mark text
     → IsExplainedReply library (naming s named) (Settled list) name mark text
 settled_reply_named library s named list name mark text r = record {
-  cell = r.cell;
-  cell_is = r.cell_is;
-  v = r.v;
-  value = value_named library s named (Settled list) r.cell r.v r.value;
   premises = r.premises;
   in_order = r.in_order;
+  says = record {
+    cell = r.says.cell;
+    cell_is = r.says.cell_is;
+    v = r.says.v;
+    value = r.says.value;
+    points = r.says.points;
+    text_is = r.says.text_is;
+  };
   explains = r.explains;
-  text_is = r.text_is;
 }
 
 unsettled_reply_named : (library : List Stored) (s : State) (named : List (List ℕ)) (list name mark text : List ℕ)
     → IsExplainedReply library s (Unsettled list) name mark text
     → IsExplainedReply library (naming s named) (Unsettled list) name mark text
 unsettled_reply_named library s named list name mark text r = record {
-  cell = r.cell;
-  cell_is = r.cell_is;
-  v = r.v;
-  value = value_named library s named (Unsettled list) r.cell r.v r.value;
   premises = r.premises;
   in_order = r.in_order;
+  says = record {
+    cell = r.says.cell;
+    cell_is = r.says.cell_is;
+    v = r.says.v;
+    value = r.says.value;
+    points = r.says.points;
+    text_is = r.says.text_is;
+  };
   explains = r.explains;
-  text_is = r.text_is;
 }
 
 replies_named : (library : List Stored) (s : State) (named : List (List ℕ)) (command : Command) (outcome : Outcome)
@@ -101,9 +108,7 @@ replies_named : (library : List Stored) (s : State) (named : List (List ℕ)) (c
     → Replies library (naming s named) command outcome steps text
 replies_named library s named command (Contradiction ps) steps text r = r
 replies_named library s named commands.Command.Settle (Settled list) steps text r = r
-replies_named library s named commands.Command.Settle (Unsettled list) steps text r = r
 replies_named library s named commands.Command.Worldview (Settled list) steps text r = r
-replies_named library s named commands.Command.Worldview (Unsettled list) steps text r = r
 replies_named library s named (commands.Command.Ask x) (Settled list) steps text r =
     value_reply_named library s named (Settled list) x [] text r
 replies_named library s named (commands.Command.Ask x) (Unsettled list) steps text r =
@@ -113,16 +118,13 @@ replies_named library s named (commands.Command.Why x) (Settled list) steps text
 replies_named library s named (commands.Command.Why x) (Unsettled list) steps text r =
     (unsettled_reply_named library s named list x (codes " unsettled") text r.0, r.1)
 replies_named library s named (commands.Command.Core x) (Settled list) steps text (inl r) =
-    inl (record {
-      explained = settled_reply_named library s named list x [] text r.explained;
-      least = record { entails = r.least.entails; needed = r.least.needed };
-    })
+    inl (settled_reply_named library s named list x [] text r.0, record { entails = r.1.entails; needed = r.1.needed })
 replies_named library s named (commands.Command.Core x) (Settled list) steps text (inr r) =
     inr (settled_reply_named library s named list x (codes " not reduced") text r.0, r.1, r.2)
 replies_named library s named (commands.Command.Core x) (Unsettled list) steps text r =
     (unsettled_reply_named library s named list x (codes " unsettled") text r.0, r.1)
 replies_named library s named command (Settled list) steps text r = absurd r
-replies_named library s named command (Unsettled list) steps text r = absurd r
+replies_named library s named command (Unsettled list) steps text r = r
 
 -- what is named when a run has ended is covered, where a contradiction that ended it is
 abbrev pub IsCoveredEnd : Shown → Outcome → Type 0

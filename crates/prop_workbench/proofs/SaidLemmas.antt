@@ -34,7 +34,8 @@ use Rattle.prop_vocabulary.specs.Vocabulary.{Vocabulary, elements_at, symbol_num
 use Rattle.prop_vocabulary.proofs.Places.{placed_before, placed_last}
 use Rattle.prop_workbench.specs.Machine.{State}
 use Rattle.prop_workbench.specs.Effects.{said, symbols_in, number_given, with_said, effect}
-use Rattle.prop_workbench.specs.Refusing.{grows, passed, refused_at}
+use Rattle.prop_workbench.specs.Refusing.{passed, refused_at}
+use Rattle.prop_workbench.specs.inner.Refusing.{grows}
 use Rattle.prop_workbench.specs.inner.Refusing.{meaning_at, with_meant, naming_limit, all_naming_limit, stating_limit}
 use Rattle.prop_workbench.specs.inner.Refusing.{statement_limit, choosing_limit_of}
 use Rattle.prop_workbench.specs.inner.Effects.{info_meant, with_meants, sides_stated, stated, chosen, stating}

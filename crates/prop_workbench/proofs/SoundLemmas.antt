@@ -1,6 +1,15 @@
 -- What a session keeps.
 use Rattle.std.proofs.Common.{◌<◌, ℕ, List, [], ◌∷◌, ◌++◌, Result, Ok, Err, OnOk, OnErr, ◌≡◌, All, length, refl, sym}
-use Rattle.std.proofs.Common.{subst, arith}
+use Rattle.std.proofs.Common.{subst, arith, ◌+◌, ◌≤◌, ◌∙◌, ◌⊎◌, inl, inr, ap, Some, None}
+use Rattle.std.proofs.lemmas.Bool.{cases_lt, le-leb}
+use Rattle.prop_refusals.specs.declared.refusal.Limit.TheVariants.{Cells}
+use Rattle.prop_refusals.specs.declared.refusal.Refusal.TheVariants.{LimitReached}
+use Rattle.prop_refusals.specs.Refusals.{most, when}
+use Rattle.prop_procedures.specs.declared.shape.Kinded.{Kinded}
+use Rattle.prop_cells.specs.Data.{Data}
+use Rattle.prop_cells.specs.Refusing.{cell_refusal}
+use Rattle.prop_scheduler.specs.Making.{with_fresh_cells}
+use Rattle.prop_workbench.specs.Sessions.{HasRoom}
 use Rattle.std.proofs.lemmas.List.Elements.{All-weaker, All-push}
 use Rattle.std.proofs.lemmas.List.{length-append}
 use Rattle.std.specs.Prelude.{⊤}
@@ -19,6 +28,19 @@ one_more_named cells kinds kind all =
     All-push (λ k. k < length (kinds ++ kind ∷ [])) cells (length kinds)
     (All-weaker (λ k. k < length kinds) (λ k. k < length (kinds ++ kind ∷ [])) (λ k h. omega (arith, h, more)) cells
     all) (omega (arith, more))
+
+-- there is room for it, where it is not refused
+pub room_for_one : (d : Data) (kind : Kinded) → cell_refusal d ≡ None → HasRoom d
+    → HasRoom (with_fresh_cells d (kind ∷ []))
+room_for_one d kind fits room =
+    (by (cases_lt (length d.kinds) (most Cells)) (length-append d.kinds (kind ∷ [])), room.1)
+  where
+    by : (length d.kinds < most Cells) ⊎ (most Cells ≤ length d.kinds)
+        → length (d.kinds ++ kind ∷ []) ≡ length d.kinds + 1 → length (d.kinds ++ kind ∷ []) ≤ most Cells
+    by (inl l) more = omega (arith, l, more)
+    by (inr h) more =
+        let full : Some (LimitReached Cells) ≡ None =
+        sym (ap (when (LimitReached Cells)) (le-leb (most Cells) (length d.kinds) h)) ∙ fits in cc
 
 -- what is true of a part before, and of what it is to become, is true of it after, whether that was made or refused
 pub made_or_not : {A : Type 0} (P : A → Type 0) (old new made : A) (r : Result ⊤ Refusal) → OnOk r (new ≡ made)

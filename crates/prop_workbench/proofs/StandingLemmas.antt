@@ -18,7 +18,8 @@ use Rattle.prop_cells.specs.Data.{Data, problem_of}
 use Rattle.prop_cells.specs.Instances.{constraint_of}
 use Rattle.prop_cells.specs.declared.network.Network.{Network}
 use Rattle.prop_procedures.specs.Kept.{stored_of}
-use Rattle.prop_cells.specs.Forgetting.{forgotten, is_under}
+use Rattle.prop_cells.specs.Forgetting.{forgotten}
+use Rattle.prop_cells.specs.inner.Forgetting.{is_under}
 use Rattle.prop_scheduler.specs.Agendas.{Waiting}
 use Rattle.prop_scheduler.specs.Live.{IsLiveIn}
 use Rattle.prop_scheduler.specs.declared.live.Live.{Live}
@@ -89,6 +90,7 @@ believing_keeps {R = R} {X = X} {F = F} {g = g} value s new live p b sound chang
             alive.watched));
         sized = rw same sound.sized;
         locals = sound.locals;
+        room = rw same sound.room;
         named = rw same sound.named;
         defined = rw same sound.defined;
       };
@@ -110,6 +112,7 @@ back_keeps value s new stand sound same library cells agenda = record {
     at_work = rw (same, library, cells, agenda) sound.at_work;
     sized = rw cells sound.sized;
     locals = sound.locals;
+    room = rw cells sound.room;
     named = rw cells sound.named;
     defined = rw library sound.defined;
   };
@@ -152,6 +155,10 @@ extends_stated library d new x e = rw e (record {
 pub stated_kinds : (d new : Data) (x : Statement)
     → new ≡ record d { statements = d.statements ++ x ∷ []; contents = new.contents } → new.kinds ≡ d.kinds
 stated_kinds d new x e = ap (λ (y : Data). y.kinds) e
+
+pub stated_instances : (d new : Data) (x : Statement)
+    → new ≡ record d { statements = d.statements ++ x ∷ []; contents = new.contents } → new.instances ≡ d.instances
+stated_instances d new x e = ap (λ (y : Data). y.instances) e
 
 -- a statement under a premise that there is, or under none
 pub stated_at_work : (library : List Stored) (stand : Stand) (d new : Data) (before after : Waiting) (x : Statement)

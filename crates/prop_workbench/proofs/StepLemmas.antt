@@ -25,7 +25,9 @@ use Rattle.prop_workbench.specs.Refusing.{refusal_of, passed}
 use Rattle.prop_workbench.specs.Effects.{effect}
 use Rattle.prop_workbench.proofs.LimitLemmas.{more_cells, one_grows}
 use Rattle.std.proofs.lemmas.List.{length-append}
-use Rattle.prop_workbench.specs.Steps.{Obeys, Carries, CarriesUnless, Runs, Follows}
+use Rattle.prop_workbench.specs.Steps.{Carries, Runs, Follows}
+use Rattle.prop_workbench.specs.Steps.{CarriesUnless}
+use Rattle.prop_workbench.specs.inner.Steps.{Obeys}
 use Rattle.prop_vocabulary.specs.Cells.{CellNames, cell_named, with_cell_name}
 
 pub first_of-one : (r : Option Refusal) → first_of (r ∷ []) ≡ r

@@ -15,7 +15,8 @@ use Rattle.prop_refusals.specs.declared.refusal.Refusal.{Refusal}
 use Rattle.prop_refusals.specs.declared.refusal.Refusal.TheVariants.{NotAName, NotANumber, WrongKind, Memory}
 use Rattle.prop_refusals.specs.declared.refusal.Refusal.TheVariants.{NoSuchCell}
 use Rattle.prop_refusals.specs.declared.refusal.Refusal.TheVariants.{NotInTheDomain, EmptyValue, IsAChoice}
-use Rattle.prop_lattice.specs.Ends.{AreEnds, AreSome, ends_or_not, some_or_not, span_if, span_from, elements_if}
+use Rattle.prop_lattice.specs.Ends.{AreEnds, ends_or_not, some_or_not, span_from}
+use Rattle.prop_lattice.specs.inner.Ends.{AreSome, span_if, elements_if}
 use Rattle.prop_lattice.specs.Ends.{elements_from}
 use Rattle.prop_refusals.specs.Refusals.{first_of, when}
 use Rattle.prop_procedures.specs.Stored.{Stored}
@@ -30,12 +31,15 @@ use Rattle.prop_procedures.specs.Fitting.{kind_at}
 use Rattle.prop_cells.specs.Refusing.{may_be_stated}
 use Rattle.prop_language.specs.Commands.{Value, Bare, Braces}
 use Rattle.prop_language.specs.Names.{whole_number, is_name, is_among}
-use Rattle.prop_vocabulary.specs.Values.{Meant, Known, Name, known, value_said, span_value, set_value, bits_named}
+use Rattle.prop_vocabulary.specs.Values.{Meant, Known, Name, known, value_said, span_value}
+use Rattle.prop_vocabulary.specs.Values.{set_value}
+use Rattle.prop_vocabulary.specs.inner.SetBits.{bits_named}
 use Rattle.prop_vocabulary.specs.Values.{ends_value, bounded_number, halves}
 use Rattle.prop_workbench.specs.Machine.{State}
 use Rattle.prop_workbench.specs.Refusing.{refusal_of, refused_at, passed}
 use Rattle.prop_workbench.specs.Effects.{effect, said}
-use Rattle.prop_workbench.specs.Steps.{Carries, Obeys}
+use Rattle.prop_workbench.specs.Steps.{Carries}
+use Rattle.prop_workbench.specs.inner.Steps.{Obeys}
 use Rattle.prop_engine.specs.Answers.{Done, answer_done}
 use Rattle.prop_premises.specs.Origins.{is_choice}
 use Rattle.prop_workbench.proofs.SaidLemmas.{refused_found, said_state, said_limit}

@@ -6,7 +6,7 @@ use Rattle.prop_refusals.specs.declared.refusal.Refusal.{Refusal}
 use Rattle.prop_numbers.specs.Sets.{set_of}
 use Rattle.prop_premises.specs.Origins.{premise_number}
 use Rattle.prop_procedures.specs.Stored.{Stored}
-use Rattle.prop_cells.specs.Problems.{Premises}
+use Rattle.prop_cells.specs.inner.Problems.{Premises}
 use Rattle.prop_cells.specs.Data.{Data, IsKept, beliefs}
 use Rattle.prop_scheduler.specs.Shifts.{IsTouched, AreStirred}
 use Rattle.prop_scheduler.proofs.Behind.{behind_none, behind_weaker}

@@ -10,7 +10,8 @@ use Rattle.prop_language.specs.Commands.{Command}
 use Rattle.prop_texts.specs.Texts.{equation, because}
 use Rattle.prop_engine.specs.Answers.{Answer, Text, Refused}
 use Rattle.prop_engine.specs.Transcripts.{Machine, Run}
-use Rattle.prop_workbench.specs.Machine.{State, text_at, naming}
+use Rattle.prop_workbench.specs.Machine.{State}
+use Rattle.prop_workbench.specs.inner.Machine.{text_at, naming}
 use Rattle.prop_workbench.specs.Running.{Settled, Contradiction, MayEnd, Replies}
 use Rattle.prop_workbench.specs.Steps.{Step}
 

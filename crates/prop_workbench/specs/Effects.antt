@@ -1,8 +1,9 @@
 -- What a command that isn't refused does to the state.
 use Rattle.std.specs.Prelude.{ℕ, List, [], ◌∷◌, ◌++◌, Option, Some, None, true, false, drop, fold}
-use Rattle.std.specs.Prelude.{map, length, slice_get, unwrap_or, cond, Result, Ok, Err, zip}
+use Rattle.std.specs.Prelude.{map, length, slice_get, slice_index_or, take, unwrap_or, cond, zip}
+use Rattle.std.specs.Prelude.{Result, Ok, Err, ◌-◌}
 use Rattle.std.specs.Result.{result_unwrap_or}
-use Rattle.std.specs.Option.{option_map, option_and_then}
+use Rattle.std.specs.Option.{option_and_then}
 use Rattle.std.specs.List.{flat_map, range_with_len}
 use Rattle.prop_lattice.specs.declared.info.Info.{Info}
 use Rattle.prop_lattice.specs.declared.info.Info.TheVariants.{Nothing, Sym}
@@ -22,8 +23,10 @@ use Rattle.prop_compound.specs.Expansion.{Placed, Walk, start}
 use Rattle.prop_vocabulary.specs.Values.{halves, span_value, set_value}
 use Rattle.prop_procedures.specs.declared.shape.Param.{Param}
 use Rattle.prop_procedures.specs.declared.shape.Param.TheVariants.{Plain}
-use Rattle.prop_procedures.specs.Fitting.{fitting_param, kind_at}
+use Rattle.prop_procedures.specs.Fitting.{kind_at}
+use Rattle.prop_procedures.specs.Rules.{fitting_param}
 use Rattle.prop_cells.specs.Instances.{Instance}
+use Rattle.prop_cells.specs.declared.instance.Statement.{Statement}
 use Rattle.prop_cells.specs.Forgetting.{not_under}
 use Rattle.prop_nogoods.specs.Stores.{lacking}
 use Rattle.prop_vocabulary.specs.Vocabulary.{Vocabulary, elements_of, symbol_number, with_symbol}
@@ -59,41 +62,22 @@ with_said s premises under name values =
     let cell = unwrap_or (cell_named s.names name) 0 in
     let kind = (kind_at s.kinds cell).kind in
     let words = fold with_symbol s.words (flat_map (symbols_in kind) values) in
-    record s {
-      words = words;
-      premises = premises;
-      statements = s.statements ++ map (λ x. record {
-        premise = x.0;
-        cell = cell;
-        info = result_unwrap_or (said words kind x.1) Nothing;
-      }) (zip under values);
-    }
+    let says = λ (value : Value). result_unwrap_or (said words kind value) Nothing in
+    let told : List Statement = map (λ x. record { premise = x.0; cell = cell; info = says x.1 })
+    (zip under values) in
+    record s { words = words; premises = premises; statements = s.statements ++ told }
 
 -- ---- attaching
 
--- the cells that an instance reads: all but the last
-abbrev pub inputs_of : List ℕ → List ℕ
-inputs_of [] = []
-inputs_of (cell ∷ []) = []
-inputs_of (cell ∷ next ∷ cells) = cell ∷ inputs_of (next ∷ cells)
-
--- the cell that an instance writes: the last
-abbrev pub output_of : List ℕ → ℕ
-output_of [] = 0
-output_of (cell ∷ []) = cell
-output_of (cell ∷ next ∷ cells) = output_of (next ∷ cells)
-
--- the instance that stands at places
+-- the instance that stands at places: it writes the cell at the last, and reads those before it
 abbrev pub instance_placed : List Stored → List ℕ → ℕ → Placed (Option Param) → Instance
 instance_placed library cells next x =
     let at = map (cell_placed cells next) x.cells in
-    record {
-      procedure = x.procedure;
-      param = unwrap_or (option_and_then (λ p. fitting_param p.need x.given)
-          (slice_get library x.procedure)) Plain;
-      inputs = inputs_of at;
-      output = output_of at;
-    }
+    let n = length at - 1 in
+    let p = unwrap_or (option_and_then (λ p. fitting_param p.need x.given)
+    (slice_get library x.procedure)) Plain in
+    let inputs = take n at in
+    record { procedure = x.procedure; param = p; inputs = inputs; output = slice_index_or at n 0 }
 
 -- what the use of the name on these cells stands for, the cells being counted from 0 and followed
 -- by the fresh ones
@@ -101,13 +85,6 @@ abbrev pub used : List Stored → State → List ℕ → List ℕ → By → Wal
 used library s name cells by =
     use_added library s.definitions name (range_with_len 0 (length cells)) (given_by s.words by)
     (start (map (kind_at s.kinds) cells) false)
-
--- the fresh cells and the instances that a use on these cells stands for
-abbrev pub with_use : List Stored → State → List ℕ → Walk → State
-with_use library s cells e = record s {
-  kinds = s.kinds ++ drop (length cells) e.kinds;
-  instances = s.instances ++ map (instance_placed library cells (length s.kinds)) e.placed;
-}
 
 -- ---- commands
 
@@ -118,18 +95,16 @@ effect library s (Command.Domain name elements) =
 effect library s (Command.Relation name from to pairs) =
     record s { words = with_relation s.words name from to pairs }
 effect library s (Command.Cell name kind) =
-    record s {
-      names = with_cell_name s.names name (length s.kinds);
-      kinds = s.kinds ++ unwrap_or (kind_named s.words kind) span_kind ∷ [];
-    }
+    let made = unwrap_or (kind_named s.words kind) span_kind in
+    record s { names = with_cell_name s.names name (length s.kinds); kinds = s.kinds ++ made ∷ [] }
 effect library s (Command.Define name params steps) =
-    record s {
-      definitions = s.definitions ++ compound_of library s.words s.definitions name params
-          steps ∷ [];
-    }
+    let made = compound_of library s.words s.definitions name params steps in
+    record s { definitions = s.definitions ++ made ∷ [] }
 effect library s (Command.Attach name cells by) =
-    with_use library s (cells_named s.names cells)
-    (used library s name (cells_named s.names cells) by)
+    let on = cells_named s.names cells in
+    let e = used library s name on by in
+    let made = map (instance_placed library on (length s.kinds)) e.placed in
+    record s { kinds = s.kinds ++ drop (length on) e.kinds; instances = s.instances ++ made }
 effect library s (Command.Fix cell value) = with_said s s.premises (None ∷ []) cell (value ∷ [])
 effect library s (Command.Tell premise cell value) =
     with_said s (with_name s.premises premise) (Some (number_given s.premises premise) ∷ []) cell

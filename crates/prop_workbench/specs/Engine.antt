@@ -19,11 +19,10 @@ use Rattle.prop_workbench.specs.Questions.{Picks, Earns}
 use Rattle.prop_workbench.specs.Waking.{Wakes}
 use Rattle.prop_workbench.specs.Sessions.{library_of, shown_of, work_of}
 
--- the line may be given this answer, after some number of steps
-pub record Gives (library : List Stored) (old : State) (line : List ℕ) (answer : Answer)
-    (new : State) : Type 0 where
-  pub steps : ℕ
-  pub step : Step library old line answer new steps
+-- the workbench over a library of procedures, as a machine: a line may be given an answer after
+-- some number of steps
+abbrev pub workbench : List Stored → Machine State
+workbench library old line answer new = (steps : ℕ) × Step library old line answer new steps
 
 -- the same of what a session shows, whichever contradictions were named, if what it has learned
 -- covers them
@@ -31,10 +30,6 @@ pub record Shows (library : List Stored) (old : Shown) (line : List ℕ) (answer
     (new : Shown) : Type 0 where
   pub steps : ℕ
   pub step : IsStepOf library old line answer new steps
-
--- the workbench over a library of procedures, as a machine
-abbrev pub workbench : List Stored → Machine State
-workbench library = Gives library
 
 -- the workbench with what it has learned, as a machine
 abbrev pub learning : List Stored → Machine Shown

@@ -1,7 +1,6 @@
--- Single values of the cells that satisfy a state, and the informations that hold them.
+-- Single values of the cells that satisfy a state.
 use Rattle.std.specs.Prelude.{◌≡◌, ℕ, List}
-use Rattle.prop_lattice.specs.Points.{Point, Holds}
-use Rattle.prop_lattice.specs.declared.info.Info.{Info}
+use Rattle.prop_lattice.specs.Points.{Point}
 use Rattle.prop_numbers.specs.Sets.{Members, set_of}
 use Rattle.prop_premises.specs.ChoiceLists.{IsChoiceList, worldview}
 use Rattle.prop_procedures.specs.declared.shape.Param.{Param}
@@ -24,15 +23,9 @@ AreHeld library n param points point =
 abbrev pub Satisfy : List Stored → State → Members → (ℕ → Point) → Type 0
 Satisfy library s believed points = ArePoints (AreHeld library) (attached_in s) believed points
 
--- the information holds the cell's point of all points that satisfy what is believed
-abbrev pub HoldsPoints : List Stored → State → Members → ℕ → Info → Type 0
-HoldsPoints library s believed cell v = (points : ℕ → Point) → Satisfy library s believed points
-    → Holds v (points cell)
-
 -- no points satisfy what these premises say with one side of each choice
 abbrev pub NoneSatisfy : List Stored → State → List ℕ → Type 0
-NoneSatisfy library s ps =
-    (list : List ℕ) → IsChoiceList (choices_in s) list → (points : ℕ → Point)
+NoneSatisfy library s ps = (list : List ℕ) → IsChoiceList (choices_in s) list → (points : ℕ → Point)
     → Satisfy library s (worldview (set_of ps) (choices_in s) list) points → ⊥
 
 -- points of which those at each instance belong together, and that lie in all that is stated by

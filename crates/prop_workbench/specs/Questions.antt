@@ -15,7 +15,8 @@ use Rattle.prop_language.specs.Commands.{Command}
 use Rattle.prop_engine.specs.Answers.{Answer, Text}
 use Rattle.prop_texts.specs.Texts.{equation, because}
 use Rattle.prop_vocabulary.specs.Cells.{cell_named}
-use Rattle.prop_workbench.specs.Machine.{State, worldview_at, text_at}
+use Rattle.prop_workbench.specs.Machine.{State, worldview_at}
+use Rattle.prop_workbench.specs.inner.Machine.{text_at}
 use Rattle.prop_workbench.specs.Running as running
 use Rattle.prop_workbench.specs.Running.{Outcome, Replies}
 

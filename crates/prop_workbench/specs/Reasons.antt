@@ -5,7 +5,8 @@ use Rattle.prop_numbers.specs.Sets.{Members}
 use Rattle.prop_cells.specs.Data.{Data, beliefs, IsLeanAt}
 use Rattle.prop_language.specs.Commands.{Command}
 use Rattle.prop_engine.specs.Answers.{Answer, Text}
-use Rattle.prop_workbench.specs.Machine.{State, text_at}
+use Rattle.prop_workbench.specs.Machine.{State}
+use Rattle.prop_workbench.specs.inner.Machine.{text_at}
 use Rattle.prop_texts.specs.Texts.{equation, because, contradiction_text}
 use Rattle.prop_vocabulary.specs.Cells.{cell_named}
 

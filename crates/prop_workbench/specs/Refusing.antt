@@ -1,5 +1,5 @@
 -- For what a command is refused in a state: each reason by itself, and which of them comes first.
-use Rattle.std.specs.Prelude.{ℕ, List, [], ◌∷◌, Bool, false, ◌+◌, ◌==◌, ◌&&◌, ◌||◌, nat_lt, ◌++◌}
+use Rattle.std.specs.Prelude.{ℕ, List, [], ◌∷◌, false, ◌==◌, ◌&&◌, ◌||◌, nat_lt, ◌++◌}
 use Rattle.std.specs.Prelude.{Option, Some, length, is_some, is_none, map, ◌-◌, unwrap_or}
 use Rattle.std.specs.List.{list_any}
 use Rattle.std.specs.Option.{option_map_or}
@@ -27,36 +27,32 @@ use Rattle.prop_language.specs.Commands.{By, Value, Command}
 use Rattle.prop_vocabulary.specs.Cells.{cell_named, cells_named, is_cell_missing}
 use Rattle.prop_vocabulary.specs.Names.{number_in}
 use Rattle.prop_vocabulary.specs.Pairs.{is_outside}
-use Rattle.prop_vocabulary.specs.Vocabulary.{Vocabulary, domain_number, elements_of}
+use Rattle.prop_vocabulary.specs.Vocabulary.{domain_number, elements_of}
 use Rattle.prop_vocabulary.specs.Vocabulary.{relation_named}
 use Rattle.prop_compound.specs.Expanding.{is_kind_wrong, is_param_wrong}
 use Rattle.prop_compound.specs.Compounds.{compound_named, is_miscounted, compound_refusal}
 use Rattle.prop_compound.specs.Kinds.{kind_named}
-use Rattle.prop_scheduler.specs.Making.{room_refusal}
 use Rattle.prop_workbench.specs.Machine.{State, choices_in}
 use Rattle.prop_workbench.specs.Effects.{said, used, effect}
 
 -- ---- what there would be too much of
 
 -- there would be more of something than before, and than there can be
-abbrev pub grows : Limit → ℕ → ℕ → Option Refusal
-grows limit before after =
-    when (LimitReached limit) (nat_lt before after && nat_lt (most limit) after)
+abbrev pub grown : {X : Type 0} → Limit → List X → List X → Option Refusal
+grown limit was is =
+    when (LimitReached limit) (nat_lt (length was) (length is) && nat_lt (most limit) (length is))
 
 -- what there would be too much of after a change
 abbrev pub passed : State → State → List (Option Refusal)
 passed old new =
-    grows Cells (length old.kinds) (length new.kinds)
-    ∷ grows Instances (length old.instances) (length new.instances)
-    ∷ grows Premises (length old.premises) (length new.premises)
-    ∷ grows Choices (length (choices_in old)) (length (choices_in new))
-    ∷ grows Statements (length old.statements) (length new.statements)
-    ∷ grows Domains (length old.words.domain_names) (length new.words.domain_names)
-    ∷ grows Elements 0 (length (elements_of new.words (length old.words.domains)))
-    ∷ grows Relations (length old.words.relation_names) (length new.words.relation_names)
-    ∷ grows Definitions (length old.definitions) (length new.definitions)
-    ∷ grows Symbols (length old.words.symbols) (length new.words.symbols)
-    ∷ []
+    grown Cells old.kinds new.kinds ∷ grown Instances old.instances new.instances
+    ∷ grown Premises old.premises new.premises ∷ grown Choices (choices_in old) (choices_in new)
+    ∷ grown Statements old.statements new.statements
+    ∷ grown Domains old.words.domain_names new.words.domain_names
+    ∷ grown Elements [] (elements_of new.words (length old.words.domains))
+    ∷ grown Relations old.words.relation_names new.words.relation_names
+    ∷ grown Definitions old.definitions new.definitions
+    ∷ grown Symbols old.words.symbols new.words.symbols ∷ []
 
 -- ---- values
 
@@ -72,71 +68,45 @@ when_refused s cell values refusal =
     when refusal (list_any (λ value. option_map_or (λ why. number_of why == number_of refusal)
     (refused_at s cell value) false) values)
 
--- ---- words
-
--- the elements of the declared domain with the name
-abbrev pub elements_named : Vocabulary → List ℕ → List (List ℕ)
-elements_named words name = elements_of words (unwrap_or (domain_number words name) 0)
-
--- what is given is a relation, of which there is none
-abbrev pub is_unknown : Vocabulary → By → Bool
-is_unknown words By.Nothing = false
-is_unknown words (By.Number k) = false
-is_unknown words (By.Relation name) = is_none (relation_named words name)
-
--- why a use of the name on the cells of these numbers is refused
-abbrev pub use_refusal : List Stored → State → List ℕ → List ℕ → By → Option Refusal
-use_refusal library s name cells by =
-    let e = used library s name cells by in
-    first_of (
-    when NoSuchProcedure (is_none (compound_named library s.definitions name))
-    ∷ when WrongCount (is_miscounted library s.definitions name (length cells))
-    ∷ when (LimitReached Cells) (nat_lt (most Cells) (length e.kinds - length cells))
-    ∷ when (LimitReached Instances) (nat_lt (most Instances) (length e.placed))
-    ∷ when WrongKind (list_any (is_kind_wrong library e.kinds) e.placed)
-    ∷ when WrongParameter (e.spare || list_any (is_param_wrong library) e.placed)
-    ∷ room_refusal (length s.kinds + (length e.kinds - length cells))
-    (length s.instances + length e.placed)
-    ∷ []
-    )
-
 -- ---- commands
 
 -- why the belief in the premise with the name may not change: a choice has the name, or nobody
 abbrev pub belief_reasons : State → List ℕ → List (Option Refusal)
 belief_reasons s premise =
     when IsAChoice (is_choice s.premises premise)
-    ∷ when NoSuchPremise (is_none (premise_number s.premises premise))
-    ∷ []
+    ∷ when NoSuchPremise (is_none (premise_number s.premises premise)) ∷ []
 
 -- why the command is refused as the state stands, in order
 abbrev pub reasons : List Stored → State → Command → List (Option Refusal)
 reasons library s (Command.Domain name elements) =
     when NameTaken (is_some (number_in s.words.domain_names name) || has_repeat elements) ∷ []
 reasons library s (Command.Relation name from to pairs) =
+    let of = λ (name : List ℕ). elements_of s.words (unwrap_or (domain_number s.words name) 0) in
     when NameTaken (is_some (number_in s.words.relation_names name))
     ∷ when NoSuchDomain (is_none (domain_number s.words from) || is_none
     (domain_number s.words to))
-    ∷ when NotInTheDomain (is_outside (elements_named s.words from) (elements_named s.words to)
-    pairs)
-    ∷ []
+    ∷ when NotInTheDomain (is_outside (of from) (of to) pairs) ∷ []
 reasons library s (Command.Cell name kind) =
     when NameTaken (is_some (cell_named s.names name))
-    ∷ when NoSuchDomain (is_none (kind_named s.words kind))
-    ∷ []
+    ∷ when NoSuchDomain (is_none (kind_named s.words kind)) ∷ []
 reasons library s (Command.Define name params steps) =
     compound_refusal library s.words s.definitions name params steps ∷ []
 reasons library s (Command.Attach name cells by) =
-    when NoSuchRelation (is_unknown s.words by)
+    let on = cells_named s.names cells in
+    let e = used library s name on by in
+    when NoSuchRelation (elim by [ By.Relation r ↦ is_none (relation_named s.words r) | _ ↦ false ])
     ∷ when NoSuchCell (is_cell_missing s.names cells)
-    ∷ use_refusal library s name (cells_named s.names cells) by
-    ∷ []
+    ∷ when NoSuchProcedure (is_none (compound_named library s.definitions name))
+    ∷ when WrongCount (is_miscounted (compound_named library s.definitions name) (length on))
+    ∷ when (LimitReached Cells) (nat_lt (most Cells) (length e.kinds - length on))
+    ∷ when (LimitReached Instances) (nat_lt (most Instances) (length e.placed))
+    ∷ when WrongKind (list_any (is_kind_wrong library e.kinds) e.placed)
+    ∷ when WrongParameter (e.spare || list_any (is_param_wrong library) e.placed) ∷ []
 reasons library s (Command.Fix cell value) = refused_at s cell value ∷ []
 reasons library s (Command.Tell premise cell value) =
     refused_at s cell value ∷ when IsAChoice (is_choice s.premises premise) ∷ []
 reasons library s (Command.Choose name cell values) =
-    when_refused s cell values NotAName
-    ∷ when_refused s cell values NotANumber
+    when_refused s cell values NotAName ∷ when_refused s cell values NotANumber
     ∷ when NameTaken (is_some (premise_number s.premises name) || is_choice s.premises name)
     ∷ map (when_refused s cell values) (NoSuchCell ∷ WrongKind ∷ NotInTheDomain ∷ EmptyValue ∷ [])
 reasons library s (Command.Kick premise) = belief_reasons s premise

@@ -8,7 +8,8 @@ use Rattle.prop_amb.specs.Search.{Stand}
 use Rattle.prop_amb.specs.Moving.{first_sides, level_first}
 use Rattle.prop_language.specs.Commands.{Command}
 use Rattle.prop_engine.specs.Answers.{Answer, Done}
-use Rattle.prop_workbench.specs.Machine.{State, users_in, worldview_at}
+use Rattle.prop_workbench.specs.Machine.{State, worldview_at}
+use Rattle.prop_workbench.specs.inner.Machine.{users_in}
 use Rattle.prop_workbench.specs.Effects.{number_given}
 use Rattle.prop_amb.specs.Going.{Work}
 

@@ -7,3 +7,5 @@ pub mod Steps
 pub mod Sessions
 pub mod Choosing
 pub mod Shown
+pub mod Machine
+pub mod Points

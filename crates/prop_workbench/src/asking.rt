@@ -38,7 +38,8 @@ impl<R: Rule + Drop, O: Order + Drop> Session<R, O> {
     ghost use Rattle.prop_language.specs.Commands as commands;
     ghost use Rattle.prop_explain.specs.Irreducible.{IfLeast, IfNotReduced, OfCore};
     ghost use Rattle.prop_engine.specs.Answers.{answer_of, Says, Text};
-    ghost use Rattle.prop_workbench.specs.Machine.{text_at, problem_in, choices_in, worldview_at};
+    ghost use Rattle.prop_workbench.specs.Machine.{problem_in, choices_in, worldview_at};
+    ghost use Rattle.prop_workbench.specs.inner.Machine.{text_at};
     ghost use Rattle.prop_texts.specs.Texts.{equation};
     ghost use Rattle.prop_vocabulary.specs.Cells.{cell_named};
     ghost use Rattle.prop_workbench.specs.inner.Carrying.{IsAnswered, IsAtRest, IsLeanIn};

@@ -6,7 +6,7 @@ ghost use Rattle.prop_refusals.specs.declared.refusal.Refusal.TheVariants.{Memor
 ghost use Rattle.prop_procedures.specs.Fitting.{kind_at};
 ghost use Rattle.prop_language.specs.Said.{by_of, words};
 ghost use Rattle.prop_compound.specs.Compounds.{given_by};
-ghost use Rattle.prop_workbench.specs.Refusing.{is_unknown};
+ghost use Rattle.prop_workbench.specs.inner.Refusing.{is_unknown};
 
 use crate::session::Session;
 use prop_cells::Cells;
@@ -88,11 +88,11 @@ impl<R: Rule + Drop, O: Order + Drop> Session<R, O> {
     ghost use Rattle.prop_compound.specs.Compounds.{given_by};
     ghost use Rattle.prop_compound.specs.Expansion.{expanded};
     ghost use Rattle.prop_workbench.specs.Effects.{used};
-    ghost use Rattle.prop_workbench.specs.Refusing.{use_refusal};
+    ghost use Rattle.prop_workbench.specs.inner.Refusing.{use_refusal};
     ghost use Rattle.prop_procedures.specs.Fitting.{kind_at};
     ghost use Rattle.prop_compound.specs.Expanding.{expand_refusal};
     ghost use Rattle.prop_compound.specs.Flattened.{expansion_of_flat, IsFlatOver};
-    ghost use Rattle.prop_workbench.specs.Effects.{with_use};
+    ghost use Rattle.prop_workbench.specs.inner.Effects.{with_use};
     ghost use Rattle.prop_workbench.specs.Sessions.{state_of, library_of, IsInOrder};
     ghost use Rattle.prop_workbench.specs.inner.Sessions.{Keeps};
     ghost use Rattle.prop_workbench.specs.inner.Carrying.{IsDone, HasLeft, HasStirred};

@@ -1,7 +1,7 @@
 //! A session with the program's procedures and preludes, over a reader and a writer.
 ghost use Rattle.std.specs.Prelude.{◌≡◌, IfOk, OnErr};
 ghost use Rattle.prop_engine.specs.Watched.{IsFresh, IsPassedOn};
-ghost use Rattle.prop_program.specs.Faults.{TellsDevices};
+ghost use Rattle.prop_program.specs.Faults.{TellsDevices, IsThrifty};
 ghost use Rattle.prop_telling.specs.Answering.{IsTold, IsToldInPart};
 ghost use Rattle.propwide.specs.Kits.{answer_of, wide, wide_related, wide_tells};
 ghost use Rattle.prop_cells.specs.Points.{AreSoundBy};
@@ -22,17 +22,18 @@ pub fn run<Rd: Read, W: Write>(
     options: Options,
     devices: &mut Devices<Rd, W>,
 ) -> Result<Counts, Fault>
-    requires reader { IsFresh devices.old.reader }
+    requires reader { IsFresh devices.old }
     requires writer { IsPassedOn devices.old }
     // Each reply is the session's, earned by steps that were taken in the order that was chosen, or
     // tells a step or what makes up a value.
     ensures told { IfOk result (IsTold wide options.order options.seed options.limit
-        (Rd.remaining devices.old.reader.device) (W.contents devices.old.writer.device)
-        (W.contents devices.new.writer.device)) }
+        (Rd.remaining devices.old.reader) (W.contents devices.old.writer)
+        (W.contents devices.new.writer)) }
     ensures told_in_part { OnErr result (IsToldInPart wide options.order options.seed options.limit
-        (Rd.remaining devices.old.reader.device) (W.contents devices.old.writer.device)
-        (W.contents devices.new.writer.device)) }
+        (Rd.remaining devices.old.reader) (W.contents devices.old.writer)
+        (W.contents devices.new.writer)) }
     ensures devices { TellsDevices result devices.old devices.new }
+    ensures thrift { IsThrifty result devices.old devices.new }
     // So values that belong together and satisfy all that is believed lie in each answer.
     ensures points { AreSoundBy wide.library wide_related }
     // And a plan in points satisfies all that is attached.

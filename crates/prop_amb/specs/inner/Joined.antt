@@ -2,7 +2,8 @@
 use Rattle.std.specs.Prelude.{◌≡◌, ℕ, suc, ◌||◌, IsTrue, List, [], ◌∷◌, false}
 use Rattle.prop_numbers.specs.Sets.{Members, set_of, without}
 use Rattle.prop_premises.specs.declared.choice.Choice.{Choice}
-use Rattle.prop_premises.specs.ChoiceLists.{IsSide, is_side_of}
+use Rattle.prop_premises.specs.ChoiceLists.{IsSide}
+use Rattle.prop_premises.specs.inner.ChoiceLists.{is_side_of}
 
 -- the set has just what the reasons have beside the sides of the choice
 pub record IsJoined (choice : Choice) (reasons : ℕ → Members) (n : Members) : Type 0 where

@@ -1,9 +1,11 @@
 -- The tables of the kit by functions of functions, of which the laws speak.
 use Rattle.std.specs.Prelude.{◌≡◌, ◌≢◌, ◌↔◌, ℕ, ℤ, Bool, List, [], ◌∷◌, Some, None, if◌then◌else◌}
-use Rattle.prop_intervals.specs.Comparisons.{yes_bits, no_bits, less_of, below_of, above_of}
+use Rattle.prop_intervals.specs.Comparisons.{yes_bits, no_bits}
+use Rattle.prop_intervals.specs.inner.Parts.{less_of, below_of, above_of}
 use Rattle.prop_intervals.specs.Relations.{IsSum, IsProduct, IsSquare, SaysLess}
 use Rattle.prop_intervals.specs.Roots.{root_of}
-use Rattle.prop_intervals.specs.Spans.{sum_of, difference_of, product_of, quotient_of, square_of}
+use Rattle.prop_intervals.specs.Spans.{sum_of, difference_of, product_of, quotient_of}
+use Rattle.prop_intervals.specs.inner.Parts.{square_of}
 use Rattle.prop_lattice.specs.Ends.{elements_from}
 use Rattle.prop_lattice.specs.Points.{Point, Number, Element}
 use Rattle.prop_lattice.specs.declared.elements.Elements as sets
@@ -17,7 +19,9 @@ use Rattle.prop_sets.specs.Images.{image_of, coimage_of}
 use Rattle.prop_sets.specs.Relation.{Relation, HasPair}
 use Rattle.prop_sets.specs.Truth.{IsNot, IsAnd, IsOr}
 use Rattle.prop_sets.specs.Truth.{and_of, and_back_of, or_of, or_back_of, not_of}
-use Rattle.prop_arith.specs.Comparing.{is_just, comparer_of, others_of}
+use Rattle.prop_arith.specs.Comparing.{others_of}
+use Rattle.prop_arith.specs.inner.Compared.{is_just}
+use Rattle.prop_arith.specs.inner.Compared.{comparer_of}
 use Rattle.prop_arith.specs.declared.kit.Kit as kits
 use Rattle.prop_arith.specs.declared.kit.Kit.TheVariants.{Add, Sub, Mul, Div, Square, Root, Less}
 use Rattle.prop_arith.specs.declared.kit.Kit.TheVariants.{Below, Above, Copy, Alike, Apart, Switch}

@@ -13,7 +13,8 @@ use Rattle.prop_intervals.specs.laws.ClipLaws.{span_from_holds}
 use Rattle.prop_intervals.specs.laws.ComparisonLaws as comparisons
 use Rattle.prop_intervals.specs.laws.ComparisonLaws.{less_sound}
 use Rattle.prop_intervals.specs.Comparisons as number_others
-use Rattle.prop_intervals.specs.Comparisons.{yes_bits, no_bits, less_of}
+use Rattle.prop_intervals.specs.Comparisons.{yes_bits, no_bits}
+use Rattle.prop_intervals.specs.inner.Parts.{less_of}
 use Rattle.prop_intervals.specs.laws.Relations.{IsInRange}
 use Rattle.prop_intervals.specs.Relations.{SaysLess}
 use Rattle.prop_lattice.proofs.PartLemmas.{below_from_shr}
@@ -32,11 +33,14 @@ use Rattle.prop_lattice.specs.declared.span.Span as spans
 use Rattle.prop_procedures.specs.declared.shape.Kinded.{Kinded}
 use Rattle.prop_procedures.specs.declared.shape.Shape.{Shape}
 use Rattle.prop_procedures.specs.declared.shape.Shape.TheVariants.{Truth, Any, Span as SpanShape}
-use Rattle.prop_procedures.specs.Rules.{AreOf, ArePointsOf, EachHolds}
+use Rattle.prop_procedures.specs.Rules.{EachHolds}
+use Rattle.prop_procedures.specs.inner.Places.{AreOf, ArePointsOf}
 use Rattle.prop_sets.specs.laws.NarrowestLaws.{elements_hold, elements_of_kind}
 use Rattle.prop_sets.specs.laws.OtherLaws as others
 use Rattle.prop_sets.specs.Others as element_others
-use Rattle.prop_arith.specs.Comparing.{comparer_of, first_element, is_just, is_single, others_of}
+use Rattle.prop_arith.specs.Comparing.{is_single, others_of}
+use Rattle.prop_arith.specs.inner.Compared.{is_just}
+use Rattle.prop_arith.specs.inner.Compared.{comparer_of, first_element}
 use Rattle.prop_arith.specs.laws.Combined.{RelatesAlike, RelatesApart, RelatesByTruth}
 use Rattle.prop_arith.specs.laws.Combined.{RelatesToTruth, at_three, at_two, on_spans, on_truth}
 use Rattle.prop_arith.specs.laws.Combined.{parter_of, told_alike}

@@ -2,14 +2,15 @@
 use Rattle.std.specs.Prelude.{List, [], ◌∷◌}
 use Rattle.std.proofs.Common.{arith, refl, rules, subst}
 use Rattle.prop_intervals.specs.Relations.{IsSum, IsProduct, IsSquare, SaysLess}
-use Rattle.prop_intervals.specs.Spans.{sum_of, difference_of, product_of, quotient_of, square_of}
+use Rattle.prop_intervals.specs.Spans.{sum_of, difference_of, product_of, quotient_of}
+use Rattle.prop_intervals.specs.inner.Parts.{square_of}
 use Rattle.prop_intervals.specs.laws.SumLaws.{sum_monotone, sum_kind, sum_sound}
 use Rattle.prop_intervals.specs.laws.SumLaws.{difference_monotone, difference_kind}
 use Rattle.prop_intervals.specs.laws.SumLaws.{difference_sound}
 use Rattle.prop_intervals.specs.laws.ProductLaws.{product_monotone, product_kind, product_sound}
 use Rattle.prop_intervals.specs.laws.DivisionLaws.{quotient_monotone, quotient_kind, quotient_sound}
 use Rattle.prop_intervals.specs.laws.SquareLaws.{square_monotone, square_kind, square_sound}
-use Rattle.prop_intervals.specs.Comparisons.{less_of, below_of, above_of}
+use Rattle.prop_intervals.specs.inner.Parts.{less_of, below_of, above_of}
 use Rattle.prop_intervals.specs.laws.ComparisonLaws.{less_monotone, less_kind, below_monotone}
 use Rattle.prop_intervals.specs.laws.ComparisonLaws.{below_kind, below_sound, above_monotone}
 use Rattle.prop_intervals.specs.laws.ComparisonLaws.{above_kind, above_sound}
@@ -21,7 +22,8 @@ use Rattle.prop_procedures.specs.declared.shape.Shape.{Shape}
 use Rattle.prop_procedures.specs.declared.shape.Shape.TheVariants.{Any}
 use Rattle.prop_procedures.specs.declared.shape.Need.{Need}
 use Rattle.prop_procedures.specs.Forms.{HasFewInputs}
-use Rattle.prop_procedures.specs.Rules.{IsMonotone, KeepsKind, IsSound, AreOf, EachHolds}
+use Rattle.prop_procedures.specs.Rules.{IsMonotone, KeepsKind, IsSound, EachHolds}
+use Rattle.prop_procedures.specs.inner.Places.{AreOf}
 use Rattle.prop_sets.specs.laws.ImageLaws.{image_monotone, image_sound, coimage_monotone}
 use Rattle.prop_sets.specs.laws.ImageLaws.{coimage_sound}
 use Rattle.prop_sets.specs.Images.{image_of, coimage_of}
@@ -37,7 +39,7 @@ use Rattle.prop_arith.specs.declared.kit.Kit.TheVariants.{Add, Sub, Mul, Div, Sq
 use Rattle.prop_arith.specs.declared.kit.Kit.TheVariants.{Below, Above, Copy, Alike, Apart, Switch}
 use Rattle.prop_arith.specs.declared.kit.Kit.TheVariants.{Not, And, AndBack, Or, OrBack, Image}
 use Rattle.prop_arith.specs.declared.kit.Kit.TheVariants.{Coimage}
-use Rattle.prop_arith.specs.Comparing.{comparer_of}
+use Rattle.prop_arith.specs.inner.Compared.{comparer_of}
 use Rattle.prop_arith.specs.laws.Combined.{Combined, RelatesSame, at_one, combined_of, on_span}
 use Rattle.prop_arith.specs.laws.Combined.{on_spans, on_truth, parter_of, passer_of, rooter_of}
 use Rattle.prop_arith.specs.Kit.{FormOf, form_of}

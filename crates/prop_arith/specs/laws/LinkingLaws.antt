@@ -14,7 +14,8 @@ use Rattle.prop_procedures.specs.declared.shape.Param.{Param}
 use Rattle.prop_procedures.specs.declared.shape.Param.TheVariants.{Plain, Scale, Rows}
 use Rattle.prop_procedures.specs.declared.shape.Shape.{Shape}
 use Rattle.prop_procedures.specs.declared.shape.Shape.TheVariants.{From, To}
-use Rattle.prop_procedures.specs.Rules.{AreSides, EachBelow, EachHolds, AreClear}
+use Rattle.prop_procedures.specs.Rules.{EachBelow, EachHolds, AreClear}
+use Rattle.prop_procedures.specs.inner.Places.{AreSides}
 use Rattle.prop_sets.specs.laws.ImageLaws.{image_kind, coimage_kind}
 use Rattle.prop_sets.specs.Images.{image_of, coimage_of}
 use Rattle.prop_sets.specs.Relation.{Relation}

@@ -11,8 +11,9 @@ use Rattle.prop_lattice.specs.declared.info.Kind.TheVariants as kinds
 use Rattle.prop_procedures.specs.declared.shape.Kinded.{Kinded}
 use Rattle.prop_procedures.specs.declared.shape.Shape.{Shape}
 use Rattle.prop_procedures.specs.declared.shape.Shape.TheVariants.{Truth, Any}
-use Rattle.prop_procedures.specs.Rules.{AreOf, ArePointsOf, EachHolds}
-use Rattle.prop_arith.specs.Comparing.{is_just}
+use Rattle.prop_procedures.specs.Rules.{EachHolds}
+use Rattle.prop_procedures.specs.inner.Places.{AreOf, ArePointsOf}
+use Rattle.prop_arith.specs.inner.Compared.{is_just}
 use Rattle.prop_arith.specs.laws.Combined.{RelatesElement, RelatesElements, RelatesWhere, at_one}
 use Rattle.prop_arith.specs.laws.Combined.{at_two, passer_of}
 use Rattle.prop_arith.specs.laws.SingleLaws.{never, just_stays, yes_single, yes_element}

@@ -6,7 +6,8 @@ use Rattle.std.proofs.lemmas.Nat.{mul-le}
 use borrow.Author.Differences.{product_is, same_in}
 use Rattle.std.proofs.lemmas.Int.{ints}
 use Rattle.prop_intervals.specs.Narrowest.{IsNarrowest as IsTightest}
-use Rattle.prop_intervals.specs.Quotients.{int_div_floor, int_div_ceil}
+use Rattle.prop_intervals.specs.Quotients.{int_div_ceil}
+use Rattle.prop_intervals.specs.inner.Parts.{int_div_floor}
 use Rattle.prop_intervals.specs.laws.QuotientLaws.{product-add, floor-lt, ceil-parts}
 use Rattle.prop_intervals.specs.Relations.{IsSum, IsProduct, IsSquare, BelongsToOne, BelongsToTwo}
 use Rattle.prop_intervals.specs.Roots.{IsRoot, first_of, last_of, root_of}

@@ -18,7 +18,9 @@ use Rattle.prop_lattice.specs.declared.elements.Elements as sets
 use Rattle.prop_lattice.specs.declared.info.Info.{Info}
 use Rattle.prop_lattice.specs.declared.info.Info.TheVariants.{Nothing, Span, Set, Sym}
 use Rattle.prop_lattice.specs.declared.info.Info.TheVariants.{Contradiction}
-use Rattle.prop_arith.specs.Comparing.{first_element, is_just, is_single}
+use Rattle.prop_arith.specs.Comparing.{is_single}
+use Rattle.prop_arith.specs.inner.Compared.{is_just}
+use Rattle.prop_arith.specs.inner.Compared.{first_element}
 
 pub never : false ≡ true → ⊥
 never e = cc

@@ -1,8 +1,9 @@
 -- What a call leaves as it was.
 use Rattle.std.specs.Prelude.{◌≡◌}
-use Rattle.prop_engine.specs.declared.watched.Watched.{Watched}
+use Rattle.prop_engine.specs.declared.watched.Devices.{Devices}
 
--- no more calls failed, or moved none of their bytes
-pub record IsUnharmed {T : Type 0} (old new : Watched T) : Type 0 where
-  pub failed : new.has_failed ≡ old.has_failed
-  pub stopped : new.has_stopped ≡ old.has_stopped
+-- nothing was read
+pub record HasNotRead {Rd W : Type 0} (old new : Devices Rd W) : Type 0 where
+  pub reader : new.reader ≡ old.reader
+  pub failed : new.has_read_failed ≡ old.has_read_failed
+  pub ended : new.has_read_end ≡ old.has_read_end

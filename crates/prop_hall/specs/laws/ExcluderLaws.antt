@@ -22,7 +22,9 @@ use Rattle.prop_procedures.specs.declared.shape.Param.{Param}
 use Rattle.prop_procedures.specs.declared.shape.Param.TheVariants.{Plain, Scale, Rows}
 use Rattle.prop_procedures.specs.declared.shape.Shape.{Shape}
 use Rattle.prop_procedures.specs.declared.shape.Shape.TheVariants.{Any, From}
-use Rattle.prop_procedures.specs.Rules.{IsMonotone, KeepsKind, IsSound, AreOf, AreSides, EachBelow}
+use Rattle.prop_procedures.specs.Rules.{IsMonotone, KeepsKind, IsSound, EachBelow}
+use Rattle.prop_procedures.specs.inner.Places.{AreSides}
+use Rattle.prop_procedures.specs.inner.Places.{AreOf}
 use Rattle.prop_procedures.specs.Rules.{EachHolds}
 use Rattle.prop_sets.specs.laws.NarrowestLaws.{elements_hold, elements_of_kind, bit_from_held}
 use Rattle.prop_hall.specs.Excluder.{FormOf, Related, IsAnother, value_of, beside, among, left_by}

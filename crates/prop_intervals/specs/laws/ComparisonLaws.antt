@@ -22,7 +22,8 @@ use Rattle.prop_lattice.specs.declared.span.Span as spans
 use Rattle.prop_lattice.specs.declared.info.Info.TheVariants.{Nothing, Span, Set}
 use Rattle.prop_lattice.specs.declared.info.Kind.TheVariants as kinds
 use Rattle.prop_intervals.specs.laws.ClipLaws.{span_from_below, span_from_of_span, span_from_holds}
-use Rattle.prop_intervals.specs.Comparisons.{yes_bits, no_bits, less_of, below_of, above_of}
+use Rattle.prop_intervals.specs.Comparisons.{yes_bits, no_bits}
+use Rattle.prop_intervals.specs.inner.Parts.{less_of, below_of, above_of}
 use Rattle.prop_intervals.specs.Comparisons.{IsOther, without_of}
 use Rattle.prop_intervals.specs.Narrowest.{IsNarrowest}
 use Rattle.prop_intervals.specs.laws.NarrowestLaws.{narrowest_below, span_narrowest, none_narrowest}

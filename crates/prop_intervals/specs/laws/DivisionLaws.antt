@@ -11,14 +11,17 @@ use Rattle.prop_lattice.specs.declared.span.Span as spans
 use Rattle.prop_lattice.specs.declared.info.Info.TheVariants.{Nothing, Span}
 use Rattle.prop_lattice.specs.declared.info.Kind.TheVariants as kinds
 use Rattle.prop_intervals.specs.laws.ClipLaws.{clip_below, clip_of_span, clip_holds}
-use Rattle.prop_intervals.specs.Quotients.{int_div_floor, int_div_ceil}
+use Rattle.prop_intervals.specs.Quotients.{int_div_ceil}
+use Rattle.prop_intervals.specs.inner.Parts.{int_div_floor}
 use Rattle.prop_intervals.specs.laws.QuotientLaws.{product-le, product-ge, product-between}
 use Rattle.prop_intervals.specs.laws.QuotientLaws.{floor-parts, le-floor, ceil-parts, ceil-le}
 use Rattle.prop_intervals.specs.laws.QuotientLaws.{neg-product}
 use Rattle.prop_intervals.specs.Relations.{IsProduct}
 use Rattle.prop_intervals.specs.laws.Relations.{IsInRange}
-use Rattle.prop_intervals.specs.Spans.{holds_zero, least_dividend, greatest_dividend, least_factor}
-use Rattle.prop_intervals.specs.Spans.{greatest_factor, factors_of, quotient_of}
+use Rattle.prop_intervals.specs.Spans.{holds_zero}
+use Rattle.prop_intervals.specs.inner.Parts.{least_dividend, greatest_dividend, least_factor}
+use Rattle.prop_intervals.specs.Spans.{factors_of, quotient_of}
+use Rattle.prop_intervals.specs.inner.Parts.{greatest_factor}
 use Rattle.prop_intervals.specs.laws.SquareLaws.{zero_out, zero_from_out}
 use lib.IntN.{*ℤ_comm}
 

@@ -4,7 +4,8 @@ use Rattle.std.proofs.Common.{inl, inr, arith, sym, subst}
 use Rattle.std.specs.Int.{int_max, int_min}
 use Rattle.std.proofs.lemmas.Int.{ints, clamps}
 use Rattle.prop_lattice.specs.declared.span.TheConstants.{B}
-use Rattle.prop_lattice.specs.Ends.{AreEnds, ends_or_not, span_if, span_from}
+use Rattle.prop_lattice.specs.Ends.{AreEnds, ends_or_not, span_from}
+use Rattle.prop_lattice.specs.inner.Ends.{span_if}
 use Rattle.prop_lattice.proofs.EndLemmas.{span_from-none}
 use Rattle.prop_lattice.specs.Order.{Below}
 use Rattle.prop_lattice.specs.laws.OrderLaws.{to_top}

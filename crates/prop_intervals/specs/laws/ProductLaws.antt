@@ -13,7 +13,8 @@ use Rattle.prop_lattice.specs.declared.info.Kind.TheVariants as kinds
 use Rattle.prop_intervals.specs.laws.ClipLaws.{clip_below, clip_of_span, clip_holds}
 use Rattle.prop_intervals.specs.Narrowest.{IsNarrowest}
 use Rattle.prop_intervals.specs.laws.NarrowestLaws.{clip_narrowest}
-use Rattle.prop_intervals.specs.Quotients.{int_div_floor, int_div_ceil}
+use Rattle.prop_intervals.specs.Quotients.{int_div_ceil}
+use Rattle.prop_intervals.specs.inner.Parts.{int_div_floor}
 use Rattle.prop_intervals.specs.laws.QuotientLaws.{product-add, product-between, floor-parts}
 use Rattle.prop_intervals.specs.laws.QuotientLaws.{floor-lt, floor-below, ceil-parts, lt-ceil}
 use Rattle.prop_intervals.specs.laws.QuotientLaws.{ceil-below}

@@ -6,7 +6,8 @@ use Rattle.std.proofs.lemmas.Int.{ints, clamps, by_lt_z}
 use lib.IntN.{*ℤ_comm}
 use borrow.Author.Differences.{up, down, le_out, sum_is_lem, neg_is, product_is, same_in}
 use borrow.Author.Differences.{at_most_in}
-use Rattle.prop_intervals.specs.Quotients.{int_div_floor, int_div_ceil}
+use Rattle.prop_intervals.specs.Quotients.{int_div_ceil}
+use Rattle.prop_intervals.specs.inner.Parts.{int_div_floor}
 
 -- ---- products
 
@@ -66,7 +67,6 @@ product-between u c d v p q =
 -- a quotient that rounds down, and what is left of it
 pub floor-parts : (a d : ℤ) → pos 0 <ℤ d
     → ((int_div_floor a d *ℤ d) ≤ℤ a) × (a <ℤ ((int_div_floor a d *ℤ d) +ℤ d))
-unfolding int_div_floor
 floor-parts (pos a) (pos zero) p = absurd (omega (arith, ints))
 floor-parts (pos a) (pos (suc n)) p = (omega (arith, ints), omega (arith, ints))
 floor-parts (negsuc a) (pos zero) p = absurd (omega (arith, ints))

@@ -17,7 +17,8 @@ use Rattle.prop_intervals.specs.laws.NarrowestLaws.{clip_narrowest}
 use Rattle.prop_intervals.specs.laws.QuotientLaws.{product-le, product-ge}
 use Rattle.prop_intervals.specs.Relations.{IsSquare, BelongsToOne}
 use Rattle.prop_intervals.specs.laws.Relations.{IsInRange}
-use Rattle.prop_intervals.specs.Spans.{holds_zero, least_square, greatest_square, square_of}
+use Rattle.prop_intervals.specs.Spans.{holds_zero}
+use Rattle.prop_intervals.specs.inner.Parts.{least_square, greatest_square, square_of}
 use lib.IntN.{*ℤ_comm}
 
 -- ---- where zero lies

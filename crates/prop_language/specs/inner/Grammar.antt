@@ -1,16 +1,25 @@
 -- How each command is spelled, of tokens alone, and which of their words have to be names.
-use Rattle.std.specs.Prelude.{◌≡◌, ◌≢◌, ℕ, ◌≤◌, List, [], ◌∷◌, ◌++◌, Bool, true, false, cond, not}
-use Rattle.std.specs.Prelude.{codes, pos, unsigned_abs, map, flat_map, length, is_some, Option}
+use Rattle.std.specs.Prelude.{◌≡◌, ◌≢◌, ◌⊎◌, ℕ, ◌≤◌, List, [], ◌∷◌, ◌++◌, Bool, true, false, cond}
+use Rattle.std.specs.Prelude.{not, codes, pos, unsigned_abs, map, flat_map, length, is_some, Option}
 use Rattle.std.specs.Prelude.{Some, Result, Ok, Err}
 use Rattle.std.specs.List.{AllByRecursion, list_all}
 use Rattle.std.specs.Option.{option_map}
 use Rattle.prop_refusals.specs.declared.refusal.Refusal.{Refusal}
 use Rattle.prop_refusals.specs.declared.refusal.Refusal.TheVariants.{NotAName, NotANumber}
-use Rattle.prop_language.specs.Tokens.{Token, Word, Semicolon, Equals, Star}
+use Rattle.prop_language.specs.Tokens.{Token, Word, Open, Close, Semicolon, Equals, Star}
 use Rattle.prop_language.specs.Names.{is_name, looks_like_number, number_in}
-use Rattle.prop_language.specs.Commands.{Value, KindWord, Spans, Truths, Symbols}
+use Rattle.prop_language.specs.Commands.{Value, Bare, Braces, KindWord, Spans, Truths, Symbols}
 use Rattle.prop_language.specs.Commands.{Named, By, Passed, Step, Command}
-use Rattle.prop_language.specs.Spelling.{tokens_of_value, IsLocal}
+
+-- the tokens have one of the forms of a local
+abbrev pub IsLocal : List Token → Type 0
+IsLocal ts =
+    ((n kind : List ℕ) × (ts ≡ map Word (codes "local" ∷ n ∷ kind ∷ [])))
+    ⊎ ((n p : List ℕ) × (ts ≡ map Word (codes "local" ∷ n ∷ codes "like" ∷ p ∷ [])))
+
+abbrev pub tokens_of_value : Value → List Token
+tokens_of_value (Bare w) = Word w ∷ []
+tokens_of_value (Braces ws) = Open ∷ map Word ws ++ Close ∷ []
 
 -- The word stands for the kind. Three kinds have words of their own, and another word is a domain's
 -- name.

@@ -7,7 +7,8 @@ use Rattle.prop_refusals.specs.declared.refusal.Refusal.TheVariants.{LineTooLong
 use Rattle.prop_refusals.specs.declared.refusal.Refusal.TheVariants.{UnknownCommand, WrongForm}
 use Rattle.prop_language.specs.Tokens.{Token, Word, tokens}
 use Rattle.prop_language.specs.Commands.{Command}
-use Rattle.prop_language.specs.Reading.{without_return, is_silent}
+use Rattle.prop_language.specs.Reading.{is_silent}
+use Rattle.prop_language.specs.inner.Lines.{without_return}
 use Rattle.prop_language.specs.inner.Grammar.{command_in_range}
 use Rattle.prop_language.specs.inner.Forms.{forms}
 

@@ -10,7 +10,8 @@ use Rattle.prop_refusals.specs.declared.refusal.Refusal.TheVariants.{UnknownComm
 use Rattle.prop_refusals.specs.declared.refusal.Refusal.TheVariants.{NotAName, NotANumber}
 use Rattle.prop_language.specs.Tokens.{Token, Word, Open, Close, Semicolon, Equals, Star, is_blank}
 use Rattle.prop_language.specs.Tokens.{mark_of}
-use Rattle.prop_language.specs.Names.{is_name, digits_number}
+use Rattle.prop_language.specs.Names.{is_name}
+use Rattle.prop_language.specs.inner.Digits.{digits_number}
 use Rattle.prop_language.specs.Commands.{Value, By, Passed, Step, Command}
 use Rattle.prop_language.specs.inner.Forms.{join, bare, each, step, on_word, limit_of, domain}
 use Rattle.prop_language.specs.inner.Forms.{relation, cell, define, attach, fix, tell, choose}

@@ -10,8 +10,10 @@ use Rattle.std.specs.Int.{int_max, int_min}
 use Rattle.std.proofs.lemmas.Int.{ints, clamps}
 use Rattle.std.proofs.lemmas.Nat.{and_le_l}
 use Rattle.prop_lattice.specs.InformationOrder.{IsInformationOrder, IsLeastAbove}
-use Rattle.prop_lattice.specs.Ends.{AreEnds, AreSome, ends_or_not, some_or_not, span_if}
-use Rattle.prop_lattice.specs.Ends.{elements_if, span_from, elements_from}
+use Rattle.prop_lattice.specs.Ends.{AreEnds, ends_or_not, some_or_not}
+use Rattle.prop_lattice.specs.inner.Ends.{AreSome, span_if}
+use Rattle.prop_lattice.specs.Ends.{span_from, elements_from}
+use Rattle.prop_lattice.specs.inner.Ends.{elements_if}
 use Rattle.prop_lattice.specs.declared.span.TheConstants.{B}
 use Rattle.prop_lattice.specs.laws.PartLaws.{part_left, part_right, part_least, same_parts}
 use Rattle.prop_lattice.specs.laws.PartLaws.{part_of_none}

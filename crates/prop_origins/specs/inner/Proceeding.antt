@@ -1,7 +1,8 @@
 -- How what is known goes on.
 use Rattle.std.specs.Prelude.{ℕ, ◌+◌, ◌≤◌, List}
 use Rattle.prop_lattice.specs.Order.{Below}
-use Rattle.prop_cells.specs.Problems.{Problem, Assignment, AreOfKinds, OthersMeet}
+use Rattle.prop_cells.specs.Problems.{Problem, Assignment, OthersMeet}
+use Rattle.prop_cells.specs.inner.Problems.{AreOfKinds}
 use Rattle.prop_scheduler.specs.Potential.{potential}
 
 -- More is known after so many calls, of the cells' kinds. Each of them, and each instance that came

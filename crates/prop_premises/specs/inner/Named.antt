@@ -6,7 +6,8 @@ use Rattle.prop_premises.specs.declared.named.Kind.{Kind}
 use Rattle.prop_premises.specs.declared.named.Kind.TheVariants as kind
 use Rattle.prop_premises.specs.declared.named.Source.{Source}
 use Rattle.prop_premises.specs.declared.named.Source.TheVariants as source
-use Rattle.prop_premises.specs.Origins.{Origin, User, Side, sides_below}
+use Rattle.prop_premises.specs.Origins.{Origin, User, Side}
+use Rattle.prop_premises.specs.inner.Origins.{sides_below}
 
 -- how many numbers a name takes
 abbrev pub width : Kind → ℕ

@@ -1,8 +1,11 @@
 -- Words of bits, by number.
-use Rattle.std.specs.Prelude.{◌≡◌, ℕ, ◌^◌, Bool, ◌&&◌, List, slice_index, slice_set, bit_or}
+use Rattle.std.specs.Prelude.{◌≡◌, ℕ, ◌^◌, Bool, ◌==◌, ◌&&◌, List, slice_index, slice_set, bit_or}
 use Rattle.std.specs.Int.{bit_at}
 use Rattle.prop_sets.specs.Chosen.{bits_where, any_below}
-use Rattle.prop_sets.specs.Images.{is_set}
+
+-- the bit is set
+abbrev pub is_set : ℕ → ℕ → Bool
+is_set bits i = bit_at bits i == 1
 
 -- one bit more in one of the words
 abbrev pub with_bit : List ℕ → ℕ → ℕ → List ℕ

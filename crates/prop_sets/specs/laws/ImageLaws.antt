@@ -17,7 +17,8 @@ use Rattle.prop_lattice.specs.declared.info.Kind.TheVariants as kinds
 use Rattle.prop_sets.specs.Chosen.{any_below}
 use Rattle.prop_sets.specs.laws.ChosenLaws.{bits_where-lt, bits_where-passes, bits_where-has}
 use Rattle.prop_sets.specs.laws.ChosenLaws.{any_below-Decides}
-use Rattle.prop_sets.specs.Images.{is_set, IsInImage, IsInCoimage, image_of}
+use Rattle.prop_sets.specs.Images.{IsInImage, IsInCoimage, image_of}
+use Rattle.prop_sets.specs.inner.Words.{is_set}
 use Rattle.prop_sets.specs.Images.{coimage_of, HoldsJust}
 use Rattle.prop_sets.specs.inner.Words.{partner_bits}
 use Rattle.prop_sets.specs.Narrowest.{IsNarrowest}

@@ -4,7 +4,8 @@ use Rattle.std.specs.Int.{bit_at, w64, trailing_zeros}
 use Rattle.std.proofs.Common.{arith, inl, inr}
 use Rattle.std.proofs.lemmas.Bool.{cases_lt}
 use Rattle.std.proofs.lemmas.Nat.Bits.{bit_at-zero, bit_at-trailing_zeros}
-use Rattle.prop_lattice.specs.Ends.{AreSome, some_or_not, elements_if, elements_from}
+use Rattle.prop_lattice.specs.Ends.{some_or_not, elements_from}
+use Rattle.prop_lattice.specs.inner.Ends.{AreSome, elements_if}
 use Rattle.prop_lattice.specs.Order.{Below}
 use Rattle.prop_lattice.specs.laws.PartLaws.{part_of_none}
 use Rattle.prop_lattice.specs.laws.Parts.{HasBitsOf}

@@ -16,7 +16,7 @@ use Rattle.prop_lattice.specs.declared.info.Info.TheVariants.{Set}
 use Rattle.prop_lattice.specs.declared.info.Kind.TheVariants as kinds
 use Rattle.prop_sets.specs.Chosen.{bits_where}
 use Rattle.prop_sets.specs.laws.ChosenLaws.{bits_where-lt, bits_where-passes, bits_where-has}
-use Rattle.prop_sets.specs.Images.{is_set}
+use Rattle.prop_sets.specs.inner.Words.{is_set}
 use Rattle.prop_sets.specs.Narrowest.{IsNarrowest}
 use Rattle.prop_sets.specs.laws.NarrowestLaws.{elements_hold, elements_below, elements_of_kind}
 use Rattle.prop_sets.specs.laws.NarrowestLaws.{elements_narrowest}

@@ -22,7 +22,8 @@ use Rattle.prop_sets.specs.laws.ChosenLaws.{any_below-Decides}
 use Rattle.prop_sets.specs.laws.NarrowestLaws.{elements_hold, bit_from_held, elements_below}
 use Rattle.prop_sets.specs.laws.NarrowestLaws.{elements_of_kind}
 use Rattle.prop_sets.specs.Truth.{IsAnd, IsOr, IsNot, is_and, is_or, is_not, leaves, is_nothing}
-use Rattle.prop_sets.specs.Truth.{told, truth_of, IsLeftByOne, IsLeftByTwo, LeavesJust}
+use Rattle.prop_sets.specs.Truth.{truth_of, IsLeftByOne, IsLeftByTwo, LeavesJust}
+use Rattle.prop_sets.specs.inner.Truths.{told}
 use Rattle.prop_sets.specs.Truth.{and_of, and_back_of, or_of, or_back_of, not_of}
 use Rattle.prop_sets.specs.inner.Truths.{outputs_of}
 

@@ -12,7 +12,8 @@ use Rattle.prop_language.proofs.ReadingLaws.{have_one_reading}
 use Rattle.prop_engine.specs.Lines.{kept_of}
 use Rattle.prop_engine.specs.Answers.{Answer, Silent, Refused}
 use Rattle.prop_engine.specs.Machines.{AsksByPrefix, IsTotal}
-use Rattle.prop_workbench.specs.Machine.{naming, worldview_at}
+use Rattle.prop_workbench.specs.Machine.{worldview_at}
+use Rattle.prop_workbench.specs.inner.Machine.{naming}
 use Rattle.prop_workbench.specs.Questions.{Picks}
 use Rattle.prop_workbench.specs.Engine.{Standing, Works}
 use Rattle.prop_workbench.specs.laws.MachineLaws.{working_asks_by_prefix}

@@ -1,5 +1,5 @@
 -- Names for parts of what declarations and values say.
-use Rattle.std.specs.Prelude.{ℕ, List, [], ◌∷◌, ◌++◌, Bool, ◌||◌, nat_le, nat_lt, Option, length}
+use Rattle.std.specs.Prelude.{ℕ, List, [], ◌∷◌, Bool, ◌||◌, nat_le, nat_lt, Option, length}
 use Rattle.std.specs.Prelude.{is_some, is_none, unwrap_or, slice_get}
 use Rattle.prop_refusals.specs.Refusals.{most, when, first_of}
 use Rattle.prop_refusals.specs.declared.refusal.Limit.TheVariants.{Domains, Elements}
@@ -8,7 +8,8 @@ use Rattle.prop_refusals.specs.declared.refusal.Refusal.TheVariants.{LimitReache
 use Rattle.prop_sets.specs.Names.{has_repeat}
 use Rattle.prop_sets.specs.Relation.{Relation, with_pair}
 use Rattle.prop_vocabulary.specs.Names.{number_in}
-use Rattle.prop_vocabulary.specs.Pairs.{place_of, is_outside}
+use Rattle.prop_vocabulary.specs.Pairs.{is_outside}
+use Rattle.prop_vocabulary.specs.inner.Between.{place_of}
 use Rattle.prop_vocabulary.specs.Vocabulary.{Vocabulary, domain_number, elements_of}
 
 -- one pair more, of the elements with these names

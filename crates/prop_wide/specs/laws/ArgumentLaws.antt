@@ -10,7 +10,8 @@ use Rattle.prop_procedures.specs.declared.shape.Shape.{Shape}
 use Rattle.prop_procedures.specs.declared.shape.Shape.TheVariants.{Span}
 use Rattle.prop_procedures.specs.declared.shape.Param.{Param}
 use Rattle.prop_procedures.specs.declared.shape.Param.TheVariants.{Plain, Scale, Rows}
-use Rattle.prop_procedures.specs.Rules.{ArePointsOf, EachBelow, EachHolds, AreClear, is_scale}
+use Rattle.prop_procedures.specs.Rules.{EachBelow, EachHolds, AreClear, is_scale}
+use Rattle.prop_procedures.specs.inner.Places.{ArePointsOf}
 use Rattle.prop_lattice.specs.Order.{Below}
 use Rattle.prop_lattice.specs.Rank.{IsOf}
 use Rattle.prop_lattice.specs.declared.info.Info.TheVariants.{Nothing}

@@ -4,7 +4,9 @@ use Rattle.std.specs.Prelude.{List, [], ◌∷◌}
 use Rattle.std.specs.Int.{bit_at}
 use Rattle.std.specs.Prelude.{if◌then◌else◌}
 use Rattle.std.proofs.Common.{arith, refl, rules, sym, subst}
-use Rattle.prop_arith.specs.Comparing.{comparer_of, is_just, is_single}
+use Rattle.prop_arith.specs.Comparing.{is_single}
+use Rattle.prop_arith.specs.inner.Compared.{is_just}
+use Rattle.prop_arith.specs.inner.Compared.{comparer_of}
 use Rattle.prop_arith.specs.laws.Combined.{at_three, told_alike}
 use Rattle.prop_arith.specs.laws.ComparingLaws.{comparer_below, comparer_sound}
 use Rattle.prop_arith.specs.laws.SingleLaws.{just_stays, no_single, no_element}
@@ -21,7 +23,8 @@ use Rattle.prop_lattice.specs.declared.info.Kind.TheVariants as kinds
 use Rattle.prop_procedures.specs.declared.shape.Kinded.{Kinded}
 use Rattle.prop_procedures.specs.declared.shape.Shape.{Shape}
 use Rattle.prop_procedures.specs.declared.shape.Shape.TheVariants.{Truth, Any}
-use Rattle.prop_procedures.specs.Rules.{AreOf, ArePointsOf, EachHolds}
+use Rattle.prop_procedures.specs.Rules.{EachHolds}
+use Rattle.prop_procedures.specs.inner.Places.{AreOf, ArePointsOf}
 use Rattle.prop_sets.specs.Truth.{leaves}
 use Rattle.prop_sets.specs.laws.NarrowestLaws.{elements_hold}
 use Rattle.prop_wide.specs.Choices.{choose_of, decide_of, agree}

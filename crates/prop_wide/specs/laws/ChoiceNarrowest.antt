@@ -5,13 +5,16 @@ use Rattle.std.specs.Int.{bit_at, int_max, int_min, w64, trailing_zeros}
 use Rattle.std.proofs.Common.{arith, refl, rules, sym, subst, ◌∙◌, inl, inr, eqb-true, eq-eqb}
 use Rattle.std.proofs.lemmas.Int.{ints, clamps}
 use Rattle.std.proofs.lemmas.Nat.Bits.{bit_at_and, bit_at-trailing_zeros}
-use Rattle.prop_arith.specs.Comparing.{is_just, is_single}
+use Rattle.prop_arith.specs.Comparing.{is_single}
+use Rattle.prop_arith.specs.inner.Compared.{is_just}
 use Rattle.prop_arith.specs.laws.Combined.{at_three, told_alike}
 use Rattle.prop_intervals.specs.Comparisons.{no_bits}
 use Rattle.prop_intervals.specs.laws.Relations.{IsInRange}
 use Rattle.prop_lattice.proofs.EndLemmas.{elements_from-bits}
-use Rattle.prop_lattice.specs.Ends.{AreEnds, AreSome, ends_or_not, some_or_not, span_if}
-use Rattle.prop_lattice.specs.Ends.{elements_if, span_from, elements_from}
+use Rattle.prop_lattice.specs.Ends.{AreEnds, ends_or_not, some_or_not}
+use Rattle.prop_lattice.specs.inner.Ends.{AreSome, span_if}
+use Rattle.prop_lattice.specs.Ends.{span_from, elements_from}
+use Rattle.prop_lattice.specs.inner.Ends.{elements_if}
 use Rattle.prop_lattice.specs.Order.{merge_of, is_contradiction, HasElement}
 use Rattle.prop_lattice.specs.Points.{Point, Number, Element, Symbol, Holds, IsPointOf}
 use Rattle.prop_lattice.specs.Rank.{IsOf}
@@ -27,7 +30,8 @@ use Rattle.prop_lattice.specs.declared.info.Kind.TheVariants as kinds
 use Rattle.prop_procedures.specs.declared.shape.Kinded.{Kinded}
 use Rattle.prop_procedures.specs.declared.shape.Shape.{Shape}
 use Rattle.prop_procedures.specs.declared.shape.Shape.TheVariants.{Truth, Any}
-use Rattle.prop_procedures.specs.Rules.{AreOf, AreClear}
+use Rattle.prop_procedures.specs.Rules.{AreClear}
+use Rattle.prop_procedures.specs.inner.Places.{AreOf}
 use Rattle.prop_sets.specs.Truth.{leaves}
 use Rattle.prop_sets.specs.laws.NarrowestLaws.{bit_from_held}
 use Rattle.prop_wide.specs.Answers.{HavePoints}

@@ -16,7 +16,8 @@ use Rattle.prop_procedures.specs.declared.shape.Kinded.{Kinded}
 use Rattle.prop_procedures.specs.declared.shape.Shape.{Shape}
 use Rattle.prop_procedures.specs.declared.shape.Shape.TheVariants.{Truth, Span as SpanShape, Any}
 use Rattle.prop_procedures.specs.declared.shape.Shape.TheVariants.{From, To}
-use Rattle.prop_procedures.specs.Rules.{ArePointsOf, EachBelow, EachHolds}
+use Rattle.prop_procedures.specs.Rules.{EachBelow, EachHolds}
+use Rattle.prop_procedures.specs.inner.Places.{ArePointsOf}
 use Rattle.prop_sets.specs.Truth.{leaves}
 use Rattle.prop_wide.specs.Counts.{yes_among, sure_of, possible_of, count_of, count_back_of}
 use Rattle.prop_wide.specs.Ends.{low_of, high_of}

@@ -15,7 +15,8 @@ use Rattle.prop_lattice.specs.declared.info.Kind.TheVariants as kinds
 use Rattle.prop_procedures.specs.declared.shape.Kinded.{Kinded}
 use Rattle.prop_procedures.specs.declared.shape.Shape.{Shape}
 use Rattle.prop_procedures.specs.declared.shape.Shape.TheVariants.{Span as SpanShape}
-use Rattle.prop_procedures.specs.Rules.{AreOf, ArePointsOf, EachHolds, AreClear}
+use Rattle.prop_procedures.specs.Rules.{EachHolds, AreClear}
+use Rattle.prop_procedures.specs.inner.Places.{AreOf, ArePointsOf}
 use Rattle.prop_sets.specs.Truth.{leaves}
 use Rattle.prop_wide.specs.Counts.{yes_among, sure_of, possible_of, count_of, may_lie}
 use Rattle.prop_wide.specs.Counts.{count_back_of}

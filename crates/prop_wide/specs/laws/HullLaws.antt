@@ -7,8 +7,10 @@ use Rattle.std.proofs.Common.{arith, refl, rules, sym, subst, ◌∙◌, inl, in
 use Rattle.std.proofs.lemmas.Int.{ints, clamps}
 use Rattle.std.proofs.lemmas.Nat.{or_lt}
 use Rattle.std.proofs.lemmas.Nat.Bits.{bit_at_or}
-use Rattle.prop_lattice.specs.Ends.{AreEnds, AreSome, ends_or_not, some_or_not, span_if}
-use Rattle.prop_lattice.specs.Ends.{elements_if, span_from, elements_from}
+use Rattle.prop_lattice.specs.Ends.{AreEnds, ends_or_not, some_or_not}
+use Rattle.prop_lattice.specs.inner.Ends.{AreSome, span_if}
+use Rattle.prop_lattice.specs.Ends.{span_from, elements_from}
+use Rattle.prop_lattice.specs.inner.Ends.{elements_if}
 use Rattle.prop_lattice.specs.Order.{Below}
 use Rattle.prop_lattice.specs.laws.OrderLaws.{info_laws, to_top}
 use Rattle.prop_lattice.specs.laws.PartLaws.{bit_at_le, part_of_none}

@@ -6,7 +6,8 @@ use Rattle.std.proofs.Common.{arith, refl, inl, inr}
 use Rattle.std.proofs.lemmas.Int.{ints, clamps}
 use Rattle.prop_intervals.specs.Clip.{clip}
 use Rattle.prop_intervals.specs.laws.Relations.{IsInRange}
-use Rattle.prop_lattice.specs.Ends.{AreEnds, ends_or_not, span_if, span_from}
+use Rattle.prop_lattice.specs.Ends.{AreEnds, ends_or_not, span_from}
+use Rattle.prop_lattice.specs.inner.Ends.{span_if}
 use Rattle.prop_lattice.specs.Points.{Number, Holds}
 use Rattle.prop_lattice.specs.Rank.{IsOf}
 use Rattle.prop_lattice.specs.declared.span.TheConstants.{B}

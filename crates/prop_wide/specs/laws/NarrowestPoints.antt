@@ -20,7 +20,9 @@ use Rattle.prop_procedures.specs.declared.shape.Param.{Param}
 use Rattle.prop_procedures.specs.declared.shape.Param.TheVariants.{Plain, Scale, Rows}
 use Rattle.prop_procedures.specs.declared.shape.Shape.{Shape}
 use Rattle.prop_procedures.specs.declared.shape.Shape.TheVariants.{Span}
-use Rattle.prop_procedures.specs.Rules.{AreOf, AreClear, Admits, is_scale}
+use Rattle.prop_procedures.specs.Rules.{AreClear, is_scale}
+use Rattle.prop_procedures.specs.inner.Places.{Admits}
+use Rattle.prop_procedures.specs.inner.Places.{AreOf}
 use Rattle.prop_sets.specs.laws.NarrowestLaws.{bit_from_held}
 use Rattle.prop_wide.specs.Answers.{Belongs}
 use Rattle.prop_wide.specs.Narrowest.{IsNarrowest, BelongsToOne, BelongsToTwo, OneIsNarrowest}

@@ -6,7 +6,7 @@ use Rattle.std.proofs.Common.{arith, refl, inl, inr, ap, sym, ◌∙◌}
 use Rattle.std.proofs.lemmas.Int.{ints, clamps, by_lt_z}
 use lib.IntN.{*ℤ_comm}
 use Rattle.prop_intervals.specs.Clip.{clip}
-use Rattle.prop_intervals.specs.Quotients.{int_div_floor}
+use Rattle.prop_intervals.specs.inner.Parts.{int_div_floor}
 use Rattle.prop_intervals.specs.laws.ClipLaws.{clip_below, clip_of_span, clip_holds}
 use Rattle.prop_intervals.specs.laws.QuotientLaws.{product-add, product-le, product-ge, floor-parts}
 use Rattle.prop_intervals.specs.laws.QuotientLaws.{le-floor, floor-lt, neg-product}

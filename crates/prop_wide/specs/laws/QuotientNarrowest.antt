@@ -6,7 +6,7 @@ use Rattle.std.proofs.Common.{arith, refl, inl, inr, ap, ◌∙◌}
 use lib.IntN.{*ℤ_comm}
 use Rattle.std.proofs.lemmas.Int.{ints, clamps}
 use Rattle.prop_intervals.specs.Clip.{clip}
-use Rattle.prop_intervals.specs.Quotients.{int_div_floor}
+use Rattle.prop_intervals.specs.inner.Parts.{int_div_floor}
 use Rattle.prop_intervals.specs.laws.QuotientLaws.{floor-lt, floor-parts, le-floor, neg-product}
 use Rattle.prop_intervals.specs.laws.QuotientLaws.{product-ge, product-le}
 use Rattle.prop_intervals.specs.laws.Relations.{IsInRange}

@@ -10,7 +10,7 @@ use Rattle.prop_intervals.specs.laws.QuotientLaws.{product-le, neg-product}
 use Rattle.prop_intervals.specs.laws.Relations.{IsInRange}
 use Rattle.prop_intervals.specs.laws.RootLaws.{least_root-from, least_root-to, greatest_root-from}
 use Rattle.prop_intervals.specs.laws.RootLaws.{greatest_root-to, square_is}
-use Rattle.prop_intervals.specs.Roots.{least_root, greatest_root}
+use Rattle.prop_intervals.specs.inner.Roots.{least_root, greatest_root}
 use Rattle.prop_lattice.specs.Order.{Below}
 use Rattle.prop_lattice.specs.laws.OrderLaws.{to_top}
 use Rattle.prop_lattice.specs.Points.{Number, Holds}

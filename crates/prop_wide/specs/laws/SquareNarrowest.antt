@@ -7,8 +7,9 @@ use Rattle.std.proofs.lemmas.Int.{ints, clamps, by_lt_z}
 use lib.IntN.{*ℤ_comm}
 use Rattle.prop_arith.specs.laws.Combined.{RelatesOne, at_one}
 use Rattle.prop_arith.specs.laws.NumberLaws.{at_least_one}
-use Rattle.prop_intervals.specs.Quotients.{int_div_floor, int_div_ceil}
-use Rattle.prop_intervals.specs.Roots.{least_root, greatest_root}
+use Rattle.prop_intervals.specs.Quotients.{int_div_ceil}
+use Rattle.prop_intervals.specs.inner.Parts.{int_div_floor}
+use Rattle.prop_intervals.specs.inner.Roots.{least_root, greatest_root}
 use Rattle.prop_intervals.specs.Spans.{least_product, greatest_product, product_of}
 use Rattle.prop_intervals.specs.laws.QuotientLaws.{product-add, product-le, floor-parts, le-floor}
 use Rattle.prop_intervals.specs.laws.QuotientLaws.{floor-lt, ceil-parts, ceil-le, lt-ceil}
@@ -26,7 +27,9 @@ use Rattle.prop_procedures.specs.declared.shape.Param.{Param}
 use Rattle.prop_procedures.specs.declared.shape.Param.TheVariants.{Plain, Scale, Rows}
 use Rattle.prop_procedures.specs.declared.shape.Shape.{Shape}
 use Rattle.prop_procedures.specs.declared.shape.Shape.TheVariants as shapes
-use Rattle.prop_procedures.specs.Rules.{AreOf, AreClear, Admits}
+use Rattle.prop_procedures.specs.Rules.{AreClear}
+use Rattle.prop_procedures.specs.inner.Places.{Admits}
+use Rattle.prop_procedures.specs.inner.Places.{AreOf}
 use Rattle.prop_wide.specs.Answers.{IsInside}
 use Rattle.prop_wide.specs.Distances.{IsDistance, at_distance, least_distance}
 use Rattle.prop_wide.specs.Distances.{greatest_distance}

@@ -13,7 +13,8 @@ use Rattle.prop_procedures.specs.declared.shape.Shape.{Shape}
 use Rattle.prop_procedures.specs.declared.shape.Shape.TheVariants.{Span}
 use Rattle.prop_procedures.specs.declared.shape.Need.{Need}
 use Rattle.prop_procedures.specs.Rules.{IsMonotone, KeepsKind, IsSound, EachBelow, EachHolds}
-use Rattle.prop_procedures.specs.Rules.{AreClear, ArePointsOf}
+use Rattle.prop_procedures.specs.Rules.{AreClear}
+use Rattle.prop_procedures.specs.inner.Places.{ArePointsOf}
 use Rattle.prop_arith.specs.laws.ArgumentLaws.{one_below, one_kind, two_below, two_kind}
 use Rattle.prop_arith.specs.laws.ArgumentLaws.{three_below}
 use Rattle.prop_arith.specs.laws.Combined.{RelatesOne, RelatesTwo, at_one, at_two}

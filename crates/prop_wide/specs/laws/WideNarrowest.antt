@@ -10,7 +10,10 @@ use Rattle.prop_procedures.specs.declared.shape.Need.{Need}
 use Rattle.prop_procedures.specs.declared.shape.Param.{Param}
 use Rattle.prop_procedures.specs.declared.shape.Shape.{Shape}
 use Rattle.prop_procedures.specs.declared.shape.Shape.TheVariants.{Span}
-use Rattle.prop_procedures.specs.Rules.{AreOf, AreClear, Admits, kind_of}
+use Rattle.prop_procedures.specs.Rules.{AreClear, kind_of}
+use Rattle.prop_procedures.specs.inner.Places.{Admits}
+use Rattle.prop_procedures.specs.laws.Admitted.{may_be_given}
+use Rattle.prop_procedures.specs.inner.Places.{AreOf}
 use Rattle.prop_wide.specs.Answers.{EachIsNarrowest, HavePoints, IsInside}
 use Rattle.prop_wide.specs.Distances.{IsDistance, abs_of, abs_back_of}
 use Rattle.prop_wide.specs.Extremes.{max_of, max_back_of, min_of, min_back_of}
@@ -123,5 +126,6 @@ pub wide_narrowest : EachIsNarrowest
 wide_narrowest rule ins out need f any param args c p u = record {
   holds = λ q i b. wide_sound rule ins out need f any param args b.points q c b.of_kinds i b.held
       b.belongs;
-  within = wide_within rule ins out need f any param args c.admits c.of_kinds c.clear p u;
+  within = wide_within rule ins out need f any param args
+      (may_be_given need param c.admits) c.of_kinds c.clear p u;
 }

@@ -11,13 +11,14 @@ use Rattle.prop_language.specs.Commands.{Command}
 use Rattle.prop_engine.specs.Answers.{Answer, Text, Says, answer_done}
 use Rattle.prop_texts.specs.Texts.{equation, because}
 use Rattle.prop_workbench.specs.declared.session.Session.{Session}
-use Rattle.prop_workbench.specs.Machine.{State, worldview_at, text_at}
+use Rattle.prop_workbench.specs.Machine.{State, worldview_at}
+use Rattle.prop_workbench.specs.inner.Machine.{text_at}
 use Rattle.prop_workbench.specs.Questions.{Picks, HasTried, outcome_of}
 use Rattle.prop_workbench.specs.inner.Questions.{RestsOn, MaySay}
 use Rattle.prop_workbench.specs.Reasons.{IsLeanAnswer}
 use Rattle.prop_workbench.specs.Sessions.{state_of, shown_of, work_of, library_of}
 use Rattle.prop_workbench.specs.inner.Sessions.{Keeps, Stays}
-use Rattle.prop_workbench.specs.Steps.{Obeys}
+use Rattle.prop_workbench.specs.inner.Steps.{Obeys}
 use Rattle.prop_workbench.specs.Waking.{IsStirred, Wakes}
 use Rattle.prop_workbench.specs.inner.Steps.{IsObeyed, IsFollowed}
 

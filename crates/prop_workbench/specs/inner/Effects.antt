@@ -1,6 +1,6 @@
 -- What a command that isn't refused does to the state.
 use Rattle.std.specs.Prelude.{◌≡◌, ℕ, suc, false, IsTrue, List, [], ◌∷◌, ◌++◌, length, Option, Some}
-use Rattle.std.specs.Prelude.{None, ⊤}
+use Rattle.std.specs.Prelude.{None, ⊤, map, drop}
 use Rattle.std.specs.Borrow.{Bor}
 use Rattle.std.specs.Option.{option_map, option_map_or}
 use Rattle.prop_lattice.specs.declared.info.Info.{Info}
@@ -18,8 +18,17 @@ use Rattle.prop_cells.specs.Forgetting.{not_under}
 use Rattle.prop_workbench.specs.declared.stating.Under.{Under}
 use Rattle.prop_workbench.specs.declared.stating.Under.TheVariants.{Nothing, Known as Found, New}
 use Rattle.prop_workbench.specs.Machine.{State}
-use Rattle.prop_workbench.specs.Effects.{number_given}
+use Rattle.prop_workbench.specs.Effects.{number_given, instance_placed}
+use Rattle.prop_compound.specs.Expansion.{Walk}
+use Rattle.prop_procedures.specs.Stored.{Stored}
 use Rattle.prop_workbench.specs.inner.Refusing.{with_meant}
+
+-- the fresh cells and the instances that a use on these cells stands for
+abbrev pub with_use : List Stored → State → List ℕ → Walk → State
+with_use library s cells e = record s {
+  kinds = s.kinds ++ drop (length cells) e.kinds;
+  instances = s.instances ++ map (instance_placed library cells (length s.kinds)) e.placed;
+}
 
 -- what is meant may be stated at a cell of the kind
 abbrev pub MayMean : Kinded → Meant → Type 0

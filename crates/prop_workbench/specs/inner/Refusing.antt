@@ -1,20 +1,61 @@
 -- How it is found why values may not be stated: what a value means at a cell, and which limits are
 -- met.
-use Rattle.std.specs.Prelude.{ℕ, List, [], ◌∷◌, Bool, false, ◌+◌, ◌&&◌, nat_le, nat_lt, Option}
-use Rattle.std.specs.Prelude.{Some, None, Result, length, is_none, Ok, Err, ◌==◌}
+use Rattle.std.specs.Prelude.{ℕ, List, [], ◌∷◌, Bool, false, ◌+◌, ◌-◌, ◌&&◌, ◌||◌, nat_le, nat_lt}
+use Rattle.std.specs.Prelude.{Option}
+use Rattle.std.specs.List.{list_any}
+use Rattle.std.specs.Prelude.{◌++◌, Some, None, Result, length, is_none, Ok, Err, ◌==◌}
 use Rattle.std.specs.Option.{option_or}
 use Rattle.prop_lattice.specs.declared.info.Kind.{Kind}
-use Rattle.prop_refusals.specs.declared.refusal.Limit.TheVariants.{Premises, Choices, Statements}
+use Rattle.prop_refusals.specs.declared.refusal.Limit.{Limit}
+use Rattle.prop_refusals.specs.declared.refusal.Limit.TheVariants.{Cells, Instances, Premises}
+use Rattle.prop_refusals.specs.declared.refusal.Limit.TheVariants.{Choices, Statements}
 use Rattle.prop_refusals.specs.declared.refusal.Refusal.{Refusal}
-use Rattle.prop_refusals.specs.declared.refusal.Refusal.TheVariants.{LimitReached}
+use Rattle.prop_refusals.specs.declared.refusal.Refusal.TheVariants.{LimitReached, NoSuchProcedure}
+use Rattle.prop_refusals.specs.declared.refusal.Refusal.TheVariants.{WrongCount, WrongKind}
+use Rattle.prop_refusals.specs.declared.refusal.Refusal.TheVariants.{WrongParameter}
 use Rattle.prop_refusals.specs.Refusals.{number_of, most, when, first_of}
 use Rattle.prop_premises.specs.Origins.{premise_number, is_choice, choices_of}
-use Rattle.prop_language.specs.Commands.{Value}
+use Rattle.prop_language.specs.Commands.{By, Value}
+use Rattle.prop_procedures.specs.Stored.{Stored}
+use Rattle.prop_compound.specs.Expanding.{is_kind_wrong, is_param_wrong}
+use Rattle.prop_compound.specs.Compounds.{compound_named, is_miscounted}
+use Rattle.prop_scheduler.specs.Making.{room_refusal}
 use Rattle.prop_vocabulary.specs.Values.{Meant, Known, Name, value_said}
-use Rattle.prop_vocabulary.specs.Vocabulary.{Vocabulary, with_symbol}
+use Rattle.prop_vocabulary.specs.Vocabulary.{Vocabulary, relation_named, with_symbol}
 use Rattle.prop_vocabulary.specs.Texts.{elements_of_kind}
 use Rattle.prop_vocabulary.specs.Refusing.{symbol_refusal}
 use Rattle.prop_workbench.specs.Machine.{State}
+use Rattle.prop_workbench.specs.Effects.{used}
+
+-- there would be more of something than before, and than there can be
+abbrev pub grows : Limit → ℕ → ℕ → Option Refusal
+grows limit before after =
+    when (LimitReached limit) (nat_lt before after && nat_lt (most limit) after)
+
+-- what is given is a relation, of which there is none
+abbrev pub is_unknown : Vocabulary → By → Bool
+is_unknown words By.Nothing = false
+is_unknown words (By.Number k) = false
+is_unknown words (By.Relation name) = is_none (relation_named words name)
+
+-- why a use of the name on the cells of these numbers is refused as it stands, in order
+abbrev pub use_reasons : List Stored → State → List ℕ → List ℕ → By → List (Option Refusal)
+use_reasons library s name cells by =
+    let e = used library s name cells by in
+    when NoSuchProcedure (is_none (compound_named library s.definitions name))
+    ∷ when WrongCount (is_miscounted (compound_named library s.definitions name) (length cells))
+    ∷ when (LimitReached Cells) (nat_lt (most Cells) (length e.kinds - length cells))
+    ∷ when (LimitReached Instances) (nat_lt (most Instances) (length e.placed))
+    ∷ when WrongKind (list_any (is_kind_wrong library e.kinds) e.placed)
+    ∷ when WrongParameter (e.spare || list_any (is_param_wrong library) e.placed)
+    ∷ []
+
+-- the first of them, or that there would be too many cells or instances
+abbrev pub use_refusal : List Stored → State → List ℕ → List ℕ → By → Option Refusal
+use_refusal library s name cells by =
+    let e = used library s name cells by in
+    first_of (use_reasons library s name cells by ++ room_refusal
+    (length s.kinds + (length e.kinds - length cells)) (length s.instances + length e.placed) ∷ [])
 
 -- what the value means at a cell of the kind
 abbrev pub meaning_at : Vocabulary → Kind → Value → Result Meant Refusal

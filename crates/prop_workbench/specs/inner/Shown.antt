@@ -3,7 +3,8 @@
 use Rattle.std.specs.Prelude.{ℕ, List}
 use Rattle.prop_procedures.specs.Stored.{Stored}
 use Rattle.prop_engine.specs.Transcripts.{IsTranscript, IsPrefixOfTranscript}
-use Rattle.prop_workbench.specs.Machine.{State, naming}
+use Rattle.prop_workbench.specs.Machine.{State}
+use Rattle.prop_workbench.specs.inner.Machine.{naming}
 use Rattle.prop_workbench.specs.Steps.{Shown, Covers}
 use Rattle.prop_workbench.specs.Engine.{workbench, learning}
 

@@ -1,10 +1,25 @@
 -- What the machine may do with one line.
-use Rattle.std.specs.Prelude.{ℕ, List, Option, Result}
+use Rattle.std.specs.Prelude.{ℕ, List, Option, Result, ◌⊎◌}
 use Rattle.prop_refusals.specs.declared.refusal.Refusal.{Refusal}
 use Rattle.prop_procedures.specs.Stored.{Stored}
 use Rattle.prop_language.specs.Commands.{Command}
-use Rattle.prop_engine.specs.Answers.{Answer}
-use Rattle.prop_workbench.specs.Steps.{Covering, Follows, Obeys, Shown}
+use Rattle.prop_engine.specs.Answers.{Answer, Text}
+use Rattle.prop_texts.specs.Texts.{nogoods_text}
+use Rattle.prop_workbench.specs.Machine.{State}
+use Rattle.prop_workbench.specs.Refusing.{refusal_of}
+use Rattle.prop_workbench.specs.Running.{AreNogoods}
+use Rattle.prop_workbench.specs.Steps.{AtOnce, CarriesUnless, Covering, Follows, LacksMemory, Shown}
+
+-- the command lists nogoods
+abbrev pub Lists : List Stored → State → Answer → State → ℕ → Type 0
+Lists library old answer new steps = (lines : List (List ℕ)) × AreNogoods library old lines
+    × AtOnce (Text (nogoods_text old.premises lines)) old answer new steps
+
+-- what a command may be answered: it is carried out or refused, or memory was refused
+abbrev pub Obeys : List Stored → State → Command → Answer → State → ℕ → Type 0
+Obeys library old command answer new steps =
+    CarriesUnless (refusal_of library old command) library old command answer new steps
+    ⊎ LacksMemory old answer new
 
 -- ---- what was learned
 

@@ -12,7 +12,8 @@ use Rattle.prop_language.specs.Reading.{IsReading, AsRead}
 use Rattle.prop_language.proofs.ReadingLaws.{have_one_reading}
 use Rattle.prop_engine.specs.Lines.{kept_of}
 use Rattle.prop_engine.specs.Answers.{Answer, Silent, Refused}
-use Rattle.prop_workbench.specs.Machine.{State, naming, worldview_at}
+use Rattle.prop_workbench.specs.Machine.{State, worldview_at}
+use Rattle.prop_workbench.specs.inner.Machine.{naming}
 use Rattle.prop_workbench.specs.Steps.{Follows, Step}
 use Rattle.prop_workbench.specs.Engine.{workbench, working, Works}
 use Rattle.prop_workbench.specs.Questions.{Picks}
@@ -81,7 +82,7 @@ pub workbench_is_total : (library : List Stored) → IsTotal (workbench library)
 workbench_is_total library old line =
     let read = have_one_reading line in
     let somehow = follows_somehow library read.0 in
-    (somehow.0, record { steps = 0; step = (read.0, read.1, somehow.1 old) })
+    (somehow.0, (0, (read.0, read.1, somehow.1 old)))
 
 pub working_is_total : {O : Type 0} (picks : Picks O) (library : List Stored)
     → IsTotal (working picks library)

@@ -15,7 +15,7 @@ pub returns-in-Some : goal.returns-in-Some
 returns-in-Some c =
     let w = set_of c.args.worldview.now in
     let sole = c.in-Some.sole.now in
-    let here = read_there c.args.contents.now c.args.cell c.index-contents-cell.result [] c.requires
+    let here = read_there c.args.contents.now c.args.cell c.index-contents-cell.result [] c.requires.cell
     c.index-contents-cell.is in
     let lean = subst (λ (es : List Entry). IsLean Nothing merge_of es w (belief_of Nothing merge_of w es) sole) here
     c.in-Some.ensures in

@@ -1,6 +1,7 @@
 use Rattle.std.proofs.Common.{[], ◌-◌, ◌+◌, ◌∙◌, arith, drop, length, refl, take}
 use Rattle.std.proofs.lemmas.List.{length-drop}
 use Rattle.prop_engine.proofs.Io.{on_err}
+use Rattle.prop_engine.proofs.Turns.{not_read_since}
 use Rattle.prop_engine.proofs.Machines.{same_step}
 use Rattle.prop_engine.proofs.Feeds.{feed_start, fed_line, fed_stop, fed_end}
 use Rattle.prop_engine.proofs.engine.feed.Goals as goal
@@ -17,8 +18,8 @@ loop-end-init g c = record {
   };
   passed_on = c.requires.passed_on;
   in_turn = refl;
-  reader = refl;
-  needed = refl;
+  reader = record { reader = refl; failed = refl; ended = refl };
+  usage = refl;
 }
 
 pub returns-in_err-answer-clause-err : goal.returns-in_err-answer-clause-err
@@ -56,6 +57,6 @@ loop-end-preserved g c =
           c.clear.new.self c.clear.ensures (length left - (end + 1)) (omega (arith, length-drop (end + 1) left));
       passed_on = c.in_ok-answer.ensures.passed_on;
       in_turn = c.in_ok-answer.ensures.in_turn ∙ c.loop-end.invariant.in_turn;
-      reader = c.in_ok-answer.ensures.reader ∙ c.loop-end.invariant.reader;
-      needed = c.in_ok-answer.ensures.needed ∙ c.loop-end.invariant.needed;
+      reader = not_read_since _ _ _ c.loop-end.invariant.reader c.in_ok-answer.ensures.reader;
+      usage = c.in_ok-answer.ensures.usage ∙ c.loop-end.invariant.usage;
     }

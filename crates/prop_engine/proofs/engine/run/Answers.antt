@@ -36,7 +36,7 @@ loop-turn-init g c = record {
   fresh = c.requires.reader;
   passed_on = c.requires.writer;
   in_turn = refl;
-  calls = omega (arith, c.args.devices.now.reader.in_range);
+  calls = omega (arith, c.args.devices.now.usage.in_range);
   widest = omega arith;
   narrowest = omega arith;
   needed = refl;
@@ -44,7 +44,7 @@ loop-turn-init g c = record {
 
 pub returns-in-Err-clause-told : goal.returns-in-Err-clause-told
 returns-in-Err-clause-told g c =
-    let so_far = rw (← c.in-Err.ensures.writer) at c.loop-turn.invariant.so_far in
+    let so_far = rw (← ap (λ d. d.writer) c.in-Err.ensures.rest) at c.loop-turn.invariant.so_far in
     read_failed _ _ _ _ _ _ _ _ _ _ true so_far c.in-Err.ensures.bytes
 
 pub returns-in_err-answer-clause-told : goal.returns-in_err-answer-clause-told
@@ -55,12 +55,12 @@ returns-in_err-answer-clause-told g c =
     (g.M.Interpreter.state c.loop-turn.interpreter) c.loop-turn.pending s.0
     (g.M.Interpreter.state c.answer.new.interpreter) = rw (← c.as_slice.ensures) s.1 in
     let step' = same_step g.M.Interpreter.machine _ _ c.loop-turn.invariant.same _ _ _ _ step in
-    let so_far = rw (← c.in-Ok.ensures.writer) at c.loop-turn.invariant.so_far in
-    let consumed = rw (c.if-count-eq0.true, ← c.in_err-answer.ensures.reader) at c.in-Ok.ensures.bytes.0 in
+    let so_far = rw (← ap (λ d. d.writer) c.in-Ok.ensures.rest) at c.loop-turn.invariant.so_far in
+    let consumed = rw (c.if-count-eq0.true, ← c.in_err-answer.ensures.reader.reader) at c.in-Ok.ensures.bytes.0 in
     let room : 0 < length c.read.new.buffer = omega (arith, c.read.auto.buffer) in
-    let told : c.answer.new.devices.reader.has_stopped ≡ true = ap (λ w. w.has_stopped) c.in_err-answer.ensures.reader
-    ∙ at_end _ _ _ _ c.if-count-eq0.true room c.in-Ok.ensures.stopped in
-    let end = rw (← c.in_err-answer.ensures.reader) at c.in-Ok.ensures.bytes.1 c.if-count-eq0.true room in
+    let told : c.answer.new.devices.has_read_end ≡ true = c.in_err-answer.ensures.reader.ended
+    ∙ at_end _ _ _ _ c.if-count-eq0.true room c.in-Ok.ensures.ended in
+    let end = rw (← c.in_err-answer.ensures.reader.reader) at c.in-Ok.ensures.bytes.1 c.if-count-eq0.true room in
     told_by _ _ _ _ _ _ _ _ _ _ p.1 (p.2 ∙ c.in_err-answer.ensures.fault.0)
     (ended_fault _ (g.met.M.Interpreter.asks_by_prefix _) _ _ _ _ _ _ _ _ _ _ _ s.0 _ so_far
     (λ e. false≢true (sym c.if-not-is_empty.true ∙ c.is_empty.ensures.1 e)) consumed end told step' s.2.0 s.2.1)
@@ -72,22 +72,22 @@ returns-in_ok-answer-clause-told g c =
     (g.M.Interpreter.state c.loop-turn.interpreter) c.loop-turn.pending s.0
     (g.M.Interpreter.state c.answer.new.interpreter) = rw (← c.as_slice.ensures) s.1 in
     let step' = same_step g.M.Interpreter.machine _ _ c.loop-turn.invariant.same _ _ _ _ step in
-    let so_far = rw (← c.in-Ok.ensures.writer) at c.loop-turn.invariant.so_far in
-    let consumed = rw (c.if-count-eq0.true, ← c.in_ok-answer.ensures.reader) at c.in-Ok.ensures.bytes.0 in
+    let so_far = rw (← ap (λ d. d.writer) c.in-Ok.ensures.rest) at c.loop-turn.invariant.so_far in
+    let consumed = rw (c.if-count-eq0.true, ← c.in_ok-answer.ensures.reader.reader) at c.in-Ok.ensures.bytes.0 in
     let room : 0 < length c.read.new.buffer = omega (arith, c.read.auto.buffer) in
-    let told : c.answer.new.devices.reader.has_stopped ≡ true = ap (λ w. w.has_stopped) c.in_ok-answer.ensures.reader
-    ∙ at_end _ _ _ _ c.if-count-eq0.true room c.in-Ok.ensures.stopped in
-    let end = rw (← c.in_ok-answer.ensures.reader) at c.in-Ok.ensures.bytes.1 c.if-count-eq0.true room in
+    let told : c.answer.new.devices.has_read_end ≡ true = c.in_ok-answer.ensures.reader.ended
+    ∙ at_end _ _ _ _ c.if-count-eq0.true room c.in-Ok.ensures.ended in
+    let end = rw (← c.in_ok-answer.ensures.reader.reader) at c.in-Ok.ensures.bytes.1 c.if-count-eq0.true room in
     ended_line _ (g.met.M.Interpreter.asks_by_prefix _) _ _ _ _ _ _ _ _ _ _ _ s.0 _ _ so_far
     (λ e. false≢true (sym c.if-not-is_empty.true ∙ c.is_empty.ensures.1 e)) consumed end told step' s.2.0 s.2.1
 
 pub returns-else-not-is_empty-clause-told : goal.returns-else-not-is_empty-clause-told
 returns-else-not-is_empty-clause-told g c =
-    let so_far = rw (← c.in-Ok.ensures.writer) at c.loop-turn.invariant.so_far in
+    let so_far = rw (← ap (λ d. d.writer) c.in-Ok.ensures.rest) at c.loop-turn.invariant.so_far in
     let consumed = rw c.if-count-eq0.true at c.in-Ok.ensures.bytes.0 in
     let room : 0 < length c.read.new.buffer = omega (arith, c.read.auto.buffer) in
-    let told : c.read.new.self.reader.has_stopped ≡ true =
-    at_end _ _ _ _ c.if-count-eq0.true room c.in-Ok.ensures.stopped in
+    let told : c.read.new.self.has_read_end ≡ true =
+    at_end _ _ _ _ c.if-count-eq0.true room c.in-Ok.ensures.ended in
     let end = c.in-Ok.ensures.bytes.1 c.if-count-eq0.true room in
     ended_plain _ _ _ _ _ _ _ _ _ _ _ so_far (c.is_empty.ensures.0 c.if-not-is_empty.false) consumed end told
 
@@ -96,10 +96,10 @@ returns-in_err-feed-clause-told g c =
     let p = err_from_is_err_and c.from_residual-in_err-feed.result c.from_residual-in_err-feed.ensures.1 in
     let stopped = same_stop g.M.Interpreter.machine _ _ c.loop-turn.invariant.same _ _ _ _ _ _ _
     c.in_err-feed.ensures.err in
-    let so_far = rw (← c.in-Ok.ensures.writer) at c.loop-turn.invariant.so_far in
-    let consumed = rw (← c.in_err-feed.ensures.reader) at c.in-Ok.ensures.bytes.0 in
-    let goes_on = ap (λ w. w.has_stopped) c.in_err-feed.ensures.reader
-    ∙ not_stopped _ _ _ _ c.if-count-eq0.false c.in-Ok.ensures.stopped ∙ c.loop-turn.invariant.fresh.not_stopped in
+    let so_far = rw (← ap (λ d. d.writer) c.in-Ok.ensures.rest) at c.loop-turn.invariant.so_far in
+    let consumed = rw (← c.in_err-feed.ensures.reader.reader) at c.in-Ok.ensures.bytes.0 in
+    let goes_on = c.in_err-feed.ensures.reader.ended
+    ∙ not_stopped _ _ _ _ c.if-count-eq0.false c.in-Ok.ensures.ended ∙ c.loop-turn.invariant.fresh.1 in
     told_by _ _ _ _ _ _ _ _ _ _ p.1 (p.2 ∙ c.in_err-feed.ensures.fault.0)
     (feed_fault _ _ _ _ _ _ _ _ _ _ _ _ _ _ so_far goes_on consumed stopped)
 
@@ -107,9 +107,10 @@ pub loop-turn-preserved : goal.loop-turn-preserved
 loop-turn-preserved g c =
     let advanced = same_advance g.M.Interpreter.machine _ _ c.loop-turn.invariant.same _ _ _ _ _ _ _ _ _
     c.in_ok-feed.ensures.ok in
-    let same_reader = c.in_ok-feed.ensures.reader in
-    let so_far = rw (← c.in-Ok.ensures.writer) at c.loop-turn.invariant.so_far in
-    let consumed = rw (← same_reader) at c.in-Ok.ensures.bytes.0 in record {
+    let not_read = c.in_ok-feed.ensures.reader in
+    let same_usage = c.in_ok-feed.ensures.usage in
+    let so_far = rw (← ap (λ d. d.writer) c.in-Ok.ensures.rest) at c.loop-turn.invariant.so_far in
+    let consumed = rw (← not_read.reader) at c.in-Ok.ensures.bytes.0 in record {
       same = c.in_ok-feed.ensures.same ∙ c.loop-turn.invariant.same;
       ready = c.in_ok-feed.ensures.ready;
       so_far = fed _ _ _ _ _ _ _ _ _ _ _ _ _ _ _ so_far consumed advanced;
@@ -129,27 +130,23 @@ loop-turn-preserved g c =
         c.loop-turn.invariant.refused,
         c.read.auto.buffer,
       );
-      fresh = record {
-        not_failed = ap (λ w. w.has_failed) same_reader ∙ not_failed _ _ c.in-Ok.ensures.failed
-            ∙ c.loop-turn.invariant.fresh.not_failed;
-        not_stopped = ap (λ w. w.has_stopped) same_reader
-            ∙ not_stopped _ _ _ _ c.if-count-eq0.false c.in-Ok.ensures.stopped
-            ∙ c.loop-turn.invariant.fresh.not_stopped;
-        flushed = ap (λ w. w.is_flushed) same_reader ∙ c.in-Ok.ensures.flushed ∙ c.loop-turn.invariant.fresh.flushed;
-      };
+      fresh = (
+        not_read.failed ∙ not_failed _ _ c.in-Ok.ensures.failed ∙ c.loop-turn.invariant.fresh.0,
+        not_read.ended ∙ not_stopped _ _ _ _ c.if-count-eq0.false c.in-Ok.ensures.ended ∙ c.loop-turn.invariant.fresh.1,
+      );
       passed_on = c.in_ok-feed.ensures.passed_on;
       in_turn = c.in_ok-feed.ensures.in_turn
           ∙ in_turn c.loop-turn.devices _ _ c.loop-turn.invariant.passed_on c.in-Ok.ensures.in_turn
           ∙ c.loop-turn.invariant.in_turn;
-      calls = omega (arith, ap (λ w. w.calls) same_reader, c.in-Ok.ensures.counted, c.loop-turn.invariant.calls);
-      widest = omega (arith, ap (λ w. w.widest) same_reader, c.in-Ok.ensures.widest, c.loop-turn.invariant.widest);
+      calls = omega (arith, ap (λ u. u.reads) same_usage, c.in-Ok.ensures.counted, c.loop-turn.invariant.calls);
+      widest = omega (arith, ap (λ u. u.widest) same_usage, c.in-Ok.ensures.widest, c.loop-turn.invariant.widest);
       narrowest = omega (
         arith,
-        ap (λ w. w.narrowest) same_reader,
+        ap (λ u. u.narrowest) same_usage,
         c.in-Ok.ensures.narrowest,
         c.loop-turn.invariant.narrowest,
       );
-      needed = c.in_ok-feed.ensures.needed ∙ ap (λ w. w.has_flushed_idly) c.in-Ok.ensures.writer
+      needed = ap (λ u. u.has_flushed_idly) same_usage ∙ c.in-Ok.ensures.needed
           ∙ c.loop-turn.invariant.needed;
     }
 
@@ -158,7 +155,7 @@ returns-clause-told g c = too_many _ _ _ _ _ _ _ _ _ true c.loop-turn.invariant.
 
 pub returns-in-Err-clause-read : goal.returns-in-Err-clause-read
 returns-in-Err-clause-read g c = (
-  (λ h. rw c.loop-turn.invariant.fresh.not_failed at c.in-Err.ensures.failed),
+  (λ h. rw c.loop-turn.invariant.fresh.0 at c.in-Err.ensures.failed),
   (λ t. refl),
 )
 
@@ -170,14 +167,14 @@ returns-in-Err-clause-reads g c = λ h. let e : Err Read ≡ Err Reads = h in cc
 
 pub returns-in-Err-clause-passed_on : goal.returns-in-Err-clause-passed_on
 returns-in-Err-clause-passed_on g c =
-    inr (still_passed_on _ _ c.in-Err.ensures.writer c.in-Err.ensures.owed c.loop-turn.invariant.passed_on)
+    inr (still_passed_on _ _ c.in-Err.ensures.rest c.loop-turn.invariant.passed_on)
 
 pub returns-in_err-answer-clause-read : goal.returns-in_err-answer-clause-read
 returns-in_err-answer-clause-read g c =
     let p = err_from_is_err_and c.from_residual.result c.from_residual.ensures.1 in
     none_failed _ _ (write_is_no_read _ (p.1 ∙ ap Err (p.2 ∙ c.in_err-answer.ensures.fault.0)))
-    (ap (λ w. w.has_failed) c.in_err-answer.ensures.reader ∙ not_failed _ _ c.in-Ok.ensures.failed
-    ∙ c.loop-turn.invariant.fresh.not_failed)
+    (c.in_err-answer.ensures.reader.failed ∙ not_failed _ _ c.in-Ok.ensures.failed
+    ∙ c.loop-turn.invariant.fresh.0)
 
 pub returns-in_err-answer-clause-write : goal.returns-in_err-answer-clause-write
 returns-in_err-answer-clause-write g c = λ h. c.in_err-answer.ensures.fault.1
@@ -196,8 +193,8 @@ pub returns-in_err-feed-clause-read : goal.returns-in_err-feed-clause-read
 returns-in_err-feed-clause-read g c =
     let p = err_from_is_err_and c.from_residual-in_err-feed.result c.from_residual-in_err-feed.ensures.1 in
     none_failed _ _ (write_is_no_read _ (p.1 ∙ ap Err (p.2 ∙ c.in_err-feed.ensures.fault.0)))
-    (ap (λ w. w.has_failed) c.in_err-feed.ensures.reader ∙ not_failed _ _ c.in-Ok.ensures.failed
-    ∙ c.loop-turn.invariant.fresh.not_failed)
+    (c.in_err-feed.ensures.reader.failed ∙ not_failed _ _ c.in-Ok.ensures.failed
+    ∙ c.loop-turn.invariant.fresh.0)
 
 pub returns-in_err-feed-clause-write : goal.returns-in_err-feed-clause-write
 returns-in_err-feed-clause-write g c = λ h. c.in_err-feed.ensures.fault.1
@@ -214,8 +211,8 @@ returns-in_err-feed-clause-passed_on g c =
 
 pub returns-in_ok-answer-clause-read : goal.returns-in_ok-answer-clause-read
 returns-in_ok-answer-clause-read g c =
-    none_failed _ _ (ok_is_none _ _) (ap (λ w. w.has_failed) c.in_ok-answer.ensures.reader
-    ∙ not_failed _ _ c.in-Ok.ensures.failed ∙ c.loop-turn.invariant.fresh.not_failed)
+    none_failed _ _ (ok_is_none _ _) (c.in_ok-answer.ensures.reader.failed
+    ∙ not_failed _ _ c.in-Ok.ensures.failed ∙ c.loop-turn.invariant.fresh.0)
 
 pub returns-in_ok-answer-clause-write : goal.returns-in_ok-answer-clause-write
 returns-in_ok-answer-clause-write g c = λ h. absurd (ok_is_none _ _ h)
@@ -228,7 +225,7 @@ returns-in_ok-answer-clause-passed_on g c = inr c.in_ok-answer.ensures.passed_on
 
 pub returns-else-not-is_empty-clause-read : goal.returns-else-not-is_empty-clause-read
 returns-else-not-is_empty-clause-read g c =
-    none_failed _ _ (ok_is_none _ _) (not_failed _ _ c.in-Ok.ensures.failed ∙ c.loop-turn.invariant.fresh.not_failed)
+    none_failed _ _ (ok_is_none _ _) (not_failed _ _ c.in-Ok.ensures.failed ∙ c.loop-turn.invariant.fresh.0)
 
 pub returns-else-not-is_empty-clause-write : goal.returns-else-not-is_empty-clause-write
 returns-else-not-is_empty-clause-write g c = λ h. absurd (ok_is_none _ _ h)
@@ -238,11 +235,11 @@ returns-else-not-is_empty-clause-reads g c = λ h. absurd (ok_is_none _ _ h)
 
 pub returns-else-not-is_empty-clause-passed_on : goal.returns-else-not-is_empty-clause-passed_on
 returns-else-not-is_empty-clause-passed_on g c =
-    inr (still_passed_on _ _ c.in-Ok.ensures.writer c.in-Ok.ensures.owed c.loop-turn.invariant.passed_on)
+    inr (still_passed_on _ _ c.in-Ok.ensures.rest c.loop-turn.invariant.passed_on)
 
 pub returns-clause-read : goal.returns-clause-read
 returns-clause-read g c = none_failed _ _ (λ h. let e : Err Reads ≡ Err Read = h in cc)
-    c.loop-turn.invariant.fresh.not_failed
+    c.loop-turn.invariant.fresh.0
 
 pub returns-clause-write : goal.returns-clause-write
 returns-clause-write g c = λ h. let e : Err Reads ≡ Err Write = h in cc
@@ -279,8 +276,8 @@ returns-else-not-is_empty-clause-in_turn g c =
 
 pub answer-requires-clause-passed_on : goal.answer-requires-clause-passed_on
 answer-requires-clause-passed_on g c =
-    still_passed_on _ _ c.in-Ok.ensures.writer c.in-Ok.ensures.owed c.loop-turn.invariant.passed_on
+    still_passed_on _ _ c.in-Ok.ensures.rest c.loop-turn.invariant.passed_on
 
 pub feed-requires-clause-passed_on : goal.feed-requires-clause-passed_on
 feed-requires-clause-passed_on g c =
-    still_passed_on _ _ c.in-Ok.ensures.writer c.in-Ok.ensures.owed c.loop-turn.invariant.passed_on
+    still_passed_on _ _ c.in-Ok.ensures.rest c.loop-turn.invariant.passed_on

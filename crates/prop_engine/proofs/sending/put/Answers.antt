@@ -1,7 +1,7 @@
-use Rattle.std.proofs.Common.{ℕ, ◌+◌, ◌-◌, ◌≤◌, List, take, drop, length, arith, ◌∙◌}
+use Rattle.std.proofs.Common.{ℕ, ◌+◌, ◌-◌, ◌≤◌, List, take, drop, length, arith, ap, ◌∙◌}
 use Rattle.std.proofs.lemmas.List.{take_rest, length-drop}
-use Rattle.prop_engine.proofs.Io.{written_more, not_failed, not_stopped, front_taken, keeps_appended}
-use Rattle.prop_engine.proofs.Turns.{owed_in_turn}
+use Rattle.prop_engine.proofs.Io.{written_more, not_stopped, front_taken, keeps_appended}
+use Rattle.prop_engine.proofs.Turns.{owed_in_turn, not_read_since, reading_kept}
 use Rattle.prop_engine.proofs.sending.put.Goals as goal
 
 within : (at n : ℕ) (bytes : List ℕ) → n ≤ length (take (length bytes - at) (drop at bytes)) → at ≤ length bytes
@@ -14,11 +14,10 @@ pub loop-at-preserved : goal.loop-at-preserved
 loop-at-preserved g c = let x = c.in-Ok.ensures in record {
   in_range = within _ _ _ x.bound c.loop-at.invariant.in_range;
   so_far = written_more _ _ _ _ _ _ c.loop-at.invariant.so_far x.bytes;
-  failed = not_failed _ _ x.failed ∙ c.loop-at.invariant.failed;
-  stopped = not_stopped _ _ _ _ c.if-count-eq0.false x.stopped ∙ c.loop-at.invariant.stopped;
+  failed = not_stopped _ _ _ _ c.if-count-eq0.false x.failed ∙ c.loop-at.invariant.failed;
   waits = λ _. x.flushed;
-  needed = x.needed ∙ c.loop-at.invariant.needed;
-  same_reader = x.reader ∙ c.loop-at.invariant.same_reader;
+  usage = ap (λ d. d.usage) x.rest ∙ c.loop-at.invariant.usage;
+  not_read = not_read_since _ _ _ c.loop-at.invariant.not_read (reading_kept _ _ x.rest);
   left = omega (arith, x.owed, c.loop-at.invariant.left);
   in_turn = owed_in_turn _ _ _ _ _ _ c.requires.owed c.loop-at.invariant.left x.in_turn ∙ c.loop-at.invariant.in_turn;
 }

@@ -1,17 +1,17 @@
 use Rattle.std.proofs.Common.{◌≤◌, ◌<◌, ◌≡◌, false, length, take, ◌-◌}
 use Rattle.std.specs.Io.KnownBytes.{Appends}
+use Rattle.prop_engine.specs.inner.Watched.{HasNotRead}
 use Rattle.prop_engine.proofs.sending.put.Given as goal
 
 abbrev pub invariant-loop-at : goal.invariant-loop-at
 invariant-loop-at g l = record {
   in_range : l.at ≤ length l.bytes;
-  so_far : Appends (g.W.Write.contents l.fn.devices.writer.device) (g.W.Write.contents l.devices.writer.device)
+  so_far : Appends (g.W.Write.contents l.fn.devices.writer) (g.W.Write.contents l.devices.writer)
       (take l.at l.bytes);
-  failed : l.devices.writer.has_failed ≡ l.fn.devices.writer.has_failed;
-  stopped : l.devices.writer.has_stopped ≡ l.fn.devices.writer.has_stopped;
-  waits : 0 < l.at → l.devices.writer.is_flushed ≡ false;
-  needed : l.devices.writer.has_flushed_idly ≡ l.fn.devices.writer.has_flushed_idly;
-  same_reader : l.devices.reader ≡ l.fn.devices.reader;
+  failed : l.devices.has_write_failed ≡ l.fn.devices.has_write_failed;
+  waits : 0 < l.at → l.devices.is_flushed ≡ false;
+  usage : l.devices.usage ≡ l.fn.devices.usage;
+  not_read : HasNotRead l.fn.devices l.devices;
   left : l.devices.owed ≡ l.fn.devices.owed - l.at;
   in_turn : l.devices.has_gone_ahead ≡ l.fn.devices.has_gone_ahead;
 }

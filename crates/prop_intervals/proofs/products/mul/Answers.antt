@@ -1,7 +1,8 @@
 use Rattle.std.proofs.Common.{arith, ◌≡◌, ◌∙◌}
 use Rattle.std.proofs.lemmas.Int.{ints}
 use Rattle.prop_intervals.specs.laws.ClipLaws.{clip_is}
-use Rattle.prop_intervals.specs.Quotients.{int_div_floor, int_div_ceil}
+use Rattle.prop_intervals.specs.Quotients.{int_div_ceil}
+use Rattle.prop_intervals.specs.inner.Parts.{int_div_floor}
 use Rattle.prop_intervals.specs.Spans.{least_product, greatest_product, product_of}
 use Rattle.prop_intervals.specs.laws.ProductLaws.{product_narrowest}
 use Rattle.prop_intervals.proofs.WideLemmas.{back_128}

@@ -1,5 +1,5 @@
 use Rattle.std.proofs.Common.{rules, ◌≡◌}
-use Rattle.prop_intervals.specs.Spans.{square_of}
+use Rattle.prop_intervals.specs.inner.Parts.{square_of}
 use Rattle.prop_intervals.specs.laws.SquareLaws.{square_narrowest}
 use Rattle.prop_intervals.proofs.products.square.Goals as goal
 

@@ -1,6 +1,7 @@
 use Rattle.std.proofs.Common.{arith, ap, refl, sym, ◌∙◌}
 use Rattle.std.proofs.lemmas.Int.{ints}
-use Rattle.prop_intervals.specs.Spans.{least_dividend, greatest_dividend, factors_of}
+use Rattle.prop_intervals.specs.Spans.{factors_of}
+use Rattle.prop_intervals.specs.inner.Parts.{least_dividend, greatest_dividend}
 use Rattle.prop_intervals.proofs.WideLemmas.{back_128, back_64, opposite_128, opposite_64, lo_fits, hi_fits}
 use Rattle.prop_intervals.specs.laws.DivisionLaws.{quotient_at_zero, quotient_above, quotient_below}
 use Rattle.prop_intervals.specs.laws.SquareLaws.{below_zero}

@@ -1,15 +1,13 @@
-use Rattle.std.proofs.Common.{arith, rules, ◌≡◌}
-use Rattle.std.proofs.lemmas.Grind.{common_steps}
+use Rattle.std.proofs.Common.{◌≡◌, ◌∙◌}
 use Rattle.prop_intervals.specs.Roots.{root_of}
-use Rattle.prop_intervals.specs.laws.RootLaws.{root_of-narrowest}
+use Rattle.prop_intervals.specs.laws.RootLaws.{root_of-narrowest, root_of_is}
 use Rattle.prop_intervals.proofs.roots.root.Goals as goal
 
-pub returns-in-None-clause-narrowest : goal.returns-in-None-clause-narrowest
-returns-in-None-clause-narrowest c =
-    let is : c.at_distance.result ≡ root_of c.args.y c.args.x = grind (arith, common_steps) in
-    rw is (root_of-narrowest c.args.y c.args.x)
+value_is : (c : goal.After-by_distance) → c.by_distance.result ≡ root_of c.args.y c.args.x
+value_is c = c.by_distance.ensures ∙ root_of_is c.args.y c.args.x
 
-pub returns-in-Some-clause-narrowest : goal.returns-in-Some-clause-narrowest
-returns-in-Some-clause-narrowest c =
-    let is : c.at_distance-in-Some.result ≡ root_of c.args.y c.args.x = search rules in
-    rw is (root_of-narrowest c.args.y c.args.x)
+pub returns-clause-value : goal.returns-clause-value
+returns-clause-value c = value_is c
+
+pub returns-clause-narrowest : goal.returns-clause-narrowest
+returns-clause-narrowest c = rw (value_is c) (root_of-narrowest c.args.y c.args.x)

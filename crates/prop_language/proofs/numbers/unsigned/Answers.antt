@@ -2,7 +2,7 @@ use Rattle.std.proofs.Common.{◌≡◌, ℕ, ◌+◌, ◌<◌, List, [], ◌∷
 use Rattle.std.specs.Prelude.{◌==◌}
 use Rattle.std.proofs.lemmas.Bool.{false≢true}
 use Rattle.std.proofs.lemmas.List.{drop_more, drop_all}
-use Rattle.prop_language.specs.Names.{number_after}
+use Rattle.prop_language.specs.inner.Digits.{number_after}
 use Rattle.prop_language.proofs.Digits.{too_large, within}
 use Rattle.prop_language.proofs.numbers.unsigned.Goals as goal
 

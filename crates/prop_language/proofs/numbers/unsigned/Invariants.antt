@@ -1,5 +1,5 @@
 use Rattle.std.proofs.Common.{◌≡◌, ◌<◌, ◌^◌, drop}
-use Rattle.prop_language.specs.Names.{number_after}
+use Rattle.prop_language.specs.inner.Digits.{number_after}
 use Rattle.prop_language.proofs.numbers.unsigned.Given as goal
 
 abbrev pub invariant-loop-byte : goal.invariant-loop-byte

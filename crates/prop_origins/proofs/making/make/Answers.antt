@@ -4,7 +4,7 @@ use Rattle.prop_lattice.specs.Order.{Below}
 use Rattle.prop_numbers.specs.Sets.{set_of}
 use Rattle.prop_procedures.specs.Kept.{stored_of}
 use Rattle.prop_cells.specs.Data.{Data, problem_of}
-use Rattle.prop_cells.specs.Problems.{Satisfies}
+use Rattle.prop_cells.specs.inner.Problems.{Satisfies}
 use Rattle.prop_origins.specs.Founded.{AreFounded}
 use Rattle.prop_origins.specs.Parts.{made}
 use Rattle.prop_origins.specs.inner.Lines.{Lined}

@@ -7,7 +7,7 @@ use Rattle.prop_numbers.specs.Sets.{set_of}
 use Rattle.prop_cells.specs.declared.instance.Statement.{Statement}
 use Rattle.prop_cells.specs.Data.{problem_of}
 use Rattle.prop_origins.specs.Parts.{made}
-use Rattle.prop_cells.specs.Problems.{Satisfies}
+use Rattle.prop_cells.specs.inner.Problems.{Satisfies}
 use Rattle.prop_origins.proofs.Proceeding.{proceeds_none, proceeds_then, heard_still}
 use Rattle.prop_origins.proofs.making.tell.Goals as goal
 

@@ -2,7 +2,7 @@ use Rattle.std.proofs.Common.{◌≡◌, List, All, take}
 use Rattle.prop_numbers.specs.Sets.{set_of}
 use Rattle.prop_procedures.specs.Stored.{Stored}
 use Rattle.prop_cells.specs.Data.{problem_of}
-use Rattle.prop_cells.specs.Problems.{Satisfies}
+use Rattle.prop_cells.specs.inner.Problems.{Satisfies}
 use Rattle.prop_origins.specs.Founded.{AreFounded}
 use Rattle.prop_origins.specs.Parts.{made}
 use Rattle.prop_origins.specs.inner.Proceeding.{Proceeds}

@@ -1,4 +1,6 @@
-use Rattle.std.proofs.Common.{◌≡◌, ◌+◌, ◌-◌, ◌∙◌, arith, get_or}
+use Rattle.std.proofs.Common.{◌≡◌, ◌+◌, ◌-◌, ◌∙◌, arith, get_or, ◌||◌, Bool, true, false, drop, sym, ap, refl}
+use Rattle.std.proofs.lemmas.List.{drop_all}
+use Rattle.prop_premises.specs.ChoiceLists.{hypotheticals_of}
 use Rattle.prop_numbers.specs.Words.{has_bit}
 use Rattle.prop_premises.specs.declared.choice.Choice.{Choice}
 use Rattle.prop_premises.proofs.SideLemmas.{taken, taken_is_hypothetical, with_side}
@@ -30,6 +32,17 @@ set_bit-requires c =
     let room = c.requires.room _ (taken_is_hypothetical c.args.choices.now c.args.sides.now c.loop-place.place none 0
     c.requires.list c.loop-place-test.true) in
     omega (arith, room, c.loop-place.invariant.len, c.from-side.ensures)
+
+pub returns-clause-bits : goal.returns-clause-bits
+returns-clause-bits c p =
+    let none_left = drop_all c.loop-place.place c.args.choices.now (omega (arith, c.loop-place-test.false)) in
+    sym (or_none (has_bit c.loop-place.words p))
+    ∙ ap (λ l. has_bit c.loop-place.words p || hypotheticals_of l (drop c.loop-place.place c.args.sides.now) p)
+    (sym none_left) ∙ c.loop-place.invariant.bits p
+  where
+    or_none : (b : Bool) → (b || false) ≡ b
+    or_none true = refl
+    or_none false = refl
 
 pub loop-place-preserved : goal.loop-place-preserved
 unfolding none

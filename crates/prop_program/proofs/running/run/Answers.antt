@@ -28,12 +28,12 @@ returns-in_ok-new-in-Fifo-clause-earned_in_part g c =
 
 pub returns-in_ok-new-in-Fifo-clause-ok : goal.returns-in_ok-new-in-Fifo-clause-ok
 returns-in_ok-new-in-Fifo-clause-ok g c =
-    worked_answered _ c.args.options.order c.args.options.seed c.args.options.limit _ _ _ _
+    worked_answered c.args.options.order c.args.options.seed _ _ c.args.options.limit _ _ _ _
     (returns-in_ok-new-in-Fifo-clause-earned g c)
 
 pub returns-in_ok-new-in-Fifo-clause-err : goal.returns-in_ok-new-in-Fifo-clause-err
 returns-in_ok-new-in-Fifo-clause-err g c =
-    worked_answered_in_part _ c.args.options.order c.args.options.seed c.args.options.limit _ _ _ _
+    worked_answered_in_part c.args.options.order c.args.options.seed _ _ c.args.options.limit _ _ _ _
     (returns-in_ok-new-in-Fifo-clause-earned_in_part g c)
 
 -- ---- lifo
@@ -60,12 +60,12 @@ returns-in_ok-new-in-Lifo-clause-earned_in_part g c =
 
 pub returns-in_ok-new-in-Lifo-clause-ok : goal.returns-in_ok-new-in-Lifo-clause-ok
 returns-in_ok-new-in-Lifo-clause-ok g c =
-    worked_answered _ c.args.options.order c.args.options.seed c.args.options.limit _ _ _ _
+    worked_answered c.args.options.order c.args.options.seed _ _ c.args.options.limit _ _ _ _
     (returns-in_ok-new-in-Lifo-clause-earned g c)
 
 pub returns-in_ok-new-in-Lifo-clause-err : goal.returns-in_ok-new-in-Lifo-clause-err
 returns-in_ok-new-in-Lifo-clause-err g c =
-    worked_answered_in_part _ c.args.options.order c.args.options.seed c.args.options.limit _ _ _ _
+    worked_answered_in_part c.args.options.order c.args.options.seed _ _ c.args.options.limit _ _ _ _
     (returns-in_ok-new-in-Lifo-clause-earned_in_part g c)
 
 -- ---- mixed
@@ -92,10 +92,10 @@ returns-in_ok-session-in-Mixed-clause-earned_in_part g c =
 
 pub returns-in_ok-session-in-Mixed-clause-ok : goal.returns-in_ok-session-in-Mixed-clause-ok
 returns-in_ok-session-in-Mixed-clause-ok g c =
-    worked_answered _ c.args.options.order c.args.options.seed c.args.options.limit _ _ _ _
+    worked_answered c.args.options.order c.args.options.seed _ _ c.args.options.limit _ _ _ _
     (returns-in_ok-session-in-Mixed-clause-earned g c)
 
 pub returns-in_ok-session-in-Mixed-clause-err : goal.returns-in_ok-session-in-Mixed-clause-err
 returns-in_ok-session-in-Mixed-clause-err g c =
-    worked_answered_in_part _ c.args.options.order c.args.options.seed c.args.options.limit _ _ _ _
+    worked_answered_in_part c.args.options.order c.args.options.seed _ _ c.args.options.limit _ _ _ _
     (returns-in_ok-session-in-Mixed-clause-earned_in_part g c)

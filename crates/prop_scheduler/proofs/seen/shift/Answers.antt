@@ -1,4 +1,4 @@
-use Rattle.std.proofs.Common.{List, ℕ, ◌+◌, sym, subst, arith}
+use Rattle.std.proofs.Common.{List, ℕ, ◌+◌, subst, arith}
 use Rattle.prop_numbers.specs.Sets.{set_of}
 use Rattle.prop_cells.specs.Knowing.{AreBeliefs}
 use Rattle.prop_scheduler.proofs.KnownLaws.{all_passed}

@@ -2,7 +2,7 @@ use Rattle.std.proofs.Common.{◌≡◌, ◌∙◌, ◌+◌, ◌<◌, ◌≤◌,
 use Rattle.std.proofs.lemmas.List.Elements.{All-weaker}
 use Rattle.prop_numbers.specs.Sets.{set_of}
 use Rattle.prop_procedures.specs.Kept.{stored_of}
-use Rattle.prop_cells.specs.Problems.{Premises}
+use Rattle.prop_cells.specs.inner.Problems.{Premises}
 use Rattle.prop_cells.specs.Data.{Data}
 use Rattle.prop_cells.specs.Instances.{readers_of}
 use Rattle.prop_cells.proofs.Reading.{readers_are}

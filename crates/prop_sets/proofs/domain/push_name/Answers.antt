@@ -1,7 +1,8 @@
 use Rattle.std.proofs.Common.{◌≡◌, ◌∙◌, ◌++◌, ◌∷◌, [], ap, cond, false}
 use Rattle.std.specs.List.{list_any}
 use Rattle.std.specs.String.{string_eq}
-use Rattle.prop_sets.specs.Names.{names_of, is_among}
+use Rattle.prop_sets.specs.Names.{names_of}
+use Rattle.prop_sets.specs.inner.Names.{is_among}
 use Rattle.prop_sets.proofs.NameLemmas.{is_among-names, names_of-push}
 use Rattle.prop_sets.proofs.domain.push_name.Goals as goal
 

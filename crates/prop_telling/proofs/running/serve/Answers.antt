@@ -1,7 +1,7 @@
 use Rattle.std.proofs.Common.{◌∙◌, ap, subst}
 use Rattle.prop_procedures.specs.Kept.{stored_of}
 use Rattle.prop_language.specs.Said.{words}
-use Rattle.prop_program.proofs.Devices.{told_first}
+use Rattle.prop_program.proofs.Devices.{told_first, used_first}
 use Rattle.prop_workbench.specs.Loading.{Loads}
 use Rattle.prop_workbench.specs.Engine.{standing_of}
 use Rattle.prop_telling.specs.Telling.{telling}
@@ -45,3 +45,6 @@ returns-in-Ok-clause-err g c =
 
 pub returns-in-Err-clause-devices : goal.returns-in-Err-clause-devices
 returns-in-Err-clause-devices g c = told_first _ c.args.devices.now tt c.requires.reader c.requires.writer
+
+pub returns-in-Err-clause-thrift : goal.returns-in-Err-clause-thrift
+returns-in-Err-clause-thrift g c = used_first _ c.args.devices.now tt

@@ -1,17 +1,13 @@
-use Rattle.std.proofs.Common.{◌≡◌, ◌∙◌, ◌+◌, ℕ, Bool, not, List, true, false, All, take, length, sym, refl, subst}
+use Rattle.std.proofs.Common.{◌≡◌, ◌∙◌, ◌+◌, ℕ, Bool, List, true, false, take, length, sym, refl, ap}
 use Rattle.std.proofs.Common.{arith, inl, inr}
 use Rattle.std.specs.List.{list_any}
-use Rattle.std.proofs.lemmas.Bool.{or_parts}
-use Rattle.std.proofs.lemmas.List.Elements.{All-more}
 use Rattle.std.proofs.Math.Seq.{take-length}
 use Rattle.prop_numbers.specs.Sets.{set_of, is_alike, is_within}
 use Rattle.prop_tms.specs.Beliefs.{Subsumes}
-use Rattle.prop_tms.specs.declared.values.Valued.{Valued}
-use Rattle.prop_tms.proofs.MergedLemmas.{join-bottom}
 use Rattle.prop_tms.proofs.SurveyLemmas.{no_part, unknown_more}
 use Rattle.prop_tms.proofs.ValueLemmas.{any_of_all, any_subsumes, count_more, entries_of-take, said_more}
 use Rattle.prop_tms.proofs.values.surveyed.Goals as goal
-use Rattle.prop_tms.proofs.values.surveyed.Goals.{then-has_part+else-implies-2+then-has_same, then-covers, else-covers}
+use Rattle.prop_tms.proofs.values.surveyed.Goals.{then-has_part+else-implies-2+then-has_same}
 use Rattle.prop_tms.proofs.values.surveyed.Goals.{then-has_part+else-implies-2+else-has_same, else-has_part}
 
 pub returns-then-implies-2-clause-known : goal.returns-then-implies-2-clause-known
@@ -20,7 +16,7 @@ returns-then-implies-2-clause-known g c =
     let e = c.args.entry.now in
     let x = c.valued-item.result in
     let has : list_any (λ s. is_within (set_of e.support) s) x.supports.items ≡ true =
-    sym (rw c.deref.ensures at c.has_part.ensures) ∙ c.if-has_part.true in
+    sym (rw c.as_slice-supports.ensures at c.has_part.ensures) ∙ c.if-has_part.true in
     let some = any_subsumes below x.value x.supports.items e
     (c.implies-then-has_part.ensures.0 c.if-implies-2.true) has in
     λ none.
@@ -32,7 +28,8 @@ overflow_add-count g c =
     let i = c.loop-valued.valued-index in
     let more = count_more c.args.values.now i c.valued-item.result c.loop-valued-test.true c.valued-item.is in
     let all = entries_of-take c.args.values.now (i + 1) in
-    omega (arith, more, all, c.loop-valued.invariant.count, c.requires, c.len.ensures.value)
+    let n = ap length c.as_slice-supports.ensures in
+    omega (arith, more, all, c.loop-valued.invariant.count, c.requires, n)
 
 pub loop-valued-preserved : goal.loop-valued-preserved
 loop-valued-preserved g c =
@@ -45,12 +42,13 @@ loop-valued-preserved g c =
     let u : List ℕ → Bool = λ s. is_alike s e.support in
     let l = c.loop-valued-test.true in
     let part : c.has_part.result ≡ list_any (λ s. is_within (set_of e.support) s) x.supports.items =
-    rw c.deref.ensures at c.has_part.ensures in
-    let more = count_more xs i x l c.valued-item.is in record {
-      count = omega (arith, more, c.loop-valued.invariant.count, c.len.ensures.value);
+    rw c.as_slice-supports.ensures at c.has_part.ensures in
+    let more = count_more xs i x l c.valued-item.is in
+    let n = ap length c.as_slice-supports.ensures in record {
+      count = omega (arith, more, c.loop-valued.invariant.count, n);
       said = elim c.if-has_part.branch [
         | then-has_part+else-implies-2+then-has_same t ↦
-            (let on : list_any u x.supports.items ≡ true = sym (rw t.deref-then-has_part.ensures at t.has_same.ensures)
+            (let on : list_any u x.supports.items ≡ true = sym (rw c.as_slice-supports.ensures at t.has_same.ensures)
             ∙ t.if-has_same.true in
             rw (
               t.said-is,
@@ -60,7 +58,7 @@ loop-valued-preserved g c =
             ) refl)
         | then-has_part+else-implies-2+else-has_same t ↦
             (let off : list_any u x.supports.items ≡ false =
-            sym (rw t.deref-then-has_part.ensures at t.has_same.ensures) ∙ t.if-has_same.false in
+            sym (rw c.as_slice-supports.ensures at t.has_same.ensures) ∙ t.if-has_same.false in
             rw (t.said-is, said_more laws u xs i x false l c.valued-item.is off, ← c.loop-valued.invariant.said) refl)
         | else-has_part t ↦
             (let off : list_any u x.supports.items ≡ false = no_part e.support x.supports.items
@@ -75,16 +73,7 @@ loop-valued-preserved g c =
                 λ h. cc (t.if-implies-2.false, t.implies-then-has_part.ensures.1 h)
             | else-has_part t ↦ λ h. sym part ∙ t.if-has_part.false
           ]);
-      apart = λ off.
-          let none = or_parts _ _ off in
-          All-more (λ (y : Valued _). ¬ (below y.value e.value)) xs i x l (c.loop-valued.invariant.apart none.0)
-          (subst (λ (y : Valued _). ¬ (below y.value e.value)) c.valued-item.is
-          (λ h. cc (none.1, c.implies-in-loop-valued.ensures.1 h)));
     }
-
-implied : (b : Bool) → not b ≡ false → b ≡ true
-implied true h = refl
-implied false h = cc
 
 pub returns-clause-new : goal.returns-clause-new
 returns-clause-new g c =
@@ -100,23 +89,4 @@ returns-clause-new g c =
             (rw (c.nothing.ensures, bottom) (laws.reflexive g.V.Partial.bottom)),
       )
       | inr some ↦ (rw all at c.loop-valued.invariant.unknown) some
-    ]
-
-pub returns-clause-apart : goal.returns-clause-apart
-returns-clause-apart g c =
-    let laws = g.met.V.Partial.laws in
-    let bottom = g.V.Partial.bottom in
-    let xs = c.args.values.now in
-    let all : take c.loop-valued.valued-index xs ≡ xs =
-    (let e : c.loop-valued.valued-index ≡ length xs = omega
-    (arith, c.loop-valued.auto.valued-index-end, c.loop-valued-test.false) in rw e (take-length xs)) in
-    elim c.if-covers.branch [
-      | then-covers t ↦ λ off. cc (t.result-is, off)
-      | else-covers t ↦ λ off.
-          (let none = c.loop-valued.invariant.apart t.if-covers.false in
-          let below_nothing = rw t.nothing-else-covers.ensures
-          at t.implies-else-covers.ensures.0 (implied _ (sym t.result-is ∙ off)) in
-          let said : c.loop-valued.said ≡ bottom = laws.antisymmetric _ _ below_nothing (laws.from_bottom _) in
-          let is : c.merge.result ≡ c.args.entry.now.value = rw (c.merge.ensures, said) (join-bottom laws _) in
-          subst (λ v. All (λ (y : Valued _). ¬ (g.V.Partial.below y.value v)) xs) (sym is) (rw all at none))
     ]

@@ -1,4 +1,4 @@
-use Rattle.std.proofs.Common.{◌≡◌, false, All, Any, filter, length, take}
+use Rattle.std.proofs.Common.{◌≡◌, Any, filter, length, take}
 use Rattle.prop_numbers.specs.Sets.{is_alike}
 use Rattle.prop_tms.specs.Beliefs.{Subsumes, merge_of_all}
 use Rattle.prop_tms.specs.Values.{entries_of}
@@ -10,5 +10,4 @@ invariant-loop-valued g l = record {
   said : l.said ≡ merge_of_all g.V.Partial.bottom g.V.Partial.join
       (filter (λ x. is_alike x.support l.entry.support) (entries_of (take l.valued-index l.values)));
   unknown : ¬ (Any (λ x. Subsumes g.V.Partial.below x l.entry) (entries_of (take l.valued-index l.values)));
-  apart : l.covers ≡ false → All (λ x. ¬ (g.V.Partial.below x.value l.entry.value)) (take l.valued-index l.values);
 }

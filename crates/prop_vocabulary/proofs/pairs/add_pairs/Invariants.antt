@@ -1,5 +1,6 @@
 use Rattle.std.proofs.Common.{◌≡◌, take}
-use Rattle.prop_vocabulary.specs.Pairs.{texts_of_pairs, with_pairs}
+use Rattle.prop_vocabulary.specs.Pairs.{texts_of_pairs}
+use Rattle.prop_vocabulary.specs.inner.Between.{with_pairs}
 use Rattle.prop_vocabulary.proofs.pairs.add_pairs.Given as goal
 
 abbrev pub invariant-loop-pair : goal.invariant-loop-pair

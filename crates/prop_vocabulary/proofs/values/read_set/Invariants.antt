@@ -1,7 +1,7 @@
 use Rattle.std.proofs.Common.{◌≡◌, true, take}
 use Rattle.std.specs.List.{list_all}
 use Rattle.prop_language.specs.Names.{is_among}
-use Rattle.prop_vocabulary.specs.Values.{bits_named}
+use Rattle.prop_vocabulary.specs.inner.SetBits.{bits_named}
 use Rattle.prop_language.specs.Said.{words}
 use Rattle.prop_vocabulary.proofs.values.read_set.Given as goal
 

@@ -1,6 +1,6 @@
 use Rattle.std.proofs.Common.{◌∙◌}
 use Rattle.std.specs.Prelude.{not}
-use Rattle.prop_arith.specs.Comparing.{is_just}
+use Rattle.prop_arith.specs.inner.Compared.{is_just}
 use Rattle.prop_intervals.specs.Comparisons.{no_bits}
 use Rattle.prop_procedures.specs.declared.shape.Param.TheVariants.{Plain}
 use Rattle.prop_wide.proofs.choices.agree.Goals as goal

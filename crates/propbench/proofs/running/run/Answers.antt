@@ -1,7 +1,8 @@
-use Rattle.std.proofs.Common.{◌∙◌, arith, sym, subst}
+use Rattle.std.proofs.Common.{◌∙◌, List, arith, sym, subst}
+use Rattle.std.specs.Prelude.{OnErr}
 use Rattle.std.proofs.lemmas.Result.{err_from_is_err_and}
-use Rattle.prop_program.specs.Faults.{TellsDevices}
-use Rattle.prop_program.proofs.Devices.{told_first}
+use Rattle.prop_program.specs.Faults.{TellsDevices, IsThrifty}
+use Rattle.prop_program.proofs.Devices.{told_first, used_first}
 use Rattle.prop_engine.proofs.Io.{on_err}
 use Rattle.prop_procedures.specs.inner.Kept.{AllMean-push}
 use Rattle.prop_arith.specs.Kit.{form_of, in_order, FormOf}
@@ -9,31 +10,43 @@ use Rattle.prop_arith.specs.Points.{Related}
 use Rattle.prop_arith.specs.Values.{value_of}
 use Rattle.prop_arith.specs.laws.KitLaws.{kit_few, kit_formed, kit_sound}
 use Rattle.prop_cells.specs.Points.{AreSoundBy}
-use Rattle.propbench.specs.Kits.{kit, kit_related}
+use Rattle.propbench.specs.Kits.{kit}
+use Rattle.prop_arith.specs.Prelude.{prelude_lines}
+use Rattle.prop_procedures.specs.Stored.{Stored}
+use Rattle.prop_program.specs.Answering.{IsAnsweredInPart}
+use Rattle.prop_workbench.specs.Engine.{workbench}
+use Rattle.prop_workbench.specs.Machine.{new_state}
+use Rattle.prop_procedures.specs.Forms.{related_in}
 use Rattle.prop_program.proofs.Listing.{stored_is, listed_more, all_listed, library_is_sound}
 use Rattle.prop_program.proofs.Starts.{nothing_yet, nothing_worked}
 use Rattle.propbench.proofs.running.run.Goals as goal
 
 pub returns-in_err-ins-clause-err : goal.returns-in_err-ins-clause-err
-returns-in_err-ins-clause-err g c = on_err _ _ (nothing_yet kit _ _ _)
+returns-in_err-ins-clause-err g c =
+    on_err _ _ (nothing_yet (workbench kit) (new_state c.args.options.limit) prelude_lines
+    (g.Rd.Read.remaining c.args.devices.now.reader) (g.W.Write.contents c.args.devices.now.writer))
 
 pub returns-in_err-ins-clause-earned_in_part : goal.returns-in_err-ins-clause-earned_in_part
 returns-in_err-ins-clause-earned_in_part g c =
-    on_err _ _ (nothing_worked kit c.args.options.order c.args.options.seed c.args.options.limit _ _)
+    on_err _ _ (nothing_worked c.args.options.order c.args.options.seed kit _ c.args.options.limit _ _)
 
 pub returns-in_err-call-clause-err : goal.returns-in_err-call-clause-err
-returns-in_err-call-clause-err g c = on_err _ _ (nothing_yet kit _ _ _)
+returns-in_err-call-clause-err g c =
+    on_err _ _ (nothing_yet (workbench kit) (new_state c.args.options.limit) prelude_lines
+    (g.Rd.Read.remaining c.args.devices.now.reader) (g.W.Write.contents c.args.devices.now.writer))
 
 pub returns-in_err-call-clause-earned_in_part : goal.returns-in_err-call-clause-earned_in_part
 returns-in_err-call-clause-earned_in_part g c =
-    on_err _ _ (nothing_worked kit c.args.options.order c.args.options.seed c.args.options.limit _ _)
+    on_err _ _ (nothing_worked c.args.options.order c.args.options.seed kit _ c.args.options.limit _ _)
 
 pub returns-in_err-push-clause-err : goal.returns-in_err-push-clause-err
-returns-in_err-push-clause-err g c = on_err _ _ (nothing_yet kit _ _ _)
+returns-in_err-push-clause-err g c =
+    on_err _ _ (nothing_yet (workbench kit) (new_state c.args.options.limit) prelude_lines
+    (g.Rd.Read.remaining c.args.devices.now.reader) (g.W.Write.contents c.args.devices.now.writer))
 
 pub returns-in_err-push-clause-earned_in_part : goal.returns-in_err-push-clause-earned_in_part
 returns-in_err-push-clause-earned_in_part g c =
-    on_err _ _ (nothing_worked kit c.args.options.order c.args.options.seed c.args.options.limit _ _)
+    on_err _ _ (nothing_worked c.args.options.order c.args.options.seed kit _ c.args.options.limit _ _)
 
 pub new-requires-in-loop-rule-clause-some_inputs : goal.new-requires-in-loop-rule-clause-some_inputs
 new-requires-in-loop-rule-clause-some_inputs g c = rw (c.in_ok-ins.ensures.ok, c.ins.ensures) (kit_few _).0
@@ -70,7 +83,9 @@ returns-clause-err g c =
     let past = c.loop-rule-test.false in
     let listed = c.loop-rule.invariant.listed ∙ all_listed form_of value_of in_order
     c.loop-rule.rule-index (omega (arith, past)) in
-    rw (← listed) c.run.ensures.err
+    subst (λ (l : List Stored). OnErr c.run.result (IsAnsweredInPart (workbench l) (new_state c.args.options.limit)
+    prelude_lines (g.Rd.Read.remaining c.args.devices.now.reader) (g.W.Write.contents c.args.devices.now.writer)
+    (g.W.Write.contents c.run.new.devices.writer))) listed c.run.ensures.err
 
 pub returns-clause-earned : goal.returns-clause-earned
 returns-clause-earned g c =
@@ -87,7 +102,7 @@ returns-clause-earned_in_part g c =
     rw (← listed) c.run.ensures.earned_in_part
 
 -- each rule's answers hold the points that it relates
-kit_is_sound : AreSoundBy kit.library kit_related
+kit_is_sound : AreSoundBy kit (related_in Related in_order)
 kit_is_sound = library_is_sound form_of value_of Related FormOf kit_formed kit_sound in_order
 
 pub returns-clause-points : goal.returns-clause-points
@@ -119,3 +134,18 @@ returns-in_err-push-clause-devices g c =
     let p = err_from_is_err_and c.from_residual-in_err-push.result c.from_residual-in_err-push.ensures.1 in
     subst (λ r. TellsDevices r c.args.devices.now c.args.devices.now) (sym p.1)
     (told_first p.0 c.args.devices.now p.2 c.requires.reader c.requires.writer)
+
+pub returns-in_err-ins-clause-thrift : goal.returns-in_err-ins-clause-thrift
+returns-in_err-ins-clause-thrift g c =
+    let p = err_from_is_err_and c.from_residual.result c.from_residual.ensures.1 in
+    subst (λ r. IsThrifty r c.args.devices.now c.args.devices.now) (sym p.1) (used_first p.0 c.args.devices.now p.2)
+
+pub returns-in_err-call-clause-thrift : goal.returns-in_err-call-clause-thrift
+returns-in_err-call-clause-thrift g c =
+    let p = err_from_is_err_and c.from_residual-in_err-call.result c.from_residual-in_err-call.ensures.1 in
+    subst (λ r. IsThrifty r c.args.devices.now c.args.devices.now) (sym p.1) (used_first p.0 c.args.devices.now p.2)
+
+pub returns-in_err-push-clause-thrift : goal.returns-in_err-push-clause-thrift
+returns-in_err-push-clause-thrift g c =
+    let p = err_from_is_err_and c.from_residual-in_err-push.result c.from_residual-in_err-push.ensures.1 in
+    subst (λ r. IsThrifty r c.args.devices.now c.args.devices.now) (sym p.1) (used_first p.0 c.args.devices.now p.2)

@@ -4,8 +4,8 @@ use Rattle.std.specs.Prelude.{IfOk, OnErr}
 use Rattle.prop_language.specs.Said.{words}
 use Rattle.prop_telling.specs.Answering.{IsTold, IsToldInPart}
 use Rattle.prop_telling.proofs.Starting.{nothing_told}
-use Rattle.prop_program.specs.Faults.{TellsDevices}
-use Rattle.prop_program.proofs.Devices.{told_first}
+use Rattle.prop_program.specs.Faults.{TellsDevices, IsThrifty}
+use Rattle.prop_program.proofs.Devices.{told_first, used_first}
 use Rattle.prop_engine.proofs.Io.{on_err}
 use Rattle.prop_procedures.specs.inner.Kept.{AllMean-push}
 use Rattle.prop_procedures.specs.Kept.{stored_as}
@@ -17,8 +17,8 @@ use Rattle.propwide.proofs.running.run.Goals as goal
 pub returns-in_err-prelude-clause-told_in_part : goal.returns-in_err-prelude-clause-told_in_part
 returns-in_err-prelude-clause-told_in_part g c =
     on_err _ _ (nothing_told wide c.args.options.order c.args.options.seed c.args.options.limit
-    (g.Rd.Read.remaining c.args.devices.now.reader.device)
-    (g.W.Write.contents c.args.devices.now.writer.device))
+    (g.Rd.Read.remaining c.args.devices.now.reader)
+    (g.W.Write.contents c.args.devices.now.writer))
 
 pub returns-in_err-prelude-clause-points : goal.returns-in_err-prelude-clause-points
 returns-in_err-prelude-clause-points g c = wide_is_sound
@@ -35,8 +35,8 @@ returns-in_err-prelude-clause-devices g c =
 pub returns-in_err-made-clause-told_in_part : goal.returns-in_err-made-clause-told_in_part
 returns-in_err-made-clause-told_in_part g c =
     on_err _ _ (nothing_told wide c.args.options.order c.args.options.seed c.args.options.limit
-    (g.Rd.Read.remaining c.args.devices.now.reader.device)
-    (g.W.Write.contents c.args.devices.now.writer.device))
+    (g.Rd.Read.remaining c.args.devices.now.reader)
+    (g.W.Write.contents c.args.devices.now.writer))
 
 pub returns-in_err-made-clause-points : goal.returns-in_err-made-clause-points
 returns-in_err-made-clause-points g c = wide_is_sound
@@ -53,8 +53,8 @@ returns-in_err-made-clause-devices g c =
 pub returns-in_err-ins-clause-told_in_part : goal.returns-in_err-ins-clause-told_in_part
 returns-in_err-ins-clause-told_in_part g c =
     on_err _ _ (nothing_told wide c.args.options.order c.args.options.seed c.args.options.limit
-    (g.Rd.Read.remaining c.args.devices.now.reader.device)
-    (g.W.Write.contents c.args.devices.now.writer.device))
+    (g.Rd.Read.remaining c.args.devices.now.reader)
+    (g.W.Write.contents c.args.devices.now.writer))
 
 pub returns-in_err-ins-clause-points : goal.returns-in_err-ins-clause-points
 returns-in_err-ins-clause-points g c = wide_is_sound
@@ -71,8 +71,8 @@ returns-in_err-ins-clause-devices g c =
 pub returns-in_err-call-clause-told_in_part : goal.returns-in_err-call-clause-told_in_part
 returns-in_err-call-clause-told_in_part g c =
     on_err _ _ (nothing_told wide c.args.options.order c.args.options.seed c.args.options.limit
-    (g.Rd.Read.remaining c.args.devices.now.reader.device)
-    (g.W.Write.contents c.args.devices.now.writer.device))
+    (g.Rd.Read.remaining c.args.devices.now.reader)
+    (g.W.Write.contents c.args.devices.now.writer))
 
 pub returns-in_err-call-clause-points : goal.returns-in_err-call-clause-points
 returns-in_err-call-clause-points g c = wide_is_sound
@@ -89,8 +89,8 @@ returns-in_err-call-clause-devices g c =
 pub returns-in_err-push-clause-told_in_part : goal.returns-in_err-push-clause-told_in_part
 returns-in_err-push-clause-told_in_part g c =
     on_err _ _ (nothing_told wide c.args.options.order c.args.options.seed c.args.options.limit
-    (g.Rd.Read.remaining c.args.devices.now.reader.device)
-    (g.W.Write.contents c.args.devices.now.writer.device))
+    (g.Rd.Read.remaining c.args.devices.now.reader)
+    (g.W.Write.contents c.args.devices.now.writer))
 
 pub returns-in_err-push-clause-points : goal.returns-in_err-push-clause-points
 returns-in_err-push-clause-points g c = wide_is_sound
@@ -140,9 +140,9 @@ returns-clause-told g c =
     let listed = c.loop-entry.invariant.listed ∙ all_stored _ c.loop-entry.entry-index (omega (arith, past))
     (ap (map shown) c.deref-entry-items.ensures.value ∙ c.in_ok-made.ensures) in
     with_stock (λ s. IfOk c.run.result (IsTold s c.args.options.order c.args.options.seed c.args.options.limit
-    (g.Rd.Read.remaining c.args.devices.now.reader.device)
-    (g.W.Write.contents c.args.devices.now.writer.device)
-    (g.W.Write.contents c.run.new.devices.writer.device))) _ _ _ _ listed
+    (g.Rd.Read.remaining c.args.devices.now.reader)
+    (g.W.Write.contents c.args.devices.now.writer)
+    (g.W.Write.contents c.run.new.devices.writer))) _ _ _ _ listed
     (ap words c.deref.ensures.value ∙ c.in_ok-prelude.ensures) c.run.ensures.told
 
 pub returns-clause-told_in_part : goal.returns-clause-told_in_part
@@ -151,9 +151,9 @@ returns-clause-told_in_part g c =
     let listed = c.loop-entry.invariant.listed ∙ all_stored _ c.loop-entry.entry-index (omega (arith, past))
     (ap (map shown) c.deref-entry-items.ensures.value ∙ c.in_ok-made.ensures) in
     with_stock (λ s. OnErr c.run.result (IsToldInPart s c.args.options.order c.args.options.seed c.args.options.limit
-    (g.Rd.Read.remaining c.args.devices.now.reader.device)
-    (g.W.Write.contents c.args.devices.now.writer.device)
-    (g.W.Write.contents c.run.new.devices.writer.device))) _ _ _ _ listed
+    (g.Rd.Read.remaining c.args.devices.now.reader)
+    (g.W.Write.contents c.args.devices.now.writer)
+    (g.W.Write.contents c.run.new.devices.writer))) _ _ _ _ listed
     (ap words c.deref.ensures.value ∙ c.in_ok-prelude.ensures) c.run.ensures.told_in_part
 
 pub returns-clause-points : goal.returns-clause-points
@@ -161,3 +161,28 @@ returns-clause-points g c = wide_is_sound
 
 pub returns-clause-solved : goal.returns-clause-solved
 returns-clause-solved g c = wide_solves
+
+pub returns-in_err-prelude-clause-thrift : goal.returns-in_err-prelude-clause-thrift
+returns-in_err-prelude-clause-thrift g c =
+    let p = err_from_is_err_and c.from_residual.result c.from_residual.ensures.1 in
+    subst (λ r. IsThrifty r c.args.devices.now c.args.devices.now) (sym p.1) (used_first p.0 c.args.devices.now p.2)
+
+pub returns-in_err-made-clause-thrift : goal.returns-in_err-made-clause-thrift
+returns-in_err-made-clause-thrift g c =
+    let p = err_from_is_err_and c.from_residual-in_err-made.result c.from_residual-in_err-made.ensures.1 in
+    subst (λ r. IsThrifty r c.args.devices.now c.args.devices.now) (sym p.1) (used_first p.0 c.args.devices.now p.2)
+
+pub returns-in_err-ins-clause-thrift : goal.returns-in_err-ins-clause-thrift
+returns-in_err-ins-clause-thrift g c =
+    let p = err_from_is_err_and c.from_residual-in_err-ins.result c.from_residual-in_err-ins.ensures.1 in
+    subst (λ r. IsThrifty r c.args.devices.now c.args.devices.now) (sym p.1) (used_first p.0 c.args.devices.now p.2)
+
+pub returns-in_err-call-clause-thrift : goal.returns-in_err-call-clause-thrift
+returns-in_err-call-clause-thrift g c =
+    let p = err_from_is_err_and c.from_residual-in_err-call.result c.from_residual-in_err-call.ensures.1 in
+    subst (λ r. IsThrifty r c.args.devices.now c.args.devices.now) (sym p.1) (used_first p.0 c.args.devices.now p.2)
+
+pub returns-in_err-push-clause-thrift : goal.returns-in_err-push-clause-thrift
+returns-in_err-push-clause-thrift g c =
+    let p = err_from_is_err_and c.from_residual-in_err-push.result c.from_residual-in_err-push.ensures.1 in
+    subst (λ r. IsThrifty r c.args.devices.now c.args.devices.now) (sym p.1) (used_first p.0 c.args.devices.now p.2)

@@ -1,6 +1,6 @@
 use Rattle.std.proofs.Common.{◌∙◌, sym, ap, false}
 use Rattle.std.specs.Option.{option_map_or}
-use Rattle.prop_premises.specs.Origins.{is_believed}
+use Rattle.prop_premises.specs.inner.Origins.{is_believed}
 use Rattle.prop_premises.proofs.OriginLemmas.{believed_in-at}
 use Rattle.prop_premises.proofs.premises.Premises.is_in.Goals as goal
 

@@ -130,6 +130,7 @@ returns-in-Limit g c =
           at_work = sound.at_work;
           sized = sound.sized;
           locals = sound.locals;
+          room = sound.room;
           named = sound.named;
           defined = sound.defined;
         };

@@ -44,6 +44,8 @@ returns-in-Ok-state_sides-clause-keeps g c =
     let sound = c.requires.sound in
     let rest = c.in-Ok-state_sides.ensures.rest in
     let kinds : c.state_sides.new.live.network.cells.kinds ≡ s.live.network.cells.kinds = ap (λ d. d.kinds) rest in
+    let instances : c.state_sides.new.live.network.cells.instances ≡ s.live.network.cells.instances =
+    ap (λ d. d.instances) rest in
     record {
       library = c.state_sides.ensures.same;
       sound = record {
@@ -56,6 +58,7 @@ returns-in-Ok-state_sides-clause-keeps g c =
             (rw c.worldview.ensures.same at c.state_sides.ensures.alive.watched));
         sized = rw kinds sound.sized;
         locals = sound.locals;
+        room = rw (kinds, instances) sound.room;
         named = rw kinds sound.named;
         defined = rw c.state_sides.ensures.same sound.defined;
       };

@@ -2,7 +2,8 @@ use Rattle.std.proofs.Common.{◌≡◌, ◌≤◌, ◌∙◌, [], ap, sym}
 use Rattle.std.proofs.lemmas.Bool.{false≢true}
 use Rattle.prop_engine.specs.Answers.{answer_of}
 use Rattle.prop_procedures.specs.Kept.{stored_of}
-use Rattle.prop_workbench.specs.Machine.{State, naming}
+use Rattle.prop_workbench.specs.Machine.{State}
+use Rattle.prop_workbench.specs.inner.Machine.{naming}
 use Rattle.prop_workbench.specs.Sessions.{state_of, shown_of, work_of, steps_of}
 use Rattle.prop_workbench.proofs.EarnedLemmas.{earns_none}
 use Rattle.prop_workbench.proofs.LineLemmas.{covers_none, still_lacking, step_of_read}
@@ -53,6 +54,7 @@ returns-clause-sound g c =
             at_work = sound.at_work;
             sized = sound.sized;
             locals = sound.locals;
+            room = sound.room;
             named = sound.named;
             defined = sound.defined;
           };

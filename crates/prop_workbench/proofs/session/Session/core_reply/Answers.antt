@@ -35,7 +35,7 @@ contradiction_reply-reply-requires g c =
     let library = stored_of g.R.Rule.value_of s.live.network.library in
     let ends : MayEnd library (state_of s) (Contradiction c.in-Contradiction.premises) =
     rw c.in-Contradiction.is at c.requires.run.ends in
-    rw c.premises.ensures (believed_known s.search.premises c.in-Contradiction.premises ends.believes)
+    rw c.premises.ensures (believed_known s.search.premises c.in-Contradiction.premises ends.0)
 
 pub returns-in-Settled-clause-keeps : goal.returns-in-Settled-clause-keeps
 returns-in-Settled-clause-keeps g c = c.reduced.ensures.keeps

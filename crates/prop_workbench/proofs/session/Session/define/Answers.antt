@@ -27,6 +27,7 @@ returns-clause-keeps g c =
             (rw (c.library.ensures, c.network.ensures) at c.define.ensures.fits)
             (rw (c.library.ensures, c.network.ensures) at c.define.ensures.ok) c.define.ensures.err_same
             (c.define.ensures.locals c.requires.sound.locals.locals);
+        room = c.requires.sound.room;
         named = c.requires.sound.named;
         defined = rw (c.library.ensures, c.network.ensures) at c.define.ensures.over;
       };

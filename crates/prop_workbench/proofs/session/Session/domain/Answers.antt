@@ -32,6 +32,7 @@ returns-clause-keeps g c =
             c.declare_domain.new.self made r c.declare_domain.ensures.ok c.declare_domain.ensures.err
             c.requires.sound.locals (numbered_domain s.words c.args.name.now (words c.args.elements.now) s.definitions
             c.requires.sound.locals);
+        room = c.requires.sound.room;
         named = c.requires.sound.named;
         defined = c.requires.sound.defined;
       };

@@ -1,7 +1,7 @@
 use Rattle.std.proofs.Common.{ap, Err}
 use Rattle.prop_procedures.specs.Kept.{stored_of}
 use Rattle.prop_engine.specs.Answers.{Refused}
-use Rattle.prop_workbench.specs.Machine.{naming}
+use Rattle.prop_workbench.specs.inner.Machine.{naming}
 use Rattle.prop_workbench.specs.Sessions.{state_of, shown_of, work_of}
 use Rattle.prop_workbench.proofs.CoveringLemmas.{refused_followed}
 use Rattle.prop_workbench.proofs.AnsweredLemmas.{refusal_rests}

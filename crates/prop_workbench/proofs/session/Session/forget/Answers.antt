@@ -49,6 +49,7 @@ returns-clause-stays g c =
             (rw c.purge.ensures.forgotten at (c.purge.ensures.alive (set_of new.worldview)).watched));
         sized = rw c.purge.ensures.forgotten sound.sized;
         locals = sound.locals;
+        room = rw c.purge.ensures.forgotten sound.room;
         named = rw c.purge.ensures.forgotten sound.named;
         defined = rw c.purge.ensures.same sound.defined;
       };

@@ -19,6 +19,7 @@ returns-clause-sound g c = record {
           (record { below = λ k d l. absurd (omega (arith, l)); holds = λ cell clash. cc });
     };
     sized = rw (c.new-2.ensures.network, c.requires.empty) (λ k d l. absurd (omega (arith, l)));
+    room = rw (c.new-2.ensures.network, c.requires.empty) (omega arith, omega arith);
     named = rw c.new-3.ensures (λ k d l. absurd (omega (arith, l)));
     locals = rw (c.new-4.ensures.none) (record {
       locals = λ k d l. absurd (omega (arith, l));

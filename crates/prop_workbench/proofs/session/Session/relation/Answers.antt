@@ -33,6 +33,7 @@ returns-clause-keeps g c =
             c.requires.sound.locals (numbered_relation s.words c.args.name.now
             (relation_of s.words c.args.from.now c.args.to.now (pairs_of c.args.pairs.now))
             s.definitions c.requires.sound.locals);
+        room = c.requires.sound.room;
         named = c.requires.sound.named;
         defined = c.requires.sound.defined;
       };

@@ -29,6 +29,7 @@ returns-clause-keeps g c =
         };
         sized = rw rest c.requires.sound.sized;
         locals = c.requires.sound.locals;
+        room = rw rest c.requires.sound.room;
         named = rw rest c.requires.sound.named;
         defined = rw same c.requires.sound.defined;
       };

@@ -5,7 +5,8 @@ use Rattle.prop_cells.specs.Data.{beliefs}
 use Rattle.prop_language.specs.Commands as commands
 use Rattle.prop_vocabulary.specs.Cells.{cell_named}
 use Rattle.prop_texts.specs.Texts.{equation, because}
-use Rattle.prop_workbench.specs.Machine.{worldview_at, text_at}
+use Rattle.prop_workbench.specs.Machine.{worldview_at}
+use Rattle.prop_workbench.specs.inner.Machine.{text_at}
 use Rattle.prop_workbench.specs.Running.{Unsettled}
 use Rattle.prop_workbench.specs.Sessions.{state_of, work_of}
 use Rattle.prop_workbench.proofs.AskLemmas.{may_say_unsettled, may_say_value, may_explain, cell_there, unsettled_in}

@@ -2,7 +2,7 @@ use Rattle.std.proofs.Common.{◌≡◌, ◌∙◌, Err, refl, ap}
 use Rattle.std.proofs.lemmas.Result.{err_from_is_err_and}
 use Rattle.prop_procedures.specs.Kept.{stored_of}
 use Rattle.prop_cells.specs.declared.instance.Statement.{Statement}
-use Rattle.prop_workbench.proofs.StandingLemmas.{stated_at_work, stated_kinds}
+use Rattle.prop_workbench.proofs.StandingLemmas.{stated_at_work, stated_kinds, stated_instances}
 use Rattle.prop_workbench.proofs.AskLemmas.{believes_same}
 use Rattle.prop_workbench.specs.Sessions.{work_of}
 use Rattle.prop_workbench.proofs.session.Session.state.Goals as goal
@@ -22,6 +22,8 @@ returns-clause-keeps g c =
     let rest = c.in_ok-state.ensures.ok.rest in
     let kinds : c.state.new.live.network.cells.kinds ≡ s.live.network.cells.kinds =
     stated_kinds s.live.network.cells c.state.new.live.network.cells statement rest in
+    let instances : c.state.new.live.network.cells.instances ≡ s.live.network.cells.instances =
+    stated_instances s.live.network.cells c.state.new.live.network.cells statement rest in
     record {
       library = c.state.ensures.same;
       sound = record {
@@ -32,6 +34,7 @@ returns-clause-keeps g c =
             (rw c.worldview.ensures.same at c.state.ensures.alive.watched));
         sized = rw kinds sound.sized;
         locals = sound.locals;
+        room = rw (kinds, instances) sound.room;
         named = rw kinds sound.named;
         defined = rw c.state.ensures.same sound.defined;
       };
@@ -50,6 +53,7 @@ returns-in_err-state-clause-keeps g c =
         at_work = rw (c.state.ensures.same, cells, line) sound.at_work;
         sized = rw cells sound.sized;
         locals = sound.locals;
+        room = rw cells sound.room;
         named = rw cells sound.named;
         defined = rw c.state.ensures.same sound.defined;
       };

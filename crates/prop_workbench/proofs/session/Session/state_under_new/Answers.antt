@@ -5,7 +5,7 @@ use Rattle.prop_cells.specs.declared.instance.Statement.{Statement}
 use Rattle.prop_cells.specs.Data.{problem_of}
 use Rattle.prop_amb.specs.Moving.{interned}
 use Rattle.prop_workbench.proofs.StandingLemmas.{named_at_work, named_covers, new_number, new_stand, stated_at_work}
-use Rattle.prop_workbench.proofs.StandingLemmas.{stated_kinds, back_keeps, same_keeps}
+use Rattle.prop_workbench.proofs.StandingLemmas.{stated_kinds, stated_instances, back_keeps, same_keeps}
 use Rattle.prop_amb.specs.Search.{Stand}
 use Rattle.prop_workbench.specs.Sessions.{work_of, state_of}
 use Rattle.prop_workbench.proofs.ChosenLemmas.{room_for_name}
@@ -51,6 +51,8 @@ returns-in-Ok-state-clause-keeps g c =
     let rest = c.in-Ok-state.ensures.ok.rest in
     let kinds : c.state.new.live.network.cells.kinds ≡ s.live.network.cells.kinds =
     stated_kinds s.live.network.cells c.state.new.live.network.cells statement rest in
+    let instances : c.state.new.live.network.cells.instances ≡ s.live.network.cells.instances =
+    stated_instances s.live.network.cells c.state.new.live.network.cells statement rest in
     let under_way = rw (c.worldview.ensures.same, c.state.ensures.same) at c.state.ensures.alive.under_way in
     record {
       library = c.state.ensures.same;
@@ -62,6 +64,7 @@ returns-in-Ok-state-clause-keeps g c =
             (rw c.worldview.ensures.same at c.state.ensures.alive.watched));
         sized = rw kinds sound.sized;
         locals = sound.locals;
+        room = rw (kinds, instances) sound.room;
         named = rw kinds sound.named;
         defined = rw c.state.ensures.same sound.defined;
       };

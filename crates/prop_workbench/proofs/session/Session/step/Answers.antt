@@ -27,6 +27,7 @@ returns-clause-sound g c =
         };
         sized = rw rest order.sized;
         locals = order.locals;
+        room = rw rest order.room;
         named = rw rest order.named;
         defined = rw same order.defined;
       };

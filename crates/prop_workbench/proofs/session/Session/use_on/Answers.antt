@@ -9,12 +9,12 @@ use Rattle.prop_scheduler.specs.Making.{with_flat}
 use Rattle.prop_compound.specs.Compounds.{given_by}
 use Rattle.prop_workbench.specs.Sessions.{state_of, state_from, AreKnown}
 use Rattle.prop_compound.specs.Kinds.{IsSized}
-use Rattle.prop_workbench.proofs.AttachLemmas.{may_make, sized_made, named_made, state_made}
+use Rattle.prop_workbench.proofs.AttachLemmas.{may_make, sized_made, named_made, room_made, state_made}
 use Rattle.prop_workbench.proofs.NamesLemmas.{used_is}
 use Rattle.prop_workbench.proofs.AdditionLemmas.{search_added}
 use Rattle.prop_workbench.proofs.SoundLemmas.{made_or_not, unchanged}
 use Rattle.prop_workbench.proofs.RefusedLemmas.{unexpanded, no_room, with_room}
-use Rattle.prop_cells.specs.Problems.{Premises}
+use Rattle.prop_cells.specs.inner.Problems.{Premises}
 use Rattle.prop_scheduler.specs.Shifts.{AreStirred}
 use Rattle.prop_workbench.specs.Waking.{IsStirred, believed_at}
 use Rattle.prop_workbench.specs.Sessions.{work_of}
@@ -70,6 +70,8 @@ returns-in-Ok-clause-keeps g c = record {
             (sized_made library s.words s.definitions d c.args.name.now cells (given_by s.words (by_of c.args.by))
             c.in-Ok.flat c.in-Ok.ensures.ok was.sized was.locals.locals);
         locals = was.locals;
+        room = room_made library d new cells c.in-Ok.flat c.make.result c.make.ensures.fits c.make.ensures.ok
+            c.make.ensures.err_same was.room;
         named = made_or_not (λ (x : Data). All (λ cell. cell < length x.kinds) s.names.cells) d new made c.make.result
             c.make.ensures.ok c.make.ensures.err_same was.named
             (named_made s.names.cells d.kinds c.in-Ok.flat.fresh.items was.named);

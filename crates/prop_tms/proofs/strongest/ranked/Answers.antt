@@ -4,10 +4,10 @@ use Rattle.prop_numbers.specs.Sets.{set_of, is_within}
 use Rattle.prop_tms.specs.inner.Gains.{entry_of, gained_of}
 use Rattle.prop_tms.specs.Values.{entries_of}
 use Rattle.prop_tms.proofs.GainLemmas.{merged_said, lean_alone, lean_among, none_gained}
-use Rattle.prop_tms.proofs.strongest.strongest.Goals as goal
-use Rattle.prop_tms.proofs.strongest.strongest.Goals.{in-Some+in_ok-support-in-Some, in_default}
-use Rattle.prop_tms.proofs.strongest.strongest.Goals.{in_default-via-in-Some+else-count-premises}
-use Rattle.prop_tms.proofs.strongest.strongest.Goals.{in_default-via-in_default}
+use Rattle.prop_tms.proofs.strongest.ranked.Goals as goal
+use Rattle.prop_tms.proofs.strongest.ranked.Goals.{in-Some+in_ok-support-in-Some, in_default}
+use Rattle.prop_tms.proofs.strongest.ranked.Goals.{in_default-via-in-Some+else-count-premises}
+use Rattle.prop_tms.proofs.strongest.ranked.Goals.{in_default-via-in_default}
 
 pub returns-clause-value : goal.returns-clause-value
 returns-clause-value g c =
