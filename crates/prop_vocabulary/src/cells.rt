@@ -1,11 +1,9 @@
 //! The names of cells. A cell may have none.
-ghost use Rattle.std.specs.Prelude.{◌≡◌, ◌∷◌, ◌<◌, ◌==◌, [], ℕ, map, length, is_none, unwrap_or};
-ghost use Rattle.std.specs.Prelude.{None, Some, OnOk, OnErr, IfOk, IfSome, Contains, position};
+ghost use Rattle.std.specs.Prelude.{◌≡◌, ◌∷◌, ◌<◌, ◌==◌, [], ℕ, length, None, Some};
+ghost use Rattle.std.specs.Prelude.{OnOk, OnErr, IfSome, Contains, position};
 ghost use Rattle.std.specs.Prelude.{slice_index_or, false, take, ◌-◌, ◌++◌};
-ghost use Rattle.std.specs.List.{list_any};
-ghost use Rattle.prop_vocabulary.specs.Cells.{no_cell_names, cell_named, cells_named, name_at};
-ghost use Rattle.prop_vocabulary.specs.Cells.{is_cell_missing, with_cell_name};
-ghost use Rattle.prop_vocabulary.specs.Cells.{without_last_cell_name, HasFirsts};
+ghost use Rattle.prop_vocabulary.specs.Cells.{no_cell_names, cell_named, name_at, HasFirsts};
+ghost use Rattle.prop_vocabulary.specs.Cells.{with_cell_name, without_last_cell_name};
 
 use crate::names::Names;
 use std::alloc::{AllocError, Global};
@@ -145,42 +143,6 @@ impl CellNames {
         ensures within { IfSome result (λ n. n < length self.now.names) }
     {
         *self.firsts.get(cell)?
-    }
-
-    /// Whether one of the words names no cell.
-    #[tactic(auto, using(crate::proofs::CellLookups::missing_among))]
-    pub fn is_missing(&self, words: &[&str]) -> bool
-        ensures { result ≡ is_cell_missing self.now (map (λ x. x.now) words.now) }
-    {
-        self.lacks(words)
-    }
-
-    fn lacks(&self, words: &[&str]) -> bool
-        ensures { result ≡ list_any (λ x. is_none (cell_named self.now x.now)) words.now }
-    {
-        words.iter().any(
-            |name: &&str| -> bool
-                ensures { result ≡ is_none (cell_named self.entry.now name.now.now) }
-            { self.find(name).is_none() },
-        )
-    }
-
-    /// The number of the cell with this name, or 0 where there is none.
-    fn number(&self, name: &str) -> usize
-        ensures { result ≡ unwrap_or (cell_named self.now name.now) 0 }
-    {
-        self.find(name).unwrap_or(0)
-    }
-
-    /// The numbers of the cells with these names, 0 for a word that names none.
-    pub fn numbers(&self, alloc: Global, words: &[&str]) -> Result<Vec<usize>, AllocError>
-        ensures { IfOk result (λ v. v.items ≡ cells_named self.now (map (λ x. x.now) words.now)) }
-    {
-        let mut numbers = Vec::new(alloc);
-        for word in words {
-            numbers.push(self.number(word))?;
-        }
-        Ok(numbers)
     }
 
     /// A new name, of the cell with this number. After an error the names are as they were.

@@ -1,9 +1,8 @@
 //! The names of one space, numbered in order of first appearance.
 ghost use Rattle.std.specs.Prelude.{◌≡◌, ◌<◌, ◌++◌, ◌∷◌, ◌-◌, [], ℕ, List, length, map, take};
-ghost use Rattle.std.specs.Prelude.{string_bytes, unwrap_or, is_none, slice_get, Some, None, OnOk};
+ghost use Rattle.std.specs.Prelude.{string_bytes, unwrap_or, slice_get, Some, None, OnOk};
 ghost use Rattle.std.specs.Prelude.{OnErr, IfOk, IfSome};
-ghost use Rattle.std.specs.List.{list_any};
-ghost use Rattle.prop_vocabulary.specs.Names.{number_in, numbers_in, is_missing};
+ghost use Rattle.prop_vocabulary.specs.Names.{number_in, numbers_in};
 
 use crate::crowd::Crowd;
 use crate::sorted::SortedNames;
@@ -84,24 +83,6 @@ impl Names {
                 Some(self.hashed.len() + number)
             }
         }
-    }
-
-    /// Whether one of the words is no name.
-    #[tactic(auto, using(crate::proofs::Lookups::missing_among))]
-    pub fn is_missing(&self, words: &[&str]) -> bool
-        ensures { result ≡ is_missing self.now (map (λ x. x.now) words.now) }
-    {
-        self.lacks(words)
-    }
-
-    fn lacks(&self, words: &[&str]) -> bool
-        ensures { result ≡ list_any (λ x. is_none (number_in self.now x.now)) words.now }
-    {
-        words.iter().any(
-            |name: &&str| -> bool
-                ensures { result ≡ is_none (number_in self.entry.now name.now.now) }
-            { self.find(name).is_none() },
-        )
     }
 
     /// The number of the name, or 0 where there is none.
