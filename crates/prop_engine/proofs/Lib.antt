@@ -1,10 +1,12 @@
-pub mod Io
+pub mod Leading
+pub mod Sent
 pub mod Lines
 pub mod Machines
 pub mod Runs
 pub mod Simulating
 pub mod Feeds
-pub mod Pieces
+pub mod Ending
 pub mod Prefixes
 pub mod Refusals
-pub mod Turns
+pub mod Streaming
+pub mod Speaking

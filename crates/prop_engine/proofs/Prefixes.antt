@@ -5,7 +5,7 @@ use Rattle.std.specs.Prelude.{flat_map, count_by}
 use Rattle.std.proofs.lemmas.Grind.{flat_map-append}
 use Rattle.prop_engine.specs.Lines.{lines_of, ended_lines, onto_first, onto_ended}
 use Rattle.prop_engine.specs.Answers.{Answer, text_written, is_refusal}
-use Rattle.prop_engine.specs.Transcripts.{Machine, Run, WriteStopped, ReadStopped, IsPrefixOfTranscript}
+use Rattle.prop_engine.specs.Transcripts.{Machine, Run, IsPrefixOfTranscript}
 use Rattle.prop_engine.specs.Machines.{IsTotal}
 
 -- a run over some lines goes on over the rest
@@ -23,7 +23,7 @@ run_on machine total old (l ∷ lines) rest (a ∷ answers) mid (m, s, r) =
 run_on machine total old [] rest (a ∷ answers) mid r = absurd r
 run_on machine total old (l ∷ lines) rest [] mid r = absurd r
 
-prefix : {S : Type 0} (machine : Machine S) → IsTotal machine
+pub prefix : {S : Type 0} (machine : Machine S) → IsTotal machine
     → (old : S) (input output : List ℕ) (lines rest : List (List ℕ)) (answers : List Answer) (mid : S)
     (missing : List ℕ) → lines_of input ≡ lines ++ rest → Run machine old lines answers mid
     → flat_map text_written answers ≡ output ++ missing → IsPrefixOfTranscript machine old input output
@@ -43,15 +43,6 @@ prefix machine total old input output lines rest answers mid missing e r o =
       };
     }
 
-pub write_prefix : {S : Type 0} (machine : Machine S) → IsTotal machine → (old : S) (input output : List ℕ) (new : S)
-    → WriteStopped machine old input output new → IsPrefixOfTranscript machine old input output
-write_prefix machine total old input output new w =
-    prefix machine total old input output w.lines w.rest (w.before ++ w.last ∷ []) new w.missing w.split w.run
-    (flat_map-append text_written w.before (w.last ∷ [])
-    ∙ ap (λ l. flat_map text_written w.before ++ l) (append-nil (text_written w.last) ∙ w.last_is)
-    ∙ sym (append_assoc (flat_map text_written w.before) w.prefix w.missing)
-    ∙ ap (λ l. l ++ w.missing) (sym w.output_is))
-
 first_ended : (feed : Bool) (b : ℕ) (lines ended rest : List (List ℕ)) → lines ≡ ended ++ rest
     → (more : List (List ℕ)) × (cond feed ([] ∷ lines) (onto_first b lines) ≡ cond feed ([] ∷ ended)
     (onto_ended b ended) ++ more)
@@ -65,11 +56,3 @@ ended_first [] more = (lines_of more, refl)
 ended_first (b ∷ input) more =
     let on = ended_first input more in
     first_ended (eqb b 10) b (lines_of (input ++ more)) (ended_lines input) on.0 on.1
-
-pub read_prefix : {S : Type 0} (machine : Machine S) → IsTotal machine
-    → (old : S) (input output more : List ℕ) (new : S) → ReadStopped machine old input output new
-    → IsPrefixOfTranscript machine old (input ++ more) output
-read_prefix machine total old input output more new w =
-    let on = ended_first input more in
-    prefix machine total old (input ++ more) output (ended_lines input) on.0 w.answers new [] on.1 w.run
-    (sym (append-nil output ∙ w.output_is))

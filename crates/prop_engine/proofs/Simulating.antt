@@ -1,10 +1,12 @@
 -- What one machine does, as what another does whose states are seen in its own.
 use Rattle.std.proofs.Common.{ℕ, List, [], ◌∷◌, ◌++◌, ap}
-use Rattle.std.specs.Prelude.{Option, Some, None}
+use Rattle.std.specs.Prelude.{Result}
 use Rattle.prop_engine.specs.declared.outcome.Counts.{Counts}
+use Rattle.prop_engine.specs.declared.outcome.EngineFault.{EngineFault}
+use Rattle.prop_engine.specs.Calls.{Call}
+use Rattle.prop_engine.specs.Dialogues.{IsDialogue}
 use Rattle.prop_engine.specs.Answers.{Answer}
 use Rattle.prop_engine.specs.Transcripts.{Machine, Run, IsTranscript}
-use Rattle.prop_engine.specs.Endings.{WritesTranscript, WritesPrefix}
 
 module _ {S T : Type 0} (machine : Machine S) (other : Machine T) (view : S → T)
     (step : (old : S) (line : List ℕ) (answer : Answer) (new : S) → machine old line answer new
@@ -28,24 +30,11 @@ module _ {S T : Type 0} (machine : Machine S) (other : Machine T) (view : S → 
     refused_counted = t.refused_counted;
   }
 
-  pub writing_seen : (left held held' : Option (List ℕ)) (counts : Counts) (old new : S)
-      → WritesTranscript machine left held held' counts old new
-      → WritesTranscript other left held held' counts (view old) (view new)
-  writing_seen None held held' counts old new w = tt
-  writing_seen (Some input) held held' counts old new (output, appends, t) =
-      (output, appends, transcript_seen old new input output counts.lines counts.refused t)
-
-  pub prefix_seen : (left held held' : Option (List ℕ)) (old : S) → WritesPrefix machine left held held' old
-      → WritesPrefix other left held held' (view old)
-  prefix_seen None held held' old w = tt
-  prefix_seen (Some input) held held' old (output, appends, f) = (
-    output,
-    appends,
-    record {
-      rest = f.rest;
-      lines_count = f.lines_count;
-      refused_count = f.refused_count;
-      new = view f.new;
-      transcript = transcript_seen old f.new input (output ++ f.rest) f.lines_count f.refused_count f.transcript;
-    },
-  )
+  pub dialogue_seen : (reads : ℕ) (old : S) (result : Result Counts EngineFault) (calls : List Call) (new : S)
+      → IsDialogue machine reads old result calls new → IsDialogue other reads (view old) result calls (view new)
+  dialogue_seen reads old result calls new d = record {
+    input = d.input;
+    answers = d.answers;
+    run = run_seen old new _ d.answers d.run;
+    in_turn = d.in_turn;
+  }

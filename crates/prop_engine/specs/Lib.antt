@@ -2,7 +2,7 @@ pub mod Answers
 pub mod Lines
 pub mod Transcripts
 pub mod Machines
-pub mod Watched
-pub mod Patient
-pub mod Endings
+pub mod Calls
+pub mod Dialogues
+pub mod Streams
 pub mod inner

@@ -1,7 +1,7 @@
 -- What a machine may answer to the lines of an input, and what is written then.
-use Rattle.std.specs.Prelude.{◌≡◌, ◌≢◌, ℕ, List, [], ◌∷◌, ◌++◌, length, flat_map, count_by}
-use Rattle.prop_engine.specs.Lines.{lines_of, ended_lines}
-use Rattle.prop_engine.specs.Answers.{Answer, Silent, text_written, is_refusal}
+use Rattle.std.specs.Prelude.{◌≡◌, ℕ, List, [], ◌∷◌, ◌++◌, length, flat_map, count_by}
+use Rattle.prop_engine.specs.Lines.{lines_of}
+use Rattle.prop_engine.specs.Answers.{Answer, text_written, is_refusal}
 
 -- A machine with states S: from which state a line may be given which answer, and which state
 -- follows.
@@ -33,27 +33,3 @@ pub record IsPrefixOfTranscript {S : Type 0} (machine : Machine S) (old : S) (in
   pub refused_count : ℕ
   pub new : S
   pub transcript : IsTranscript machine old input (output ++ rest) lines_count refused_count new
-
--- The lines that a line feed ended were answered, and what came after the last line feed was not
--- carried out.
-pub record ReadStopped {S : Type 0} (machine : Machine S) (old : S) (input output : List ℕ)
-    (new : S) : Type 0 where
-  pub answers : List Answer
-  pub run : Run machine old (ended_lines input) answers new
-  pub output_is : output ≡ flat_map text_written answers
-
--- A write stopped it within what is written for last, which is not silent: the line of last was
--- carried out, and no line after it.
-pub record WriteStopped {S : Type 0} (machine : Machine S) (old : S) (input output : List ℕ)
-    (new : S) : Type 0 where
-  pub lines : List (List ℕ)
-  pub rest : List (List ℕ)
-  pub before : List Answer
-  pub last : Answer
-  pub prefix : List ℕ
-  pub missing : List ℕ
-  pub split : lines_of input ≡ lines ++ rest
-  pub run : Run machine old lines (before ++ last ∷ []) new
-  pub output_is : output ≡ flat_map text_written before ++ prefix
-  pub last_is : text_written last ≡ prefix ++ missing
-  pub spoken : last ≢ Silent

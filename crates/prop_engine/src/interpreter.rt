@@ -2,15 +2,14 @@
 ghost use Rattle.std.specs.Prelude.{◌≡◌};
 ghost use Rattle.prop_engine.specs.Answers.{answer_of};
 ghost use Rattle.prop_engine.specs.Transcripts.{Machine};
-ghost use Rattle.prop_engine.specs.Machines.{AsksByPrefix, IsTotal};
+ghost use Rattle.prop_engine.specs.Machines.{AsksByPrefix};
 
 use crate::reply::Reply;
 
 /// What carries out lines, one after another, as a machine.
 ///
 /// A line takes the machine from a state to the next, and leaves the setting as it was. The machine
-/// has to answer a line as it may answer the prefix of it that is kept, its first 4,097 bytes, and
-/// has to have some answer to each line that leaves the state as it was.
+/// has to answer a line as it may answer the prefix of it that is kept, its first 4,097 bytes.
 pub trait Interpreter {
     /// What no line changes, such as what words mean.
     type Setting;
@@ -39,6 +38,4 @@ pub trait Interpreter {
             (state self.new) };
 
     ghost asks_by_prefix: { (at : Self.Setting) → AsksByPrefix (machine at) };
-
-    ghost total: { (at : Self.Setting) → IsTotal (machine at) };
 }

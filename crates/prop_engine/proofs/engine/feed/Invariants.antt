@@ -1,6 +1,4 @@
 use Rattle.std.proofs.Common.{◌≡◌, length}
-use Rattle.prop_engine.specs.Watched.{IsPassedOn}
-use Rattle.prop_engine.specs.inner.Watched.{HasNotRead}
 use Rattle.prop_engine.proofs.Feeds.{IsFed}
 use Rattle.prop_engine.proofs.engine.feed.Given as goal
 
@@ -8,14 +6,10 @@ abbrev pub invariant-loop-end : goal.invariant-loop-end
 invariant-loop-end g l = record {
   same : g.M.Interpreter.setting l.interpreter ≡ g.M.Interpreter.setting l.fn.interpreter;
   ready : g.M.Interpreter.is_ready l.interpreter;
-  fed : IsFed (g.M.Interpreter.machine (g.M.Interpreter.setting l.fn.interpreter))
-      (g.W.Write.contents l.fn.devices.writer) (g.W.Write.contents l.devices.writer)
+  fed : IsFed g.D.Devices.calls l.fn.devices l.devices
+      (g.M.Interpreter.machine (g.M.Interpreter.setting l.fn.interpreter))
       (g.M.Interpreter.state l.fn.interpreter) l.fn.pending l.fn.counts l.piece l.left
       (g.M.Interpreter.state l.interpreter) l.pending l.counts;
-  passed_on : IsPassedOn l.devices;
-  in_turn : l.devices.has_gone_ahead ≡ l.fn.devices.has_gone_ahead;
-  reader : HasNotRead l.fn.devices l.devices;
-  usage : l.devices.usage ≡ l.fn.devices.usage;
 }
 
 abbrev pub decreases-loop-end : goal.decreases-loop-end
