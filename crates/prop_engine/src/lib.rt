@@ -5,9 +5,8 @@
 //! read ended is carried out, its reply is written and passed on, and nothing else is written
 //! (`run_session`). A call that a signal interrupted is tried again, 65,536 times at the most.
 //!
-//! So what was written is a transcript of what was read, or at a fault the prefix of one
-//! (`a_dialogue_writes_a_transcript`), and where a reader and a writer of the standard library tell
-//! their bytes (`Streams`), it is what these had and have (`streams_tell_what_was_said`).
+//! Where a reader and a writer of the standard library tell their bytes (`Streams`), what the reads
+//! gave and the writes took is what these had and have (`streams_tell_what_was_said`).
 #![tactic(auto)]
 
 mod devices;
@@ -27,13 +26,10 @@ pub use devices::Devices;
 pub use engine::run_session;
 pub use failure::Failure;
 pub use interpreter::Interpreter;
-pub use laws::{
-    a_dialogue_writes_a_transcript, a_fault_leaves_a_prefix, ended_lines_come_first,
-    streams_tell_what_was_said,
-};
+pub use laws::{ended_lines_come_first, streams_tell_what_was_said};
 pub use line::Line;
 pub use outcome::{Counts, EngineFault};
 pub use pending::Pending;
 pub use reply::Reply;
-pub use sending::write_reply;
+pub use sending::{send, write_reply};
 pub use streams::Streams;

@@ -1,10 +1,8 @@
-//! Sessions over a reader and a writer that count what they are asked for, since `Devices` tells of
-//! its own calls what no contract can tell of a device: that each is made once, as wide as it was
-//! asked for, and no fault made up.
+//! Sessions over a reader and a writer that count what they are asked for, since no contract tells
+//! that `Streams` makes each call once, as wide as it was asked for, and makes no fault up.
 ghost use Rattle.std.specs.Prelude.{⊤};
-ghost use Rattle.prop_engine.specs.Answers.{Silent};
 
-use prop_engine::{Counts, Devices, EngineFault, Interpreter, Patient, Reply, run_session};
+use prop_engine::{Counts, EngineFault, Interpreter, Reply, Streams, run_session};
 use prop_lattice::Refusal;
 use std::alloc::Global;
 use std::io;
@@ -111,8 +109,6 @@ impl Interpreter for Teller {
     }
 
     ghost asks_by_prefix = { λ at old line answer new h. h };
-
-    ghost total = { λ at old line. (Silent, tt) };
 }
 
 const LINES: &[u8] = b"d\n\nt\nx\nd";
@@ -146,9 +142,9 @@ fn carried_out<Rd: Read, W: Write>(
     input: Rd,
     output: W,
 ) -> (Result<Counts, EngineFault>, Rd, W) {
-    let mut devices = Devices::new(input, output);
-    let end = run_session(&mut Teller { alloc }, &mut devices, 1 << 32);
-    let (input, output) = devices.into_inner();
+    let mut streams = Streams::new(input, output);
+    let end = run_session(&mut Teller { alloc }, &mut streams, 1 << 32);
+    let (input, output) = streams.into_inner();
     (end, input, output)
 }
 
@@ -191,11 +187,7 @@ fn asks_for_the_rest_of_what_comes_in_parts(rt: HostRuntime) -> Result<(), Fail>
 #[test]
 fn tells_a_fault_of_a_device_at_once(rt: HostRuntime) -> Result<(), Fail> {
     let alloc = rt.alloc();
-    for kind in [
-        ErrorKind::WouldBlock,
-        ErrorKind::Interrupted,
-        ErrorKind::StorageFull,
-    ] {
+    for kind in [ErrorKind::WouldBlock, ErrorKind::StorageFull] {
         let once = Faults { left: 1, kind };
         let output = taking(alloc, usize::MAX, NONE, NONE);
         let (end, input, output) = carried_out(alloc, giving(usize::MAX, once), output);
@@ -216,17 +208,15 @@ fn tells_a_fault_of_a_device_at_once(rt: HostRuntime) -> Result<(), Fail> {
     Ok(())
 }
 
-/// Carries out the lines over patient devices, each of which fails so often first.
-fn with_patience(
+/// Carries out the lines over devices each of which fails so often first.
+fn failing_first(
     alloc: Global,
     read: Faults,
     write: Faults,
     flush: Faults,
 ) -> (Result<Counts, EngineFault>, Source, Sink) {
-    let input = Patient::new(giving(usize::MAX, read));
-    let output = Patient::new(taking(alloc, usize::MAX, write, flush));
-    let (end, input, output) = carried_out(alloc, input, output);
-    (end, input.into_inner(), output.into_inner())
+    let output = taking(alloc, usize::MAX, write, flush);
+    carried_out(alloc, giving(usize::MAX, read), output)
 }
 
 #[test]
@@ -235,7 +225,7 @@ fn tries_again_where_a_signal_interrupts(rt: HostRuntime) -> Result<(), Fail> {
         left: 5,
         kind: ErrorKind::Interrupted,
     };
-    let (end, source, sink) = with_patience(rt.alloc(), often, often, often);
+    let (end, source, sink) = failing_first(rt.alloc(), often, often, often);
     assert_eq!(rt; end, ALL);
     assert_eq!(rt; source.reads, 5 + 2);
     assert_eq!(rt; sink.written.as_slice(), REPLIES);
@@ -253,32 +243,14 @@ fn gives_up_where_each_try_is_interrupted(rt: HostRuntime) -> Result<(), Fail> {
         left: usize::MAX,
         kind: ErrorKind::Interrupted,
     };
-    let (end, source, _) = with_patience(rt.alloc(), always, NONE, NONE);
+    let (end, source, _) = failing_first(rt.alloc(), always, NONE, NONE);
     assert_eq!(rt; end, Err(EngineFault::Read));
     assert_eq!(rt; source.reads, 65_536);
-    let (end, _, sink) = with_patience(rt.alloc(), NONE, always, NONE);
+    let (end, _, sink) = failing_first(rt.alloc(), NONE, always, NONE);
     assert_eq!(rt; end, Err(EngineFault::Write));
     assert_eq!(rt; sink.widths.len(), 65_536);
-    let (end, _, sink) = with_patience(rt.alloc(), NONE, NONE, always);
+    let (end, _, sink) = failing_first(rt.alloc(), NONE, NONE, always);
     assert_eq!(rt; end, Err(EngineFault::Write));
     assert_eq!(rt; sink.flushes, 65_536);
-    Ok(())
-}
-
-#[test]
-fn tries_no_other_fault_again(rt: HostRuntime) -> Result<(), Fail> {
-    let once = Faults {
-        left: 1,
-        kind: ErrorKind::WouldBlock,
-    };
-    let (end, source, _) = with_patience(rt.alloc(), once, NONE, NONE);
-    assert_eq!(rt; end, Err(EngineFault::Read));
-    assert_eq!(rt; source.reads, 1);
-    let (end, _, sink) = with_patience(rt.alloc(), NONE, once, NONE);
-    assert_eq!(rt; end, Err(EngineFault::Write));
-    assert_eq!(rt; sink.widths.len(), 1);
-    let (end, _, sink) = with_patience(rt.alloc(), NONE, NONE, once);
-    assert_eq!(rt; end, Err(EngineFault::Write));
-    assert_eq!(rt; sink.flushes, 1);
     Ok(())
 }

@@ -1,4 +1,4 @@
 pub mod Starts
 pub mod Listing
 pub mod Taken
-pub mod Devices
+pub mod Declining

@@ -1,56 +1,47 @@
--- What a session of a program writes, by its procedures and its prelude.
-use Rattle.std.specs.Prelude.{◌≡◌, ◌⊎◌, ℕ, List, [], ◌++◌, Option, IfSome, false}
+-- What a session of a program does, by its procedures and its prelude.
+use Rattle.std.specs.Prelude.{◌≡◌, ℕ, ◌^◌, List, false, Result, Ok, Err}
 use Rattle.std.specs.List.{list_any}
-use Rattle.std.specs.Io.KnownBytes.{Appends}
 use Rattle.prop_procedures.specs.Stored.{Stored}
 use Rattle.prop_engine.specs.declared.outcome.Counts.{Counts}
+use Rattle.prop_engine.specs.declared.outcome.EngineFault.{EngineFault}
 use Rattle.prop_engine.specs.Answers.{Answer, is_refusal}
-use Rattle.prop_engine.specs.Transcripts.{Machine, Run, IsTranscript}
+use Rattle.prop_engine.specs.Calls.{Call}
+use Rattle.prop_engine.specs.Dialogues.{Speaks}
+use Rattle.prop_engine.specs.Transcripts.{Machine, Run}
 use Rattle.prop_scheduler.specs.Orders.{picks_first, picks_last, picks_mixed}
 use Rattle.prop_workbench.specs.Engine.{working, new_standing}
 use Rattle.prop_workbench.specs.Questions.{Picks}
 use Rattle.prop_program.specs.declared.chosen.Pick.{Pick}
 use Rattle.prop_program.specs.declared.chosen.Pick.TheVariants.{Fifo, Lifo, Mixed}
+use Rattle.prop_program.specs.declared.fault.Fault.{Fault}
+use Rattle.prop_program.specs.declared.fault.Fault.TheVariants.{Engine, Memory}
 
--- What a session writes: from where it begins the machine carried out the lines of the prelude,
--- none of them refused, and then all that the reader had left, where that is known. Of this the
--- writer got a transcript, but for the rest of it.
-abbrev pub IsAnswered : {S : Type 0} → Machine S → S → List (List ℕ) → Option (List ℕ)
-    → Option (List ℕ) → Option (List ℕ) → List ℕ → Counts → Type 0
-IsAnswered {S = S} machine begun prelude left held held' rest counts =
-    (loaded : List Answer) × (first new : S) × Run machine begun prelude loaded first
-    × (list_any is_refusal loaded ≡ false)
-    × IfSome left (λ input. (output : List ℕ) × Appends held held' output
-    × IsTranscript machine first input (output ++ rest) counts.lines counts.refused new)
+-- from where it begins the machine carried out the lines of the prelude, none of them refused, and
+-- then a session over it led the devices from one state to another, by at most 2^32 reads
+abbrev pub LoadsAndSpeaks : {D S : Type 0} → (D → Call → D → Type 0) → D → D → Machine S → S
+    → List (List ℕ) → Result Counts EngineFault → Type 0
+LoadsAndSpeaks {S = S} may from to machine begun prelude end =
+    (loaded : List Answer) × (first last : S) × Run machine begun prelude loaded first
+    × (list_any is_refusal loaded ≡ false) × Speaks may from to machine (2 ^ 32) first end last
 
--- the writer got nothing, or such a transcript but for some rest
-abbrev pub IsAnsweredInPart : {S : Type 0} → Machine S → S → List (List ℕ) → Option (List ℕ)
-    → Option (List ℕ) → Option (List ℕ) → Type 0
-IsAnsweredInPart machine begun prelude left held held' =
-    (held' ≡ held) ⊎ ((rest : List ℕ) × (counts : Counts)
-    × IsAnswered machine begun prelude left held held' rest counts)
+-- so a session came to its end; or memory was refused before it, and the devices were not called
+abbrev pub Serves : {D S : Type 0} → (D → Call → D → Type 0) → D → D → Machine S → S
+    → List (List ℕ) → Result Counts Fault → Type 0
+Serves may from to machine begun prelude (Ok counts) =
+    LoadsAndSpeaks may from to machine begun prelude (Ok counts)
+Serves may from to machine begun prelude (Err (Engine fault)) =
+    LoadsAndSpeaks may from to machine begun prelude (Err fault)
+Serves may from to machine begun prelude (Err (Memory e)) = to ≡ from
 
--- the same of a session with these procedures that calls them by an order: each text is earned by
--- the steps that were taken
-abbrev pub IsWorkedBy : {O : Type 0} → Picks O → O → List Stored → List (List ℕ) → ℕ
-    → Option (List ℕ) → Option (List ℕ) → Option (List ℕ) → Counts → Type 0
-IsWorkedBy picks order library prelude limit left held held' =
-    IsAnswered (working picks library) (new_standing limit order) prelude left held held' []
+-- something holds of the order that was chosen, from where a seed may have it begin
+abbrev pub InOrder : Pick → ℕ → ((O : Type 0) → Picks O → O → Type 0) → Type 0
+InOrder Fifo seed holds = holds _ picks_first (record {})
+InOrder Lifo seed holds = holds _ picks_last (record {})
+InOrder Mixed seed holds = holds _ picks_mixed (record { number = seed })
 
-abbrev pub IsWorkedInPartBy : {O : Type 0} → Picks O → O → List Stored → List (List ℕ) → ℕ
-    → Option (List ℕ) → Option (List ℕ) → Option (List ℕ) → Type 0
-IsWorkedInPartBy picks order library prelude limit =
-    IsAnsweredInPart (working picks library) (new_standing limit order) prelude
-
--- by the order that was chosen, which a seed may begin
-abbrev pub IsWorked : Pick → ℕ → List Stored → List (List ℕ) → ℕ → Option (List ℕ)
-    → Option (List ℕ) → Option (List ℕ) → Counts → Type 0
-IsWorked Fifo seed = IsWorkedBy picks_first (record {})
-IsWorked Lifo seed = IsWorkedBy picks_last (record {})
-IsWorked Mixed seed = IsWorkedBy picks_mixed (record { number = seed })
-
-abbrev pub IsWorkedInPart : Pick → ℕ → List Stored → List (List ℕ) → ℕ → Option (List ℕ)
-    → Option (List ℕ) → Option (List ℕ) → Type 0
-IsWorkedInPart Fifo seed = IsWorkedInPartBy picks_first (record {})
-IsWorkedInPart Lifo seed = IsWorkedInPartBy picks_last (record {})
-IsWorkedInPart Mixed seed = IsWorkedInPartBy picks_mixed (record { number = seed })
+-- a session with these procedures served, and each text is earned by the steps that were taken
+abbrev pub IsWorked : {D : Type 0} → Pick → ℕ → List Stored → List (List ℕ) → ℕ
+    → (D → Call → D → Type 0) → D → D → Result Counts Fault → Type 0
+IsWorked order seed library prelude limit may from to result =
+    InOrder order seed (λ O picks begun.
+        Serves may from to (working picks library) (new_standing limit begun) prelude result)

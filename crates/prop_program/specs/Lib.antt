@@ -1,4 +1,5 @@
 pub mod Program
 pub mod Faults
 pub mod Answering
+pub mod Running
 pub mod inner

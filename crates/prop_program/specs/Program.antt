@@ -4,11 +4,12 @@ use Rattle.std.specs.Prelude.{bytes_eq, true}
 use Rattle.std.specs.Option.{option_map}
 use Rattle.clap.specs.declared.parser.matches.Found.{Found}
 use Rattle.clap.specs.Words.{App, Rule, new_app, new_rule, with_rule, HasMatchesOf, first_value}
-use Rattle.clap.specs.Words.{found_of, takes, kind_of}
+use Rattle.clap.specs.Words.{found_of, takes, kind_of, IsAmong, fault_of}
 use Rattle.clap.specs.declared.builder.ArgAction.TheVariants.{Set}
 use Rattle.clap.specs.declared.parser.matches.ArgMatches.{ArgMatches}
 use Rattle.clap.specs.declared.error.Error.{Error}
-use Rattle.clap.specs.declared.error.kind.ErrorKind.TheVariants.{OutOfMemory}
+use Rattle.clap.specs.declared.error.kind.ErrorKind.{ErrorKind}
+use Rattle.clap.specs.declared.error.kind.ErrorKind.TheVariants.{OutOfMemory, ValueValidation}
 use Rattle.prop_language.specs.Names.{number_in}
 use Rattle.prop_program.specs.declared.chosen.Options.{Options}
 use Rattle.prop_program.specs.declared.chosen.Pick.{Pick}
@@ -78,6 +79,12 @@ pub record AreOutOfRange (name : List ℕ) (words : List (List ℕ)) : Type 0 wh
 -- the option reader takes the words
 pub record AreTaken (name : List ℕ) (words : List (List ℕ)) : Type 0 where
   pub taken : takes (program name) words ≡ true
+
+-- an error of this kind may be answered to the words: the option reader gives it for them, or a
+-- value is none of its option's, or memory was refused
+abbrev pub IsReason : List ℕ → List (List ℕ) → ErrorKind → Type 0
+IsReason name words kind = (kind ≡ OutOfMemory) ⊎ (IsAmong kind (fault_of (program name) words)
+    ⊎ ((kind ≡ ValueValidation) × AreOutOfRange name words))
 
 -- the option reader lacked memory
 abbrev pub IsWantOfMemory : Error → Type 0

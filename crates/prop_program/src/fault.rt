@@ -1,7 +1,6 @@
 //! Why the program ends before its input does.
 ghost use Rattle.std.specs.Prelude.{◌≡◌};
 ghost use Rattle.prop_program.specs.Faults.{status_of, IsMemory};
-ghost use Rattle.prop_program.specs.declared.fault.Fault.TheVariants.{Engine as EngineOf};
 
 use prop_workbench::EngineFault;
 use std::alloc::{AllocError, AllocFailed};
@@ -45,13 +44,5 @@ impl<T: Drop> From<AllocFailed<T>> for Fault {
 
     fn from(_failed: AllocFailed<T>) -> Fault {
         Fault::Memory(AllocError)
-    }
-}
-
-impl From<EngineFault> for Fault {
-    ghost from_gives = { λ e fault. fault ≡ EngineOf e };
-
-    fn from(fault: EngineFault) -> Fault {
-        Fault::Engine(fault)
     }
 }

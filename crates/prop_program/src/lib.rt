@@ -1,13 +1,13 @@
 //! What programs of the workbench share, whatever rules they come with.
 //!
-//! A session over the procedures and the prelude that a program gives writes a transcript of the
-//! workbench, or at a fault nothing or a prefix of one, with work behind it in the order that was
-//! chosen, from the seed that was given. A fault tells which device failed, that there were too
-//! many reads, or that memory was refused before anything was read or written (`run`).
+//! A session over the procedures and the prelude that a program gives is a dialogue of the
+//! workbench with its devices, with work behind it in the order that was chosen, from the seed that
+//! was given; or memory was refused before the devices were called (`run`).
 //!
-//! The options are what the option reader gives, in their ranges (`options`); each fault has its
-//! exit status (`Fault::status`). Where the rules' answers hold the points that belong together,
-//! they do so in the library (`rules_are_sound`).
+//! The options are what the option reader gives, in their ranges (`options`). Where there are none,
+//! help and the version are sent to the devices, and for all else they are not called
+//! (`chosen_options`). Each end has its exit status (`ended`). Where the rules' answers hold the
+//! points that belong together, they do so in the library (`rules_are_sound`).
 #![tactic(auto)]
 
 pub mod chosen;
@@ -22,4 +22,4 @@ pub use fault::Fault;
 pub use laws::rules_are_sound;
 pub use options::Said;
 pub use running::run;
-pub use starting::{chosen_options, stopped};
+pub use starting::{chosen_options, ended};

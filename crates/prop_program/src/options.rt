@@ -1,10 +1,10 @@
 //! The options of a program.
 ghost use Rattle.std.specs.Prelude.{◌≡◌, ◌⊎◌, ℕ, List, false, IfOk, IfErr, OnErr, map};
 ghost use Rattle.std.specs.Prelude.{string_bytes};
-ghost use Rattle.clap.specs.Words.{app_of, found_of, rule_of};
+ghost use Rattle.clap.specs.Words.{app_of, found_of, kind_of, rule_of};
 ghost use Rattle.prop_program.specs.Program.{program, versioned, value_rule, number_given};
 ghost use Rattle.prop_program.specs.Program.{order_given, AreChosen, AreWrong, AreGiven};
-ghost use Rattle.prop_program.specs.Program.{AreOutOfRange, AreTaken, IsWantOfMemory};
+ghost use Rattle.prop_program.specs.Program.{AreOutOfRange, AreTaken, IsReason, IsWantOfMemory};
 ghost use Rattle.prop_program.specs.inner.Program.{word_of};
 
 use crate::chosen::{Options, Pick};
@@ -35,6 +35,8 @@ pub fn options(alloc: Global, said: Said, words: &[String]) -> Result<Options, E
     ensures ok { IfOk result (AreGiven said.name.now (map string_bytes words.now)) }
     ensures err { IfErr result (λ e. AreTaken said.name.now (map string_bytes words.now)
         → IsWantOfMemory e ⊎ AreOutOfRange said.name.now (map string_bytes words.now)) }
+    ensures why { IfErr result (λ e. IsReason said.name.now (map string_bytes words.now)
+        (kind_of e)) }
 {
     let mut command = program(alloc, said)?;
     let options = read(&mut command, words);
@@ -50,6 +52,8 @@ fn read<'a>(command: &mut Command<'a>, words: &'a [String]) -> Result<Options, E
     ensures err { (name : List ℕ) → app_of command.old ≡ program name
         → IfErr result (λ e. AreTaken name (map string_bytes words.now)
         → IsWantOfMemory e ⊎ AreOutOfRange name (map string_bytes words.now)) }
+    ensures why { (name : List ℕ) → app_of command.old ≡ program name
+        → IfErr result (λ e. IsReason name (map string_bytes words.now) (kind_of e)) }
 {
     let matches = command.try_get_matches_from_mut(words)?;
     let chosen = chosen(&matches);

@@ -3,7 +3,7 @@ ghost use Rattle.prop_procedures.specs.Kept.{stored_of};
 ghost use Rattle.prop_workbench.specs.Sessions.{IsSound, IsMeant};
 ghost use Rattle.prop_telling.specs.Telling.{telling, Told};
 ghost use Rattle.prop_telling.specs.inner.Telling.{told_of};
-ghost use Rattle.prop_telling.specs.laws.TellingLaws.{telling_asks_by_prefix, telling_is_total};
+ghost use Rattle.prop_telling.specs.laws.TellingLaws.{telling_asks_by_prefix};
 
 use crate::telling::Teller;
 use prop_engine::{Interpreter, Reply};
@@ -28,6 +28,4 @@ impl<R: Rule + Drop, O: Order + Drop> Interpreter for Teller<R, O> {
     }
 
     ghost asks_by_prefix = { λ library. telling_asks_by_prefix _ _ };
-
-    ghost total = { λ library. telling_is_total _ _ };
 }

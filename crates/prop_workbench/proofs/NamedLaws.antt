@@ -1,12 +1,16 @@
 -- What a session shows is what the machine does, whichever contradictions were named.
-use Rattle.std.proofs.Common.{ℕ, List, [], ◌∷◌, ◌++◌, refl}
+use Rattle.std.proofs.Common.{ℕ, List, [], ◌∷◌, refl}
+use Rattle.std.specs.Prelude.{Result}
 use Rattle.prop_procedures.specs.Stored.{Stored}
 use Rattle.prop_engine.specs.Answers.{Answer}
+use Rattle.prop_engine.specs.Calls.{Call}
+use Rattle.prop_engine.specs.Dialogues.{IsDialogue}
 use Rattle.prop_engine.specs.Transcripts.{Run}
+use Rattle.prop_engine.specs.declared.outcome.Counts.{Counts}
+use Rattle.prop_engine.specs.declared.outcome.EngineFault.{EngineFault}
 use Rattle.prop_workbench.specs.inner.Machine.{naming}
 use Rattle.prop_workbench.specs.Steps.{Shown, Covers}
 use Rattle.prop_workbench.specs.Engine.{workbench, learning}
-use Rattle.prop_workbench.specs.inner.Shown.{ShownTranscripts, ShownPrefixes}
 
 -- a run that a session shows is one of the machine, whichever contradictions were named before
 pub run_named : (library : List Stored) (old new : Shown) (lines : List (List ℕ)) (answers : List Answer)
@@ -22,29 +26,12 @@ run_named library old new (line ∷ lines) (a ∷ ls) (mid, shows, rest) named c
     let more = run_named library mid new lines ls rest step.now step.covers in
     (more.0, more.1, (naming mid.state step.now, (shows.steps, step.step), more.2))
 
-pub shown_transcripts : (library : List Stored) → ShownTranscripts library
-shown_transcripts library old new input output lines refused t named covers =
-    let x = run_named library old new _ t.answers t.run named covers in
-    record {
-      now = x.0;
-      covers = x.1;
-      done = record {
-        answers = t.answers;
-        run = x.2;
-        output_is = t.output_is;
-        lines_counted = t.lines_counted;
-        refused_counted = t.refused_counted;
-      };
-    }
-
-pub shown_prefixes : (library : List Stored) → ShownPrefixes library
-shown_prefixes library old input output f named covers =
-    let x = shown_transcripts library old f.new input (output ++ f.rest) f.lines_count f.refused_count f.transcript
-    named covers in
-    record {
-      rest = f.rest;
-      lines_count = f.lines_count;
-      refused_count = f.refused_count;
-      new = naming f.new.state x.now;
-      transcript = x.done;
-    }
+-- and so is a dialogue
+pub dialogue_named : (library : List Stored) (reads : ℕ) (old : Shown) (result : Result Counts EngineFault)
+    (calls : List Call) (new : Shown) → IsDialogue (learning library) reads old result calls new
+    → (named : List (List ℕ)) → Covers old named
+    → (now : List (List ℕ)) × IsDialogue (workbench library) reads (naming old.state named) result calls
+    (naming new.state now)
+dialogue_named library reads old result calls new d named covers =
+    let x = run_named library old new _ d.answers d.run named covers in
+    (x.0, record { input = d.input; answers = d.answers; run = x.2; in_turn = d.in_turn })

@@ -6,6 +6,5 @@ pub mod Running
 pub mod Steps
 pub mod Sessions
 pub mod Choosing
-pub mod Shown
 pub mod Machine
 pub mod Points

@@ -2,7 +2,7 @@
 ghost use Rattle.prop_procedures.specs.Kept.{stored_of};
 ghost use Rattle.prop_workbench.specs.Sessions.{IsSound, IsMeant};
 ghost use Rattle.prop_workbench.specs.Engine.{Standing, standing_of, working};
-ghost use Rattle.prop_workbench.specs.laws.MachineLaws.{working_asks_by_prefix, working_is_total};
+ghost use Rattle.prop_workbench.specs.laws.MachineLaws.{working_asks_by_prefix};
 
 use crate::session::Session;
 use prop_engine::{Interpreter, Reply};
@@ -27,6 +27,4 @@ impl<R: Rule + Drop, O: Order + Drop> Interpreter for Session<R, O> {
     }
 
     ghost asks_by_prefix = { λ library. working_asks_by_prefix _ _ };
-
-    ghost total = { λ library. working_is_total _ _ };
 }

@@ -1,11 +1,14 @@
 //! Laws of whole sessions.
-ghost use Rattle.std.specs.Prelude.{ℕ, ◌++◌, List};
+ghost use Rattle.std.specs.Prelude.{ℕ, List, Ok, Err};
 ghost use Rattle.prop_procedures.specs.Kept.{stored_of, related_of};
 ghost use Rattle.prop_cells.specs.Points.{AreSoundBy};
 ghost use Rattle.prop_workbench.specs.Machine.{State};
 ghost use Rattle.prop_engine.specs.Answers.{Answer};
-ghost use Rattle.prop_engine.specs.Transcripts.{Run, WriteStopped, ReadStopped};
-ghost use Rattle.prop_engine.specs.Transcripts.{IsPrefixOfTranscript};
+ghost use Rattle.prop_engine.specs.Calls.{Call, bytes_read, bytes_written};
+ghost use Rattle.prop_engine.specs.Dialogues.{IsDialogue};
+ghost use Rattle.prop_engine.specs.Transcripts.{Run, IsTranscript, IsPrefixOfTranscript};
+ghost use Rattle.prop_engine.specs.declared.outcome.Counts.{Counts};
+ghost use Rattle.prop_engine.specs.declared.outcome.EngineFault.{EngineFault};
 ghost use Rattle.prop_workbench.specs.Agreeing.{RunsMeet, AnswersMeet, SettledTextsMeet};
 ghost use Rattle.prop_workbench.specs.Agreeing.{SettledIsFree, StepsKeepNumbers};
 ghost use Rattle.prop_workbench.specs.Engine.{Standing, workbench, working, new_standing, WorkFits};
@@ -14,20 +17,18 @@ ghost use Rattle.prop_workbench.specs.Points.{RelatedSatisfy};
 use prop_procedures::{Library, Rule};
 use prop_scheduler::Order;
 
-/// What a session wrote before a write stopped it is the prefix of an allowed transcript.
-pub fn a_stopped_write_leaves_a_prefix<R: Rule + Drop>(library: &Library<R>)
-    ensures { (old : State) (input output : List ℕ) (new : State)
-        → WriteStopped (workbench (stored_of R.value_of library.now)) old input output new
-        → IsPrefixOfTranscript (workbench (stored_of R.value_of library.now)) old input output }
-{}
-
-/// What a session wrote before it could read no more is the prefix of an allowed transcript,
-/// whatever was still to come.
-pub fn a_stopped_read_leaves_a_prefix<R: Rule + Drop>(library: &Library<R>)
-    ensures { (old : State) (input output more : List ℕ) (new : State)
-        → ReadStopped (workbench (stored_of R.value_of library.now)) old input output new
-        → IsPrefixOfTranscript (workbench (stored_of R.value_of library.now)) old (input ++ more)
-        output }
+/// What the writes of a dialogue took is a transcript of what the reads gave, and where a fault
+/// ended it the prefix of one.
+pub fn a_dialogue_writes_a_transcript<R: Rule + Drop>(library: &Library<R>)
+    ensures whole { (reads : ℕ) (old : State) (counts : Counts) (calls : List Call) (new : State)
+        → IsDialogue (workbench (stored_of R.value_of library.now)) reads old (Ok counts) calls new
+        → IsTranscript (workbench (stored_of R.value_of library.now)) old (bytes_read calls)
+        (bytes_written calls) counts.lines counts.refused new }
+    ensures in_part { (reads : ℕ) (old : State) (fault : EngineFault) (calls : List Call)
+        (new : State)
+        → IsDialogue (workbench (stored_of R.value_of library.now)) reads old (Err fault) calls new
+        → IsPrefixOfTranscript (workbench (stored_of R.value_of library.now)) old
+        (bytes_read calls) (bytes_written calls) }
 {}
 
 /// Two sessions that are given the same lines agree, in whatever orders they call waiting

@@ -1,18 +1,15 @@
-//! A session with the kit's procedures and the prelude, over a reader and a writer.
-ghost use Rattle.std.specs.Prelude.{◌≡◌, IfOk, OnErr, []};
-ghost use Rattle.prop_procedures.specs.Forms.{related_in};
+//! A session with the kit's procedures and the prelude, over devices.
+ghost use Rattle.std.specs.Prelude.{◌≡◌};
 ghost use Rattle.prop_arith.specs.Kit.{in_order};
 ghost use Rattle.prop_arith.specs.Points.{Related};
 ghost use Rattle.prop_arith.specs.Prelude.{prelude_lines};
 ghost use Rattle.prop_arith.specs.Values.{value_of};
-ghost use Rattle.prop_engine.specs.Watched.{IsFresh, IsPassedOn};
-ghost use Rattle.prop_program.specs.Faults.{TellsDevices, IsThrifty};
-ghost use Rattle.prop_program.specs.Answering.{IsAnswered, IsAnsweredInPart, IsWorked};
-ghost use Rattle.prop_program.specs.Answering.{IsWorkedInPart};
+ghost use Rattle.prop_cells.specs.Points.{AreSoundBy};
+ghost use Rattle.prop_procedures.specs.Forms.{related_in};
+ghost use Rattle.prop_program.specs.Answering.{Serves, IsWorked};
 ghost use Rattle.prop_workbench.specs.Engine.{workbench};
 ghost use Rattle.prop_workbench.specs.Machine.{new_state};
 ghost use Rattle.propbench.specs.Kits.{kit};
-ghost use Rattle.prop_cells.specs.Points.{AreSoundBy};
 
 use prop_arith::{KITS, PRELUDE};
 use prop_lattice::Info;
@@ -21,35 +18,17 @@ use prop_program::{Fault, Options};
 use prop_workbench::{Counts, Devices};
 use smallvec::SmallVec;
 use std::alloc::Global;
-use std::io::{Read, Write};
 
 /// Makes the kit's procedures, loads the prelude and runs a session with them.
-pub fn run<Rd: Read, W: Write>(
+pub fn run<D: Devices>(
     alloc: Global,
     options: Options,
-    devices: &mut Devices<Rd, W>,
+    devices: &mut D,
 ) -> Result<Counts, Fault>
-    requires reader { IsFresh devices.old }
-    requires writer { IsPassedOn devices.old }
-    // What was written is a transcript, of which no rest is missing.
-    ensures ok { IfOk result (IsAnswered (workbench kit) (new_state options.limit) prelude_lines
-        (Rd.remaining devices.old.reader) (W.contents devices.old.writer)
-        (W.contents devices.new.writer) []) }
-    // At a fault it is nothing, or the prefix of one.
-    ensures err { OnErr result (IsAnsweredInPart (workbench kit) (new_state options.limit)
-        prelude_lines (Rd.remaining devices.old.reader) (W.contents devices.old.writer)
-        (W.contents devices.new.writer)) }
-    ensures devices { TellsDevices result devices.old devices.new }
-    // How the devices were used.
-    ensures thrift { IsThrifty result devices.old devices.new }
-    // Each text is earned by steps that were taken, in the order that was chosen.
-    ensures earned { IfOk result (IsWorked options.order options.seed kit prelude_lines
-        options.limit (Rd.remaining devices.old.reader) (W.contents devices.old.writer)
-        (W.contents devices.new.writer)) }
-    ensures earned_in_part { OnErr result (IsWorkedInPart options.order options.seed kit
-        prelude_lines options.limit (Rd.remaining devices.old.reader)
-        (W.contents devices.old.writer) (W.contents devices.new.writer)) }
-    // So values that belong together and satisfy all that is believed lie in each answer.
+    ensures answered { Serves D.calls devices.old devices.new (workbench kit)
+        (new_state options.limit) prelude_lines result }
+    ensures earned { IsWorked options.order options.seed kit prelude_lines options.limit
+        D.calls devices.old devices.new result }
     ensures points { AreSoundBy kit (related_in Related in_order) }
 {
     let mut procedures = Vec::new(alloc);

@@ -1,48 +1,24 @@
 //! The workbench with more rules, for plans and measurements, over standard input and output.
 //!
-//! The program's session over the kit, the wider rules, the excluders and their preludes writes a
-//! transcript of the workbench, in which `step`, `how` and `list` lines are told (prop_telling), or
-//! at a fault nothing or a prefix of one, with work behind it in the order that was chosen, from
-//! the seed that was given, and the procedures' answers hold the points that belong together; those
-//! of a plan in points satisfy all that is attached. A fault tells which device failed, that there
-//! were too many reads, or that memory was refused before anything was read or written (`run`).
+//! By the options that its words give the program holds a dialogue: behind each read, and before the
+//! next, each line that the read ended is answered by a step of the workbench over the kit, the wider
+//! rules, the excluders and their preludes, or, where it is `step`, `how` or `list`, told
+//! (prop_telling), with work behind it in the order that was chosen, from the seed that was given.
+//! The procedures' answers hold the points that belong together; those of a plan in points satisfy
+//! all that is attached. Help and the version are sent on standard output, what else there is to say
+//! is said on standard error, and each end has its status (`program`).
 #![tactic(auto)]
 
 mod entries;
 mod running;
+mod words;
 
-use prop_program::{Said, chosen_options, stopped};
-use prop_workbench::{Devices, Patient};
-use running::run;
+use prop_workbench::Streams;
+use std::env;
 use std::process::ExitCode;
-
-/// What the program says of itself.
-const SAID: Said = Said {
-    name: "propwide",
-    version: "1.0 (rattle-kit-13f)",
-    about: "Answers commands on a propagator network with truth maintenance, as propbench does,
-with more rules for plans and measurements.
-
-Reads commands from standard input, one on each line, and writes a reply or a refusal to each.",
-    commands: "Commands:
-  networks    domain, relation, define, cell, attach
-  statements  fix, tell, choose, forget
-  premises    kick, bring, worldview, nogoods
-  questions   ask, why, core, settle, how, list
-  steps       limit, step
-
-WIDE.md lists what there is beside the kit, and LANGUAGE.md describes each command: in docs/ of the
-sources, and in /usr/share/doc/propbench of the Debian package.",
-};
+use words::program;
 
 fn main(rt: HostRuntime) -> ExitCode {
-    let options = match chosen_options(&rt, SAID) {
-        Ok(options) => options,
-        Err(status) => return status,
-    };
-    let mut devices = Devices::new(Patient::new(rt.stdin()), Patient::new(rt.stdout()));
-    match run(rt.alloc(), options, &mut devices) {
-        Ok(_) => ExitCode::SUCCESS,
-        Err(fault) => stopped(&rt, SAID, fault),
-    }
+    let mut streams = Streams::new(rt.stdin(), rt.stdout());
+    program(rt.alloc(), env::args(&rt), &mut streams, &mut rt.stderr())
 }

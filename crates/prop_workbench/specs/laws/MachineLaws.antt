@@ -18,7 +18,6 @@ use Rattle.prop_workbench.specs.Steps.{Follows, Step}
 use Rattle.prop_workbench.specs.Engine.{workbench, working, Works}
 use Rattle.prop_workbench.specs.Questions.{Picks}
 use Rattle.prop_engine.specs.Machines.{AsksByPrefix, IsTotal}
-use Rattle.prop_workbench.specs.laws.RefusalLaws.{lean_refused, earns_refused, wakes_refused}
 
 -- a prefix of limit bytes is the line, or as long as the limit
 prefix_of_line : (limit : ℕ) (line : List ℕ)
@@ -83,61 +82,3 @@ workbench_is_total library old line =
     let read = have_one_reading line in
     let somehow = follows_somehow library read.0 in
     (somehow.0, (0, (read.0, read.1, somehow.1 old)))
-
-pub working_is_total : {O : Type 0} (picks : Picks O) (library : List Stored)
-    → IsTotal (working picks library)
-working_is_total {O} picks library old line =
-    total (have_one_reading line).0 (have_one_reading line).1
-  where
-    refuses : (read : Result (Option Command) Refusal) → IsReading line read
-        → ((s : State) → Follows library s read (Refused Memory) s 0)
-        → Works picks library old line (Refused Memory) old
-    refuses read is follows = record {
-      steps = 0;
-      step = λ named covers. record {
-        now = named;
-        covers = covers;
-        step = (read, is, follows (naming old.shown.state named));
-      };
-      fits = λ f. f;
-      lean = (
-        read,
-        is,
-        lean_refused (worldview_at old.shown.state old.work.search.list)
-            old.work.cells old.shown.state read Memory,
-      );
-      earned = (
-        read,
-        is,
-        earns_refused picks library old.shown.state old.work old.work read Memory
-            0,
-      );
-      wakes = (read, is, wakes_refused old.shown.state old.shown.state old.work read Memory);
-    }
-
-    total : (read : Result (Option Command) Refusal) → IsReading line read
-        → (answer : Answer) × Works picks library old line answer old
-    total (Ok None) is = (
-      Silent,
-      record {
-        steps = 0;
-        step = λ named covers. record {
-          now = named;
-          covers = covers;
-          step = (Ok None, is, record { answer_is = refl; new_is = refl; no_steps = refl });
-        };
-        fits = λ f. f;
-        lean = (Ok None, is, tt);
-        earned = (Ok None, is, tt);
-        wakes = (Ok None, is, refl);
-      },
-    )
-    total (Ok (Some command)) is = (
-      Refused Memory,
-      refuses (Ok (Some command)) is
-          (λ s. inr record { answer_is = refl; same = refl }),
-    )
-    total (Err refusal) is = (
-      Refused Memory,
-      refuses (Err refusal) is (λ s. inr record { answer_is = refl; same = refl }),
-    )

@@ -1,0 +1,75 @@
+//! What the program does by its words: the options, the session, the status.
+ghost use Rattle.std.specs.Prelude.{◌≡◌, codes};
+ghost use Rattle.std.specs.Process.{exit_status};
+ghost use Rattle.prop_program.specs.Running.{Does, given_words};
+ghost use Rattle.prop_arith.specs.Kit.{in_order};
+ghost use Rattle.prop_arith.specs.Points.{Related};
+ghost use Rattle.prop_arith.specs.Prelude.{prelude_lines};
+ghost use Rattle.prop_cells.specs.Points.{AreSoundBy};
+ghost use Rattle.prop_procedures.specs.Forms.{related_in};
+ghost use Rattle.prop_program.specs.Answering.{Serves, IsWorked};
+ghost use Rattle.prop_workbench.specs.Engine.{workbench};
+ghost use Rattle.prop_workbench.specs.Machine.{new_state};
+ghost use Rattle.propbench.specs.Kits.{kit};
+
+use crate::running::run;
+use prop_program::{Said, chosen_options, ended};
+use prop_workbench::Devices;
+use std::alloc::Global;
+use std::env::Args;
+use std::io;
+use std::io::Write;
+use std::process::ExitCode;
+
+/// What the program says of itself.
+const SAID: Said = Said {
+    name: "propbench",
+    version: "1.0 (rattle-kit-13f)",
+    about: "Answers commands on a propagator network with truth maintenance.
+
+Reads commands from standard input, one on each line, and writes a reply or a refusal to each.
+To run a file of commands or to work at a terminal: propdesk run FILE, propdesk shell.",
+    commands: "Commands:
+  networks    domain, relation, define, cell, attach
+  statements  fix, tell, choose, forget
+  premises    kick, bring, worldview, nogoods
+  questions   ask, why, core, settle
+  steps       limit
+
+TUTORIAL.md is a first session, and LANGUAGE.md describes each command: in docs/ of the sources,
+and in /usr/share/doc/propbench of the Debian package.",
+};
+
+/// What the program does by the words of its command line, with the status that it ends with.
+///
+/// It serves over `devices` with the options that the words give. Where they ask for help or for the
+/// version, that is sent there. What else there is to say it says on `errors`.
+pub fn program<D: Devices, E: Write>(
+    alloc: Global,
+    words: io::Result<Args>,
+    devices: &mut D,
+    errors: &mut E,
+) -> ExitCode
+    // By the options that the words give it holds a dialogue in which each line is answered by a step
+    // of the workbench over the kit.
+    ensures answered { Does (codes "propbench") (given_words words) D.calls
+        (λ options end. Serves D.calls devices.old devices.new (workbench kit)
+        (new_state options.limit) prelude_lines end)
+        devices.old devices.new (exit_status result) }
+    // Each text is earned by steps that were taken, in the order that was chosen.
+    ensures earned { Does (codes "propbench") (given_words words) D.calls
+        (λ options end. IsWorked options.order options.seed kit prelude_lines options.limit
+        D.calls devices.old devices.new end)
+        devices.old devices.new (exit_status result) }
+    // Where all is well, nothing is said on the other device.
+    ensures quiet { exit_status result ≡ 0 → errors.new ≡ errors.old }
+    // So values that belong together and satisfy all that is believed lie in each answer.
+    ensures points { AreSoundBy kit (related_in Related in_order) }
+{
+    let options = match chosen_options(alloc, SAID, words, devices, errors) {
+        Ok(options) => options,
+        Err(status) => return ExitCode::from(status),
+    };
+    let end = run(alloc, options, devices);
+    ExitCode::from(ended(SAID, end, errors))
+}
