@@ -7,9 +7,12 @@ use Rattle.clap.specs.declared.error.kind.ErrorKind.{ErrorKind}
 use Rattle.clap.specs.declared.error.kind.ErrorKind.TheVariants as kinds
 use Rattle.prop_engine.specs.Calls.{Call, Leads}
 use Rattle.prop_engine.specs.Dialogues.{IsSent, IsCut}
-use Rattle.prop_program.specs.Program.{program, AreOutOfRange, IsReason}
-use Rattle.prop_program.specs.Running.{Declines, IsForText, AskForText, AreNoOptions}
-use Rattle.prop_program.specs.Running.Does.{told, untold, refused}
+use Rattle.prop_program.specs.Program.{program, AreGiven, AreOutOfRange, IsReason}
+use Rattle.prop_program.specs.Running.{Does, Declines, status_after, IsForText, AskForText, AreNoOptions}
+use Rattle.prop_engine.specs.declared.outcome.Counts.{Counts}
+use Rattle.prop_program.specs.declared.chosen.Options.{Options}
+use Rattle.prop_program.specs.declared.fault.Fault.{Fault}
+use Rattle.prop_program.specs.Running.Does.{served, told, untold, refused, no_text, no_memory}
 
 -- the test of the other device failed
 pub not_used : (b : Bool) → b ≡ false → IsTrue b → ⊥
@@ -36,9 +39,9 @@ for_text kinds.Format h = absurd (h ((λ e. cc), (λ e. cc)))
 for_text kinds.OutOfMemory h = absurd (h ((λ e. cc), (λ e. cc)))
 
 -- and one that does is none
-pub no_text : (kind : ErrorKind) → ((kind ≢ kinds.DisplayHelp) × (kind ≢ kinds.DisplayVersion)) → IsForText kind → ⊥
-no_text kind h (inl e) = h.0 e
-no_text kind h (inr e) = h.1 e
+pub is_no_text : (kind : ErrorKind) → ((kind ≢ kinds.DisplayHelp) × (kind ≢ kinds.DisplayVersion)) → IsForText kind → ⊥
+is_no_text kind h (inl e) = h.0 e
+is_no_text kind h (inr e) = h.1 e
 
 validation_asks_nothing : (kind : ErrorKind) → kind ≡ kinds.ValueValidation → IsForText kind → ⊥
 validation_asks_nothing kind e (inl f) = let g : kinds.ValueValidation ≡ kinds.DisplayHelp = sym e ∙ f in cc
@@ -73,3 +76,23 @@ module _ {D : Type 0} (may : D → Call → D → Type 0) (name : List ℕ) (giv
   pub declines_untold : (a b : D) (text : List ℕ) (status : ℕ) → IsForText kind → (calls : List Call) → Leads may a calls b
       → IsCut text calls → status ≡ 2 → Declines name (Some given) may a b status
   declines_untold a b text status t calls l s e = untold given text calls refl (asks name given kind reason t) l s e
+
+-- ---- a program
+
+module _ {D : Type 0} (name : List ℕ) (words : Option (List (List ℕ))) (may : D → Call → D → Type 0)
+    (serves : Options → Result Counts Fault → Type 0) (from to : D) (status ended : ℕ) (same : ended ≡ status) where
+  -- where there are no options, whatever it would do by them
+  pub declines_does : Declines name words may from to status → Does name words may serves from to ended
+  declines_does (served given options result e g s f) = absurd s
+  declines_does (told given text calls e a l s f) = told given text calls e a l s (same ∙ f)
+  declines_does (untold given text calls e a l s f) = untold given text calls e a l s (same ∙ f)
+  declines_does (refused given e n s f) = refused given e n s (same ∙ f)
+  declines_does (no_text e s f) = no_text e s (same ∙ f)
+  declines_does (no_memory s f) = no_memory s (same ∙ f)
+
+-- and where there are
+pub served_does : {D : Type 0} (name : List ℕ) (words : Option (List (List ℕ))) (may : D → Call → D → Type 0)
+    (serves : Options → Result Counts Fault → Type 0) (from to : D) (options : Options) (end : Result Counts Fault)
+    (ended : ℕ) → ((given : List (List ℕ)) × (words ≡ Some given) × AreGiven name given options) → serves options end
+    → ended ≡ status_after end → Does name words may serves from to ended
+served_does name words may serves from to options end ended (given, e, g) s f = served given options end e g s f

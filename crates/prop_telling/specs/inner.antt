@@ -1,4 +1,3 @@
-pub mod Answering
 pub mod Telling
 pub mod Notes
 pub mod How

@@ -1,11 +1,7 @@
 //! A session with the kit's procedures and the prelude, over devices.
 ghost use Rattle.std.specs.Prelude.{◌≡◌};
-ghost use Rattle.prop_arith.specs.Kit.{in_order};
-ghost use Rattle.prop_arith.specs.Points.{Related};
 ghost use Rattle.prop_arith.specs.Prelude.{prelude_lines};
 ghost use Rattle.prop_arith.specs.Values.{value_of};
-ghost use Rattle.prop_cells.specs.Points.{AreSoundBy};
-ghost use Rattle.prop_procedures.specs.Forms.{related_in};
 ghost use Rattle.prop_program.specs.Answering.{Serves, IsWorked};
 ghost use Rattle.prop_workbench.specs.Engine.{workbench};
 ghost use Rattle.prop_workbench.specs.Machine.{new_state};
@@ -29,7 +25,6 @@ pub fn run<D: Devices>(
         (new_state options.limit) prelude_lines result }
     ensures earned { IsWorked options.order options.seed kit prelude_lines options.limit
         D.calls devices.old devices.new result }
-    ensures points { AreSoundBy kit (related_in Related in_order) }
 {
     let mut procedures = Vec::new(alloc);
     for rule in KITS {

@@ -1,9 +1,7 @@
 //! A session with the program's procedures and preludes, over devices.
 ghost use Rattle.std.specs.Prelude.{◌≡◌};
-ghost use Rattle.prop_cells.specs.Points.{AreSoundBy};
-ghost use Rattle.prop_points.specs.Networks.{SinglesSolve};
 ghost use Rattle.prop_telling.specs.Answering.{IsTold};
-ghost use Rattle.propwide.specs.Kits.{answer_of, wide, wide_related, wide_tells};
+ghost use Rattle.propwide.specs.Kits.{answer_of, wide};
 
 use crate::entries::{answer, copied, entries, lines};
 use prop_lattice::Info;
@@ -19,10 +17,8 @@ pub fn run<D: Devices>(
     options: Options,
     devices: &mut D,
 ) -> Result<Counts, Fault>
-    ensures told { IsTold wide options.order options.seed options.limit D.calls devices.old
-        devices.new result }
-    ensures points { AreSoundBy wide.library wide_related }
-    ensures solved { SinglesSolve wide.library wide_tells }
+    ensures { IsTold wide options.order options.seed options.limit D.calls devices.old devices.new
+        result }
 {
     let prelude = lines(alloc)?;
     let made = entries(alloc)?;

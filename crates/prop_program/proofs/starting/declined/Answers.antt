@@ -3,7 +3,7 @@ use Rattle.std.proofs.lemmas.Bool.{false≢true}
 use denote.Enum.Bare.{sameb}
 use Rattle.clap.specs.contracts.error.kind.ErrorKind.{the_type}
 use Rattle.clap.specs.declared.error.kind.ErrorKind.TheVariants.{OutOfMemory}
-use Rattle.prop_program.proofs.Declining.{declines_words, declines_told, declines_untold, for_text, no_text, not_used}
+use Rattle.prop_program.proofs.Declining.{declines_words, declines_told, declines_untold, for_text, is_no_text, not_used}
 use Rattle.prop_program.proofs.starting.declined.Goals as goal
 
 pub returns-then-use_stderr-clause-declines : goal.returns-then-use_stderr-clause-declines
@@ -11,7 +11,7 @@ returns-then-use_stderr-clause-declines g c = λ given reason.
     declines_words g.D.Devices.calls _ given _ reason _
     (λ m. let t : false ≡ true =
     subst (λ k. false ≡ sameb the_type k OutOfMemory) (c.kind.ensures ∙ m) c.if-eq.ensures in false≢true t)
-    (no_text _ (c.use_stderr.ensures.0 c.if-use_stderr.true))
+    (is_no_text _ (c.use_stderr.ensures.0 c.if-use_stderr.true))
 
 pub returns-in-Ok-send-clause-declines : goal.returns-in-Ok-send-clause-declines
 returns-in-Ok-send-clause-declines g c = λ given reason.

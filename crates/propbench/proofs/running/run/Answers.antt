@@ -1,52 +1,17 @@
-use Rattle.std.proofs.Common.{◌∙◌, List, arith, sym, subst}
-use Rattle.std.specs.Prelude.{OnErr}
+use Rattle.std.proofs.Common.{◌∙◌, arith, subst, List}
 use Rattle.std.proofs.lemmas.Result.{err_from_is_err_and}
-use Rattle.prop_program.specs.Faults.{TellsDevices, IsThrifty}
-use Rattle.prop_program.proofs.Devices.{told_first, used_first}
-use Rattle.prop_engine.proofs.Io.{on_err}
 use Rattle.prop_procedures.specs.inner.Kept.{AllMean-push}
-use Rattle.prop_arith.specs.Kit.{form_of, in_order, FormOf}
-use Rattle.prop_arith.specs.Points.{Related}
-use Rattle.prop_arith.specs.Values.{value_of}
-use Rattle.prop_arith.specs.laws.KitLaws.{kit_few, kit_formed, kit_sound}
-use Rattle.prop_cells.specs.Points.{AreSoundBy}
-use Rattle.propbench.specs.Kits.{kit}
-use Rattle.prop_arith.specs.Prelude.{prelude_lines}
 use Rattle.prop_procedures.specs.Stored.{Stored}
-use Rattle.prop_program.specs.Answering.{IsAnsweredInPart}
+use Rattle.prop_arith.specs.Kit.{form_of, in_order}
+use Rattle.prop_arith.specs.Prelude.{prelude_lines}
+use Rattle.prop_arith.specs.Values.{value_of}
+use Rattle.prop_arith.specs.laws.KitLaws.{kit_few}
+use Rattle.prop_program.proofs.Listing.{stored_is, listed_more, all_listed}
+use Rattle.prop_program.proofs.Starts.{served_by_fault, worked_by_fault}
 use Rattle.prop_workbench.specs.Engine.{workbench}
 use Rattle.prop_workbench.specs.Machine.{new_state}
-use Rattle.prop_procedures.specs.Forms.{related_in}
-use Rattle.prop_program.proofs.Listing.{stored_is, listed_more, all_listed, library_is_sound}
-use Rattle.prop_program.proofs.Starts.{nothing_yet, nothing_worked}
+use Rattle.propbench.specs.Kits.{kit}
 use Rattle.propbench.proofs.running.run.Goals as goal
-
-pub returns-in_err-ins-clause-err : goal.returns-in_err-ins-clause-err
-returns-in_err-ins-clause-err g c =
-    on_err _ _ (nothing_yet (workbench kit) (new_state c.args.options.limit) prelude_lines
-    (g.Rd.Read.remaining c.args.devices.now.reader) (g.W.Write.contents c.args.devices.now.writer))
-
-pub returns-in_err-ins-clause-earned_in_part : goal.returns-in_err-ins-clause-earned_in_part
-returns-in_err-ins-clause-earned_in_part g c =
-    on_err _ _ (nothing_worked c.args.options.order c.args.options.seed kit _ c.args.options.limit _ _)
-
-pub returns-in_err-call-clause-err : goal.returns-in_err-call-clause-err
-returns-in_err-call-clause-err g c =
-    on_err _ _ (nothing_yet (workbench kit) (new_state c.args.options.limit) prelude_lines
-    (g.Rd.Read.remaining c.args.devices.now.reader) (g.W.Write.contents c.args.devices.now.writer))
-
-pub returns-in_err-call-clause-earned_in_part : goal.returns-in_err-call-clause-earned_in_part
-returns-in_err-call-clause-earned_in_part g c =
-    on_err _ _ (nothing_worked c.args.options.order c.args.options.seed kit _ c.args.options.limit _ _)
-
-pub returns-in_err-push-clause-err : goal.returns-in_err-push-clause-err
-returns-in_err-push-clause-err g c =
-    on_err _ _ (nothing_yet (workbench kit) (new_state c.args.options.limit) prelude_lines
-    (g.Rd.Read.remaining c.args.devices.now.reader) (g.W.Write.contents c.args.devices.now.writer))
-
-pub returns-in_err-push-clause-earned_in_part : goal.returns-in_err-push-clause-earned_in_part
-returns-in_err-push-clause-earned_in_part g c =
-    on_err _ _ (nothing_worked c.args.options.order c.args.options.seed kit _ c.args.options.limit _ _)
 
 pub new-requires-in-loop-rule-clause-some_inputs : goal.new-requires-in-loop-rule-clause-some_inputs
 new-requires-in-loop-rule-clause-some_inputs g c = rw (c.in_ok-ins.ensures.ok, c.ins.ensures) (kit_few _).0
@@ -68,84 +33,50 @@ loop-rule-preserved g c =
           c.loop-rule.invariant.listed;
     }
 
-pub run-requires-clause-means : goal.run-requires-clause-means
-run-requires-clause-means g c = c.loop-rule.invariant.means
+pub returns-in_err-ins-clause-answered : goal.returns-in_err-ins-clause-answered
+returns-in_err-ins-clause-answered g c =
+    let p = err_from_is_err_and c.from_residual.result c.from_residual.ensures.1 in
+    served_by_fault g.D.Devices.calls _ (workbench kit) (new_state c.args.options.limit) prelude_lines _ p.0 p.1 p.2
 
-pub returns-clause-ok : goal.returns-clause-ok
-returns-clause-ok g c =
-    let past = c.loop-rule-test.false in
-    let listed = c.loop-rule.invariant.listed ∙ all_listed form_of value_of in_order
-    c.loop-rule.rule-index (omega (arith, past)) in
-    rw (← listed) c.run.ensures.ok
+pub returns-in_err-ins-clause-earned : goal.returns-in_err-ins-clause-earned
+returns-in_err-ins-clause-earned g c =
+    let p = err_from_is_err_and c.from_residual.result c.from_residual.ensures.1 in
+    worked_by_fault g.D.Devices.calls _ c.args.options.order c.args.options.seed kit prelude_lines
+    c.args.options.limit _ p.0 p.1 p.2
 
-pub returns-clause-err : goal.returns-clause-err
-returns-clause-err g c =
-    let past = c.loop-rule-test.false in
+pub returns-in_err-call-clause-answered : goal.returns-in_err-call-clause-answered
+returns-in_err-call-clause-answered g c =
+    let p = err_from_is_err_and c.from_residual-in_err-call.result c.from_residual-in_err-call.ensures.1 in
+    served_by_fault g.D.Devices.calls _ (workbench kit) (new_state c.args.options.limit) prelude_lines _ p.0 p.1 p.2
+
+pub returns-in_err-call-clause-earned : goal.returns-in_err-call-clause-earned
+returns-in_err-call-clause-earned g c =
+    let p = err_from_is_err_and c.from_residual-in_err-call.result c.from_residual-in_err-call.ensures.1 in
+    worked_by_fault g.D.Devices.calls _ c.args.options.order c.args.options.seed kit prelude_lines
+    c.args.options.limit _ p.0 p.1 p.2
+
+pub returns-in_err-push-clause-answered : goal.returns-in_err-push-clause-answered
+returns-in_err-push-clause-answered g c =
+    let p = err_from_is_err_and c.from_residual-in_err-push.result c.from_residual-in_err-push.ensures.1 in
+    served_by_fault g.D.Devices.calls _ (workbench kit) (new_state c.args.options.limit) prelude_lines _ p.0 p.1 p.2
+
+pub returns-in_err-push-clause-earned : goal.returns-in_err-push-clause-earned
+returns-in_err-push-clause-earned g c =
+    let p = err_from_is_err_and c.from_residual-in_err-push.result c.from_residual-in_err-push.ensures.1 in
+    worked_by_fault g.D.Devices.calls _ c.args.options.order c.args.options.seed kit prelude_lines
+    c.args.options.limit _ p.0 p.1 p.2
+
+pub run-requires : goal.run-requires
+run-requires g c = record { means = c.loop-rule.invariant.means }
+
+pub returns-clause-answered : goal.returns-clause-answered
+returns-clause-answered g c =
     let listed = c.loop-rule.invariant.listed ∙ all_listed form_of value_of in_order
-    c.loop-rule.rule-index (omega (arith, past)) in
-    subst (λ (l : List Stored). OnErr c.run.result (IsAnsweredInPart (workbench l) (new_state c.args.options.limit)
-    prelude_lines (g.Rd.Read.remaining c.args.devices.now.reader) (g.W.Write.contents c.args.devices.now.writer)
-    (g.W.Write.contents c.run.new.devices.writer))) listed c.run.ensures.err
+    c.loop-rule.rule-index (omega (arith, c.loop-rule-test.false)) in
+    rw (← listed) c.run.ensures.answered
 
 pub returns-clause-earned : goal.returns-clause-earned
 returns-clause-earned g c =
-    let past = c.loop-rule-test.false in
     let listed = c.loop-rule.invariant.listed ∙ all_listed form_of value_of in_order
-    c.loop-rule.rule-index (omega (arith, past)) in
+    c.loop-rule.rule-index (omega (arith, c.loop-rule-test.false)) in
     rw (← listed) c.run.ensures.earned
-
-pub returns-clause-earned_in_part : goal.returns-clause-earned_in_part
-returns-clause-earned_in_part g c =
-    let past = c.loop-rule-test.false in
-    let listed = c.loop-rule.invariant.listed ∙ all_listed form_of value_of in_order
-    c.loop-rule.rule-index (omega (arith, past)) in
-    rw (← listed) c.run.ensures.earned_in_part
-
--- each rule's answers hold the points that it relates
-kit_is_sound : AreSoundBy kit (related_in Related in_order)
-kit_is_sound = library_is_sound form_of value_of Related FormOf kit_formed kit_sound in_order
-
-pub returns-clause-points : goal.returns-clause-points
-returns-clause-points g c = kit_is_sound
-
-pub returns-in_err-ins-clause-points : goal.returns-in_err-ins-clause-points
-returns-in_err-ins-clause-points g c = kit_is_sound
-
-pub returns-in_err-call-clause-points : goal.returns-in_err-call-clause-points
-returns-in_err-call-clause-points g c = kit_is_sound
-
-pub returns-in_err-push-clause-points : goal.returns-in_err-push-clause-points
-returns-in_err-push-clause-points g c = kit_is_sound
-
-pub returns-in_err-ins-clause-devices : goal.returns-in_err-ins-clause-devices
-returns-in_err-ins-clause-devices g c =
-    let p = err_from_is_err_and c.from_residual.result c.from_residual.ensures.1 in
-    subst (λ r. TellsDevices r c.args.devices.now c.args.devices.now) (sym p.1)
-    (told_first p.0 c.args.devices.now p.2 c.requires.reader c.requires.writer)
-
-pub returns-in_err-call-clause-devices : goal.returns-in_err-call-clause-devices
-returns-in_err-call-clause-devices g c =
-    let p = err_from_is_err_and c.from_residual-in_err-call.result c.from_residual-in_err-call.ensures.1 in
-    subst (λ r. TellsDevices r c.args.devices.now c.args.devices.now) (sym p.1)
-    (told_first p.0 c.args.devices.now p.2 c.requires.reader c.requires.writer)
-
-pub returns-in_err-push-clause-devices : goal.returns-in_err-push-clause-devices
-returns-in_err-push-clause-devices g c =
-    let p = err_from_is_err_and c.from_residual-in_err-push.result c.from_residual-in_err-push.ensures.1 in
-    subst (λ r. TellsDevices r c.args.devices.now c.args.devices.now) (sym p.1)
-    (told_first p.0 c.args.devices.now p.2 c.requires.reader c.requires.writer)
-
-pub returns-in_err-ins-clause-thrift : goal.returns-in_err-ins-clause-thrift
-returns-in_err-ins-clause-thrift g c =
-    let p = err_from_is_err_and c.from_residual.result c.from_residual.ensures.1 in
-    subst (λ r. IsThrifty r c.args.devices.now c.args.devices.now) (sym p.1) (used_first p.0 c.args.devices.now p.2)
-
-pub returns-in_err-call-clause-thrift : goal.returns-in_err-call-clause-thrift
-returns-in_err-call-clause-thrift g c =
-    let p = err_from_is_err_and c.from_residual-in_err-call.result c.from_residual-in_err-call.ensures.1 in
-    subst (λ r. IsThrifty r c.args.devices.now c.args.devices.now) (sym p.1) (used_first p.0 c.args.devices.now p.2)
-
-pub returns-in_err-push-clause-thrift : goal.returns-in_err-push-clause-thrift
-returns-in_err-push-clause-thrift g c =
-    let p = err_from_is_err_and c.from_residual-in_err-push.result c.from_residual-in_err-push.ensures.1 in
-    subst (λ r. IsThrifty r c.args.devices.now c.args.devices.now) (sym p.1) (used_first p.0 c.args.devices.now p.2)

@@ -1,0 +1,32 @@
+use Rattle.std.proofs.Common.{◌≡◌}
+use Rattle.std.specs.Prelude.{Ok, Err}
+use Rattle.prop_procedures.specs.Kept.{stored_of}
+use Rattle.prop_program.proofs.Starts.{spoken_after}
+use Rattle.prop_telling.specs.Telling.{telling}
+use Rattle.prop_telling.specs.inner.Telling.{told_of}
+use Rattle.prop_telling.proofs.running.answer.Goals as goal
+
+pub run_session-requires : goal.run_session-requires
+run_session-requires g c = record {
+  ready = (rw c.load_prelude.ensures.same c.requires.means, c.load_prelude.ensures.sound);
+}
+
+pub returns-in-Ok-run_session : goal.returns-in-Ok-run_session
+returns-in-Ok-run_session g c =
+    let same = c.load_prelude.ensures.same in
+    let machine : telling g.O.Order.picks (stored_of g.R.Rule.value_of c.load_prelude.new.self.session.live.network.library)
+    ≡ telling g.O.Order.picks (stored_of g.R.Rule.value_of c.args.teller.now.session.live.network.library) =
+    λ i. telling g.O.Order.picks (stored_of g.R.Rule.value_of (same i)) in
+    spoken_after g.D.Devices.calls _ _ _ (told_of c.args.teller.now) (told_of c.load_prelude.new.self)
+    (told_of c.run_session.new.interpreter) _ (Ok _) c.in-Ok.ensures.ok
+    (rw machine at c.in-Ok-run_session.ensures.speaks)
+
+pub returns-in-Err-run_session : goal.returns-in-Err-run_session
+returns-in-Err-run_session g c =
+    let same = c.load_prelude.ensures.same in
+    let machine : telling g.O.Order.picks (stored_of g.R.Rule.value_of c.load_prelude.new.self.session.live.network.library)
+    ≡ telling g.O.Order.picks (stored_of g.R.Rule.value_of c.args.teller.now.session.live.network.library) =
+    λ i. telling g.O.Order.picks (stored_of g.R.Rule.value_of (same i)) in
+    spoken_after g.D.Devices.calls _ _ _ (told_of c.args.teller.now) (told_of c.load_prelude.new.self)
+    (told_of c.run_session.new.interpreter) _ (Err _) c.in-Ok.ensures.ok
+    (rw machine at c.in-Err-run_session.ensures.speaks)
