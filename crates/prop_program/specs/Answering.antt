@@ -44,4 +44,4 @@ abbrev pub IsWorked : {D : Type 0} → Pick → ℕ → List Stored → List (Li
     → (D → Call → D → Type 0) → D → D → Result Counts Fault → Type 0
 IsWorked order seed library prelude limit may from to result =
     InOrder order seed (λ O picks begun.
-        Serves may from to (working picks library) (new_standing limit begun) prelude result)
+    Serves may from to (working picks library) (new_standing limit begun) prelude result)

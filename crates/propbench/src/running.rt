@@ -16,11 +16,7 @@ use smallvec::SmallVec;
 use std::alloc::Global;
 
 /// Makes the kit's procedures, loads the prelude and runs a session with them.
-pub fn run<D: Devices>(
-    alloc: Global,
-    options: Options,
-    devices: &mut D,
-) -> Result<Counts, Fault>
+pub fn run<D: Devices>(alloc: Global, options: Options, devices: &mut D) -> Result<Counts, Fault>
     ensures answered { Serves D.calls devices.old devices.new (workbench kit)
         (new_state options.limit) prelude_lines result }
     ensures earned { IsWorked options.order options.seed kit prelude_lines options.limit

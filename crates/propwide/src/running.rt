@@ -12,11 +12,7 @@ use smallvec::SmallVec;
 use std::alloc::Global;
 
 /// Makes the procedures, loads the preludes and runs a session with them.
-pub fn run<D: Devices>(
-    alloc: Global,
-    options: Options,
-    devices: &mut D,
-) -> Result<Counts, Fault>
+pub fn run<D: Devices>(alloc: Global, options: Options, devices: &mut D) -> Result<Counts, Fault>
     ensures { IsTold wide options.order options.seed options.limit D.calls devices.old devices.new
         result }
 {

@@ -24,7 +24,6 @@ loop-try-preserved g c = record {
   so_far = same_tries g.D.Devices.calls _ _ _ _ c.loop-try.invariant.begun
       (tried_again g.D.Devices.calls _ _ _ (c.loop-try._try - 1) _ c.loop-try.invariant.so_far
       (rw c.in-Err-Interrupted.field-0-is at c.in-Err-Interrupted.ensures.call));
-  
   begun = omega arith;
 }
 

@@ -30,8 +30,11 @@ returns-in-Ok-clause-ok c = λ name same. record {
 }
 
 pub returns-in_ok-error-in-Err-clause-why : goal.returns-in_ok-error-in-Err-clause-why
-returns-in_ok-error-in-Err-clause-why c = λ name same. inr (inr (c.in_ok-error-in-Err.ensures.kind, record {
-  entries = c.in_ok-matches.matches;
-  of_words = matches_of_program _ name _ _ same c.in_ok-matches.ensures.ok.2;
-  wrong = c.in-Err.ensures.err;
-}))
+returns-in_ok-error-in-Err-clause-why c = λ name same. inr (inr (
+  c.in_ok-error-in-Err.ensures.kind,
+  record {
+    entries = c.in_ok-matches.matches;
+    of_words = matches_of_program _ name _ _ same c.in_ok-matches.ensures.ok.2;
+    wrong = c.in-Err.ensures.err;
+  },
+))
