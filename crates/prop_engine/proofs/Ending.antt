@@ -1,11 +1,11 @@
 -- How a dialogue goes on and ends.
-use Rattle.std.proofs.Common.{◌≡◌, ℕ, ◌+◌, ◌<◌, ◌≤◌, List, [], ◌∷◌, ◌++◌, length, take, refl, sym, ◌∙◌, ap, arith, subst}
+use Rattle.std.proofs.Common.{◌≡◌, ℕ, ◌+◌, ◌<◌, ◌≤◌, List, [], ◌∷◌, ◌++◌, length, refl, sym, ◌∙◌, ap, arith, subst}
 use Rattle.std.proofs.Common.{append_assoc, append-nil}
-use Rattle.std.specs.Prelude.{Result, Ok, Err, count_by}
+use Rattle.std.specs.Prelude.{Result, Ok, Err}
 use Rattle.std.proofs.lemmas.List.{length-append}
-use Rattle.prop_engine.specs.Answers.{Answer, is_refusal}
+use Rattle.prop_engine.specs.Answers.{Answer}
 use Rattle.prop_engine.specs.Calls.{Call, Leads, ReadCall}
-use Rattle.prop_engine.specs.Dialogues.{Patiently, AreGiven, IsGiven, Turns, IsEnded, IsUnread, IsUnwritten, IsDialogue}
+use Rattle.prop_engine.specs.Dialogues.{Patiently, AreGiven, IsGiven, Turns}
 use Rattle.prop_engine.specs.Dialogues.{Speaks, ended_by}
 use Rattle.prop_engine.specs.Dialogues.Turns.{more}
 use Rattle.prop_engine.specs.Lines.{lines_of, ended_lines}
@@ -15,7 +15,7 @@ use Rattle.prop_engine.specs.declared.failure.Failure.{Failure}
 use Rattle.prop_engine.specs.declared.outcome.Counts.{Counts}
 use Rattle.prop_engine.specs.declared.outcome.EngineFault.{EngineFault}
 use Rattle.prop_engine.specs.declared.outcome.EngineFault.TheVariants as faults
-use Rattle.prop_engine.specs.inner.Progress.{Progress, CountsAnswer, Advances, Stops, IsCutAnswer, refusals}
+use Rattle.prop_engine.specs.inner.Progress.{Progress, CountsAnswer, Advances, Stops, IsCutAnswer}
 use Rattle.prop_engine.proofs.Leading.{leads_join}
 use Rattle.prop_engine.proofs.Prefixes.{ended_first}
 use Rattle.prop_engine.proofs.Runs.{progress_run, ended_answered, no_last, with_last, part_run, first_run, run_length}

@@ -1,6 +1,6 @@
 -- A session that stopped can be taken to its end.
 use Rattle.std.proofs.Common.{◌≡◌, ℕ, List, [], ◌∷◌, ◌++◌, length, Bool, true, false, cond, eqb, refl, sym, ◌∙◌, ap}
-use Rattle.std.proofs.Common.{subst, append_assoc, append-nil}
+use Rattle.std.proofs.Common.{subst, append_assoc}
 use Rattle.std.specs.Prelude.{flat_map, count_by}
 use Rattle.std.proofs.lemmas.Grind.{flat_map-append}
 use Rattle.prop_engine.specs.Lines.{lines_of, ended_lines, onto_first, onto_ended}

@@ -1,8 +1,8 @@
 -- Runs, a line at a time.
 use Rattle.std.proofs.Common.{◌≡◌, ℕ, ◌+◌, ◌<◌, List, [], ◌∷◌, ◌++◌, length, take, cond, refl, sym, ◌∙◌, ap, subst}
 use Rattle.std.proofs.Common.{append_assoc, append-nil, inl, inr, arith, lit<, suc}
-use Rattle.std.specs.Prelude.{count_by, ◌≢◌}
-use Rattle.std.proofs.lemmas.List.{flat_map_more, length-take, length_push, take_all, take-append-le, take_at}
+use Rattle.std.specs.Prelude.{count_by}
+use Rattle.std.proofs.lemmas.List.{length-take, length_push, take_all, take-append-le, take_at}
 use Rattle.std.proofs.lemmas.List.{nil_from_length}
 use Rattle.std.proofs.lemmas.List.Sums.{fold_push}
 use Rattle.std.proofs.lemmas.Bool.{cases_lt}

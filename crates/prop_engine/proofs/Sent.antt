@@ -1,12 +1,12 @@
 -- Texts that are written, and how far.
 use Rattle.std.proofs.Common.{◌≡◌, ◌⊎◌, ℕ, ◌+◌, ◌-◌, ◌<◌, ◌≤◌, List, [], ◌∷◌, ◌++◌, length, take, drop, refl, sym, subst}
 use Rattle.std.proofs.Common.{ap, arith, inl, inr, append-nil, append_assoc, ◌∙◌}
-use Rattle.std.specs.Prelude.{Result, Ok, Err, MatchResult, ⊤, ◌≢◌}
+use Rattle.std.specs.Prelude.{Ok, Err}
 use Rattle.std.proofs.lemmas.List.{take_rest, length-drop, drop-drop, drop_all}
-use Rattle.prop_engine.specs.Answers.{Answer, Silent, text_written}
+use Rattle.prop_engine.specs.Answers.{Answer}
 use Rattle.prop_engine.specs.Calls.{Call, Leads, WriteCall, FlushCall}
 use Rattle.prop_engine.specs.Dialogues.{Patiently, IsWritten, IsSent, IsStopped, IsCut, IsGiven, AreGiven}
-use Rattle.prop_engine.specs.Dialogues.IsWritten.{none, more}
+use Rattle.prop_engine.specs.Dialogues.IsWritten.{more}
 use Rattle.prop_engine.specs.declared.failure.Failure.{Failure}
 use Rattle.prop_engine.proofs.Leading.{leads_join}
 

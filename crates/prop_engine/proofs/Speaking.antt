@@ -1,16 +1,16 @@
 -- What the calls of a dialogue read and wrote.
-use Rattle.std.proofs.Common.{◌≡◌, ◌⊎◌, ℕ, ◌+◌, ◌<◌, ◌≤◌, List, [], ◌∷◌, ◌++◌, length, take, drop, refl, sym, ◌∙◌, ap, arith}
+use Rattle.std.proofs.Common.{◌≡◌, ℕ, List, [], ◌∷◌, ◌++◌, length, take, drop, refl, sym, ◌∙◌, ap, arith}
 use Rattle.std.proofs.Common.{append_assoc, append-nil, subst, replicate, zero, suc, inl, inr}
-use Rattle.std.specs.Prelude.{Result, Ok, Err, flat_map, count_by, ⊤}
-use Rattle.std.proofs.lemmas.List.{take-append-drop, take_all, length-append}
+use Rattle.std.specs.Prelude.{Result, Ok, Err, flat_map, ⊤}
+use Rattle.std.proofs.lemmas.List.{take-append-drop, take_all}
 use Rattle.std.proofs.lemmas.Grind.{flat_map-append}
-use Rattle.prop_engine.specs.Answers.{Answer, Silent, Done, Text, Refused, text_written, is_refusal}
+use Rattle.prop_engine.specs.Answers.{Answer, Silent, Done, Text, Refused, text_written}
 use Rattle.prop_engine.specs.Calls.{Call, ReadCall, WriteCall, FlushCall, bytes_read, bytes_written}
 use Rattle.prop_engine.specs.Dialogues.{Patiently, IsWritten, IsSent, IsStopped, IsCut, IsGiven, AreGiven, Turns, IsEnded}
-use Rattle.prop_engine.specs.Dialogues.{IsUnread, IsUnwritten, IsDialogue, Ends}
+use Rattle.prop_engine.specs.Dialogues.{IsDialogue, Ends}
 use Rattle.prop_engine.specs.Dialogues.IsWritten.{none as unwritten, more as written_more}
 use Rattle.prop_engine.specs.Dialogues.Turns.{none as no_turn, more as one_turn}
-use Rattle.prop_engine.specs.Lines.{lines_of, ended_lines}
+use Rattle.prop_engine.specs.Lines.{lines_of}
 use Rattle.prop_engine.specs.Machines.{IsTotal}
 use Rattle.prop_engine.specs.Transcripts.{Machine, Run, IsTranscript, IsPrefixOfTranscript}
 use Rattle.prop_engine.specs.declared.failure.Failure.{Failure}
@@ -19,7 +19,6 @@ use Rattle.prop_engine.specs.declared.outcome.Counts.{Counts}
 use Rattle.prop_engine.specs.declared.outcome.EngineFault.{EngineFault}
 use Rattle.prop_engine.specs.declared.outcome.EngineFault.TheVariants as faults
 use Rattle.prop_engine.proofs.Prefixes.{prefix}
-use Rattle.prop_engine.proofs.Runs.{run_length}
 
 -- what calls read and wrote
 pub record Moves (calls : List Call) (read written : List ℕ) : Type 0 where

@@ -1,9 +1,9 @@
 -- The bytes of streams over several calls.
 use Rattle.std.proofs.Common.{◌≡◌, ℕ, List, [], ◌∷◌, ◌++◌, refl, sym, ◌∙◌, ap, append_assoc, append-nil, subst}
-use Rattle.std.specs.Prelude.{Option, Some, None, Result, Ok, Err}
+use Rattle.std.specs.Prelude.{Option, Some, None, Ok, Err}
 use Rattle.std.specs.Io.KnownBytes.{Appends, Consumes, Keeps}
 use Rattle.prop_engine.specs.Calls.{Call, Leads, ReadCall, WriteCall, FlushCall, bytes_read, bytes_written}
-use Rattle.prop_engine.specs.Streams.{StreamCall, reader_of, writer_of}
+use Rattle.prop_engine.specs.Streams.{StreamCall}
 use Rattle.prop_engine.specs.declared.streams.Streams.{Streams}
 
 appends_none : (a : Option (List ℕ)) → Appends a a []

@@ -1,6 +1,6 @@
 -- In which order a session over a machine calls its reader and its writer.
 use Rattle.std.specs.Prelude.{◌≡◌, ◌≢◌, ◌⊎◌, ℕ, ◌+◌, ◌<◌, ◌≤◌, List, [], ◌∷◌, ◌++◌, length, take, drop}
-use Rattle.std.specs.Prelude.{replicate, count_by, Result, Ok, Err, ⊤}
+use Rattle.std.specs.Prelude.{replicate, count_by, Result, Ok, Err}
 use Rattle.prop_engine.specs.Answers.{Answer, Silent, text_written, is_refusal}
 use Rattle.prop_engine.specs.Calls.{Call, Leads, ReadCall, WriteCall, FlushCall}
 use Rattle.prop_engine.specs.Lines.{lines_of, ended_lines}

@@ -1,13 +1,12 @@
 -- What a program does by words that give no options.
-use Rattle.std.proofs.Common.{◌≡◌, ◌⊎◌, ◌∙◌, ℕ, List, inl, inr, refl, sym, ap, subst, map, Bool, true, false}
-use Rattle.std.specs.Prelude.{Option, Some, None, Result, Ok, Err, ◌≢◌, IsTrue}
+use Rattle.std.proofs.Common.{◌≡◌, ◌∙◌, ℕ, List, inl, inr, refl, sym, Bool, false}
+use Rattle.std.specs.Prelude.{Option, Some, Result, ◌≢◌, IsTrue}
 use Rattle.std.proofs.lemmas.Bool.{false≢true}
-use Rattle.clap.specs.Words.{IsAmong, fault_of}
 use Rattle.clap.specs.declared.error.kind.ErrorKind.{ErrorKind}
 use Rattle.clap.specs.declared.error.kind.ErrorKind.TheVariants as kinds
 use Rattle.prop_engine.specs.Calls.{Call, Leads}
 use Rattle.prop_engine.specs.Dialogues.{IsSent, IsCut}
-use Rattle.prop_program.specs.Program.{program, AreGiven, AreOutOfRange, IsReason}
+use Rattle.prop_program.specs.Program.{AreGiven, IsReason}
 use Rattle.prop_program.specs.Running.{Does, Declines, status_after, IsForText, AskForText, AreNoOptions}
 use Rattle.prop_engine.specs.declared.outcome.Counts.{Counts}
 use Rattle.prop_program.specs.declared.chosen.Options.{Options}

@@ -1,4 +1,4 @@
-use Rattle.std.proofs.Common.{[], ◌-◌, ◌+◌, ◌∙◌, arith, drop, length, refl, take, sym}
+use Rattle.std.proofs.Common.{◌-◌, ◌+◌, ◌∙◌, arith, drop, length, refl, take}
 use Rattle.std.proofs.lemmas.List.{length-drop}
 use Rattle.prop_engine.proofs.Machines.{same_step}
 use Rattle.prop_engine.proofs.Feeds.{feed_start, fed_line, fed_stop, fed_end, on_err}

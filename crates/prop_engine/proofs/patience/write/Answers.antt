@@ -1,7 +1,7 @@
-use Rattle.std.proofs.Common.{◌-◌, ◌+◌, ◌≡◌, arith, length, take, subst, refl}
+use Rattle.std.proofs.Common.{◌-◌, ◌+◌, ◌≡◌, arith}
 use Rattle.std.specs.Prelude.{Ok, Err}
-use Rattle.prop_engine.specs.Calls.{ReadCall, WriteCall, FlushCall, given}
-use Rattle.prop_engine.specs.declared.failure.Failure.TheVariants.{Interrupted, Other}
+use Rattle.prop_engine.specs.Calls.{WriteCall}
+use Rattle.prop_engine.specs.declared.failure.Failure.TheVariants.{Other}
 use Rattle.prop_engine.proofs.Leading.{tried, tried_again, not_interrupted, not_failed, same_tries}
 use Rattle.prop_engine.proofs.patience.write.Goals as goal
 

@@ -1,5 +1,4 @@
-use Rattle.std.proofs.Common.{◌≤◌, ◌+◌, ◌<◌, [], refl, arith, drop, length}
-use Rattle.std.proofs.lemmas.List.{take_rest, length-drop}
+use Rattle.std.proofs.Common.{[], refl, arith}
 use Rattle.prop_engine.specs.Dialogues.IsWritten.{none}
 use Rattle.prop_engine.proofs.Sent.{wrote_more, cut_failed, cut_at_none, count_in_range}
 use Rattle.prop_engine.proofs.sending.put.Goals as goal

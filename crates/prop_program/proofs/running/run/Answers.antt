@@ -1,8 +1,7 @@
-use Rattle.std.proofs.Common.{◌∙◌, ap, map, sym, subst}
+use Rattle.std.proofs.Common.{◌∙◌, ap, map}
 use Rattle.std.proofs.lemmas.Result.{err_from_is_err_and}
 use Rattle.prop_procedures.specs.Kept.{stored_as, stored_of}
 use Rattle.prop_scheduler.specs.Orders.{picks_first, picks_last, picks_mixed}
-use Rattle.prop_program.specs.Answering.{Serves}
 use Rattle.prop_program.proofs.Starts.{worked_by, worked_answered, served_by_fault, worked_by_fault}
 use Rattle.prop_program.proofs.running.run.Goals as goal
 

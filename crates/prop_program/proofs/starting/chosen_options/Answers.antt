@@ -1,5 +1,5 @@
 use Rattle.std.proofs.Common.{◌≡◌, ◌∙◌, List, ℕ, map, ap, sym, subst}
-use Rattle.std.specs.Prelude.{Option, Some, Ok, string_bytes}
+use Rattle.std.specs.Prelude.{Option, Some, string_bytes}
 use Rattle.prop_program.specs.Running.{given_words, Declines}
 use Rattle.prop_program.proofs.starting.chosen_options.Goals as goal
 
