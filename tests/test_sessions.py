@@ -26,7 +26,8 @@ PATH is crates/propbench/out/propbench where it is left out. What is run:
   itself measures what they take);
 - what tests/peers.py measures, which by itself runs searches beside other programs: that it tells a
   wrong answer;
-- cores among many premises (tests/cores.py, which by itself measures what they take);
+- cores among many premises (tests/cores.py, which by itself measures what they take), and that no
+  premise of a `why` can be left out where one cell is told of (tests/reasons.py);
 - worked sessions in which each request for memory, each read and each write is refused in turn, or
   the input is cut after each byte (tests/refusals.py);
 - worked sessions, each limit and deep definitions with a stack of 64 kB (tests/stacks.py);
@@ -68,6 +69,7 @@ import pipe
 import plain
 import prelude
 import pytest
+import reasons
 import refusals
 import rules
 import scripts
@@ -128,7 +130,7 @@ def cases() -> Iterator[Runnable]:
         yield from module.cases()
     yield from stacks.cases(worked())
     yield from refusals.cases(list(transcribed()))
-    for module in (cores, peers):
+    for module in (cores, reasons, peers):
         yield from module.cases()
     for module in (searches, steps, choices, plain):
         yield from in_each_order(module.cases())

@@ -13,7 +13,7 @@ use Rattle.prop_numbers.specs.Sets.{set_of, is_within, union, IsPart, IsSame}
 use Rattle.prop_numbers.proofs.WithinLemmas.{within_has, within_from}
 use Rattle.prop_tms.specs.Beliefs.{belief_of, IsLean}
 use Rattle.prop_tms.proofs.BeliefLemmas.{belief_below}
-use Rattle.prop_tms.proofs.BeliefUses.{within_lean, lean_is_enough}
+use Rattle.prop_tms.proofs.BeliefUses.{said_by, within_lean, lean_is_enough}
 use Rattle.prop_procedures.specs.Stored.{Stored}
 use Rattle.prop_cells.specs.Problems.{Problem, Assignment, IsSolution, Entails}
 use Rattle.prop_cells.specs.inner.Problems.{Premises, Satisfies, IsContradictory}
@@ -65,10 +65,11 @@ lean_explains p s cell es v support founded lean = record {
         ((belief_entailed p (set_of support) cell es founded).below a sol);
   };
   related = λ q t.
-      let some = Any-from_list_any (λ e. set_of e.support q) lean.chosen (sym (lean.joined q) ∙ t) in
-      let there = lean.among some.0 some.1 some.2 in
-      let its : set_of (get_or lean.chosen some.0 some.1).support q ≡ true = rw some.3 some.4 in
-      (All-contains (IsFounded p cell) es (get_or lean.chosen some.0 some.1) founded there).related q its;
+      let by = said_by info_laws es s v support lean in
+      let some = Any-from_list_any (λ e. set_of e.support q) by.chosen (sym (by.joined q) ∙ t) in
+      let there = by.among some.0 some.1 some.2 in
+      let its : set_of (get_or by.chosen some.0 some.1).support q ≡ true = rw some.3 some.4 in
+      (All-contains (IsFounded p cell) es (get_or by.chosen some.0 some.1) founded there).related q its;
 }
 
 -- ---- the supports of several cells

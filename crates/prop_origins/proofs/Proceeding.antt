@@ -55,6 +55,16 @@ proceeds_then problem n m line mid after a b c first next = record {
   met = λ o. next.met (first.met o);
 }
 
+-- what paid for more calls paid for fewer
+pub proceeds_fewer : (problem : Problem) (n m : ℕ) (line after : List ℕ) (a b : Assignment) → m ≤ n
+    → Proceeds problem n line after a b → Proceeds problem m line after a b
+proceeds_fewer problem n m line after a b fewer went = record {
+  of_kinds = went.of_kinds;
+  grows = went.grows;
+  falls = (let f = went.falls in omega (arith, f, fewer));
+  met = went.met;
+}
+
 -- ---- one more part
 
 pub made_merges : (p : Part) (ps : List Part) → MergesAt (made ps) (made (p ∷ ps)) p.cell p.value

@@ -1,11 +1,11 @@
 -- What pruning leaves.
-use Rattle.std.proofs.Common.{◌≡◌, ◌∙◌, ◌==◌, ◌||◌, ◌++◌, ℕ, Bool, true, false, List, [], ◌∷◌, refl, sym, ap}
+use Rattle.std.proofs.Common.{◌≡◌, ◌∙◌, ◌≤◌, ◌==◌, ◌||◌, ◌++◌, arith, ℕ, Bool, true, false, List, [], ◌∷◌, refl, sym, ap}
 use Rattle.std.proofs.Common.{if◌then◌else◌, inl, inr, append_assoc, slice_index_or}
 use Rattle.std.proofs.lemmas.Bool.Decides.{eqb_tells}
 use Rattle.prop_lattice.specs.declared.info.Info.{Info}
 use Rattle.prop_lattice.specs.Order.{merge_of}
 use Rattle.prop_numbers.specs.Sets.{set_of}
-use Rattle.prop_origins.specs.Parts.{Part, made, rests_on, reads, AreWanted}
+use Rattle.prop_origins.specs.Parts.{Part, made, rests_on, calls_in, reads, AreWanted}
 use Rattle.prop_origins.specs.Pruned.{pruned, marked_in}
 
 pub or_first : (a b : Bool) → a ≡ true → (a || b) ≡ true
@@ -35,6 +35,18 @@ made_by wanted p ps c w true e kept left = ap (λ (v : Info). if p.cell == c the
 made_by wanted p ps c w false e kept left =
     left ∙ ap (λ (b : Bool). if b then merge_of (made ps c) p.value else made ps c)
     (sym (elsewhere wanted p.cell c e w))
+
+-- of the calls no more are left
+pub pruned_calls : (wanted : ℕ → Bool) (ps : List Part) → calls_in (pruned wanted ps) ≤ calls_in ps
+pruned_calls wanted [] = omega arith
+pruned_calls wanted (p ∷ ps) =
+    by (wanted p.cell) (pruned_calls (wanted_behind wanted p) ps) (pruned_calls wanted ps)
+  where
+    by : (b : Bool) → calls_in (pruned (wanted_behind wanted p) ps) ≤ calls_in ps
+        → calls_in (pruned wanted ps) ≤ calls_in ps
+        → calls_in (if b then p ∷ pruned (wanted_behind wanted p) ps else pruned wanted ps) ≤ calls_in (p ∷ ps)
+    by true kept left = omega (arith, kept)
+    by false kept left = omega (arith, left)
 
 -- of a cell that is wanted the parts that are left say what all said
 pub pruned_made : (wanted : ℕ → Bool) (ps : List Part) (c : ℕ) → wanted c ≡ true

@@ -1,5 +1,5 @@
 -- Parts that make up a value of a cell.
-use Rattle.std.specs.Prelude.{◌≡◌, ◌==◌, ℕ, IsTrue, List, [], ◌∷◌, map, Some, ⊤, slice_get}
+use Rattle.std.specs.Prelude.{◌≡◌, ◌==◌, ℕ, IsTrue, List, [], ◌∷◌, map, Some, ⊤, slice_get, All}
 use Rattle.std.specs.List.{list_any}
 use Rattle.prop_lattice.specs.declared.info.Info.{Info}
 use Rattle.prop_lattice.specs.Order.{Below}
@@ -9,12 +9,12 @@ use Rattle.prop_procedures.specs.Stored.{Stored}
 use Rattle.prop_procedures.specs.Fitting.{kind_at}
 use Rattle.prop_cells.specs.declared.instance.Statement.{Statement}
 use Rattle.prop_cells.specs.Problems.{is_member, value_at}
-use Rattle.prop_cells.specs.inner.Problems.{Premises}
+use Rattle.prop_cells.specs.inner.Problems.{Premises, Satisfies}
 use Rattle.prop_cells.specs.Instances.{Instance, constraint_of}
 use Rattle.prop_cells.specs.Data.{Data, support_of}
 use Rattle.prop_origins.specs.declared.part.Origin.{Origin}
 use Rattle.prop_origins.specs.declared.part.Origin.TheVariants.{Told, Called}
-use Rattle.prop_origins.specs.Parts.{Part, made, rests_on, AreWanted}
+use Rattle.prop_origins.specs.Parts.{Part, made, rests_on, calls_in, AreWanted}
 
 -- the part is what a statement says whose premise is one of these, or which has none
 pub record IsTold (d : Data) (s : Premises) (n : ℕ) (p : Part) : Type 0 where
@@ -67,3 +67,13 @@ pub record MakeUp (library : List Stored) (d : Data) (s : Premises) (cell : ℕ)
   pub founded : AreFounded library d s parts
   pub enough : Below v (made parts cell)
   pub wanted : AreWanted (λ c. c == cell) parts
+
+-- So many calls are not enough for so much of the cell: there are founded parts with as many, each
+-- of which says more than those behind it, that hold all that is stated and don't say it.
+pub record FallShort (library : List Stored) (d : Data) (s : Premises) (cell : ℕ) (v : Info)
+    (calls : ℕ) : Type 0 where
+  pub parts : List Part
+  pub founded : AreFounded library d s parts
+  pub calls_are : calls_in parts ≡ calls
+  pub heard : All (Satisfies s (made parts)) d.statements
+  pub short : ¬ (Below v (made parts cell))

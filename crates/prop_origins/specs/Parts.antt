@@ -1,11 +1,13 @@
 -- What makes up a value: parts, of which each rests on those behind it alone.
-use Rattle.std.specs.Prelude.{◌==◌, ◌||◌, ℕ, Bool, false, if◌then◌else◌, IsTrue, List, [], ◌∷◌, ⊤}
+use Rattle.std.specs.Prelude.{◌==◌, ◌||◌, ◌+◌, ℕ, Bool, false, if◌then◌else◌, IsTrue, List, []}
+use Rattle.std.specs.Prelude.{◌∷◌, ⊤}
 use Rattle.std.specs.List.{list_any}
 use Rattle.prop_lattice.specs.declared.info.Info.{Info}
 use Rattle.prop_lattice.specs.declared.info.Info.TheVariants.{Nothing}
 use Rattle.prop_lattice.specs.Order.{merge_of}
 use Rattle.prop_numbers.specs.Sets.{Members, set_of, union}
 use Rattle.prop_origins.specs.declared.part.Origin.{Origin}
+use Rattle.prop_origins.specs.declared.part.Origin.TheVariants.{Told, Called}
 
 -- a statement or a call: its cell, its inputs with what is said of them, what it says of its cell,
 -- and the premises on which it rests
@@ -29,6 +31,15 @@ rests_on [] cell q = false
 rests_on (p ∷ behind) cell q =
     if p.cell == cell then union (rests_on behind cell) (set_of p.support) q
     else rests_on behind cell q
+
+-- how many of the parts are calls
+abbrev pub call_of : Origin → ℕ
+call_of (Told n) = 0
+call_of (Called n) = 1
+
+abbrev pub calls_in : List Part → ℕ
+calls_in [] = 0
+calls_in (p ∷ behind) = calls_in behind + call_of p.origin
 
 -- ---- which parts are read
 

@@ -62,6 +62,7 @@ impl Line {
         ensures below { IfSome result (λ i. i < self.old.count) }
         ensures first { IfSome result (λ i. self.old.line ≡ i ∷ self.new.line) }
         ensures none { result ≡ None → self.old.line ≡ [] }
+        ensures same { result ≡ None → self.new ≡ self.old }
     {
         if self.agenda.waiting() > 0 {
             let instance = self.agenda.at(0);

@@ -1,7 +1,7 @@
 //! The parts of a value: what the statements say, and what follows from them, one call after the
 //! other.
-ghost use Rattle.std.specs.Prelude.{◌≡◌, ◌<◌, ◌≤◌, ◌∷◌, [], List, All, length, slice_get};
-ghost use Rattle.std.specs.Prelude.{Some, IfOk, OnOk, IfSome, false};
+ghost use Rattle.std.specs.Prelude.{◌≡◌, ◌<◌, ◌≤◌, ◌+◌, ◌⊎◌, ◌∷◌, [], List, All, length, slice_get};
+ghost use Rattle.std.specs.Prelude.{Some, IfOk, OnOk, IfSome, IsTrue, false};
 ghost use Rattle.std.specs.List.{list_any};
 ghost use Rattle.prop_lattice.specs.Order.{Below, is_contradiction};
 ghost use Rattle.prop_numbers.specs.Sets.{set_of};
@@ -12,8 +12,8 @@ ghost use Rattle.prop_cells.specs.Data.{IsKept, IsWellMade, problem_of, support_
 ghost use Rattle.prop_cells.specs.Problems.{Entails, is_member};
 ghost use Rattle.prop_cells.specs.inner.Problems.{AreOfKinds, Premises, Satisfies};
 ghost use Rattle.prop_cells.specs.inner.Problems.{value_on};
-ghost use Rattle.prop_origins.specs.Founded.{AreFounded, MakeUp};
-ghost use Rattle.prop_origins.specs.Parts.{made};
+ghost use Rattle.prop_origins.specs.Founded.{AreFounded, MakeUp, FallShort};
+ghost use Rattle.prop_origins.specs.Parts.{made, calls_in};
 ghost use Rattle.prop_origins.specs.Whole.{IfWhole, IfCut};
 ghost use Rattle.prop_origins.specs.inner.Proceeding.{Proceeds};
 ghost use Rattle.prop_scheduler.specs.Potential.{most_steps};
@@ -35,7 +35,7 @@ use std::alloc::{AllocError, Global};
 pub enum Composition {
     /// These parts, the one that completes it first.
     Whole(Vec<Part>),
-    /// They were not found: the budget of calls was used before.
+    /// They were not found: the budget of calls that say more was used before.
     Cut,
 }
 
@@ -113,6 +113,7 @@ fn note(
         (made log.old.parts) (made log.new.parts)) }
     ensures heard { OnOk result ((x : Statement) → slice_get held.now.statements number ≡ Some x
         → Satisfies (set_of premises.now) (made log.new.parts) x) }
+    ensures calls { OnOk result (calls_in log.new.parts ≡ calls_in log.old.parts) }
 {
     let statement = held.statements()[number];
     let cell = statement.cell;
@@ -147,6 +148,7 @@ fn tell(
         (made log.old.parts) (made log.new.parts)) }
     ensures heard { OnOk result
         (All (Satisfies (set_of premises.now) (made log.new.parts)) held.now.statements) }
+    ensures calls { OnOk result (calls_in log.new.parts ≡ calls_in log.old.parts) }
 {
     for number in 0..held.statements().len() {
         note(alloc, held, number, premises, line, log)?;
@@ -210,14 +212,14 @@ fn called(
 }
 
 /// Calls an instance on what the parts say of its inputs. Where its value says more than they do,
-/// it is logged, and the readers of its output wait.
+/// it is logged, and the readers of its output wait. Tells whether it does.
 fn call<R: Rule + Drop>(
     alloc: Global,
     network: &Network<R>,
     number: usize,
     line: &mut Line,
     log: &mut Log,
-) -> Result<(), AllocError>
+) -> Result<bool, AllocError>
     requires means { AllMean R.value_of network.now.library.procedures.items }
     requires kept { IsKept (stored_of R.value_of network.now.library) network.now.cells }
     requires number { number < length network.now.cells.instances }
@@ -232,6 +234,10 @@ fn call<R: Rule + Drop>(
     ensures proceeds { OnOk result
         (Proceeds (problem_of (stored_of R.value_of network.now.library) network.now.cells) 1
         (number ∷ line.old.line) line.new.line (made log.old.parts) (made log.new.parts)) }
+    ensures more { IfOk result (λ more. IsTrue more
+        → calls_in log.new.parts ≡ calls_in log.old.parts + 1) }
+    ensures idle { IfOk result (λ more. more ≡ false
+        → (line.new ≡ line.old) × (log.new ≡ log.old)) }
 {
     let held = network.data();
     let x = held.instance(number);
@@ -241,17 +247,51 @@ fn call<R: Rule + Drop>(
     let value = answer(network.library(), x, &args);
     if log.made(output).implies(value) {
         drop(args);
-        return Ok(());
+        return Ok(false);
     }
     let support = log.support(alloc, inputs)?;
     let part = called(number, x, args, value, support)?;
     log.push(part)?;
     line.alert(held.readers(output));
+    Ok(true)
+}
+
+/// Calls those that wait, up to the first that says more than the parts do. Where none does, none
+/// waits any longer.
+fn proceed<R: Rule + Drop>(
+    alloc: Global,
+    network: &Network<R>,
+    line: &mut Line,
+    log: &mut Log,
+) -> Result<(), AllocError>
+    requires means { AllMean R.value_of network.now.library.procedures.items }
+    requires kept { IsKept (stored_of R.value_of network.now.library) network.now.cells }
+    requires cells { log.old.cells ≡ length network.now.cells.kinds }
+    requires line { line.old.count ≡ length network.now.cells.instances }
+    requires of_kinds { AreOfKinds network.now.cells.kinds (made log.old.parts) }
+    ensures cells { log.new.cells ≡ log.old.cells }
+    ensures line { line.new.count ≡ line.old.count }
+    ensures founded { (s : Premises)
+        → AreFounded (stored_of R.value_of network.now.library) network.now.cells s log.old.parts
+        → AreFounded (stored_of R.value_of network.now.library) network.now.cells s log.new.parts }
+    ensures proceeds { OnOk result
+        (Proceeds (problem_of (stored_of R.value_of network.now.library) network.now.cells) 0
+        line.old.line line.new.line (made log.old.parts) (made log.new.parts)) }
+    ensures more { OnOk result (((line.new.line ≡ []) × (log.new ≡ log.old))
+        ⊎ ((calls_in log.new.parts ≡ calls_in log.old.parts + 1) × Proceeds
+        (problem_of (stored_of R.value_of network.now.library) network.now.cells) 1
+        line.old.line line.new.line (made log.old.parts) (made log.new.parts))) }
+{
+    while let Some(number) = line.next() {
+        if call(alloc, network, number, line, log)? {
+            return Ok(());
+        }
+    }
     Ok(())
 }
 
-/// Logs what follows from the premises by themselves, until it says so much of the cell, or the
-/// budget of calls is used. Where nothing waits it does say so much.
+/// Logs what follows from the premises by themselves, until it says so much of the cell, or so many
+/// calls as the budget says were logged. Where nothing waits it does say so much.
 fn make<R: Rule + Drop>(
     alloc: Global,
     network: &Network<R>,
@@ -272,6 +312,11 @@ fn make<R: Rule + Drop>(
     ensures enough { IfOk result (λ log.
         most_steps (problem_of (stored_of R.value_of network.now.library) network.now.cells)
         ≤ budget → Below claim.value (made log.parts claim.cell)) }
+    ensures heard { IfOk result (λ log.
+        All (Satisfies (set_of premises.now) (made log.parts)) network.now.cells.statements) }
+    ensures few { IfOk result (λ log. calls_in log.parts ≤ budget) }
+    ensures used { IfOk result (λ log. ¬ (Below claim.value (made log.parts claim.cell))
+        → calls_in log.parts ≡ budget) }
 {
     let mut log = Log::new(alloc, network.cells())?;
     let mut line = Line::new(alloc, network.instances())?;
@@ -280,17 +325,15 @@ fn make<R: Rule + Drop>(
         if log.made(claim.cell).implies(claim.value) {
             break;
         }
-        let Some(number) = line.next() else {
-            break;
-        };
-        call(alloc, network, number, &mut line, &mut log)?;
+        proceed(alloc, network, &mut line, &mut log)?;
     }
     Ok(log)
 }
 
 /// The parts that make up so much of a cell as the premises entail: statements under these premises
 /// or under none, and calls. They are looked for in calls of instances that read what is known, up
-/// to a budget, which is enough where it is no less than the most steps of a run.
+/// to so many that say more as the budget tells. That is enough where it is no less than the most
+/// steps of a run.
 pub fn origins<R: Rule + Drop>(
     alloc: Global,
     network: &Network<R>,
@@ -307,8 +350,12 @@ pub fn origins<R: Rule + Drop>(
     ensures whole { IfOk result (λ o. IfWhole o
         (MakeUp (stored_of R.value_of network.now.library) network.now.cells
         (set_of why.now.support) cell why.now.value)) }
+    ensures few { IfOk result (λ o. IfWhole o (λ parts. calls_in parts ≤ budget)) }
     ensures cut { IfOk result (λ o. IfCut o (budget
         < most_steps (problem_of (stored_of R.value_of network.now.library) network.now.cells))) }
+    ensures short { IfOk result (λ o. IfCut o
+        (FallShort (stored_of R.value_of network.now.library) network.now.cells
+        (set_of why.now.support) cell why.now.value budget)) }
 {
     let value = why.value;
     let log = make(alloc, network, &why.support, Claim { cell, value }, budget)?;

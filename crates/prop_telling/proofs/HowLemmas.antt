@@ -1,5 +1,5 @@
 -- Parts that are told: what they name is there, and one text more.
-use Rattle.std.proofs.Common.{◌≡◌, ◌∙◌, ◌==◌, ◌||◌, ◌<◌, ℕ, Bool, true, false, List, [], ◌∷◌, All, length}
+use Rattle.std.proofs.Common.{◌≡◌, ◌∙◌, ◌==◌, ◌||◌, ◌<◌, ◌≤◌, ℕ, Bool, true, false, List, [], ◌∷◌, All, length}
 use Rattle.std.proofs.Common.{Option, Some, None, if◌then◌else◌, inl, inr, refl, sym, ap, subst, arith, get_or}
 use Rattle.std.proofs.Common.{◌+◌, ◌++◌, take, append-nil}
 use Rattle.std.specs.List.{list_any}
@@ -17,8 +17,8 @@ use Rattle.prop_cells.specs.Data.{Data, IsKept, IsStated, IsLeanAt, beliefs, pro
 use Rattle.prop_cells.proofs.Keeping.{All-at}
 use Rattle.prop_origins.specs.declared.part.Origin.{Origin}
 use Rattle.prop_origins.specs.declared.part.Origin.TheVariants.{Told, Called}
-use Rattle.prop_origins.specs.Parts.{Part, rests_on}
-use Rattle.prop_origins.specs.Founded.{IsFrom, AreFounded, MakeUp}
+use Rattle.prop_origins.specs.Parts.{Part, rests_on, calls_in}
+use Rattle.prop_origins.specs.Founded.{IsFrom, AreFounded, MakeUp, FallShort}
 use Rattle.prop_origins.specs.Whole.{IfWhole, IfCut}
 use Rattle.prop_scheduler.specs.Potential.{most_steps}
 use Rattle.prop_origins.specs.declared.making.Composition.{Composition}
@@ -117,10 +117,11 @@ parts_text_more library s parts i d before l is =
 
 -- what is whole or cut is told
 pub made_told : (library : List Stored) (d : Data) (s : Premises) (cell : ℕ) (v : Info) (made : Composition)
-    → IfWhole made (MakeUp library d s cell v) → IfCut made (most_calls < most_steps (problem_of library d))
-    → AreTold library d s cell v (parts_of made)
-made_told library d s cell v (Whole parts) whole cut = whole
-made_told library d s cell v Cut whole cut = cut
+    → IfWhole made (MakeUp library d s cell v) → IfWhole made (λ parts. calls_in parts ≤ most_calls)
+    → IfCut made (FallShort library d s cell v most_calls)
+    → IfCut made (most_calls < most_steps (problem_of library d)) → AreTold library d s cell v (parts_of made)
+made_told library d s cell v (Whole parts) whole few short cut = (whole, few)
+made_told library d s cell v Cut whole few short cut = (short, cut)
 
 pub made_there : (library : List Stored) (d : Data) (s : Premises) (n cell : ℕ) (v : Info) (made : Composition)
     → IsKept library d → AreKnown n d.statements → IfWhole made (MakeUp library d s cell v)
@@ -133,15 +134,17 @@ pub how_said : {O : Type 0} (library : List Stored) (s : State) (w : Work O) (ce
     (made : Composition) (text : List ℕ) → v ≡ beliefs (set_of w.search.worldview) w.cells.contents cell
     → IsLeanAt (set_of w.search.worldview) w.cells.contents cell premises
     → IfWhole made (MakeUp library w.cells (set_of premises) cell v)
+    → IfWhole made (λ parts. calls_in parts ≤ most_calls)
+    → IfCut made (FallShort library w.cells (set_of premises) cell v most_calls)
     → IfCut made (most_calls < most_steps (problem_of library w.cells))
     → text ≡ how_text (lines_for (parts_of made)) (sides_text s.premises (set_of w.search.worldview))
     (says_text s cell v premises) (made_text library s (parts_of made)) → SaysHow library s w cell text
-how_said library s w cell premises v made text is lean told cut e = record {
+how_said library s w cell premises v made text is lean told few short cut e = record {
   premises = premises;
   lean = lean;
   made = parts_of made;
   told = subst (λ (x : Info). AreTold library w.cells (set_of premises) cell x (parts_of made)) is
-      (made_told library w.cells (set_of premises) cell v made told cut);
+      (made_told library w.cells (set_of premises) cell v made told few short cut);
   text_is = e ∙ ap (λ (x : Info). how_text (lines_for (parts_of made))
       (sides_text s.premises (set_of w.search.worldview)) (says_text s cell x premises)
       (made_text library s (parts_of made))) is;

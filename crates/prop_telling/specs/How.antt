@@ -1,6 +1,6 @@
 -- What is told of how a value came about.
 use Rattle.std.specs.Prelude.{◌≡◌, ◌⊎◌, ℕ, ◌+◌, ◌*◌, List, [], ◌++◌, flat_map, length, codes}
-use Rattle.std.specs.Prelude.{decimal, slice_get, Option, Some, None, Result, Ok, Err, ◌<◌}
+use Rattle.std.specs.Prelude.{decimal, slice_get, Option, Some, None, Result, Ok, Err, ◌<◌, ◌≤◌}
 use Rattle.std.specs.Option.{option_map_or}
 use Rattle.prop_lattice.specs.declared.info.Info.{Info}
 use Rattle.prop_numbers.specs.Sets.{set_of}
@@ -17,8 +17,8 @@ use Rattle.prop_origins.specs.declared.part.Origin.{Origin}
 use Rattle.prop_origins.specs.declared.part.Origin.TheVariants.{Told, Called}
 use Rattle.prop_origins.specs.declared.making.Composition.{Composition}
 use Rattle.prop_origins.specs.declared.making.Composition.TheVariants.{Whole, Cut}
-use Rattle.prop_origins.specs.Parts.{Part}
-use Rattle.prop_origins.specs.Founded.{MakeUp}
+use Rattle.prop_origins.specs.Parts.{Part, calls_in}
+use Rattle.prop_origins.specs.Founded.{MakeUp, FallShort}
 use Rattle.prop_amb.specs.Going.{Work}
 use Rattle.prop_engine.specs.Answers.{Answer, Text, Refused}
 use Rattle.prop_texts.specs.Texts.{premises_text}
@@ -48,14 +48,18 @@ abbrev pub parts_of : Composition → Option (List Part)
 parts_of (Whole parts) = Some parts.items
 parts_of Cut = None
 
--- how often procedures are called at most to find them
+-- how many calls that tell more are made at most to find them
 abbrev pub most_calls : ℕ
 most_calls = 1000000
 
--- they make up the value under the premises, or a run may take more steps than that
+-- They make up the value under the premises, and are no more calls than that. Or so many calls,
+-- each of which told more, fall short of it, and a run may take more steps.
 abbrev pub AreTold : List Stored → Data → Premises → ℕ → Info → Option (List Part) → Type 0
-AreTold library d premises cell v (Some parts) = MakeUp library d premises cell v parts
-AreTold library d premises cell v None = most_calls < most_steps (problem_of library d)
+AreTold library d premises cell v (Some parts) =
+    MakeUp library d premises cell v parts × (calls_in parts ≤ most_calls)
+AreTold library d premises cell v None =
+    FallShort library d premises cell v most_calls
+    × (most_calls < most_steps (problem_of library d))
 
 abbrev pub lines_for : Option (List Part) → ℕ
 lines_for (Some parts) = 2 + 2 * length parts

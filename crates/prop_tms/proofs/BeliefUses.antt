@@ -1,17 +1,18 @@
 -- What the layers above use of beliefs: they grow, keep what each entry keeps, and a lean support is enough for its
 -- value.
 use Rattle.std.proofs.Common.{◌≡◌, ◌∙◌, ◌<◌, ℕ, Bool, true, false, not, cond, if◌then◌else◌, List, [], ◌∷◌, get_or, sym}
-use Rattle.std.proofs.Common.{ap, refl, arith, Contains, filter, nat_lt, Result, Ok, Err, IfOk}
+use Rattle.std.proofs.Common.{ap, refl, arith, inl, inr, ◌||◌, All, Contains, filter, nat_lt, Result, Ok, Err, IfOk}
 use Rattle.std.proofs.lemmas.Bool.Decides.{nat_tests}
 use Rattle.std.proofs.lemmas.List.Folds.{Any-from_list_any, list_any_at}
-use Rattle.std.proofs.lemmas.List.Elements.{recursion_from_All}
+use Rattle.std.proofs.lemmas.List.Elements.{recursion_from_All, All-nil, All-cons}
 use Rattle.prop_lattice.specs.InformationOrder.{IsInformationOrder}
 use Rattle.prop_numbers.specs.Sets.{Members, set_of, is_within, is_below, IsBelow}
 use Rattle.prop_numbers.proofs.WithinLemmas.{within_has, within_from}
-use Rattle.prop_tms.specs.Beliefs.{merge_of_all, belief_of, IsLeastBelief, IsLean, Adds}
+use Rattle.prop_tms.specs.Beliefs.{merge_of_all, belief_of, IsLeastBelief, IsLean, IsJoint, Adds}
 use Rattle.prop_tms.specs.declared.supported.Supported.{Supported}
 use Rattle.prop_tms.proofs.KeptLemmas.{contains_here, contains_there}
-use Rattle.prop_tms.proofs.MergedLemmas.{first_below, second_below, merged_below, join-above}
+use Rattle.prop_tms.proofs.MergedLemmas.{first_below, second_below, merged_below, join-above, join-bottom}
+use Rattle.prop_tms.proofs.GainLemmas.{in_believed}
 use Rattle.prop_tms.proofs.BeliefLemmas.{belief_below, below_belief}
 
 filter_idle : {X : Type 0} (t u : X → Bool) → ((x : X) → u x ≡ true → t x ≡ true) → (xs : List X)
@@ -65,14 +66,53 @@ said_kept bottom join t P base both (e ∷ es) h =
     by true on ih = both e.value (merge_of_all bottom join (filter t es)) (h e (contains_here e es) on) ih
     by false off ih = ih
 
+-- the support is that of believed entries whose merge is the value
+pub record IsSaidBy {V : Type 0} (bottom : V) (join : V → V → V) (entries : List (Supported V)) (w : Members) (v : V)
+    (support : List ℕ) : Type 0 where
+  pub chosen : List (Supported V)
+  pub among : All (Contains entries) chosen
+  pub believed : All (λ e. is_within w e.support ≡ true) chosen
+  pub merged : merge_of_all bottom join chosen ≡ v
+  pub joined : IsJoint chosen support
+
+or_false : (b : Bool) → b ≡ (b || false)
+or_false true = refl
+or_false false = refl
+
 module _ {V : Type 0} {below : V → V → Type 0} {bottom top : V} {join : V → V → V}
     (laws : IsInformationOrder below bottom top join) where
+  -- the entries whose premises a lean support has
+  pub said_by : (entries : List (Supported V)) (w : Members) (v : V) (support : List ℕ)
+      → IsLean bottom join entries w v support → IsSaidBy bottom join entries w v support
+  said_by entries w v support lean = elim lean.joined [
+    | inl joint ↦ record {
+      chosen = lean.chosen;
+      among = lean.among;
+      believed = lean.believed;
+      merged = lean.merged;
+      joined = joint;
+    }
+    | inr alone ↦
+        (let e = alone.0 in
+        let here = in_believed w entries e alone.1 in
+        record {
+          chosen = e ∷ [];
+          among = All-cons (Contains entries) e [] here.0 (All-nil (Contains entries));
+          believed = All-cons (λ x. is_within w x.support ≡ true) e [] here.1
+              (All-nil (λ x. is_within w x.support ≡ true));
+          merged = join-bottom laws e.value ∙ alone.2;
+          joined = λ p. ap (λ ps. set_of ps p) alone.3 ∙ or_false (set_of e.support p);
+        })
+  ]
+
   -- a lean support is believed
   pub within_lean : (entries : List (Supported V)) (w : Members) (v : V) (support : List ℕ)
       → IsLean bottom join entries w v support → is_within w support ≡ true
-  within_lean entries w v support lean = within_from w support (λ p t.
-      let some = Any-from_list_any (λ e. set_of e.support p) lean.chosen (sym (lean.joined p) ∙ t) in
-      let believed = lean.believed some.0 some.1 some.2 in
+  within_lean entries w v support lean =
+      let by = said_by entries w v support lean in
+      within_from w support (λ p t.
+      let some = Any-from_list_any (λ e. set_of e.support p) by.chosen (sym (by.joined p) ∙ t) in
+      let believed = by.believed some.0 some.1 some.2 in
       within_has w some.1.support p (rw some.3 at believed) some.4)
 
   -- and where it is believed, so is at least the value
@@ -80,13 +120,14 @@ module _ {V : Type 0} {below : V → V → Type 0} {bottom top : V} {join : V �
       → IsLean bottom join entries w v support → below v (belief_of bottom join (set_of support) entries)
   lean_is_enough entries w v support lean =
       let z = belief_of bottom join (set_of support) entries in
-      rw (← lean.merged) (merged_below laws lean.chosen z
-      (recursion_from_All (λ e. below e.value z) lean.chosen (λ k d l.
-      let e = get_or lean.chosen k d in
+      let by = said_by entries w v support lean in
+      rw (← by.merged) (merged_below laws by.chosen z
+      (recursion_from_All (λ e. below e.value z) by.chosen (λ k d l.
+      let e = get_or by.chosen k d in
       let its : is_within (set_of support) e.support ≡ true =
       within_from (set_of support) e.support
-      (λ p t. lean.joined p ∙ list_any_at (λ x. set_of x.support p) lean.chosen k d l t) in
-      below_belief laws (set_of support) entries e (lean.among k d l) its)))
+      (λ p t. by.joined p ∙ list_any_at (λ x. set_of x.support p) by.chosen k d l t) in
+      below_belief laws (set_of support) entries e (by.among k d l) its)))
 
   -- what believes more knows more
   pub belief_of-more : (entries : List (Supported V)) (w u : Members) → ((p : ℕ) → w p ≡ true → u p ≡ true)

@@ -2,6 +2,7 @@ pub mod MergedLemmas
 pub mod KeptLemmas
 pub mod BeliefLemmas
 pub mod LeanLemmas
+pub mod LightLemmas
 pub mod ValueLemmas
 pub mod GainLemmas
 pub mod FewLemmas

@@ -1,8 +1,10 @@
 -- What values with supports say in each worldview.
-use Rattle.std.specs.Prelude.{◌≡◌, ◌≢◌, ℕ, ◌<◌, ◌≤◌, false, IsTrue, slice_get, Some, List, [], ◌∷◌}
+use Rattle.std.specs.Prelude.{◌≡◌, ◌≢◌, ℕ, ◌<◌, ◌≤◌, nat_lt, false, IsTrue, slice_get, Some, List}
+use Rattle.std.specs.Prelude.{[], ◌∷◌, ◌++◌}
 use Rattle.std.specs.Prelude.{length, filter, All, AllPairs, Any, Contains, remove, ◌⊎◌}
 use Rattle.std.specs.Prelude.{if◌then◌else◌}
 use Rattle.std.specs.List.{list_any}
+use Rattle.std.specs.List.Sorted.{IsStrictlyIncreasing}
 use Rattle.prop_numbers.specs.Sets.{Members, set_of, is_within, is_alike, is_at_most_one_of, IsSame}
 use Rattle.prop_tms.specs.declared.supported.Supported.{Supported}
 
@@ -68,15 +70,28 @@ pub record Adds {V : Type 0} (bottom : V) (join : V → V → V) (old new : List
   pub only : (x : Supported V) → Contains new x
       → Contains old x ⊎ (x ≡ joined_with bottom join old e)
 
--- The support is that of believed entries whose merge is the value, none of which can be left out.
+-- those of the entries that rest on fewer premises than this one
+abbrev pub lighter_of : {V : Type 0} → List (Supported V) → Supported V → List (Supported V)
+lighter_of entries e = filter (λ x. nat_lt (length x.support) (length e.support)) entries
+
+-- these are the premises of the entries
+abbrev pub IsJoint : {V : Type 0} → List (Supported V) → List ℕ → Type 0
+IsJoint chosen support = IsSame (set_of support) (λ p. list_any (λ e. set_of e.support p) chosen)
+
+-- The support is that of believed entries whose merge is the value, none of which can be left out,
+-- though all believed entries of fewer premises join the others. Or it is that of an entry that
+-- alone says the value, and has fewer premises than they.
 pub record IsLean {V : Type 0} (bottom : V) (join : V → V → V) (entries : List (Supported V))
     (w : Members) (v : V) (support : List ℕ) : Type 0 where
   pub chosen : List (Supported V)
   pub among : All (Contains entries) chosen
   pub believed : All (λ e. IsTrue (is_within w e.support)) chosen
   pub merged : merge_of_all bottom join chosen ≡ v
-  pub needed : (k : ℕ) → k < length chosen → merge_of_all bottom join (remove chosen k) ≢ v
-  pub joined : IsSame (set_of support) (λ p. list_any (λ e. set_of e.support p) chosen)
+  pub needed : (k : ℕ) (e : Supported V) → slice_get chosen k ≡ Some e → merge_of_all bottom join
+      (lighter_of (believed_of w entries) e ++ remove chosen k) ≢ v
+  pub joined : IsJoint chosen support ⊎ ((e : Supported V) × Contains (believed_of w entries) e
+      × (e.value ≡ v) × (support ≡ e.support)
+      × ((s : List ℕ) → IsStrictlyIncreasing s → IsJoint chosen s → length support < length s))
 
 -- The support has no more premises than any believed entry that alone says the value.
 abbrev pub IsShort : {V : Type 0} → List (Supported V) → Members → V → List ℕ → Type 0

@@ -5,7 +5,8 @@ ghost use Rattle.std.specs.Prelude.{Contains, IsTrue, IsOk, IfOk, IfSome, IsSome
 ghost use Rattle.std.specs.List.{list_any};
 ghost use Rattle.prop_numbers.specs.Sets.{Members, set_of, is_within, union, IsSame};
 ghost use Rattle.prop_tms.specs.Beliefs.{belief_of, believed_of, merge_of_all, IsLean, IsShort};
-ghost use Rattle.prop_tms.specs.inner.Gains.{AreGains, AreRanked, entry_of, gained_of};
+ghost use Rattle.prop_tms.specs.inner.Gains.{AreGains, AreRanked, IsLight};
+ghost use Rattle.prop_tms.specs.inner.Gains.{entry_of, gained_of};
 ghost use Rattle.prop_tms.specs.Values.{entries_of};
 ghost use Rattle.prop_tms.specs.declared.supported.Supported.{Supported};
 
@@ -148,20 +149,21 @@ fn with_support(mut support: PremiseSet, more: &PremiseSet) -> Result<PremiseSet
 }
 
 /// The premises of entries of the row that say this together, as all of them do, and of which none
-/// can be left out. From the last back, an entry goes where those before it and those kept say as
-/// much.
+/// can be left out, though all of fewer premises join the others. From the last back, an entry goes
+/// where those before it and those kept say as much.
 fn thinned<V: Partial>(
     alloc: Global,
     mut gains: Vec<Gain<'_, V>>,
     value: V,
 ) -> Result<PremiseSet, AllocError>
     requires gains { AreGains V.join V.bottom gains.items }
+    requires ranked { AreRanked (gained_of gains.items) }
     requires value { value ≡ merge_of_all V.bottom V.join (gained_of gains.items) }
     ensures nothing { gains.entry.items ≡ [] → IsOk result }
     ensures none { gains.entry.items ≡ [] → IfOk result (λ s. s ≡ []) }
     ensures lean { IfOk result (λ s. (w : Members)
         → All (λ e. IsTrue (is_within w e.support)) (gained_of gains.entry.items)
-        → IsLean V.bottom V.join (gained_of gains.entry.items) w value s) }
+        → IsLight V.bottom V.join (gained_of gains.entry.items) w value s) }
 {
     let mut after = V::nothing();
     let mut support = PremiseSet::empty(alloc);

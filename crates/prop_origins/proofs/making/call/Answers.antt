@@ -1,4 +1,4 @@
-use Rattle.std.proofs.Common.{◌≡◌, ◌∷◌, length, map, slice_get, Some, ap, subst, sym}
+use Rattle.std.proofs.Common.{◌≡◌, ◌∷◌, length, map, slice_get, Some, ap, subst, sym, arith}
 use Rattle.std.specs.List.{list_any}
 use Rattle.std.proofs.lemmas.Option.{slice_get_within}
 use Rattle.prop_lattice.specs.declared.info.Info.{Info}
@@ -16,7 +16,7 @@ use Rattle.prop_cells.proofs.Fitted.{value_of_kind}
 use Rattle.prop_cells.proofs.Keeping.{All-at, call_fits, unless_true}
 use Rattle.prop_cells.proofs.Reading.{readers_are}
 use Rattle.prop_scheduler.specs.Agendas.{AllAlerted}
-use Rattle.prop_origins.specs.Parts.{Part, made, rests_on}
+use Rattle.prop_origins.specs.Parts.{Part, made, rests_on, call_of, calls_in}
 use Rattle.prop_origins.specs.Founded.{AreFounded}
 use Rattle.prop_origins.specs.inner.Logs.{Logged}
 use Rattle.prop_origins.specs.inner.Proceeding.{Proceeds}
@@ -146,3 +146,9 @@ returns-clause-proceeds g c =
     (called_goes_on library d c.args.line.now.line c.alert.new.self.line c.in_ok-part.part parts c.args.number x
     c.answer-value.result (ap (λ (p : Part). p.cell) c.in_ok-part.ensures)
     (ap (λ (p : Part). p.value) c.in_ok-part.ensures) within.output c.requires.of_kinds of_kind more alerted at value)
+
+pub returns-clause-more : goal.returns-clause-more
+returns-clause-more g c = λ sure.
+    let pushed = ap (λ (q : Logged). calls_in q.parts) c.in_ok-push.ensures.ok in
+    let called = ap (λ (p : Part). call_of p.origin) c.in_ok-part.ensures in
+    omega (arith, pushed, called)

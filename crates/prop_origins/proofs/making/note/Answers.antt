@@ -1,4 +1,4 @@
-use Rattle.std.proofs.Common.{◌≡◌, ◌∙◌, ◌∷◌, length, slice_get, Some, IsTrue, refl, ap, subst, sym}
+use Rattle.std.proofs.Common.{◌≡◌, ◌∙◌, ◌∷◌, length, slice_get, Some, IsTrue, refl, ap, subst, sym, arith}
 use Rattle.std.proofs.lemmas.Option.{slice_get_read}
 use Rattle.prop_lattice.specs.Order.{Below}
 use Rattle.prop_numbers.specs.Sets.{set_of}
@@ -9,7 +9,7 @@ use Rattle.prop_cells.specs.Instances.{readers_of}
 use Rattle.prop_cells.proofs.Keeping.{All-at, unless_true}
 use Rattle.prop_cells.proofs.Reading.{readers_are}
 use Rattle.prop_scheduler.specs.Agendas.{AllAlerted}
-use Rattle.prop_origins.specs.Parts.{Part, made}
+use Rattle.prop_origins.specs.Parts.{Part, made, call_of, calls_in}
 use Rattle.prop_origins.specs.Founded.{AreFounded}
 use Rattle.prop_origins.specs.inner.Logs.{Logged}
 use Rattle.prop_origins.specs.inner.Proceeding.{Proceeds}
@@ -76,3 +76,9 @@ returns-clause-heard c = λ y at_y member.
     ∙ ap (λ (z : Statement). z.info) same in
     rw (c.in_ok-push.ensures.ok, ← cell, ← value)
     (merged_above (made parts) (made (p ∷ parts)) p.cell p.value (made_merges p parts))
+
+pub returns-clause-calls : goal.returns-clause-calls
+returns-clause-calls c =
+    let pushed = ap (λ (q : Logged). calls_in q.parts) c.in_ok-push.ensures.ok in
+    let told = ap (λ (p : Part). call_of p.origin) c.in_ok-part.ensures in
+    omega (arith, pushed, told)

@@ -26,6 +26,7 @@ loop-number-init c = record {
   proceeds = λ library. proceeds_none (problem_of library c.args.held.now) c.args.line.now.line
       (made c.args.log.now.parts) c.requires.of_kinds;
   heard = All-nil (Satisfies (set_of c.args.premises.now) (made c.args.log.now.parts));
+  calls = refl;
 }
 
 pub loop-number-preserved : goal.loop-number-preserved
@@ -50,6 +51,7 @@ loop-number-preserved c =
           (step library);
       heard = All-more (Satisfies s now) d.statements n nobody within
           (heard_still s was now (take n d.statements) (step []).grows c.loop-number.invariant.heard) heard;
+      calls = c.in_ok-note.ensures.calls ∙ c.loop-number.invariant.calls;
     }
 
 pub returns-clause-proceeds : goal.returns-clause-proceeds
@@ -62,3 +64,6 @@ returns-clause-heard c =
     let all : length d.statements ≤ c.loop-number.number = omega (arith, c.loop-number-test.false, end) in
     subst (λ (xs : List Statement). All (Satisfies (set_of c.args.premises.now) (made c.loop-number.log.parts)) xs)
     (take_all c.loop-number.number d.statements all) c.loop-number.invariant.heard
+
+pub returns-clause-calls : goal.returns-clause-calls
+returns-clause-calls c = c.loop-number.invariant.calls

@@ -1,9 +1,10 @@
-use Rattle.std.proofs.Common.{◌≡◌, ◌≢◌, ◌∙◌, true, [], sym, inl, inr, arith, Contains}
+use Rattle.std.proofs.Common.{◌≡◌, ◌∙◌, true, [], sym, inl, inr, arith, Contains}
 use Rattle.std.proofs.lemmas.List.Elements.{All-contains}
 use Rattle.prop_numbers.specs.Sets.{set_of, is_within}
 use Rattle.prop_tms.specs.inner.Gains.{entry_of, gained_of}
 use Rattle.prop_tms.specs.Values.{entries_of}
-use Rattle.prop_tms.proofs.GainLemmas.{merged_said, lean_alone, lean_among, none_gained}
+use Rattle.prop_tms.proofs.GainLemmas.{merged_said, none_gained}
+use Rattle.prop_tms.proofs.LightLemmas.{light_among, lean_light, lean_shorter}
 use Rattle.prop_tms.proofs.strongest.ranked.Goals as goal
 use Rattle.prop_tms.proofs.strongest.ranked.Goals.{in-Some+in_ok-support-in-Some, in_default}
 use Rattle.prop_tms.proofs.strongest.ranked.Goals.{in_default-via-in-Some+else-count-premises}
@@ -25,17 +26,21 @@ returns-clause-lean g c =
     let whole = returns-clause-value g c in
     let gains = c.in_ok-gains.gains.items in
     let found = c.in_ok-gains.ensures in
+    let together = c.in_ok-together.together in
+    let light = light_among laws w es (gained_of gains) v together whole found.among found.said
+    (c.in_ok-together.ensures.lean w found.believed) in
     elim c.match-alone.branch [
       | in-Some+in_ok-support-in-Some t ↦
           (let e = (entry_of t.in-Some.entry) in
           let gained : Contains (gained_of gains) e = rw c.deref-2.ensures.value at t.in-Some.ensures.among in
-          let some : v ≢ g.V.Partial.bottom = λ is. none_gained gains e ((found.nothing (sym whole ∙ is)).0) gained in
-          lean_alone laws w es e v c.match-alone.support
+          let all = c.count-premises.ensures.count in
+          let its = t.count.ensures.count in
+          lean_shorter laws w es v together c.match-alone.support e light c.count-premises.ensures.ordered
+          (omega (arith, all, its, t.if-count-premises.true))
           (All-contains (Contains es) (gained_of gains) e found.among gained)
           (All-contains (λ x. is_within w x.support ≡ true) (gained_of gains) e found.believed gained)
-          whole t.in-Some.ensures.says some (t.support-is ∙ t.in_ok-support-in-Some.ensures))
-      | in_default t ↦ rw t.support-is (lean_among laws w es (gained_of gains) v c.in_ok-together.together found.among
-          (c.in_ok-together.ensures.lean w found.believed))
+          whole t.in-Some.ensures.says (t.support-is ∙ t.in_ok-support-in-Some.ensures))
+      | in_default t ↦ rw t.support-is (lean_light laws w es v together light)
     ]
 
 pub returns-clause-short : goal.returns-clause-short
@@ -65,8 +70,8 @@ returns-clause-short g c x here on is =
                 arith,
                 few,
                 u.if-count-premises.false,
-                u.count.ensures,
-                c.count-premises.ensures,
+                u.count.ensures.count,
+                c.count-premises.ensures.count,
               )))
           | in_default-via-in_default u ↦ absurd
               ((rw c.deref-2.ensures.value at u.in_default.ensures.few) x gained

@@ -3,7 +3,8 @@ use Rattle.prop_numbers.specs.Sets.{set_of}
 use Rattle.prop_tms.specs.Beliefs.{IsLean}
 use Rattle.prop_tms.specs.inner.Gains.{entry_of}
 use Rattle.prop_tms.specs.Values.{entries_of}
-use Rattle.prop_tms.proofs.GainLemmas.{sole_lean, sole_said}
+use Rattle.prop_tms.proofs.GainLemmas.{sole_said}
+use Rattle.prop_tms.proofs.LightLemmas.{sole_lean}
 use Rattle.prop_tms.proofs.strongest.sole_support.Goals as goal
 
 pub returns-in-Some-Some : goal.returns-in-Some-Some
@@ -16,4 +17,5 @@ returns-in-Some-Some g c =
     λ h. cc (c.implies.ensures.1 (rw c.nothing.ensures h), c.if-not-implies.true) in
     subst (λ v. IsLean g.V.Partial.bottom g.V.Partial.join entries w v entry.support)
     (sym (sole_said g.met.V.Partial.laws w entries entry only))
-    (sole_lean g.met.V.Partial.laws w entries entry entry.support only some refl)
+    (sole_lean g.met.V.Partial.laws w entries entry entry.support only
+    (sole_said g.met.V.Partial.laws w entries entry only) some refl)

@@ -1,10 +1,11 @@
-use Rattle.std.proofs.Common.{◌≡◌, ◌<◌, length}
+use Rattle.std.proofs.Common.{◌≡◌, ◌<◌, ◌≤◌, length}
 use Rattle.std.proofs.lemmas.Result.{IfOk-weaker}
 use Rattle.std.specs.String.{string_bytes}
 use Rattle.prop_numbers.specs.Sets.{set_of}
 use Rattle.prop_procedures.specs.Kept.{stored_of}
 use Rattle.prop_cells.specs.Data.{problem_of, beliefs, IsLeanAt}
-use Rattle.prop_origins.specs.Founded.{MakeUp}
+use Rattle.prop_origins.specs.Founded.{MakeUp, FallShort}
+use Rattle.prop_origins.specs.Parts.{calls_in}
 use Rattle.prop_origins.specs.Whole.{IfWhole, IfCut}
 use Rattle.prop_scheduler.specs.Potential.{most_steps}
 use Rattle.prop_telling.specs.How.{most_calls}
@@ -44,6 +45,9 @@ returns g c =
     rw (c.network-network.ensures, c.live.ensures) at c.in_ok-made.ensures.whole in
     let cut : IfCut c.in_ok-made.made (most_calls < most_steps (problem_of library d)) =
     rw (c.network-network.ensures, c.live.ensures) at c.in_ok-made.ensures.cut in
+    let few : IfWhole c.in_ok-made.made (λ parts. calls_in parts ≤ most_calls) = c.in_ok-made.ensures.few in
+    let short : IfCut c.in_ok-made.made (FallShort library d (set_of why.support) cell why.value most_calls) =
+    rw (c.network-network.ensures, c.live.ensures) at c.in_ok-made.ensures.short in
     let is : why.value ≡ beliefs (set_of s.search.worldview) d.contents cell =
     rw (c.worldview.ensures.same, c.search.ensures, c.network-network.ensures, c.live.ensures) at
     c.in_ok-why.ensures.value in
@@ -52,4 +56,4 @@ returns g c =
     c.in_ok-why.ensures.lean in
     IfOk-weaker c.how_text-text.result _ _
     (λ t e. how_said library (state_of s) (work_of s) cell why.support why.value c.in_ok-made.made (string_bytes t) is
-    lean told cut e) c.how_text-text.ensures
+    lean told few short cut e) c.how_text-text.ensures
