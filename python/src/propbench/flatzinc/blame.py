@@ -14,6 +14,7 @@ from propbench.flatzinc.compiling import Compiled, compiled
 from propbench.flatzinc.picture import dot_of, draw
 from propbench.flatzinc.solving import solve
 from propbench.flatzinc.writing import solution
+from propbench.questions.clock import Clock
 from propbench.questions.conflicts import Conflicts, Repair, Repairs, find_both
 from propbench.showing import printable
 from propbench.workbench import Workbench
@@ -37,8 +38,9 @@ def blame_file(model: Path, data: Sequence[Path], asked: Asked, program: str | N
     made = compiled(model, data)
     with Workbench(program) as workbench:
         built = Built(made.flat, workbench)
+        clock = Clock(asked.seconds, None)
         conflicts, repairs = blamed(built, made, asked)
-        for line in report(built, conflicts, repairs, asked.seconds):
+        for line in report(built, conflicts, repairs, clock.seconds_left()):
             print(line)
     if asked.picture is not None:
         draw(asked.picture, dot_of(conflicts, repairs, made.texts))
@@ -62,7 +64,7 @@ def _is_kept(name: str, keep: Iterable[str]) -> bool:
 def report(
     built: Built, conflicts: Conflicts, repairs: Repairs, seconds: float | None
 ) -> Iterator[str]:
-    """What is to blame, and a solution without it."""
+    """What is to blame, and a solution without it, which is looked for in these seconds."""
     yield str(conflicts)
     if not conflicts:
         return

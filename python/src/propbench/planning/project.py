@@ -9,6 +9,7 @@ from propbench.model.expressions import Truth, maximum, total
 from propbench.nearby import near_names
 from propbench.planning.calendar import Calendar
 from propbench.planning.tasks import Option, Task, Way, checked_ways, tasks_in
+from propbench.questions.clock import Progress
 from propbench.questions.model import Plan
 
 if TYPE_CHECKING:
@@ -152,12 +153,20 @@ class Project:
             raise ValueError("the plan has no calendar: give w.plan a start")
         return self.calendar.date_of(day)
 
-    def chart(self, plan: Plan | None = None, *, rooms: bool = True) -> "Chart":
+    def chart(
+        self,
+        plan: Plan | None = None,
+        *,
+        rooms: bool = True,
+        seconds: float | None = None,
+        progress: Progress | None = None,
+    ) -> "Chart":
         """A Gantt chart: of this plan, or of the first that ends soonest, and of the room
-        that each task has over all plans. Raises NothingFits where there is no plan."""
+        that each task has over all plans, as far as `seconds` suffice for these. Raises NothingFits
+        where there is no plan, or none was found."""
         from propbench.planning.chart import chart_of
 
-        return chart_of(self, plan, rooms)
+        return chart_of(self, plan, rooms, seconds, progress)
 
     def _checked(self, name: str, who: str | Sequence[str]) -> tuple[str, ...]:
         """The people of a new task."""

@@ -6,6 +6,7 @@ more of these; beyond that it goes on here, by cases of cells within one another
 
 from collections.abc import Iterable, Sequence
 
+from propbench.program import OutOfTime
 from propbench.questions.model import Plan
 from propbench.questions.outcomes import Cannot, Fits, Fork, Open, Outcome
 from propbench.questions.rooms import Room, around, halves, room_left, single
@@ -15,18 +16,25 @@ from propbench.values import Held
 
 # No more cases lie within one another.
 _DEEPEST = 300
+_NO_TIME = Open("there was no time for more")
 
 
 def decided(trial: Trial, premises: Iterable[str], told: Sequence[Case] = ()) -> Outcome:
     """Whether there is a plan with these premises, within what is supposed."""
-    return _searched(trial, tuple(premises), tuple(told))
+    try:
+        return _searched(trial, tuple(premises), tuple(told))
+    except OutOfTime:
+        return _NO_TIME
 
 
 def decided_each(
     trial: Trial, premises: Sequence[str], many: Sequence[tuple[Case, ...]]
 ) -> list[Outcome]:
     """The same for each of these, which are tried in one go."""
-    looked = zip(many, trial.look_each(premises, many))
+    try:
+        looked = zip(many, trial.look_each(premises, many))
+    except OutOfTime:
+        return [_NO_TIME for _ in many]
     quick = [(told, _quickly(trial, premises, seen)) for told, seen in looked]
     return [outcome or decided(trial, premises, told) for told, outcome in quick]
 
@@ -68,7 +76,7 @@ def _searched(trial: Trial, premises: tuple[str, ...], told: tuple[Case, ...]) -
             return corner
         if not trial.cover_some(loose):
             return _forked(trial, premises, told, _halved(trial, loose, seen, told))
-    return Open("there was no time for more")
+    return _NO_TIME
 
 
 def _corner(
