@@ -20,6 +20,10 @@ from propbench.showing import printable
 from propbench.workbench import Workbench
 
 
+# This part of the time is for conflicts and repairs, the rest for a solution.
+_SHARE = 0.75
+
+
 @dataclass(frozen=True)
 class Asked:
     """What is asked of a model: which constraints to keep, and how much of all that there is."""
@@ -53,7 +57,8 @@ def blamed(built: Built, made: Compiled, asked: Asked) -> tuple[Conflicts, Repai
     """The conflicts and repairs among the constraints of a model."""
     keep = [name for name in built.workbench.premises if _is_kept(name, asked.keep)]
     model = built.workbench.model
-    return find_both(model, made.texts, keep, asked.most, asked.seconds)
+    seconds = None if asked.seconds is None else asked.seconds * _SHARE
+    return find_both(model, made.texts, keep, asked.most, seconds)
 
 
 def _is_kept(name: str, keep: Iterable[str]) -> bool:

@@ -94,10 +94,10 @@ class Trial(Closing):
         self._from_top = {cell for is_from_top, cell, _ in first if is_from_top}
         # Whether the last look saw values: then the next one asks for them at once.
         self._expects_values = False
-        # Until something is seen, all that a cell may have is left for it.
+        # Until something is seen, all that a cell is declared to have is left for it.
         kinds = dict(line.split()[1:3] for line in self.base if line.split()[0] == "cell")
         self.whole = {cell: self._whole(cell, kinds[line]) for cell, line in self.cell_line.items()}
-        self.rooms = dict(self.whole)
+        self.rooms = {cell: self._declared(cell) for cell in self.cells}
         self._choices_left = 0
         self._start(self._begin)
 
@@ -174,6 +174,13 @@ class Trial(Closing):
     def _whole(self, cell: str, kind: str) -> Room | None:
         """All values that a cell of a kind may have; None for a symbol."""
         return whole_room(None if kind == "span" else self._elements(cell), kind)
+
+    def _declared(self, cell: str) -> Room | None:
+        """The values that the declaration of a cell leaves; None for a symbol."""
+        candidates = self.model.candidates(cell)
+        if isinstance(candidates, range) and candidates:
+            return Numbers(candidates[0], candidates[-1])
+        return self.whole[cell]
 
     def _elements(self, cell: str) -> list[str] | None:
         """The names of a cell's elements on lines, None for a symbol."""
