@@ -460,14 +460,15 @@ class Workbench(Measuring, Closing):
         *,
         days: int,
         people: str | Sequence[str] = (),
-        start: date | None = None,
-        off: str | Iterable[str | date] = (),
+        start: date | str | None = None,
+        off: str | date | Iterable[str | date] = (),
     ) -> Project:
         """A project over so many days, with people who do one thing at a time: its tasks, their
         order and what is wished for are stated by its own methods.
 
         Day 0 is the date `start`, where one is given, and weekdays (`off="sat sun"`) and dates that
-        are off are no days of it.
+        are off are no days of it. A date may be a text, as `2026-12-04`. Raises ValueError and
+        TypeError for what is none of these.
         """
         calendar = None if start is None else Calendar.of(start, off)
         return Project(self, days, people, calendar)

@@ -12,6 +12,7 @@ from propbench.questions.bounding import LEAST, GREATEST, Bounding
 from propbench.questions.clock import Clock, Progress
 from propbench.questions.critical import NothingFits
 from propbench.questions.model import Plan
+from propbench.questions.shown import listed
 from propbench.questions.outcomes import Fits
 from propbench.questions.trial import Trial
 from propbench.showing import printable
@@ -36,8 +37,12 @@ class Chart:
         return self.svg
 
     def save(self, path: str | os.PathLike[str]) -> None:
-        """Writes the chart to a file."""
-        with open(path_given(path), "w", encoding="utf-8") as file:
+        """Writes the chart to a file, as SVG. Raises ValueError for a name that ends as if it were
+        something else."""
+        ending = os.path.splitext(path_given(path))[1]
+        if ending.lower() not in (".svg", ""):
+            raise ValueError(f"a chart is written as .svg, and not as {printable(ending)}")
+        with open(path, "w", encoding="utf-8") as file:
             file.write(f"{self.svg}\n")
 
 
@@ -140,6 +145,8 @@ def _row(
     if room is not None:
         says += f", in any plan from {room[0]} to {room[1]}"
         parts.append(_bar(*room, top + 9, 6, "#bbbbbb", ""))
+    if back := [person for person, day in project.returns if day == start and person in task.people]:
+        says += f"; it starts when {escape(listed(back))} is back, as no task pauses"
     colour = _COLOURS[people % len(_COLOURS)] if people >= 0 else "#555555"
     return [*parts, _bar(start, end, top + 4, 16, colour, says)]
 
