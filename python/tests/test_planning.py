@@ -233,14 +233,16 @@ def test_leave_on_days_off_is_taken(p: Project) -> None:
     says = "can't be away from 2026-03-06 to 2026-03-06: the second is the day of the return"
     with pytest.raises(ValueError, match=says):
         p.away("ana", "2026-03-06", "2026-03-06")
-    with pytest.raises(ValueError, match="from day 4 to day 4: the second is the day of the return"):
+    with pytest.raises(
+        ValueError, match="from day 4 to day 4: the second is the day of the return"
+    ):
         p.away("ana", 4, 4)
 
 
 def test_people_are_names() -> None:
     with Workbench() as w:
         for people in ({"hall": 2}, {"hall": 1, "ana": 1}):
-            with pytest.raises(TypeError, match="says more of them.*name two, as \"hall1 hall2\""):
+            with pytest.raises(TypeError, match='says more of them.*name two, as "hall1 hall2"'):
                 w.plan(days=9, people=people)  # type: ignore[arg-type]
         with pytest.raises(TypeError, match="names are one text"):
             w.plan(days=9, people=["ana", 2])  # type: ignore[list-item]

@@ -4,8 +4,9 @@
 //! transcript of the workbench, in which `step`, `how` and `list` lines are told (prop_telling), or
 //! at a fault nothing or a prefix of one, with work behind it in the order that was chosen, from
 //! the seed that was given, and the procedures' answers hold the points that belong together; those
-//! of a plan in points satisfy all that is attached. A fault tells which device failed, that there
-//! were too many reads, or that memory was refused before anything was read or written (`run`).
+//! of a plan in points do so at each instance but those of `divider` and `parter`. A fault tells
+//! which device failed, that there were too many reads, or that memory was refused before anything
+//! was read or written (`run`).
 #![tactic(auto)]
 
 mod entries;

@@ -36,7 +36,8 @@ pub fn run<Rd: Read, W: Write>(
     ensures thrift { IsThrifty result devices.old devices.new }
     // So values that belong together and satisfy all that is believed lie in each answer.
     ensures points { AreSoundBy wide.library wide_related }
-    // And a plan in points satisfies all that is attached.
+    // And a plan in points lies in all that is stated, and its points belong together at each
+    // instance but those of `divider` and `parter`.
     ensures solved { SinglesSolve wide.library wide_tells }
 {
     let prelude = lines(alloc)?;

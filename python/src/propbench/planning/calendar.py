@@ -40,7 +40,9 @@ class Calendar:
         """The calendar from a date on, with weekdays (`"sat sun"`) and dates off. Raises ValueError
         for another weekday or date, and where every day is off, and TypeError for what is neither.
         """
-        given = [off] if isinstance(off, date) else [*(off.split() if isinstance(off, str) else off)]
+        given = (
+            [off] if isinstance(off, date) else [*(off.split() if isinstance(off, str) else off)]
+        )
         weekdays = [each for each in given if isinstance(each, str) and not _ISO.fullmatch(each)]
         for name in weekdays:
             if name not in _NAMES:

@@ -145,7 +145,9 @@ def _row(
     if room is not None:
         says += f", in any plan from {room[0]} to {room[1]}"
         parts.append(_bar(*room, top + 9, 6, "#bbbbbb", ""))
-    if back := [person for person, day in project.returns if day == start and person in task.people]:
+    if back := [
+        person for person, day in project.returns if day == start and person in task.people
+    ]:
         says += f"; it starts when {escape(listed(back))} is back, as no task pauses"
     colour = _COLOURS[people % len(_COLOURS)] if people >= 0 else "#555555"
     return [*parts, _bar(start, end, top + 4, 16, colour, says)]

@@ -132,7 +132,9 @@ class Project:
         believed = set(self.workbench.believed)
         return tuple((person, end) for person, _, end, name in self._away if name in believed)
 
-    def done_by(self, day: int | date | str, under: str | None = None, task: Task | None = None) -> str:
+    def done_by(
+        self, day: int | date | str, under: str | None = None, task: Task | None = None
+    ) -> str:
         """A task, or all, is done before the beginning of a day; the premise of that."""
         last, what = self.day(day), "all" if task is None else task.name
         premise = under or f"{what} done by {last}"

@@ -82,8 +82,7 @@ class Listing:
         self.complete = not self._has_open
 
     def _take(self, branch: _Branch, part: Room, known: Outcome | None) -> None:
-        """Takes a case of a branch: what lies in it, or the value of its plan and what lies beside.
-        """
+        """Takes a case of a branch: what lies in it, or the value of its plan and what lies beside."""
         within = (*branch.told, (branch.cell, part))
         outcome = known or self._within(within)
         if isinstance(outcome, Fits) and len(part) > 1:
