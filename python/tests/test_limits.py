@@ -72,7 +72,7 @@ def slow(wide: str, request: pytest.FixtureRequest) -> Iterator[Bench]:
 class Never(Executor):
     """An executor that never comes to what it is asked."""
 
-    def submit(self, *_: object, **__: object) -> Future:  # type: ignore[type-arg,override]
+    def submit(self, *_: object, **__: object) -> Future:  # type: ignore[type-arg]
         return Future()
 
 

@@ -40,9 +40,8 @@ class Calendar:
         """The calendar from a date on, with weekdays (`"sat sun"`) and dates off. Raises ValueError
         for another weekday or date, and where every day is off, and TypeError for what is neither.
         """
-        given = (
-            [off] if isinstance(off, date) else [*(off.split() if isinstance(off, str) else off)]
-        )
+        several = [off] if isinstance(off, date) else off
+        given: list[str | date] = [*(several.split() if isinstance(several, str) else several)]
         weekdays = [each for each in given if isinstance(each, str) and not _ISO.fullmatch(each)]
         for name in weekdays:
             if name not in _NAMES:
