@@ -44,7 +44,7 @@ for wish in repairs[0]:
 yesterday = w.snapshot()
 for best in (w.least(p.total_cost), w.least(p.end)):
     print(f"The least {best.cell} is {best.value}{'' if best.proved else ', as far as is known'}.")
-print("On the critical path:", w.critical(p.end).names)
+print("It ends no sooner because of:", w.critical(p.end).names)
 print(w.slack(sponsors.start))
 w.kick("good reviews")
 print(w.plans([venue.days, review.days, review.start]))

@@ -95,6 +95,8 @@ class LineModel(Questions):
         if kind != "span":
             return self.domains()[kind]
         ends = [ends_of(s.value) for s in self.told.premises.get("", []) if s.cell == cell]
+        if not ends:
+            return None
         return range(max(low for low, _ in ends), min(high for _, high in ends) + 1)
 
     def literal(self, cell: str, value: Point) -> str:

@@ -345,6 +345,9 @@ def test_shell_helps(talk: Talk) -> None:
     assert all(command in whole for command in [*FORMS, *ASIDES])
     assert "tell P X V" in talk(":help tell")
     assert "There is no :foo" in talk(":foo")
+    for word, says in (("help", ":help"), ("?", ":help"), ("quit", ":quit"), ("exit now", ":quit")):
+        name = word.split()[0]
+        assert talk(word).startswith(f"{name} is no command of the language. Write {says} ")
     with pytest.raises(Quit):
         talk(":quit")
 

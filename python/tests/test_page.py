@@ -343,6 +343,16 @@ def test_least_and_greatest(program: str, browser: Any) -> None:
             page.keep("least")
 
 
+def test_an_empty_page_says_what_to_do(program: str, browser: Any) -> None:
+    with Session(program) as session, shown(browser, Page(SessionWatched(session), "new")) as page:
+        assert "send a line: “cell x span” makes a number x" in page.one("#empty").text
+        page.one("#plain summary").click()
+        page.one("#line").send_keys("cell x span\n")
+        page.until(lambda: not page.one("#empty").is_displayed())
+    with Workbench(program) as w, shown(browser, Page(WorkbenchWatched(w), "bench")) as page:
+        assert 'make a cell in Python, as w.number("x", 0, 9)' in page.one("#empty").text
+
+
 def test_lines_are_typed(program: str, browser: Any) -> None:
     with Session(program) as session, shown(browser, Page(SessionWatched(session), "new")) as page:
         page.one("#plain summary").click()

@@ -364,3 +364,68 @@ def test_long_questions_are_stopped(program: str) -> None:
                 assert came[0].status == 400 and "stopped" in came[0].json["error"]
             state = do(page, what="apply", premises=["start", "a"]).json
             assert {each["cell"]: each["text"] for each in state["seen"]["values"]}["y"] == "2"
+
+
+def until_busy(page: Page) -> None:
+    """Waits until a question is under way."""
+    end = time.monotonic() + 60
+    while not request(page, "GET", "/TOKEN/version").json["busy"]:
+        assert time.monotonic() < end
+        time.sleep(0.02)
+
+
+@pytest.mark.parametrize("what", ["look", "mend", "best", "core", "try"])
+def test_a_page_is_closed_while_it_is_asked(
+    program: str, what: str, capsys: pytest.CaptureFixture[str]
+) -> None:
+    """The question is stopped, one that waits behind it is not begun, and nobody reads of errors."""
+    lines = [*ENDLESS, "cell y span", "tell a y 1"]
+    asked = {"what": what, "cell": "x", "sort": "least", "premises": ["a"]}
+    came: list[Answer | None] = []
+
+    def ask(**asked: object) -> None:
+        try:
+            came.append(do(page, **asked))
+        except (OSError, http.client.HTTPException):
+            came.append(None)
+
+    with Session(program) as session:
+        session.send_all(lines)
+        page = Page(SessionWatched(session), "endless")
+        asking = [threading.Thread(target=ask, kwargs=asked)]
+        asking[0].start()
+        until_busy(page)
+        asking.append(threading.Thread(target=ask, kwargs={"what": "look"}))
+        asking[1].start()
+        begun = time.monotonic()
+        page.close()
+    for each in (*asking, *threading.enumerate()):
+        if each in asking or "process_request_thread" in each.name:
+            each.join(20)
+            assert not each.is_alive()
+    assert time.monotonic() - begun < 40
+    assert capsys.readouterr() == ("", "")
+    assert all(answer is None or answer.status in (200, 400) for answer in came)
+
+
+def test_ctrl_c_while_the_desk_is_asked(program: str, tmp_path: Path) -> None:
+    path = tmp_path / "endless.prop"
+    path.write_text("\n".join(ENDLESS))
+    words = [sys.executable, "-m", "propbench", "page", str(path), "--program", program]
+    served = subprocess.Popen(words, stdout=subprocess.PIPE, stderr=subprocess.PIPE, text=True)
+    try:
+        assert served.stdout and served.stderr
+        address = served.stdout.readline().split()[-1]
+        host, _, path_there = address.removeprefix("http://").partition("/")
+        links = [http.client.HTTPConnection(host, timeout=90) for _ in range(2)]
+        for link in links:
+            link.request("GET", f"/{path_there}state")
+        time.sleep(0.5)
+        served.send_signal(signal.SIGINT)
+        assert served.wait(timeout=60) == 0
+        assert served.stderr.read() == ""
+    finally:
+        served.kill()
+        served.wait()
+        served.stdout.close()
+        served.stderr.close()

@@ -2,7 +2,7 @@
 
 from collections.abc import Iterator
 from dataclasses import dataclass
-from datetime import date
+from datetime import date, datetime
 from itertools import product
 from pathlib import Path
 from xml.etree import ElementTree
@@ -202,3 +202,69 @@ def test_the_chart(p: Project, tmp_path: Path) -> None:
     w.tell("late", strange.start, 20)
     with pytest.raises(NothingFits):
         p.chart()
+
+
+def test_dates_may_be_texts(p: Project) -> None:
+    assert p.day("2026-03-06") == p.day(date(2026, 3, 6)) == p.day(datetime(2026, 3, 6, 8)) == 2
+    assert p.away("ana", "2026-03-06", "2026-03-09") == "ana away 2 to 3"
+    assert p.done_by("2026-03-20") == "all done by 12"
+    for wrong in ("2026-3-6", "2026-02-30", "tomorrow", "20260306"):
+        with pytest.raises(ValueError, match=f"'{wrong}' is no date: write it as 2026-12-04"):
+            p.done_by(wrong)
+    with pytest.raises(TypeError, match="a date is one of Python, or a text"):
+        p.done_by(9.5)  # type: ignore[arg-type]
+    days = Calendar.of("2026-12-23", "sat sun 2026-12-24")
+    assert days == Calendar.of(date(2026, 12, 23), [date(2026, 12, 24), "sat", "sun"])
+    assert days.date_of(1) == date(2026, 12, 25)
+    assert Calendar.of("2026-12-23", date(2026, 12, 23)).date_of(0) == date(2026, 12, 24)
+    with pytest.raises(ValueError, match="'2026-12-32' is no date"):
+        Calendar.of("2026-12-23", "2026-12-32")
+    with pytest.raises(TypeError, match="a date is one of Python"):
+        Calendar.of("2026-12-23", [24])  # type: ignore[list-item]
+
+
+def test_leave_on_days_off_is_taken(p: Project) -> None:
+    w = p.workbench
+    assert w.least(p.tasks["venue"].end).value == 2
+    # (a Saturday and a Sunday, and then the Saturday alone)
+    assert p.away("ana", "2026-03-07", "2026-03-09") == "ana away 2026-03-07 to 2026-03-09"
+    assert p.away("ana", date(2026, 3, 7), date(2026, 3, 8), "trip") == "trip"
+    assert "trip" in w.believed and w.least(p.tasks["venue"].end).value == 2
+    says = "can't be away from 2026-03-06 to 2026-03-06: the second is the day of the return"
+    with pytest.raises(ValueError, match=says):
+        p.away("ana", "2026-03-06", "2026-03-06")
+    with pytest.raises(
+        ValueError, match="from day 4 to day 4: the second is the day of the return"
+    ):
+        p.away("ana", 4, 4)
+
+
+def test_people_are_names() -> None:
+    with Workbench() as w:
+        for people in ({"hall": 2}, {"hall": 1, "ana": 1}):
+            with pytest.raises(TypeError, match='says more of them.*name two, as "hall1 hall2"'):
+                w.plan(days=9, people=people)  # type: ignore[arg-type]
+        with pytest.raises(TypeError, match="names are one text"):
+            w.plan(days=9, people=["ana", 2])  # type: ignore[list-item]
+        p = w.plan(days=9, people="hall1 hall2")
+        with pytest.raises(TypeError, match="names are one text"):
+            p.task("talk", 2, who={"hall1": 1})  # type: ignore[arg-type]
+        assert not p.tasks and not w.cells
+
+
+def test_a_chart_says_who_is_waited_for(p: Project, tmp_path: Path) -> None:
+    w = p.workbench
+    away = p.away("ben", 4, 20)
+    w.forget("review after venue")
+    svg = p.chart(rooms=False).svg
+    assert "review (ben): day 20 to 25; it starts when ben is back, as no task pauses" in svg
+    w.kick(away)
+    assert "is back" not in p.chart(rooms=False).svg
+    chart = p.chart(rooms=False)
+    for name in ("x.csv", "x.png", "x.SVGZ"):
+        with pytest.raises(ValueError, match=f"written as .svg, and not as .{name.split('.')[1]}"):
+            chart.save(tmp_path / name)
+        assert not (tmp_path / name).exists()
+    for name in ("x.svg", "x", "x.SVG"):
+        chart.save(tmp_path / name)
+        assert (tmp_path / name).read_text().startswith("<svg")

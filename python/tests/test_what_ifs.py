@@ -209,3 +209,15 @@ def test_ctrl_c_leaves_all_as_it_was() -> None:
         told: list[str] = []
         found = w.least(holes[0], seconds=3, progress=told.append)
         assert not found.proved and found.value is None and "not refuted" in str(found) and told
+
+
+@pytest.mark.parametrize("count", [400, 1100])
+def test_a_plan_of_many_cells(program: str, count: int) -> None:
+    """Each cell is a case within that of the one before, and Python's stack is not as deep; beyond a
+    thousand no more cases are gone through."""
+    with Workbench(program) as w:
+        cells = [w.number(f"x{number}", 0, 9) for number in range(count)]
+        w.require(cells[-1] == 7)
+        found = w.plans(most=1)
+        assert len(found) == 1 and found[0]["x0"] == 0 and found[0][cells[-1].name] == 7
+        assert not found.complete and found.certificate.check()

@@ -56,7 +56,8 @@ pub fn program<D: Devices, E: Write>(
     ensures quiet { exit_status result ≡ 0 → errors.new ≡ errors.old }
     // So values that belong together and satisfy all that is believed lie in each answer.
     ensures points { AreSoundBy wide.library wide_related }
-    // And a plan in points satisfies all that is attached.
+    // And a plan in points lies in all that is stated, and its points belong together at each
+    // instance but those of `divider` and `parter`.
     ensures solved { SinglesSolve wide.library wide_tells }
 {
     let options = match chosen_options(alloc, SAID, words, devices, errors) {

@@ -1,9 +1,9 @@
 """propbench: propagator networks whose answers are proved, from Python.
 
 A `Workbench` has cells, expressions, and premises; a `Session` is the program as an object. What
-they answer is the program's reply; what this package itself works out (which lines say a
-constraint, which word of a line is at fault, what to complete) is translated from the language's
-description, and nothing is concluded from it.
+follows, and what can't be, is the program's reply. This package works out which lines say a
+constraint, which word of a line is at fault and what to complete; and that a plan fits is said only
+where each constraint holds on it, as it evaluates them (`violated` in model/seam.py).
 """
 
 from propbench.finding import NoProgram, find_program, find_wide

@@ -54,6 +54,10 @@ class ProgramEnded(Exception):
         return f"the program ended with status {self.status}{said}"
 
 
+class OutOfTime(Exception):
+    """A reply did not come in the time that there was for it, and the program was ended."""
+
+
 def _signal_name(number: int) -> str:
     try:
         return signal.Signals(number).name
@@ -95,6 +99,8 @@ class Program:
         self._part = b""
         self._lines: deque[str] = deque()
         self._ended: ProgramEnded | None = None
+        # Until when replies are waited for, by the monotonic clock; None where that has no end.
+        self.until: float | None = None
         self._come, self._room = select.poll(), select.poll()
         self._come.register(self._out, select.POLLIN)
         self._room.register(self._in, select.POLLOUT)
@@ -110,10 +116,13 @@ class Program:
         return self._ended
 
     def put(self, data: bytes) -> None:
-        """Sends whole lines, and takes in replies until they are all sent. Raises ProgramEnded."""
+        """Sends whole lines, and takes in replies until they are all sent. Raises ProgramEnded, and
+        OutOfTime, as all that waits."""
         self._waiting = data
         self._write()
         while self._waiting:
+            if self._left() == 0:
+                self._end_late()
             # Replies are looked at now and then: one by one each would cost a wake-up.
             if self._room.poll(_LOOK):
                 self._write()
@@ -135,6 +144,8 @@ class Program:
 
     def hear(self) -> str:
         """The first line of a reply, where no other is under way. Raises ProgramEnded."""
+        if self.until is not None:
+            self._wait()
         said = os.read(self._out, _REPLY)
         first, _, more = said.partition(b"\n")
         if more or self._part or self._lines or len(first) == len(said):
@@ -203,7 +214,24 @@ class Program:
             # It has ended; the replies before that are still to be read.
             self._waiting = b""
 
+    def _left(self) -> float | None:
+        """How many seconds are left, None where there is no end."""
+        return None if self.until is None else max(0.0, self.until - time.monotonic())
+
+    def _wait(self) -> None:
+        """Waits for something of a reply, as long as there is time."""
+        left = self._left()
+        if left is not None and (left == 0 or not self._is_readable(left)):
+            self._end_late()
+
+    def _end_late(self) -> None:
+        """Ends the program, since the time is over."""
+        self.kill()
+        raise OutOfTime("the program did not answer in time")
+
     def _read(self) -> None:
+        if self.until is not None:
+            self._wait()
         self._come_in(os.read(self._out, _PIECE))
 
     def _come_in(self, data: bytes) -> None:

@@ -18,6 +18,10 @@ Progress = Callable[[int, Reply], None]
 # A slice has so many steps, and should take between these seconds.
 _FEWEST_STEPS, _STEPS, _MOST_STEPS = 10_000, 100_000, 100_000_000
 _SHORT, _LONG = 0.05, 0.5
+# Of a run that has an end the first slice has so many steps, and others as many as take about these
+# seconds, so that the end is not missed by much where steps take long.
+_FIRST_OF_TIMED, _FEWEST_OF_TIMED = 2_000, 100
+_BRIEF, _TIMED = 0.05, 0.2
 # How long, in seconds, a slice that was interrupted is waited for before the program is ended.
 _GRACE = 2.0
 
@@ -32,6 +36,20 @@ class Watch:
     progress: Progress | None = None
     stopped: BaseException | None = None
     taken: int = 0
+    steps: int = _FIRST_OF_TIMED
+
+    def adapt(self, seconds: float) -> None:
+        """Takes in how long a slice took, for the size of the next."""
+        if seconds < _BRIEF:
+            self.steps = min(self.steps * 4, _MOST_STEPS)
+        elif seconds > _TIMED:
+            self.steps = max(self.steps // 2, _FEWEST_OF_TIMED)
+
+    def growth(self, seconds: float) -> float:
+        """How many times as long as these seconds something may take that has to be whole, 2 at the
+        most."""
+        left = None if self.until is None else self.until - time.monotonic()
+        return 2.0 if left is None else min(2.0, left / max(seconds, 1e-6))
 
     def is_over(self, reply: Reply) -> bool:
         """Tells of a run that isn't settled; whether it is to end here."""
@@ -145,7 +163,11 @@ class Runner:
             self.talk.cut(question.line, watch.taken)
 
     def _first_slice(self, question: Question, watch: Watch) -> Reply:
-        return self._slice(question, watch, min(self.steps, self.talk.limit))
+        return self._slice(question, watch, min(self._size(watch), self.talk.limit))
+
+    def _size(self, watch: Watch) -> int:
+        """How many steps the next slice has."""
+        return self.steps if watch.until is None else min(self.steps, watch.steps)
 
     def _slices(self, question: Question, watch: Watch, reply: Reply) -> Reply:
         """The reply to a question by slices that go on from one another, until it is settled, cut,
@@ -156,8 +178,8 @@ class Runner:
             if watch.taken == talk.limit or watch.is_over(reply):
                 break
             begun = time.monotonic()
-            reply = self._slice(question, watch, min(self.steps, talk.limit - watch.taken))
-            self._adapt(time.monotonic() - begun)
+            reply = self._slice(question, watch, min(self._size(watch), talk.limit - watch.taken))
+            self._adapt(watch, time.monotonic() - begun)
         return reply
 
     def _slice(self, question: Question, watch: Watch, steps: int) -> Reply:
@@ -189,8 +211,10 @@ class Runner:
             raise refused
         return reply_of(question.words, text, self.talk.kinds)
 
-    def _adapt(self, seconds: float) -> None:
-        if seconds < _SHORT:
+    def _adapt(self, watch: Watch, seconds: float) -> None:
+        if watch.until is not None:
+            watch.adapt(seconds)
+        elif seconds < _SHORT:
             self.steps = min(self.steps * 2, _MOST_STEPS)
         elif seconds > _LONG:
             self.steps = max(self.steps // 2, _FEWEST_STEPS)
@@ -219,10 +243,11 @@ class Runner:
         talk = self.talk
         most = talk.limit - watch.taken
         is_watched = watch.until is not None or watch.progress is not None
-        steps = min(self.steps, most) if is_watched else most
+        steps = min(self._size(watch), most) if is_watched else most
         watch.taken = 0
         is_first = True
         while True:
+            begun = time.monotonic()
             reply = self._slice(question, watch, steps)
             is_done = steps == most or not (isinstance(reply, Value) and reply.reduced is False)
             if is_first and is_done:
@@ -230,6 +255,7 @@ class Runner:
             else:
                 talk.cut(question.line, steps)
             watch.taken += steps
-            if is_done or watch.is_over(reply):
+            more = watch.growth(time.monotonic() - begun)
+            if is_done or watch.is_over(reply) or more < 1:
                 return reply
-            is_first, steps = False, min(steps * 2, most)
+            is_first, steps = False, min(int(steps * more) + 1, most)

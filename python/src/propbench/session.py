@@ -17,6 +17,7 @@ from propbench.finding import find_program
 from propbench.given import seconds_given
 from propbench.grammar import FORMS, RUNNING
 from propbench.known import Known
+from propbench.program import OutOfTime
 from propbench.refusals import Refused, UnknownCommand
 from propbench.replies import DONE, SILENT, How, Listing, Reply, Step, reply_of
 from propbench.runs import Progress, Question, Runner, Watch, is_settled
@@ -64,6 +65,7 @@ class Session(Closing):
         self._sent = 0
         self._tells: tuple[str, ...] | None = None
         self._closed = False
+        self._until: float | None = None
         # What those who ask a session much keep of it, by their names; it goes with the session.
         self.kept: dict[str, object] = {}
         self._begin()
@@ -119,6 +121,12 @@ class Session(Closing):
             self._talk.program.end()
         else:
             self._talk.program.kill()
+
+    def end_by(self, until: float | None) -> None:
+        """Has the session last until then, a time of the monotonic clock, or without an end: who
+        waits for a reply longer gets OutOfTime, and the program is ended. That is for a session that
+        is a question's own."""
+        self._until = self._talk.program.until = until
 
     def send(
         self,
@@ -182,7 +190,7 @@ class Session(Closing):
         self._sent += len(texts)
         try:
             batch.run()
-        except KeyboardInterrupt:
+        except (KeyboardInterrupt, OutOfTime):
             self._talk.program.kill()
             raise
         if batch.first_refused and not keep_refused:
@@ -271,6 +279,7 @@ class Session(Closing):
 
     def _begin(self) -> None:
         self._talk = Conversation(self._command, self._first_limit, self._found.builds)
+        self._talk.program.until = self._until
         self._runner = Runner(self._talk)
         self._finalizer = weakref.finalize(self, self._talk.program.kill)
 

@@ -53,6 +53,9 @@ ASIDES = {
     ":quit": "ends",
 }
 
+# What is typed for an aside by who doesn't know them.
+_HELP, _END = "Write :help for help", "Write :quit to end"
+_MEANT = {"help": _HELP, "?": _HELP, "quit": _END, "exit": _END}
 # The commands that `:undo` takes for nothing that was changed.
 _KEPT = ASKING | {"limit"}
 # After so many seconds it is told how far a run is, and then so often.
@@ -109,6 +112,9 @@ class Shell:
         words = line.split()
         if words and words[0].startswith(":"):
             self._aside(words)
+            return
+        if words and words[0] in _MEANT:
+            self._write(f"{words[0]} is no command of the language. {_MEANT[words[0]]}.")
             return
         reply = self._watched(partial(self.session.send, line, progress=self._progress))
         if not isinstance(reply, Silent):

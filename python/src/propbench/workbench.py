@@ -54,7 +54,7 @@ from propbench.overview import UNPROVED
 from propbench.planning import Calendar, Project
 from propbench.questions import Sensitivity
 from propbench.questions.asking import CellLike
-from propbench.questions.clock import Progress
+from propbench.questions.clock import Clock, Progress
 from propbench.questions.model import First
 from propbench.refusals import UnknownCommand
 from propbench.replies import Contradiction, Settled, Value, Worldview
@@ -69,6 +69,7 @@ if TYPE_CHECKING:
 Stated = Truth | bool | Sequence[Truth | bool]
 SomeCell = TypeVar("SomeCell", bound=Cell)
 _UNTOLD = "what makes up a value is told by propwide, and this program is another"
+_MAY_BE_FEWER = "there was no time to find out whether fewer of these are in conflict"
 _LACKS = "The program has no rule of its own for {}: answers may be wider than those of propwide."
 
 
@@ -327,18 +328,18 @@ class Workbench(Measuring, Closing):
             if over != "all plans":
                 raise ValueError(f'an answer may be over="all plans", and not over={over!r}')
             return self._over_all_plans(cell, seconds)
-        network = self._network
+        network, clock = self._network, Clock(seconds, None)
         reply = network.session.send(
             f"{command} {network.vocabulary.cells.line(cell.name)}", seconds=seconds
         )
         if not isinstance(reply, Value):
             assert isinstance(reply, Contradiction)
-            raise self._conflict(reply)
+            raise self._conflict(reply, clock.seconds_left())
         if not network.premises.choices:
             return self._reader.answer(cell, reply, {})
         if command == "core" and reply.settled:
             # (after a core every procedure is called once more, before the plan is known)
-            network.session.send("worldview", seconds=seconds)
+            network.session.send("worldview", seconds=clock.seconds_left())
         return self._reader.answer(cell, reply, self._plan())
 
     def table(self, *cells: Cell, seconds: float | None = None) -> Table:
@@ -347,9 +348,10 @@ class Workbench(Measuring, Closing):
         Raises Conflict where what is believed can't all hold.
         """
         declared = [self._own(cell) for cell in cells] or list(self._network.cells.values())
+        clock = Clock(seconds, None)
         reply = self.session.send("settle", seconds=seconds)
         if isinstance(reply, Contradiction):
-            raise self._conflict(reply)
+            raise self._conflict(reply, clock.seconds_left())
         names = self._network.vocabulary.cells
         replies = self.session.look([f"why {names.line(cell.name)}" for cell in declared])
         plan, read = self._plan(), self._reader
@@ -458,14 +460,15 @@ class Workbench(Measuring, Closing):
         *,
         days: int,
         people: str | Sequence[str] = (),
-        start: date | None = None,
-        off: str | Iterable[str | date] = (),
+        start: date | str | None = None,
+        off: str | date | Iterable[str | date] = (),
     ) -> Project:
         """A project over so many days, with people who do one thing at a time: its tasks, their
         order and what is wished for are stated by its own methods.
 
         Day 0 is the date `start`, where one is given, and weekdays (`off="sat sun"`) and dates that
-        are off are no days of it.
+        are off are no days of it. A date may be a text, as `2026-12-04`. Raises ValueError and
+        TypeError for what is none of these.
         """
         calendar = None if start is None else Calendar.of(start, off)
         return Project(self, days, people, calendar)
@@ -537,9 +540,10 @@ class Workbench(Measuring, Closing):
 
     def _over_all_plans(self, cell: Declared, seconds: float | None) -> Answer:
         """What the cell may be in some plan, whatever the choices take."""
+        clock = Clock(seconds, None)
         found = over_all_plans(self, cell, seconds)
         if found is None:
-            conflict = next(iter(self.conflicts(most=1)), ())
+            conflict = next(iter(self.conflicts(most=1, seconds=clock.seconds_left())), ())
             says = {name: self._network.premises.text(name) for name in conflict}
             raise Conflict(tuple(says), says)
         value, is_settled = found
@@ -554,14 +558,16 @@ class Workbench(Measuring, Closing):
         [reply] = self.session.look(["worldview"])
         return self._reader.plan(reply.inside) if isinstance(reply, Worldview) else {}
 
-    def _conflict(self, found: Contradiction) -> Conflict:
-        """The conflict, made small."""
-        names = self._network.vocabulary.premises
+    def _conflict(self, found: Contradiction, seconds: float | None = None) -> Conflict:
+        """The conflict, made small as far as there is time."""
+        names, clock = self._network.vocabulary.premises, Clock(seconds, None)
         believed = [names.line(name) for name in self._network.premises.in_force]
-        kept = map(names.text, shrunk(self.session, believed, found.premises))
+        kept = map(names.text, shrunk(self.session, believed, found.premises, seconds))
         says = {name: self._network.premises.text(name) for name in kept}
-        notes = beyond(self._network, list(says))
-        texts = [] if says else always(self._network)
+        if says and clock.is_over():
+            return Conflict(tuple(says), says, (_MAY_BE_FEWER,))
+        notes = beyond(self._network, list(says), clock.seconds_left())
+        texts = [] if says else always(self._network, clock.seconds_left())
         if texts:
             notes.append(f"not all of this: {'; '.join(texts)}")
         return Conflict(tuple(says), says, tuple(notes))

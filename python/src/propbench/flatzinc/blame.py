@@ -14,9 +14,14 @@ from propbench.flatzinc.compiling import Compiled, compiled
 from propbench.flatzinc.picture import dot_of, draw
 from propbench.flatzinc.solving import solve
 from propbench.flatzinc.writing import solution
+from propbench.questions.clock import Clock
 from propbench.questions.conflicts import Conflicts, Repair, Repairs, find_both
 from propbench.showing import printable
 from propbench.workbench import Workbench
+
+
+# This part of the time is for conflicts and repairs, the rest for a solution.
+_SHARE = 0.75
 
 
 @dataclass(frozen=True)
@@ -37,8 +42,9 @@ def blame_file(model: Path, data: Sequence[Path], asked: Asked, program: str | N
     made = compiled(model, data)
     with Workbench(program) as workbench:
         built = Built(made.flat, workbench)
+        clock = Clock(asked.seconds, None)
         conflicts, repairs = blamed(built, made, asked)
-        for line in report(built, conflicts, repairs, asked.seconds):
+        for line in report(built, conflicts, repairs, clock.seconds_left()):
             print(line)
     if asked.picture is not None:
         draw(asked.picture, dot_of(conflicts, repairs, made.texts))
@@ -51,7 +57,8 @@ def blamed(built: Built, made: Compiled, asked: Asked) -> tuple[Conflicts, Repai
     """The conflicts and repairs among the constraints of a model."""
     keep = [name for name in built.workbench.premises if _is_kept(name, asked.keep)]
     model = built.workbench.model
-    return find_both(model, made.texts, keep, asked.most, asked.seconds)
+    seconds = None if asked.seconds is None else asked.seconds * _SHARE
+    return find_both(model, made.texts, keep, asked.most, seconds)
 
 
 def _is_kept(name: str, keep: Iterable[str]) -> bool:
@@ -62,7 +69,7 @@ def _is_kept(name: str, keep: Iterable[str]) -> bool:
 def report(
     built: Built, conflicts: Conflicts, repairs: Repairs, seconds: float | None
 ) -> Iterator[str]:
-    """What is to blame, and a solution without it."""
+    """What is to blame, and a solution without it, which is looked for in these seconds."""
     yield str(conflicts)
     if not conflicts:
         return

@@ -224,12 +224,12 @@ class Measuring(Questions):
         reader = Reader(self._network.vocabulary, self._network.premises)
         return measured(reader.answer(quantity.declared, reply, {}))
 
-    def _conflict_of(self, names: Sequence[str]) -> Conflict:
-        """That these premises can't all hold, made few."""
+    def _conflict_of(self, names: Sequence[str], seconds: float | None) -> Conflict:
+        """That these premises can't all hold, made few as far as there is time."""
         lines = self._network.vocabulary.premises
-        return self._conflict(Contradiction(tuple(map(lines.line, names))))
+        return self._conflict(Contradiction(tuple(map(lines.line, names))), seconds)
 
-    def _conflict(self, found: Contradiction) -> Conflict:
+    def _conflict(self, found: Contradiction, seconds: float | None = None) -> Conflict:
         raise NotImplementedError
 
     def _own(self, cell: object) -> Declared:

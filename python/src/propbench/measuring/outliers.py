@@ -112,6 +112,8 @@ class Weeding:
             return False
         rest = (1 << len(self.names)) - 1 & ~hit
         found = self._refuted(rest)
+        if found is None and self.trial.clock.is_over():
+            return False
         if found is None:
             self.repairs.append(hit)
             self._hitting.finish(hit)
@@ -210,7 +212,7 @@ def find_outliers(
         found.extend(map(weeding.outlier, weeding.repairs))
 
     def result() -> Outliers:
-        known = found or [_bare(weeding, hit) for hit in weeding.repairs]
+        known = [*found, *(_bare(weeding, hit) for hit in weeding.repairs[len(found) :])]
         evidence, claims = Evidence.of(trial), []
         for mask, tree in weeding.conflicts:
             premises = [*weeding.kept, *weeding.premises(mask)]

@@ -43,19 +43,22 @@ class Improvements(Shown, list[Improvement]):
 
     def headline(self) -> str:
         until = "" if self.complete else ", as far as is known,"
-        return f"{self.name} is {self.now}, of a width of {_width(self.now)}, and{until}:"
+        now = "not known" if self.now is None else self.now
+        return f"{self.name} is {now}, of a width of {self._width(self.now)}, and{until}:"
 
     def heads(self) -> Sequence[str]:
         return ("reading", "says", "width where it is halved", "width without it")
 
     def rows(self) -> Sequence[Sequence[object]]:
         return [
-            (it.premise, shortened(it.says), _width(it.halved), _width(it.left_out)) for it in self
+            (it.premise, shortened(it.says), self._width(it.halved), self._width(it.left_out))
+            for it in self
         ]
 
-
-def _width(interval: Interval | None) -> str:
-    return "can't be" if interval is None else f"{float(interval.width):.3g}"
+    def _width(self, interval: Interval | None) -> str:
+        if interval is None:
+            return "can't be" if self.complete else "not known"
+        return f"{float(interval.width):.3g}"
 
 
 def find_improvements(

@@ -49,8 +49,8 @@ class Bench(Protocol):
         """What a cell that holds one of these numbers says, because of these premises."""
         ...
 
-    def _conflict_of(self, names: Sequence[str]) -> Exception:
-        """That these premises can't all hold, made few."""
+    def _conflict_of(self, names: Sequence[str], seconds: float | None) -> Exception:
+        """That these premises can't all hold, made few as far as there is time."""
         ...
 
 
@@ -78,7 +78,8 @@ def find_shaved(
 
     def result() -> Shaved:
         if "room" not in state:
-            return Shaved(**vars(quantity.ask(seconds=seconds)), complete=False)
+            left = clock.seconds_left()
+            return Shaved(**vars(quantity.ask(seconds=left)), complete=False)
         room, begun = state["room"], state["begun"]
         because = [each for each in believed if trial.line[each] in narrowing.names]
         told = bench._told(quantity, room, because)
@@ -96,7 +97,7 @@ def find_shaved(
         return tried(trial, run, result)
     except Impossible as impossible:
         names = [each for each in believed if trial.line[each] in impossible.names]
-        raise bench._conflict_of(names) from None
+        raise bench._conflict_of(names, clock.seconds_left()) from None
 
 
 def _cases(

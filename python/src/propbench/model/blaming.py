@@ -12,6 +12,7 @@ from propbench.model.nodes import Declared, Node, Op, cells_in
 from propbench.model.ranges import Range, Ranges, declared_range, range_of
 from propbench.model.shrinking import shrunk
 from propbench.model.writing import text_of
+from propbench.questions.clock import Clock
 from propbench.replies import Contradiction, Value
 from propbench.values import Span
 
@@ -19,9 +20,11 @@ from propbench.values import Span
 _MOST_LOOKED_AT = 1000
 
 
-def beyond(network: Network, premises: Sequence[str]) -> list[str]:
+def beyond(network: Network, premises: Sequence[str], seconds: float | None = None) -> list[str]:
     """The expressions whose values lie beyond 10^18, where that is why these premises are in
-    conflict, as notes. `premises` are those of a conflict, of which none can be left out."""
+    conflict, as notes, as far as that is found out in time. `premises` are those of a conflict, of
+    which none can be left out."""
+    clock = Clock(seconds, None)
     concerned = [
         node
         for event in network.events
@@ -34,15 +37,19 @@ def beyond(network: Network, premises: Sequence[str]) -> list[str]:
     cells = list(dict.fromkeys(cell for node in concerned for cell in cells_in(node)))
     numbers = [cell for cell in cells if cell.kind is Plain.NUMBER]
     for premise in premises or [""]:
-        ranges = Ranges(_without(network, premise, numbers).__getitem__)
+        if clock.is_over():
+            break
+        ranges = Ranges(_without(network, premise, numbers, clock).__getitem__)
         found = list(dict.fromkeys(node for node in concerned if _is_beyond(ranges.uncut(node))))
         if found:
             return [f"{text_of(node)} lies beyond 10^18, which no cell holds" for node in found]
     return []
 
 
-def always(network: Network) -> list[str]:
-    """What can't hold of that which holds always, each a text, none of which can be left out."""
+def always(network: Network, seconds: float | None = None) -> list[str]:
+    """What can't hold of that which holds always, each a text, none of which can be left out; none
+    where that isn't found out in time."""
+    clock = Clock(seconds, None)
     kept: list[Event] = []
     named: dict[str, Event] = {}
     for event in network.events:
@@ -53,15 +60,22 @@ def always(network: Network) -> list[str]:
                 kept.append(replace(event, premise=name))
         else:
             kept.append(event)
-    if not 0 < len(named) <= _MOST_LOOKED_AT:
+    if not 0 < len(named) <= _MOST_LOOKED_AT or clock.is_over():
         return []
     copy = network.copy(kept)
     try:
-        reply = copy.session.send("settle")
+        reply = copy.session.send("settle", seconds=clock.seconds_left())
         if not isinstance(reply, Contradiction):
             return []
         names = copy.vocabulary.premises
-        lines = shrunk(copy.session, [names.line(name) for name in named], reply.premises)
+        lines = shrunk(
+            copy.session,
+            [names.line(name) for name in named],
+            reply.premises,
+            clock.seconds_left(),
+        )
+        if clock.is_over():
+            return []
         return [_text(named[names.text(line)]) for line in lines]
     finally:
         copy.session.close()
@@ -97,7 +111,9 @@ def _is_beyond(range_: Range) -> bool:
     return low > MOST or high < -MOST
 
 
-def _without(network: Network, premise: str, cells: Sequence[Declared]) -> dict[Declared, Range]:
+def _without(
+    network: Network, premise: str, cells: Sequence[Declared], clock: Clock
+) -> dict[Declared, Range]:
     """Between which numbers the cells lie by all that is believed but the premise, and by what is
     told under it of the cells themselves."""
     names, session = network.vocabulary, network.session
@@ -105,7 +121,7 @@ def _without(network: Network, premise: str, cells: Sequence[Declared]) -> dict[
     line = names.premises.line(premise) if premise else ""
     if line:
         session.send(f"kick {line}")
-        session.send("settle")
+        session.send("settle", seconds=clock.seconds_left())
     replies = session.look([f"ask {names.cells.line(cell.name)}" for cell in cells])
     if line:
         session.send(f"bring {line}")

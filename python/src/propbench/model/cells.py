@@ -1,6 +1,6 @@
 """Cells: what a user declares, states and asks."""
 
-from collections.abc import Iterable
+from collections.abc import Iterable, Mapping
 from typing import TYPE_CHECKING, Protocol
 
 from propbench.model.answers import Answer
@@ -101,6 +101,9 @@ class SymbolCell(Cell, Symbol):
 def words_of(given: "str | Iterable[str]") -> tuple[str, ...]:
     """Names given as one text with spaces between them, or one by one. Raises TypeError for what
     is neither."""
-    if not isinstance(given, Iterable):
-        raise TypeError(f"names are one text with spaces between, or a list of texts: {given!r}")
-    return tuple(given.split() if isinstance(given, str) else given)
+    names = given.split() if isinstance(given, str) else given
+    if isinstance(names, Iterable) and not isinstance(names, Mapping):
+        found = tuple(names)
+        if all(isinstance(name, str) for name in found):
+            return found
+    raise TypeError(f"names are one text with spaces between, or a list of texts: {given!r}")

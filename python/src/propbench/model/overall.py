@@ -4,6 +4,7 @@ from propbench.model.answers import Left
 from propbench.model.kinds import Domain, Plain
 from propbench.model.nodes import Declared
 from propbench.questions import Questions
+from propbench.questions.clock import Clock
 from propbench.values import Elements, Span
 
 _MOST_ELEMENTS = 64
@@ -13,7 +14,8 @@ def over_all_plans(
     asked: Questions, cell: Declared, seconds: float | None
 ) -> tuple[Left, bool] | None:
     """The range of a number, or the elements that some plan has, and whether that is proved to be
-    all and no more; None where no plan fits. Raises ValueError for a symbol."""
+    all and no more, as far as that is found out in time; None where no plan fits. Raises ValueError
+    for a symbol."""
     if cell.kind is Plain.NUMBER:
         return _range(asked, cell.name, seconds)
     if cell.kind is Plain.SYMBOL:
@@ -38,10 +40,13 @@ def _all(cell: Declared) -> Elements:
 
 
 def _range(asked: Questions, name: str, seconds: float | None) -> tuple[Left, bool] | None:
-    least = asked.least(name, seconds=seconds)
+    clock = Clock(seconds, None)
+    # (half the time is for each end)
+    half = None if seconds is None else seconds / 2
+    least = asked.least(name, seconds=half)
     if least.value is None and least.proved:
         return None
-    greatest = asked.greatest(name, seconds=seconds)
+    greatest = asked.greatest(name, seconds=clock.seconds_left())
     ends = [end.value if end.proved else end.bound for end in (least, greatest)]
     if ends[0] is None or ends[1] is None:
         raise ValueError(f"how far {name!r} goes is not known: give it a low and a high end")

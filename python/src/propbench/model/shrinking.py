@@ -1,39 +1,52 @@
 """Conflicts made small: premises are left out as long as the others still contradict each other."""
 
 from collections.abc import Iterable, Sequence
+from contextlib import suppress
 
-from propbench.replies import Contradiction, Reply
+from propbench.program import OutOfTime
+from propbench.questions.clock import Clock
+from propbench.replies import Contradiction
 from propbench.session import Session
 
 
-def shrunk(session: Session, believed: Sequence[str], found: Iterable[str]) -> tuple[str, ...]:
-    """Of premises that contradict each other, some that do, of which none can be left out.
+def shrunk(
+    session: Session, believed: Sequence[str], found: Iterable[str], seconds: float | None = None
+) -> tuple[str, ...]:
+    """Of premises that contradict each other, some that do, of which none can be left out; as far as
+    that is found out in these seconds.
 
-    `believed` are those that are believed, by their names on lines, and are so again in the end.
-    What a run that isn't settled leaves open counts as no contradiction.
+    `believed` are those that are believed, by their names on lines, and are so again in the end,
+    unless the session lasts no longer. What a run that isn't settled leaves open counts as no
+    contradiction.
     """
     kept = list(found)
-    others = [name for name in believed if name not in kept]
-    tried = list(kept)
     try:
-        _send(session, "kick", others)
-        while tried:
-            name = tried.pop()
-            reply = _send(session, "kick", [name], "settle")
-            if isinstance(reply, Contradiction):
-                gone = [each for each in kept if each != name and each not in reply.premises]
-                _send(session, "kick", gone)
-                kept = [each for each in kept if each in reply.premises]
-                tried = [each for each in tried if each in kept]
-            else:
-                _send(session, "bring", [name])
+        with suppress(OutOfTime):
+            _shrink(session, believed, kept, Clock(seconds, None))
     finally:
-        _send(session, "bring", believed)
+        with suppress(OutOfTime):
+            _send(session, "bring", believed)
     return tuple(kept)
 
 
-def _send(session: Session, command: str, names: Sequence[str], *last: str) -> Reply | None:
-    """Sends a command for each name, and a last line, whose reply is given."""
+def _shrink(session: Session, believed: Sequence[str], kept: list[str], clock: Clock) -> None:
+    """Leaves out of what is kept what can be left out."""
+    _send(session, "kick", [name for name in believed if name not in kept])
+    tried = list(kept)
+    while tried and not clock.is_over():
+        name = tried.pop()
+        _send(session, "kick", [name])
+        reply = session.send("settle", seconds=clock.seconds_left())
+        if isinstance(reply, Contradiction):
+            gone = [each for each in kept if each != name and each not in reply.premises]
+            _send(session, "kick", gone)
+            kept[:] = [each for each in kept if each in reply.premises]
+            tried = [each for each in tried if each in kept]
+        else:
+            _send(session, "bring", [name])
+
+
+def _send(session: Session, command: str, names: Sequence[str]) -> None:
+    """Sends a command for each name."""
     for name in names:
         session.send(f"{command} {name}")
-    return session.send(last[0]) if last else None

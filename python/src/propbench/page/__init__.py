@@ -41,11 +41,10 @@ class Page(Closing):
             self._thread.join(0.5)
 
     def close(self) -> None:
-        """Ends the server; what was served stays as it is."""
-        self._asking.stop()
+        """Ends what is run, and the server; what was served stays as it is."""
+        self._asking.close()
         self._server.shutdown()
         self._server.server_close()
-        self._asking.close()
 
 
 def serve(

@@ -10,6 +10,7 @@ from contextlib import contextmanager
 from dataclasses import asdict, replace
 
 from propbench.program import ProgramEnded
+from propbench.questions.asking import Interrupted
 from propbench.refusals import Refused
 from propbench.replies import Reply
 from propbench.showing import printable, said_of
@@ -28,6 +29,9 @@ from propbench.watching import (
 _MOST_STEPS = 200
 # So many reasons are told of a cell that nobody looks at.
 _MOST_REASONS = 6
+# What is run has so many seconds to end when the page is closed.
+_LAST_SECONDS = 5.0
+_CLOSED = "the page is closed"
 
 
 class Stopped(KeyboardInterrupt):
@@ -41,6 +45,7 @@ class Asking:
         self._watched, self._title, self._path = watched, title, path
         self._lock = threading.RLock()
         self._stop = threading.Event()
+        self._is_closed = False
         self._busy = ""
         # How often something may have changed; what was seen last, and the network as it was then.
         self._version = 1
@@ -65,8 +70,13 @@ class Asking:
         }
 
     def close(self) -> None:
-        """Ends the sessions of its own."""
-        self._end_steps()
+        """Ends what is run, and the sessions of its own, and refuses what is asked from now on."""
+        self._is_closed = True
+        if self._lock.acquire(timeout=_LAST_SECONDS):
+            try:
+                self._end_steps()
+            finally:
+                self._lock.release()
 
     @contextmanager
     def held(self) -> Iterator[None]:
@@ -278,14 +288,21 @@ class Asking:
     @contextmanager
     def _watching(self, what: str) -> Iterator[None]:
         """Tells that something is done, and turns what goes wrong into ValueError."""
+        if self._is_closed:
+            raise ValueError(_CLOSED)
         self._stop.clear()
         self._busy = what
         try:
             yield
-        except Stopped:
+        except (Stopped, Interrupted):
             self._changed()
             raise ValueError("stopped; the next question goes on from there") from None
-        except ProgramEnded as ended:
+        except (ProgramEnded, RuntimeError) as ended:
+            # (a session that is closed meanwhile raises either)
+            if self._is_closed:
+                raise ValueError(_CLOSED) from None
+            if isinstance(ended, RuntimeError):
+                raise
             self._watched.replay()
             self._changed()
             raise ValueError(f"{ended}; it is begun anew with what was carried out") from None
@@ -302,7 +319,7 @@ class Asking:
 
     def _telling(self, text: str) -> None:
         self._busy = text
-        if self._stop.is_set():
+        if self._stop.is_set() or self._is_closed:
             raise Stopped
 
 

@@ -1,12 +1,29 @@
 """Days of a plan as dates: day 0 is the first one that is worked on, and days off are left out."""
 
+import re
 from collections.abc import Iterable
 from dataclasses import dataclass, field
-from datetime import date, timedelta
+from datetime import date, datetime, timedelta
 
 _NAMES = ("mon", "tue", "wed", "thu", "fri", "sat", "sun")
 # No more days off than these stand between two days of work.
 _LONGEST = 366
+_ISO = re.compile(r"\d{4}-\d\d-\d\d")
+
+
+def date_given(given: object) -> date:
+    """A date that is given as such, or as a text (`2026-12-04`). Raises ValueError for another text,
+    and TypeError for what is neither."""
+    if isinstance(given, date):
+        return given.date() if isinstance(given, datetime) else given
+    if not isinstance(given, str):
+        raise TypeError(f"a date is one of Python, or a text as '2026-12-04': {given!r}")
+    try:
+        if _ISO.fullmatch(given):
+            return date.fromisoformat(given)
+    except ValueError:
+        pass
+    raise ValueError(f"{given!r} is no date: write it as 2026-12-04")
 
 
 @dataclass(frozen=True)
@@ -19,18 +36,22 @@ class Calendar:
     dates_off: frozenset[date] = field(default_factory=frozenset)
 
     @staticmethod
-    def of(start: date, off: str | Iterable[str | date] = ()) -> "Calendar":
+    def of(start: date | str, off: str | date | Iterable[str | date] = ()) -> "Calendar":
         """The calendar from a date on, with weekdays (`"sat sun"`) and dates off. Raises ValueError
-        for another weekday, and where every day is off."""
-        given: list[str | date] = [*(off.split() if isinstance(off, str) else off)]
-        weekdays = [each for each in given if isinstance(each, str)]
+        for another weekday or date, and where every day is off, and TypeError for what is neither.
+        """
+        several = [off] if isinstance(off, date) else off
+        given: list[str | date] = [*(several.split() if isinstance(several, str) else several)]
+        weekdays = [each for each in given if isinstance(each, str) and not _ISO.fullmatch(each)]
         for name in weekdays:
             if name not in _NAMES:
-                raise ValueError(f"{name!r} is no weekday: write {', '.join(_NAMES)}")
+                raise ValueError(
+                    f"{name!r} is no weekday: write {', '.join(_NAMES)}, or a date as 2026-12-24"
+                )
         if set(weekdays) == set(_NAMES):
             raise ValueError("every day of the week is off")
-        dates = frozenset(each for each in given if isinstance(each, date))
-        return Calendar(start, frozenset(map(_NAMES.index, weekdays)), dates)
+        dates = frozenset(date_given(each) for each in given if each not in weekdays)
+        return Calendar(date_given(start), frozenset(map(_NAMES.index, weekdays)), dates)
 
     def is_off(self, day: date) -> bool:
         """Whether nothing is done on that date."""

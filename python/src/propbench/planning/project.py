@@ -7,8 +7,9 @@ from typing import TYPE_CHECKING, SupportsIndex
 from propbench.model.cells import NumberCell, words_of
 from propbench.model.expressions import Truth, maximum, total
 from propbench.nearby import near_names
-from propbench.planning.calendar import Calendar
+from propbench.planning.calendar import Calendar, date_given
 from propbench.planning.tasks import Option, Task, Way, checked_ways, tasks_in
+from propbench.questions.clock import Progress
 from propbench.questions.model import Plan
 
 if TYPE_CHECKING:
@@ -38,6 +39,11 @@ class Project:
             raise TypeError(f"days={days!r} is no whole number")
         if days < 1:
             raise ValueError(f"a plan has one day or more, and not {days}")
+        if isinstance(people, Mapping):
+            raise TypeError(
+                f"people are names, and each does one thing at a time: {people!r} says more of"
+                ' them. Where there are two of a kind, name two, as "hall1 hall2"'
+            )
         self.workbench, self.days, self.calendar = workbench, days, calendar
         self.people = words_of(people)
         self.tasks: dict[str, Task] = {}
@@ -93,15 +99,23 @@ class Project:
         return task
 
     def away(
-        self, person: str, first: int | date, last: int | date, under: str | None = None
+        self, person: str, first: int | date | str, last: int | date | str, under: str | None = None
     ) -> str:
         """A person does nothing from the beginning of one day to the beginning of another; the
         premise of that, which is named `ana away 5 to 10` where no name is given. Days are numbers,
-        or dates where the plan has a calendar."""
+        or dates where the plan has a calendar. A task doesn't pause meanwhile: it ends before, or
+        begins behind. Where all of these days are off anyway, nothing more is stated."""
         self._person(person)
         begin, end = self.day(first), self.day(last)
+        if begin == end and _is_before(first, last):
+            premise = under or f"{person} away {date_given(first)} to {date_given(last)}"
+            self.workbench.require(True, under=premise)
+            return premise
         if begin >= end:
-            raise ValueError(f"{person} can't be away from day {begin} to day {end}")
+            raise ValueError(
+                f"{person} can't be away from {_day_text(first)} to {_day_text(last)}: the second is"
+                " the day of the return"
+            )
         premise = under or f"{person} away {begin} to {end}"
         self._away.append((person, begin, end, premise))
         if not any(person in task.people for task in self.tasks.values()):
@@ -112,7 +126,15 @@ class Project:
                 self._keep_off(task, begin, end, premise)
         return premise
 
-    def done_by(self, day: int | date, under: str | None = None, task: Task | None = None) -> str:
+    @property
+    def returns(self) -> tuple[tuple[str, int], ...]:
+        """Who comes back on which day, by premises that are believed."""
+        believed = set(self.workbench.believed)
+        return tuple((person, end) for person, _, end, name in self._away if name in believed)
+
+    def done_by(
+        self, day: int | date | str, under: str | None = None, task: Task | None = None
+    ) -> str:
         """A task, or all, is done before the beginning of a day; the premise of that."""
         last, what = self.day(day), "all" if task is None else task.name
         premise = under or f"{what} done by {last}"
@@ -137,14 +159,14 @@ class Project:
             self.workbench.require(self._total == (total(costs) if costs else 0))
         return self._total
 
-    def day(self, given: int | date) -> int:
-        """A day of the plan, by its number, or by a date where the plan has a calendar. Raises
-        ValueError for one that is none."""
+    def day(self, given: int | date | str) -> int:
+        """A day of the plan, by its number, or by a date where the plan has a calendar, as
+        `2026-12-04`. Raises ValueError for one that is none, and TypeError."""
         if isinstance(given, int):
             return given
         if self.calendar is None:
             raise ValueError(f"the plan has no calendar: say by number which day {given} is")
-        return self.calendar.day_of(given)
+        return self.calendar.day_of(date_given(given))
 
     def date(self, day: int) -> date:
         """The date of a day. Raises ValueError where the plan has no calendar."""
@@ -152,12 +174,20 @@ class Project:
             raise ValueError("the plan has no calendar: give w.plan a start")
         return self.calendar.date_of(day)
 
-    def chart(self, plan: Plan | None = None, *, rooms: bool = True) -> "Chart":
+    def chart(
+        self,
+        plan: Plan | None = None,
+        *,
+        rooms: bool = True,
+        seconds: float | None = None,
+        progress: Progress | None = None,
+    ) -> "Chart":
         """A Gantt chart: of this plan, or of the first that ends soonest, and of the room
-        that each task has over all plans. Raises NothingFits where there is no plan."""
+        that each task has over all plans, as far as `seconds` suffice for these. Raises NothingFits
+        where there is no plan, or none was found."""
         from propbench.planning.chart import chart_of
 
-        return chart_of(self, plan, rooms)
+        return chart_of(self, plan, rooms, seconds, progress)
 
     def _checked(self, name: str, who: str | Sequence[str]) -> tuple[str, ...]:
         """The people of a new task."""
@@ -230,3 +260,15 @@ class Project:
             work = [task.days for task in self.tasks.values() if person in task.people]
             if len(work) > 1:
                 self.workbench.require(total(work) <= end)
+
+
+def _is_before(first: int | date | str, last: int | date | str) -> bool:
+    """Whether a date comes before another; numbers of days tell nothing of dates."""
+    if isinstance(first, int) or isinstance(last, int):
+        return False
+    return date_given(first) < date_given(last)
+
+
+def _day_text(day: int | date | str) -> str:
+    """A day as it was given."""
+    return f"day {day}" if isinstance(day, int) else str(day)

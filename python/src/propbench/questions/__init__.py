@@ -17,7 +17,13 @@ from propbench.questions.certificate import Certificate
 from propbench.questions.checker import CertificateError
 from propbench.questions.changes import ToldValue, changed, resolved
 from propbench.questions.clock import Clock, Progress
-from propbench.questions.comparing import Differences, Snapshot, differences, snapshot_of
+from propbench.questions.comparing import (
+    Differences,
+    Snapshot,
+    difference_between,
+    difference_to,
+    snapshot_of,
+)
 from propbench.questions.conflicts import Conflicts, Repairs, find_conflicts, find_repairs
 from propbench.questions.critical import (
     Critical,
@@ -209,22 +215,36 @@ class Questions:
         finally:
             self._put_back(kept)
 
-    def snapshot(self: Bench) -> Snapshot:
+    def snapshot(
+        self: Bench, *, seconds: float | None = None, progress: Progress | None = None
+    ) -> Snapshot:
         """What is stated and answered now, to be compared later by `diff`. It can be pickled."""
-        return snapshot_of(self)
+        return snapshot_of(self, Clock(seconds, progress))
 
-    def diff(self: Bench, snapshot: Snapshot) -> Differences:
+    def diff(
+        self: Bench,
+        snapshot: Snapshot,
+        *,
+        seconds: float | None = None,
+        progress: Progress | None = None,
+    ) -> Differences:
         """In what the statements and answers differ from those of a snapshot, and because of what
         premises."""
         if not isinstance(snapshot, Snapshot):
             raise TypeError(f"{snapshot!r} is no snapshot, as `w.snapshot()` gives one")
-        return differences(snapshot, snapshot_of(self))
+        return difference_to(snapshot, self, Clock(seconds, progress))
 
-    def compare(self: Bench, other: Bench) -> Differences:
+    def compare(
+        self: Bench,
+        other: Bench,
+        *,
+        seconds: float | None = None,
+        progress: Progress | None = None,
+    ) -> Differences:
         """In what the statements and answers of another workbench differ from those of this one."""
         if not isinstance(other, Questions):
             raise TypeError(f"{other!r} is no workbench that could be compared")
-        return differences(snapshot_of(self), snapshot_of(other))
+        return difference_between(self, other, Clock(seconds, progress))
 
 
 __all__ = [

@@ -4,6 +4,7 @@ from collections.abc import Callable, Collection, Iterable
 from typing import Protocol, TypeVar
 
 from propbench.nearby import near_names
+from propbench.program import OutOfTime
 from propbench.questions.model import Model
 from propbench.questions.trial import Trial
 from propbench.showing import quoted
@@ -37,6 +38,8 @@ def answered(run: Callable[[], None], result: Callable[[], Result]) -> Result:
     """The result of a question after its run, or as far as that came. Raises Interrupted."""
     try:
         run()
+    except OutOfTime:
+        return result()
     except KeyboardInterrupt:
         raise Interrupted(result()) from None
     return result()

@@ -101,9 +101,10 @@ class Bounding:
         """The values up to one, seen from this end."""
         return Numbers(-MOST, most) if self._sign == 1 else Numbers(-most, MOST)
 
-    def run(self) -> None:
-        """Closes in on the optimum, until it is found or the time is over."""
-        first = decided(self.trial, self.premises)
+    def run(self, known: Fits | None = None) -> None:
+        """Closes in on the optimum, until it is found or the time is over; from a plan, where one is
+        known."""
+        first = known or decided(self.trial, self.premises)
         if isinstance(first, Cannot):
             self.proved, self.tree = True, first.tree
         if isinstance(first, Fits):

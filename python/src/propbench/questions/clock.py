@@ -11,6 +11,8 @@ Progress = Callable[[str], None]
 
 # A terminal is told of a question after so many seconds, and so often.
 _FIRST, _AGAIN = 1.0, 0.2
+# How long, in seconds, a reply that is under way is waited for when the time is over.
+_GRACE = 0.4
 
 
 class Clock:
@@ -31,6 +33,21 @@ class Clock:
     def is_over(self) -> bool:
         """Whether the time is used up."""
         return self._until is not None and time.monotonic() >= self._until
+
+    @property
+    def progress(self) -> Progress | None:
+        """What is called with what is told, None where it is shown on the terminal."""
+        return self._progress if self._is_asked_for else None
+
+    @property
+    def latest(self) -> float | None:
+        """Until when replies are waited for, by the monotonic clock: a bit longer than there is
+        time, so that what is nearly there isn't lost; None where there is no end."""
+        return None if self._until is None else self._until + _GRACE
+
+    def reply_left(self) -> float | None:
+        """How many seconds replies are waited for yet, None where there is no end."""
+        return None if self.latest is None else max(0.0, self.latest - time.monotonic())
 
     def seconds_left(self) -> float | None:
         """How many seconds are left, None where there is no end."""

@@ -4,10 +4,11 @@ from collections.abc import Iterable, Mapping, Sequence
 from dataclasses import dataclass
 
 from propbench.model.answers import Answer
+from propbench.questions.asking import answered
 from propbench.questions.bench import Bench
 from propbench.questions.certificate import Certificate
 from propbench.questions.clock import Clock
-from propbench.questions.scenarios import Asking
+from propbench.questions.scenarios import Asking, Row
 from propbench.questions.shown import Shown, listed, said, shortened
 
 
@@ -15,13 +16,20 @@ from propbench.questions.shown import Shown, listed, said, shortened
 class Snapshot:
     """What a workbench stated and answered at a time: for each premise what it says and whether it
     is believed, for each cell the answer; or the premises of a conflict. It can be pickled. The
-    certificate is of the answers, or the conflict."""
+    certificate is of the answers, or the conflict. It is `complete` where there was time for all.
+    """
 
     says: Mapping[str, str]
     believed: frozenset[str]
     answers: Mapping[str, Answer]
     conflict: tuple[str, ...] | None
     certificate: Certificate
+    complete: bool = True
+
+    @property
+    def is_known(self) -> bool:
+        """Whether there is an answer at all."""
+        return self.complete or bool(self.answers) or self.conflict is not None
 
 
 @dataclass(frozen=True)
@@ -35,21 +43,21 @@ class Difference:
 
 
 class Differences(Shown, list[Difference]):
-    """What differs: first what was stated, then what follows for the cells. The certificate is of
-    the answers now."""
+    """What differs: first what was stated, then what follows for the cells. It is `complete` where
+    both are known as far as they are settled. The certificate is of the answers now."""
 
-    complete = True
-
-    def __init__(self, found: Iterable[Difference], certificate: Certificate) -> None:
+    def __init__(
+        self, found: Iterable[Difference], certificate: Certificate, complete: bool
+    ) -> None:
         super().__init__(found)
-        self._certificate = certificate
+        self._certificate, self.complete = certificate, complete
 
     def headline(self) -> str:
+        until = "" if self.complete else ", as far as is known"
         if not self:
-            return "Nothing differs."
-        return (
-            f"{len(self)} thing{'' if len(self) == 1 else 's'} that differ{'s' * (len(self) == 1)}:"
-        )
+            return f"Nothing differs{until}."
+        one = len(self) == 1
+        return f"{len(self)} thing{'' if one else 's'} that differ{'s' if one else ''}{until}:"
 
     def heads(self) -> Sequence[str]:
         return ("what", "before", "now", "because of")
@@ -58,35 +66,66 @@ class Differences(Shown, list[Difference]):
         return [(each.what, each.before, each.now, shortened(said(each.why))) for each in self]
 
 
-def snapshot_of(bench: Bench) -> Snapshot:
-    """What a workbench states and answers now."""
-    model = bench.model
-    asking = Asking(bench, {"now": {}}, model.cells(), Clock(None, None))
-    asking.here()
-    table = asking.result()
-    row = table["now"]
+def snapshot_of(bench: Bench, clock: Clock) -> Snapshot:
+    """What a workbench states and answers now, as far as there is time. Raises Interrupted."""
+    asking = _asking(bench, clock)
+    return answered(asking.here, lambda: _snapshot(bench, asking))
+
+
+def difference_to(before: Snapshot, bench: Bench, clock: Clock) -> Differences:
+    """In what a workbench differs from a snapshot, as far as there is time. Raises Interrupted."""
+    asking = _asking(bench, clock)
+    return answered(asking.here, lambda: differences(before, _snapshot(bench, asking)))
+
+
+def difference_between(one: Bench, other: Bench, clock: Clock) -> Differences:
+    """In what another workbench differs from one, as far as there is time. Raises Interrupted."""
+    askings = _asking(one, clock), _asking(other, clock)
+
+    def run() -> None:
+        for asking in askings:
+            asking.here()
+
+    def result() -> Differences:
+        return differences(_snapshot(one, askings[0]), _snapshot(other, askings[1]))
+
+    return answered(run, result)
+
+
+def _asking(bench: Bench, clock: Clock) -> Asking:
+    """The one question of a snapshot."""
+    return Asking(bench, {"now": {}}, bench.model.cells(), clock)
+
+
+def _snapshot(bench: Bench, asking: Asking) -> Snapshot:
+    """The snapshot of what was asked."""
+    model, table = bench.model, asking.result()
+    row = table.get("now", Row())
     says = {premise: model.text(premise) for premise in model.premises()}
     conflict = None if row.conflict is None else row.conflict.names
-    return Snapshot(says, frozenset(model.believed()), dict(row), conflict, table.certificate)
+    believed = frozenset(model.believed())
+    return Snapshot(says, believed, dict(row), conflict, table.certificate, table.complete)
 
 
 def differences(before: Snapshot, now: Snapshot) -> Differences:
-    """In what the second differs from the first; in no answers, where one of them is a conflict."""
+    """In what the second differs from the first; in no answers, where one of them is a conflict, or
+    there was no time for them."""
     found = [
         Difference(f"premise {premise}", *states)
         for premise in {**before.says, **now.says}
         if len(set(states := (_state(before, premise), _state(now, premise)))) > 1
     ]
-    if (before.conflict is None) != (now.conflict is None):
+    is_known = before.is_known and now.is_known
+    if is_known and (before.conflict is None) != (now.conflict is None):
         found.append(Difference("what is believed", _fit(before), _fit(now), now.conflict or ()))
     # (At a conflict there are no answers that could differ.)
-    is_fit = before.conflict is None and now.conflict is None
+    is_fit = is_known and before.conflict is None and now.conflict is None
     for cell in {**before.answers, **now.answers} if is_fit else ():
         old, new = before.answers.get(cell), now.answers.get(cell)
         values = _value(old), _value(new)
         if values[0] != values[1]:
             found.append(Difference(cell, *values, new.because if new else ()))
-    return Differences(found, now.certificate)
+    return Differences(found, now.certificate, before.complete and now.complete)
 
 
 def _state(snapshot: Snapshot, premise: str) -> str:
@@ -98,7 +137,9 @@ def _state(snapshot: Snapshot, premise: str) -> str:
 
 
 def _fit(snapshot: Snapshot) -> str:
-    return "fits" if snapshot.conflict is None else f"conflict: {listed(snapshot.conflict)}"
+    if snapshot.conflict is None:
+        return "fits" if snapshot.complete else "not settled"
+    return f"conflict: {listed(snapshot.conflict)}"
 
 
 def _value(answer: Answer | None) -> object:

@@ -126,10 +126,10 @@ def find_conflicts(
 ) -> Conflicts:
     """The least sets of believed premises that can't all hold beside those that are kept, so many
     at the most."""
-    texts = _texts(model)
+    clock, texts = Clock(seconds, progress), _texts(model)
     return _searched(
         model,
-        _explore(model, {}, keep, Clock(seconds, progress)),
+        _explore(model, {}, keep, clock),
         lambda explored: len(explored.conflicts) < most,
         lambda explored: _conflicts(explored, texts, most),
     )
@@ -145,10 +145,10 @@ def find_both(
 ) -> tuple[Conflicts, Repairs]:
     """The least conflicts and the least repairs, so many of each at the most, from one search. What
     premises say is told by these texts, where they have one."""
-    said = {**_texts(model), **texts}
+    clock, said = Clock(seconds, progress), {**_texts(model), **texts}
     return _searched(
         model,
-        _explore(model, {}, keep, Clock(seconds, progress)),
+        _explore(model, {}, keep, clock),
         lambda explored: max(len(explored.conflicts), len(explored.repairs)) < most,
         lambda explored: (_conflicts(explored, said, most), _repairs(explored, {}, most)),
     )

@@ -90,15 +90,16 @@ def find_slack(
     model: Model, cell: CellLike, seconds: float | None, progress: Progress | None
 ) -> Slack:
     """The room of a cell over all plans with what is believed."""
-    name = whole_named(model, cell)
-    trial = Trial(model, model.believed(), Clock(seconds, progress))
+    name, clock = whole_named(model, cell), Clock(seconds, progress)
+    trial = Trial(model, model.believed(), clock)
     if not isinstance(trial.rooms[name], Numbers):
         return _slack_of_names(trial, name)
     ends = [Bounding(trial, model.believed(), name, sort) for sort in (LEAST, GREATEST)]
 
     def run() -> None:
         for bounding in ends:
-            bounding.run()
+            # (one plan is a beginning for both)
+            bounding.run(ends[0].fits)
 
     def result() -> Slack:
         evidence = Evidence.of(trial)
@@ -128,8 +129,8 @@ def find_critical(
     greatest. Raises NothingFits where there is no plan."""
     if sort not in (LEAST, GREATEST):
         raise ValueError(f"the end is {LEAST!r} or {GREATEST!r}, and not {sort!r}")
-    name = whole_named(model, cell)
-    trial = Trial(model, (), Clock(seconds, progress))
+    name, clock = whole_named(model, cell), Clock(seconds, progress)
+    trial = Trial(model, (), clock)
     bounding = bounding_in(trial, model.believed(), name, sort)
     found: list[tuple[Exploring, Refuted]] = []
 

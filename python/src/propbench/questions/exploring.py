@@ -124,6 +124,8 @@ class Exploring:
         for bit in reversed(bits_of(mask)):
             if not mask & bit:
                 continue
+            number = mask.bit_count()
+            self.trial.clock.tell(f"{number} premise{'' if number == 1 else 's'} can't all hold")
             outcome = self.try_out(mask & ~bit)
             if isinstance(outcome, Refuted):
                 mask, tree = outcome.mask, outcome.tree

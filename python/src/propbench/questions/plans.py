@@ -1,6 +1,7 @@
 """All plans over some cells, each once: a tree of cases, each leaf a plan or a contradiction."""
 
 from collections.abc import Iterable, Sequence
+from dataclasses import dataclass, field
 
 from propbench.questions.asking import CellLike, tried, whole_named
 from propbench.questions.certificate import Certificate, Evidence, Tree, as_json, on_lines
@@ -15,6 +16,20 @@ from propbench.questions.trial import Case, Trial
 _OPEN = "open"
 # So many values of a cell are tried in one go.
 _AT_ONCE = 16
+# No more cells than these are gone through within one another, and a certificate has no more cases
+# within one another than JSON can be written and read with.
+_DEEPEST, _DEEPEST_SHOWN = 1000, 200
+
+
+@dataclass
+class _Branch:
+    """A cell of which cases are gone through, within what is supposed: what waits, the next one last,
+    with what is known of it, and the cases that are done."""
+
+    told: tuple[Case, ...]
+    cell: str
+    waiting: list[tuple[Room, Outcome | None]]
+    cases: list[list[object]] = field(default_factory=list)
 
 
 class Plans(Shown, list[Plan]):
@@ -51,12 +66,29 @@ class Listing:
         self.trial, self.show, self.most = trial, list(show), most
         self.found: list[Fits] = []
         self.tree: Tree = _OPEN
-        self.complete = self._has_open = False
+        self.complete = self._has_open = self._is_deep = False
+        self._branches: list[_Branch] = []
 
     def run(self) -> None:
         """Goes through all cases, as long as there is time."""
-        self.tree = self._tree((), self._within(()))
+        tree = self._tree((), self._within(()))
+        while self._branches:
+            branch = self._branches[-1]
+            if branch.waiting:
+                self._take(branch, *branch.waiting.pop())
+            else:
+                self._branches.pop()
+        self.tree = tree
         self.complete = not self._has_open
+
+    def _take(self, branch: _Branch, part: Room, known: Outcome | None) -> None:
+        """Takes a case of a branch: what lies in it, or the value of its plan and what lies beside."""
+        within = (*branch.told, (branch.cell, part))
+        outcome = known or self._within(within)
+        if isinstance(outcome, Fits) and len(part) > 1:
+            branch.waiting += reversed(_around(branch.cell, part, outcome))
+        else:
+            branch.cases.append([str(part), self._tree(within, outcome)])
 
     def _within(self, told: Sequence[Case]) -> Outcome:
         """What comes of a search within these cases."""
@@ -65,7 +97,8 @@ class Listing:
         return decided(self.trial, self.trial.basis, told)
 
     def _tree(self, told: tuple[Case, ...], outcome: Outcome) -> Tree:
-        """The tree of what lies within these cases, of which this is known."""
+        """The tree of what lies within these cases, of which this is known; where it forks, its
+        branch is gone through later."""
         if isinstance(outcome, Cannot):
             return as_json(outcome.tree)
         if isinstance(outcome, Open) or len(self.found) >= self.most:
@@ -73,26 +106,15 @@ class Listing:
             return _OPEN
         rooms = self.trial.known(told)
         cell = next((cell for cell in self.show if len(rooms[cell]) > 1), None)
-        if cell is not None:
-            return [self.trial.cell_line[cell], self._cases(told, cell, outcome)]
+        self._is_deep = self._is_deep or len(told) > _DEEPEST_SHOWN
+        if cell is not None and len(told) < _DEEPEST:
+            parts = self._parts(told, cell, rooms[cell], outcome)
+            self._branches.append(_Branch(told, cell, parts[::-1]))
+            return [self.trial.cell_line[cell], self._branches[-1].cases]
+        self._has_open = self._has_open or cell is not None
         self.found.append(outcome)
         self.trial.clock.tell(f"{len(self.found)} plans so far")
         return on_lines(self.trial.cell_line, outcome)
-
-    def _cases(self, told: tuple[Case, ...], cell: str, first: Fits) -> list[list[object]]:
-        """The values of a cell, each with its tree, and what lies between; one plan is known."""
-        room = self.trial.known(told)[cell]
-        waiting = list(reversed(self._parts(told, cell, room, first)))
-        cases: list[list[object]] = []
-        while waiting:
-            part, known = waiting.pop()
-            within = (*told, (cell, part))
-            outcome = known or self._within(within)
-            if isinstance(outcome, Fits) and len(part) > 1:
-                waiting += reversed(_around(cell, part, outcome))
-            else:
-                cases.append([str(part), self._tree(within, outcome)])
-        return cases
 
     def _parts(
         self, told: tuple[Case, ...], cell: str, room: Room, first: Fits
@@ -121,10 +143,10 @@ class Listing:
         given = evidence.lines_of(self.trial.basis)
         show = [self.trial.cell_line[cell] for cell in self.show]
         plans = [[fits.values[cell] for cell in self.show] for fits in self.found]
-        if self.tree != _OPEN:
+        if self.tree != _OPEN and not self._is_deep:
             claim = {"given": given, "show": show, "plans": plans, "tree": self.tree}
             return evidence.certificate([("plans_are", {**claim, "complete": self.complete})])
-        # (Ctrl-C has ended the search before there was a tree.)
+        # (Ctrl-C has ended the search before there was a tree, or it is too deep.)
         for fits in self.found:
             evidence.add_plan(self.trial.basis, fits)
         told = [[list(each) for each in zip(show, plan)] for plan in plans]

@@ -4,13 +4,14 @@ A row is a job that can be sent to another process or machine: the lines to send
 """
 
 import os
-from collections.abc import Iterable, Iterator, Mapping, Sequence
+from collections.abc import Callable, Iterable, Iterator, Mapping, Sequence
 from concurrent.futures import Executor, Future, ThreadPoolExecutor
 from dataclasses import dataclass, replace
 from functools import partial
 
 from propbench.model.answers import Answer
 from propbench.model.shrinking import shrunk
+from propbench.program import OutOfTime
 from propbench.questions.asking import CellLike, answered, cell_named
 from propbench.questions.bench import Bench
 from propbench.questions.certificate import Certificate, Evidence
@@ -43,37 +44,53 @@ class Job:
 @dataclass(frozen=True)
 class Heard:
     """What a session has answered: the replies as texts, with the kinds of the cells to read them
-    by, the sides of choices that are believed; or the premises of a conflict, none to spare."""
+    by, the sides of choices that are believed; or the premises of a conflict, none to spare unless
+    there was no time to find that out."""
 
     replies: tuple[str, ...] = ()
     kinds: tuple[str, ...] = ()
     inside: tuple[str, ...] = ()
     conflict: tuple[str, ...] | None = None
+    is_cut: bool = False
 
 
-def run_job(job: Job) -> Heard:
-    """Asks for a scenario in a fresh session. Raises as `Session` does."""
+def run_job(job: Job) -> Heard | None:
+    """Asks for a scenario in a fresh session; None where there was no time. Raises as `Session`
+    does."""
+    clock = Clock(job.seconds, None)
     with Session(job.program) as session:
-        session.send_all([*job.base, *job.lines])
-        end = session.send("settle", seconds=job.seconds)
-        if isinstance(end, Contradiction):
-            return Heard(conflict=shrunk(session, job.believed, end.premises))
-        replies = session.look([*(f"why {cell}" for cell in job.cells), "worldview"])
-        world = replies.pop()
-        inside = world.inside if isinstance(world, Worldview) else ()
-        kinds = tuple(session.known.cells[cell] for cell in job.cells)
-        return Heard(tuple(map(str, replies)), kinds, inside)
+        session.end_by(clock.latest)
+        try:
+            return _heard(session, job, clock)
+        except OutOfTime:
+            return None
+
+
+def _heard(session: Session, job: Job, clock: Clock) -> Heard:
+    """What a fresh session answers. Raises OutOfTime."""
+    session.send_all([*job.base, *job.lines])
+    end = session.send("settle", seconds=clock.seconds_left())
+    if isinstance(end, Contradiction):
+        conflict = shrunk(session, job.believed, end.premises, clock.seconds_left())
+        return Heard(conflict=conflict, is_cut=clock.is_over())
+    replies = session.look([*(f"why {cell}" for cell in job.cells), "worldview"])
+    world = replies.pop()
+    inside = world.inside if isinstance(world, Worldview) else ()
+    kinds = tuple(session.known.cells[cell] for cell in job.cells)
+    return Heard(tuple(map(str, replies)), kinds, inside)
 
 
 class Row(dict[str, Answer]):
     """The answers of a scenario by the names of cells. Where what is believed then can't all hold,
-    there are none, and `conflict` has premises of which none can be left out."""
+    there are none, and `conflict` has premises of which none can be left out, as far as there was
+    time to find that out."""
 
     conflict: Premises | None = None
 
 
 class Scenarios(Shown, dict[str, Row]):
-    """Rows by name, in the order in which they were given, with an answer for each column."""
+    """Rows by name, in the order in which they were given, with an answer for each column. Of those
+    for which there was no time there is no row."""
 
     def __init__(
         self,
@@ -138,32 +155,51 @@ class Asking:
         self._heard: dict[str, Heard] = {}
 
     def here(self) -> None:
-        """Asks one scenario after the other in this process."""
-        for name, job in self.jobs.items():
-            self._hear(name, run_job(replace(job, seconds=self._clock.seconds_left())))
+        """Asks one scenario after the other in this process, as long as there is time."""
+        try:
+            for name, job in self.jobs.items():
+                self._hear(name, self._asked(job))
+        finally:
+            self._clock.end()
+
+    def by_threads(self) -> None:
+        """Asks them side by side, each by a program of its own."""
+        with ThreadPoolExecutor(os.cpu_count()) as threads:
+            self._by({n: _submitted(threads, self._asked, job) for n, job in self.jobs.items()})
 
     def by(self, executor: Executor) -> None:
         """Has an executor ask all scenarios. One that it has no answer for is asked again here: so
         a worker that dies costs the time of its scenario."""
-        futures = {name: _submitted(executor, job) for name, job in self.jobs.items()}
+        self._by({name: _submitted(executor, run_job, job) for name, job in self.jobs.items()})
+
+    def _by(self, futures: "Mapping[str, Future[Heard | None] | None]") -> None:
+        """Hears what is asked by others, as long as there is time."""
         try:
             for name, future in futures.items():
-                self._hear(name, _result(future) or run_job(self.jobs[name]))
-        except BaseException:
+                self._hear(name, _result(future, self._clock) or self._asked(self.jobs[name]))
+        finally:
+            self._clock.end()
             for future in futures.values():
                 if future is not None:
                     future.cancel()
-            raise
 
-    def _hear(self, name: str, heard: Heard) -> None:
-        self._heard[name] = heard
-        self._clock.tell(f"{len(self._heard)} of {len(self.jobs)} scenarios")
+    def _asked(self, job: Job) -> Heard | None:
+        """What comes of a scenario, None where there is no time."""
+        if self._clock.is_over():
+            return None
+        return run_job(replace(job, seconds=self._clock.seconds_left()))
+
+    def _hear(self, name: str, heard: Heard | None) -> None:
+        if heard is not None:
+            self._heard[name] = heard
+            self._clock.tell(f"{len(self._heard)} of {len(self.jobs)} scenarios")
 
     def result(self) -> Scenarios:
         """The table as far as it was asked for."""
         rows = {name: self._row(heard) for name, heard in self._heard.items()}
         answers = [answer for row in rows.values() for answer in row.values()]
-        is_all = len(rows) == len(self.jobs) and all(answer.settled for answer in answers)
+        is_cut = len(rows) < len(self.jobs) or any(each.is_cut for each in self._heard.values())
+        is_all = not is_cut and all(answer.settled for answer in answers)
         return Scenarios(self.columns, rows, is_all, self._certificate())
 
     def _row(self, heard: Heard) -> Row:
@@ -211,20 +247,22 @@ def _replies(model: Model, columns: Sequence[str], heard: Heard) -> Iterator[Val
         yield reply
 
 
-def _submitted(executor: Executor, job: Job) -> "Future[Heard] | None":
+def _submitted(
+    executor: Executor, ask: Callable[[Job], Heard | None], job: Job
+) -> "Future[Heard | None] | None":
     """A job on its way, None where the executor takes none any more."""
     try:
-        return executor.submit(run_job, job)
+        return executor.submit(ask, job)
     except RuntimeError:
         return None
 
 
-def _result(future: "Future[Heard] | None") -> Heard | None:
-    """What a job came to, None where its worker died or could not ask."""
+def _result(future: "Future[Heard | None] | None", clock: Clock) -> Heard | None:
+    """What a job came to, None where its worker died or could not ask in time."""
     # (What an executor raises where a worker dies is its own: so nothing is told apart here. The
     # scenario is asked again, which raises what is wrong with it, if anything is.)
     try:
-        return None if future is None else future.result()
+        return None if future is None else future.result(clock.reply_left())
     except Exception:
         return None
 
@@ -260,5 +298,4 @@ def sweep(
     asking = Asking(bench, named, show, clock)
     if executor is not None:
         return answered(partial(asking.by, executor), asking.result)
-    with ThreadPoolExecutor(os.cpu_count()) as threads:
-        return answered(partial(asking.by, threads), asking.result)
+    return answered(asking.by_threads, asking.result)

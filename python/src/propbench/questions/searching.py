@@ -6,6 +6,7 @@ more of these; beyond that it goes on here, by cases of cells within one another
 
 from collections.abc import Iterable, Sequence
 
+from propbench.program import OutOfTime
 from propbench.questions.model import Plan
 from propbench.questions.outcomes import Cannot, Fits, Fork, Open, Outcome
 from propbench.questions.rooms import Room, around, halves, room_left, single
@@ -13,20 +14,27 @@ from propbench.questions.trial import Case, Seen, Trial
 from propbench.replies import Contradiction, Settled
 from propbench.values import Held
 
-# No more cases lie within one another.
-_DEEPEST = 300
+# No more cases of a search lie within one another.
+_DEEPEST = 250
+_NO_TIME = Open("there was no time for more")
 
 
 def decided(trial: Trial, premises: Iterable[str], told: Sequence[Case] = ()) -> Outcome:
     """Whether there is a plan with these premises, within what is supposed."""
-    return _searched(trial, tuple(premises), tuple(told))
+    try:
+        return _searched(trial, tuple(premises), tuple(told), 0)
+    except OutOfTime:
+        return _NO_TIME
 
 
 def decided_each(
     trial: Trial, premises: Sequence[str], many: Sequence[tuple[Case, ...]]
 ) -> list[Outcome]:
     """The same for each of these, which are tried in one go."""
-    looked = zip(many, trial.look_each(premises, many))
+    try:
+        looked = zip(many, trial.look_each(premises, many))
+    except OutOfTime:
+        return [_NO_TIME for _ in many]
     quick = [(told, _quickly(trial, premises, seen)) for told, seen in looked]
     return [outcome or decided(trial, premises, told) for told, outcome in quick]
 
@@ -49,7 +57,10 @@ def _plan_in(trial: Trial, premises: Sequence[str], seen: Seen) -> Fits | None:
     return None if trial.model.violated(plan, premises) else Fits(plan, values)
 
 
-def _searched(trial: Trial, premises: tuple[str, ...], told: tuple[Case, ...]) -> Outcome:
+def _searched(
+    trial: Trial, premises: tuple[str, ...], told: tuple[Case, ...], depth: int
+) -> Outcome:
+    """What comes of a search, which is a case of so many others."""
     while not trial.clock.is_over():
         trial.clock.tick()
         seen = trial.look(premises, told)
@@ -60,15 +71,15 @@ def _searched(trial: Trial, premises: tuple[str, ...], told: tuple[Case, ...]) -
         loose = [cell for cell, held in seen.items() if single(held) is None]
         if not loose:
             fits = _plan_in(trial, premises, seen)
-            return fits or _forked(trial, premises, told, _beside(trial, seen, told))
+            return fits or _forked(trial, premises, told, _beside(trial, seen, told), depth)
         if trial.cover_forks(seen):
             continue
         corner = _corner(trial, premises, told, seen)
         if corner:
             return corner
         if not trial.cover_some(loose):
-            return _forked(trial, premises, told, _halved(trial, loose, seen, told))
-    return Open("there was no time for more")
+            return _forked(trial, premises, told, _halved(trial, loose, seen, told), depth)
+    return _NO_TIME
 
 
 def _corner(
@@ -116,9 +127,10 @@ def _forked(
     premises: tuple[str, ...],
     told: tuple[Case, ...],
     fork: tuple[str, list[Room]] | None,
+    depth: int,
 ) -> Outcome:
     """What comes of the cases of a cell."""
-    if fork is None or len(told) >= _DEEPEST:
+    if fork is None or depth >= _DEEPEST:
         return Open("the program settles on values that do not hold")
     cell, parts = fork
     # (The cases cover what is left of the cell only where it is what it was supposed to be.)
@@ -126,7 +138,7 @@ def _forked(
     trees = []
     left: Open | None = None
     for part in parts:
-        outcome = _searched(trial, premises, (*told, (cell, part)))
+        outcome = _searched(trial, premises, (*told, (cell, part)), depth + 1)
         if isinstance(outcome, Fits):
             return outcome
         if isinstance(outcome, Open):

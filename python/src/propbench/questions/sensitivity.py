@@ -1,9 +1,9 @@
 """What each premise is worth: what becomes of a cell where it is left out, or says half as much."""
 
-from collections.abc import Iterator, Sequence
+from collections.abc import Iterable, Iterator, Sequence
 from dataclasses import dataclass
 
-from propbench.listing import told_by
+from propbench.listing import Statement, told_by
 from propbench.questions.asking import CellLike, answered, cell_named, tried, whole_named
 from propbench.questions.bench import Bench
 from propbench.questions.bounding import Bounding, Optimum, bounding_in
@@ -49,7 +49,8 @@ class Sensitivity(Shown, list[Worth]):
         self._certificate = certificate
 
     def headline(self) -> str:
-        return f"{self.cell} is {self.now}, and{'' if self.complete else ', as far as is known,'}:"
+        now = "not known" if self.now is None else self.now
+        return f"{self.cell} is {now}, and{'' if self.complete else ', as far as is known,'}:"
 
     def heads(self) -> Sequence[str]:
         return ("premise", "says", _OUT, _HALF)
@@ -62,13 +63,13 @@ def of_answers(
     bench: Bench, cell: CellLike, seconds: float | None, progress: Progress | None
 ) -> Sensitivity:
     """What becomes of the answer for a cell."""
-    model, name = bench.model, cell_named(bench.model, cell)
+    clock, model, name = Clock(seconds, progress), bench.model, cell_named(bench.model, cell)
+    told = told_by(line for line in model.base() if line.split()[:1] == ["tell"]).premises
     scenarios = {_NOW: Change()}
     for premise in model.believed():
         scenarios[premise, _OUT] = Change(kick=(premise,))
-        if halves := tuple(_halves(model, premise)):
+        if halves := tuple(_halves(model, premise, told.get(model.line_name(premise), []))):
             scenarios[premise, _HALF] = Change(tell=halves)
-    clock = Clock(seconds, progress)
     keys = {str(number): key for number, key in enumerate(scenarios)}
     asking = Asking(bench, dict(zip(keys, scenarios.values())), [name], clock)
 
@@ -94,10 +95,10 @@ def _value(row: Row, cell: str) -> object:
     return f"conflict: {row.conflict}" if row.conflict is not None else row[cell].value
 
 
-def _halves(model: Model, premise: str) -> Iterator[tuple[object, ...]]:
+def _halves(model: Model, premise: str, told: Iterable[Statement]) -> Iterator[tuple[object, ...]]:
     """What a premise tells of the user's numbers, with ranges that are half as wide."""
     cells = {model.cell_name(cell): cell for cell in model.cells()}
-    for stated in told_by(model.base()).premises.get(model.line_name(premise), []):
+    for stated in told:
         held = value_of(stated.value, "span") if stated.value[-1:].isdigit() else None
         if not isinstance(held, Span) or -MOST in (held.low, -held.high):
             continue
@@ -116,6 +117,8 @@ def of_optimum(
 
     def run() -> None:
         for premise in ("", *believed):
+            if trial.clock.is_over():
+                break
             others = [each for each in believed if each != premise]
             found[premise] = bounding_in(trial, others, name, sort)
             found[premise].run()

@@ -5,9 +5,10 @@ here; what is supposed for a while is told under premises of the trial's own, wh
 """
 
 from collections import OrderedDict
-from collections.abc import Collection, Iterable, Sequence
+from collections.abc import Callable, Collection, Iterable, Sequence
 
 from propbench.closing import Closing
+from propbench.program import OutOfTime
 from propbench.questions.checker import MOST, digits
 from propbench.questions.clock import Clock
 from propbench.questions.model import Model, Plan
@@ -53,7 +54,9 @@ def mark_for(base: Iterable[str], form: str = "_q{}_") -> str:
 
 
 class Trial(Closing):
-    """A second session of a model's network, with choices that cover what may be."""
+    """A second session of a model's network, with choices that cover what may be.
+
+    Where its clock has an end, it lasts no longer: what is asked of it then raises OutOfTime."""
 
     def __init__(self, model: Model, basis: Collection[str], clock: Clock) -> None:
         """A session in which these premises will always be believed. Raises as `Session` does."""
@@ -79,7 +82,9 @@ class Trial(Closing):
         self._corners, self._has_corner = f"{self.mark}corner", False
         # What no symbol of the user's begins with.
         self._others = mark_for(self.base, "other{}_")
-        self._asks = [f"ask {line}" for line in self.cell_line.values()]
+        # What asks for what is known of the user's cells, without a step.
+        asks = [f"ask {line}" for line in self.cell_line.values()]
+        self._asks = ["limit 0", *asks, f"limit {_STEPS}"]
         first = [
             (each.is_from_top, cell, place)
             for place, each in enumerate(model.first())
@@ -89,10 +94,22 @@ class Trial(Closing):
         self._from_top = {cell for is_from_top, cell, _ in first if is_from_top}
         # Whether the last look saw values: then the next one asks for them at once.
         self._expects_values = False
-        self.session = model.session.fresh()
-        self._is_open = True
+        # Until something is seen, all that a cell is declared to have is left for it.
+        kinds = dict(line.split()[1:3] for line in self.base if line.split()[0] == "cell")
+        self.whole = {cell: self._whole(cell, kinds[line]) for cell, line in self.cell_line.items()}
+        self.rooms = {cell: self._declared(cell) for cell in self.cells}
+        self._choices_left = 0
+        self._start(self._begin)
+
+    def _start(self, begin: Callable[[], None]) -> None:
+        """Starts a session, and has it begin so, as far as there is time."""
+        self.session = self.model.session.fresh()
+        self.session.end_by(self.clock.latest)
+        self._is_open, self._is_late = True, False
         try:
-            self._begin()
+            begin()
+        except OutOfTime:
+            self._is_late = True
         except BaseException:
             self.close()
             raise
@@ -104,15 +121,11 @@ class Trial(Closing):
 
     def be_open(self) -> None:
         """Begins the session anew where it has ended, with all choices that were made."""
-        if self._is_open:
-            return
-        self.session = self.model.session.fresh()
-        self._is_open = True
-        try:
-            self.session.send_all([*self._stated(), *self._base_choices(), *self._chosen])
-        except BaseException:
-            self.close()
-            raise
+        if not self._is_open:
+            self._start(self._begin_again)
+
+    def _begin_again(self) -> None:
+        self._sent([*self._stated(), *self._base_choices(), *self._chosen])
         self._inside = {self.line[premise] for premise in self.basis}
         self._cases.clear()
         self._new.clear()
@@ -131,24 +144,43 @@ class Trial(Closing):
         return [*made, *kicks, *brings, f"limit {_STEPS}"]
 
     def _begin(self) -> None:
-        chosen = self._base_choices()
-        self._choices_left = _CHOICES - len(chosen)
         forks = list(self.model.forks())
-        self.session.send_all(self._stated())
-        asks = [*self._asks, *(f"ask {fork}" for fork in forks)]
-        replies = self.session.send_all([*asks, *chosen])
-        self._inside = {self.line[premise] for premise in self.basis}
-        held = self._values(replies)
-        known = map(_held_in, replies[len(self._asks) :])
-        self._forks = [fork for fork, it in zip(forks, known) if isinstance(it, Nothing)]
-        # All that a cell may have, and what is left of that whatever the choices take.
-        self.whole = {cell: self._whole(cell) for cell in self.cells}
+        self._sent(self._stated())
+        for _ in (*self.cells, *forks):
+            (end,) = self._sent(["settle"])
+            if not isinstance(end, Unsettled) or self.clock.is_over():
+                break
+            self.clock.tick()
+        held = self._values(self._sent(self._asks))
+        # What is left for cells whatever the choices take.
         self.rooms = {cell: room_left(held[cell], self.whole[cell]) for cell in self.cells}
+        chosen = self._base_choices()
+        asks = ["limit 0", *(f"ask {fork}" for fork in forks), f"limit {_STEPS}"]
+        known = map(_held_in, self._sent([*asks, *chosen])[1:])
+        self._forks = [fork for fork, it in zip(forks, known) if isinstance(it, Nothing)]
+        self._choices_left = _CHOICES - len(chosen)
+        self._inside = {self.line[premise] for premise in self.basis}
 
-    def _whole(self, cell: str) -> Room | None:
-        """All values that a cell may have; None for a symbol."""
-        kind = self.session.known.cells[self.cell_line[cell]]
+    def _sent(self, lines: Sequence[str]) -> list[Reply]:
+        """The replies to lines. Raises OutOfTime."""
+        if self._is_late:
+            raise OutOfTime
+        try:
+            return self.session.send_all(lines)
+        except OutOfTime:
+            self._is_late = True
+            raise
+
+    def _whole(self, cell: str, kind: str) -> Room | None:
+        """All values that a cell of a kind may have; None for a symbol."""
         return whole_room(None if kind == "span" else self._elements(cell), kind)
+
+    def _declared(self, cell: str) -> Room | None:
+        """The values that the declaration of a cell leaves; None for a symbol."""
+        candidates = self.model.candidates(cell)
+        if isinstance(candidates, range) and candidates:
+            return Numbers(candidates[0], candidates[-1])
+        return self.whole[cell]
 
     def _elements(self, cell: str) -> list[str] | None:
         """The names of a cell's elements on lines, None for a symbol."""
@@ -162,7 +194,7 @@ class Trial(Closing):
             self.clock.tick()
             (seen,) = self._looks([(["settle"], False)])
         if isinstance(seen, Settled):
-            seen = self._values(self.session.send_all(self._asks))
+            seen = self._values(self._sent(self._asks))
         self._expects_values = isinstance(seen, dict)
         return seen
 
@@ -184,7 +216,7 @@ class Trial(Closing):
         to be asked for."""
         asks = self._asks
         sent = [line for lines, has_asks in looks for line in (*lines, *(asks if has_asks else ()))]
-        replies = iter(self.session.send_all(sent))
+        replies = iter(self._sent(sent))
         self.session.drop_lines()
         found: list[Seen] = []
         for lines, has_asks in looks:
@@ -196,7 +228,7 @@ class Trial(Closing):
 
     def _values(self, replies: Sequence[Reply]) -> dict[str, Held]:
         """What is left for each of the user's cells, on the list of sides that is believed."""
-        return {cell: _held_in(reply) for cell, reply in zip(self.cells, replies)}
+        return {cell: _held_in(reply) for cell, reply in zip(self.cells, replies[1:])}
 
     def cases_of(self, told: Iterable[Case]) -> list[str]:
         """The premises under which cases are told."""

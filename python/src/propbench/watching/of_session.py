@@ -1,11 +1,13 @@
 """A session as views see it: its cells, the procedures and compounds on them, its premises."""
 
 from collections.abc import Sequence
+from contextlib import suppress
 
 from propbench.grammar import ASKING
 from propbench.known import Known
 from propbench.listing import Told
 from propbench.model.kinds import point_text
+from propbench.program import OutOfTime
 from propbench.questions.asking import so_far
 from propbench.questions.bounding import Optimum, find_optimum
 from propbench.questions.clock import Clock
@@ -18,7 +20,7 @@ from propbench.watching import Best
 from propbench.watching.claims import Claim, Source, Wording, claim_of
 from propbench.watching.instances import Instances, how_of, listing_of, named
 from propbench.watching.lines import Lines
-from propbench.watching.mending import Mending, mended
+from propbench.watching.mending import NOT_MENDED, Mending, mended
 from propbench.watching.network import Clash, Network, Reason, Seen, Shown
 from propbench.watching.session_model import SessionModel
 from propbench.watching.steps import Call, Reading, Steps
@@ -81,9 +83,13 @@ class SessionWatched:
         return {choice: side for (choice, side), each in self._wishes.items() if each in believed}
 
     def mend(self, progress: Telling | None = None, seconds: float | None = None) -> Mending:
+        clock = Clock(seconds, progress)
         with self.session.fresh() as other:
-            other.send_all(self.lines())
-            return mended(other, self._believed(), _MOST_MENDS, Clock(seconds, progress))
+            other.end_by(clock.latest)
+            with suppress(OutOfTime):
+                other.send_all(self.lines())
+                return mended(other, self._believed(), _MOST_MENDS, clock)
+        return NOT_MENDED
 
     def without(self, premises: Sequence[str], progress: Progress | None = None) -> Seen:
         with self.session.fresh() as other:

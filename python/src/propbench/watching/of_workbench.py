@@ -21,6 +21,7 @@ from propbench.model.reading import Reader
 from propbench.model.saving import saved
 from propbench.questions.asking import so_far
 from propbench.questions.bounding import Optimum
+from propbench.questions.clock import Clock
 from propbench.questions.clock import Progress as Telling
 from propbench.questions.conflicts import Conflicts, Repairs, find_conflicts, find_repairs
 from propbench.replies import Called, Contradiction, Value, Worldview
@@ -145,13 +146,12 @@ class WorkbenchWatched:
         return {choice: side for (choice, side), each in self._wishes.items() if believed.get(each)}
 
     def mend(self, progress: Telling | None = None, seconds: float | None = None) -> Mending:
-        model = self.workbench.model
+        model, clock = self.workbench.model, Clock(seconds, progress)
         conflicts = so_far(
             lambda: find_conflicts(model, (), _MOST_MENDS, seconds, progress), Conflicts
         )
-        repairs = so_far(
-            lambda: find_repairs(model, {}, (), _MOST_MENDS, seconds, progress), Repairs
-        )
+        left = clock.seconds_left()
+        repairs = so_far(lambda: find_repairs(model, {}, (), _MOST_MENDS, left, progress), Repairs)
         return Mending(
             tuple(each.names for each in conflicts),
             tuple(each.names for each in repairs),

@@ -8,6 +8,12 @@ const EVERY = 1500;
 // So many rows the table of cells has at the most.
 const ROWS = 200;
 
+// What is said where there is no cell.
+const EMPTY = "There is nothing yet. Open “The plain lines” below, and send a line: “cell x span”"
+  + " makes a number x, “tell me x 3..5” says what you know of it, “why x” asks what follows.";
+const EMPTY_WORKBENCH = "There is nothing yet: make a cell in Python, as w.number(\"x\", 0, 9), and"
+  + " load this page anew.";
+
 // A node with texts and nodes in it.
 function made(tag, attributes, ...inner) {
   const node = document.createElement(tag);
@@ -131,6 +137,8 @@ function build() {
   at("proved").classList.toggle("unproved", !state.proved);
   at("save").hidden = state.file === null;
   at("line-form").hidden = state.workbench;
+  at("empty").hidden = network.cells.length > 0;
+  at("empty").textContent = state.workbench ? EMPTY_WORKBENCH : EMPTY;
   at("premises").replaceChildren(...network.premises.map(premise));
   at("choices").replaceChildren(...network.choices.map(choice));
   at("choices-head").hidden = !network.choices.length;
