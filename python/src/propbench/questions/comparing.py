@@ -21,7 +21,7 @@ class Snapshot:
     believed: frozenset[str]
     answers: Mapping[str, Answer]
     conflict: tuple[str, ...] | None
-    certificate: Certificate
+    certificate: Certificate | None
 
 
 @dataclass(frozen=True)
@@ -40,7 +40,7 @@ class Differences(Shown, list[Difference]):
 
     complete = True
 
-    def __init__(self, found: Iterable[Difference], certificate: Certificate) -> None:
+    def __init__(self, found: Iterable[Difference], certificate: Certificate | None) -> None:
         super().__init__(found)
         self._certificate = certificate
 
@@ -67,7 +67,7 @@ def snapshot_of(bench: Bench) -> Snapshot:
     row = table["now"]
     says = {premise: model.text(premise) for premise in model.premises()}
     conflict = None if row.conflict is None else row.conflict.names
-    return Snapshot(says, frozenset(model.believed()), dict(row), conflict, table.certificate)
+    return Snapshot(says, frozenset(model.believed()), dict(row), conflict, table._certificate)
 
 
 def differences(before: Snapshot, now: Snapshot) -> Differences:
