@@ -392,21 +392,45 @@ BUGS = [
     ),
     Bug(
         "questions/checker.py",
-        "demand(single and {*plan} >= cells,",
-        "demand(single,",
-        "certificates::plans_of_the_evidence_spoilt",
+        "if cell not in plan]",
+        "if cell not in plan and cell[0] != '_']",
+        "spoilt::spoilt_ones_are_refused",
     ),
     Bug(
         "questions/checker.py",
-        "        self.believe(given)\n        tree = self.trees",
-        "        tree = self.trees",
+        "        self.believe(self.tries, given)\n",
+        "        demand(given, 'no premise')\n",
         "certificates::each_checks",
     ),
     Bug(
         "questions/checker.py",
-        'demand(not parts or covers(parts.split(" or "), room), f"a choice leaves out {cell}")',
-        'demand(parts or True, f"a choice leaves out {cell}")',
+        'demand(covers(rooms, self.rooms[cell]), f"a choice leaves out values of {cell}")',
+        'demand(rooms, f"a choice leaves out values of {cell}")',
         "certificates::a_choice_that_leaves_out_a_value",
+    ),
+    Bug(
+        "questions/checker.py",
+        'self.untold = [*used & {"divider", "parter", "" if listed else "local"}]',
+        'self.untold = [*used & {"" if listed else "local"}]',
+        "spoilt::spoilt_ones_are_refused",
+    ),
+    Bug(
+        "questions/checker.py",
+        "demand(kept <= every and all(s <= every - kept for s in sets + outs),",
+        "demand(all(s <= every for s in sets + outs),",
+        "spoilt::spoilt_ones_are_refused",
+    ),
+    Bug(
+        "questions/completing.py",
+        "                found[cell] = point\n",
+        "                pass\n",
+        "certificates::plans_that_give_up_a_premise",
+    ),
+    Bug(
+        "reports.py",
+        '        while name in found:\n            name += " once more"\n',
+        "",
+        "reports::what_is_spoilt_shows",
     ),
     # Plans over days.
     Bug(

@@ -65,10 +65,11 @@ def test_digits_tell_numbers_apart() -> None:
 def test_what_covers_a_room() -> None:
     for low, high in ENDS:
         for parts in combinations(ENDS, 2):
-            texts = [f"{first}..{last}" for first, last in parts]
+            rooms = [range(first, last + 1) for first, last in parts]
             there = {n for first, last in parts for n in range(first, last + 1)}
-            assert covers(texts, [low, high]) is (set(range(low, high + 1)) <= there)
-    assert covers(["no", "yes"], ["yes", "no"]) and not covers(["no"], ["yes", "no"])
+            assert covers(rooms, range(low, high + 1)) is (set(range(low, high + 1)) <= there)
+    no, yes = frozenset(["no"]), frozenset(["yes"])
+    assert covers([no, yes], no | yes) and not covers([no], no | yes)
 
 
 @pytest.mark.parametrize("found", permutations("abc"))

@@ -14,11 +14,13 @@ from conftest import TIMES
 from hypothesis import given, settings
 from hypothesis import strategies as st
 from lines_model import LineModel
+from modelling import Recipe, bench, built, truths
 
-from propbench import Session
+from propbench import Session, Workbench
 from propbench.desk import main
 from propbench.questions import Certificate, CertificateError, Plan
 from propbench.questions import checker as checker_file
+from propbench.questions import completing
 
 # Three wishes of which two fit, and a sum that nobody can choose: day + length == end.
 WISHES = """cell day span
@@ -95,7 +97,7 @@ def test_each_checks(found: dict[str, Certificate], tmp_path: Path) -> None:
 def test_the_checker_reads_nothing_else(found: dict[str, Certificate], tmp_path: Path) -> None:
     with open(checker_file.__file__, encoding="utf-8") as file:
         text = file.read()
-    assert text.count("\n") < 200 and "propbench." not in text
+    assert sum(map(bool, text.split("\n"))) < 250 and "propbench." not in text
     found["least"].save(tmp_path / "claim")
     (tmp_path / "alone.py").write_text(text)
     with Session() as session:
@@ -121,8 +123,12 @@ def test_a_changed_line_shows(found: dict[str, Certificate], tmp_path: Path) -> 
 def test_another_network_shows(found: dict[str, Certificate], tmp_path: Path) -> None:
     certificate = found["least"]
     assert certificate.check(base=["# a comment", *certificate.base])
-    with pytest.raises(CertificateError, match="another network"):
+    with pytest.raises(CertificateError, match="another network; gone since then: cell day span$"):
         certificate.check(base=certificate.base[1:])
+    with pytest.raises(CertificateError, match="another network; since then: kick late$"):
+        certificate.check(base=[*certificate.base, "kick late"])
+    with pytest.raises(CertificateError, match="its lines stand in another order$"):
+        certificate.check(base=[*certificate.base[1:], certificate.base[0]])
     (tmp_path / "saved").write_text("\n".join(["#: a note", *certificate.base, ""]))
     certificate.save(tmp_path / "claim")
     assert certificate.check(base=tmp_path / "saved")
@@ -220,6 +226,132 @@ def test_a_choice_that_leaves_out_a_value(found: dict[str, Certificate]) -> None
     evidence |= {"rooms": {"length": "3..9"}, "choices": [["length", "3 or 4 or 5"]]}
     lines = [found["least"].lines[0], json.dumps(claims), json.dumps(evidence), *WISHES]
     refused(signed(lines))
+
+
+def meeting() -> Workbench:
+    """Wishes for a meeting, of which not all fit; what is wished is worked out in inner cells."""
+    w = Workbench()
+    days, price, cost = (
+        w.number("days", 1, 30),
+        w.number("price", 0, 9000),
+        w.number("cost", 0, 20000),
+    )
+    w.require(cost == price * days)
+    w.tell("Ana", days, 4, 10)
+    w.require(cost + days <= 2500, under="cheap")
+    w.require((price >= 500) & (price % 7 == 3), under="comfort")
+    w.require((cost // days > 700) | (cost < 10), under="odd")
+    return w
+
+
+def test_plans_that_give_up_a_premise() -> None:
+    """What belongs to a premise that is given up is open: a certificate shows values for it too."""
+    with meeting() as w:
+        for found in (w.repairs(), w.conflicts()):
+            certificate = found.certificate
+            assert certificate.check()
+            _, evidence = parts(certificate)
+            inner = [
+                cell for plan in evidence["plans"] for cell in plan["values"] if cell[0] == "_"
+            ]
+            assert inner
+            for plan in evidence["plans"]:
+                for cell in [cell for cell in plan["values"] if cell[0] == "_"]:
+                    del plan["values"][cell]
+            refused(spoilt(certificate, evidence=evidence))
+
+
+def test_a_plan_that_cannot_be_made_whole(monkeypatch: pytest.MonkeyPatch) -> None:
+    monkeypatch.setattr(completing, "_TRIES", 0)
+    monkeypatch.setattr(completing, "_HANDS_ON", ())
+    with meeting() as w:
+        found = w.repairs()
+        with pytest.raises(ValueError, match="a plan leaves open cells that you never see"):
+            found.certificate
+        assert found.complete and found
+
+
+@settings(max_examples=12 * TIMES)
+@given(st.lists(truths, min_size=2, max_size=4))
+def test_random_wishes(program: str, recipes: list[Recipe]) -> None:
+    """A certificate that the package makes holds. (Of a wish that contradicts itself it may be that
+    it makes none: what is worked out for it alone has no values then.)"""
+    made = bench(program)
+    with made.workbench as w:
+        for number, each in enumerate(recipes):
+            w.require(built(each, made.cells), under=f"w{number}")
+        for found in (w.conflicts(), w.repairs()):
+            try:
+                certificate = found.certificate
+            except ValueError as error:
+                assert "no values were found" in str(error)
+                continue
+            assert certificate.check(program)
+
+
+def test_what_is_claimed_is_told_in_words(
+    tmp_path: Path, capsys: pytest.CaptureFixture[str]
+) -> None:
+    """As the page has it: with the hotel at 900 or the university at 300 a day."""
+    with Workbench() as w:
+        days, price, cost = (w.number(name, 0, 9000) for name in ("days", "price", "cost"))
+        w.choose("venue", {"hotel": [price == 900], "uni": [price == 300]})
+        w.require(cost == price * days)
+        w.tell("Ana", days, 4, 10)
+        w.require(cost <= 2500, under="cheap")
+        w.require(price >= 500, under="comfort")
+        w.save(tmp_path / "all.prop")
+        w.repairs().certificate.save(tmp_path / "repairs.claim")
+        w.kick("comfort")
+        w.save(tmp_path / "plan.prop")
+        w.least(cost).certificate.save(tmp_path / "least.claim")
+        w.plans([days, price]).certificate.save(tmp_path / "plans.claim")
+        table = w.scenarios({"Ben": dict(tell=[("Ben", days, 7, 9)])}, [cost])
+        table.certificate.save(tmp_path / "table.claim")
+        (tmp_path / "none.prop").write_text("")
+
+    def told(name: str, base: str | None = None) -> list[str]:
+        words = ["check", str(tmp_path / f"{name}.claim")]
+        status = main(words + (["--base", str(tmp_path / f"{base}.prop")] if base else []))
+        out = capsys.readouterr().out.split("\n")
+        assert status == (0 if "certificate holds" in out[0] else 1)
+        return out
+
+    assert told("least", "plan")[1] == (
+        "- With Ana and cheap, cost is at least 1200, with this plan: days = 4, price = 300, "
+        "cost = 1200."
+    )
+    assert told("repairs", "all")[1:4] == [
+        "- Ana, cheap and comfort can't all hold, but without any one of them.",
+        "- There is no other least conflict among Ana, cheap and comfort.",
+        "- The rest of Ana, cheap and comfort fits without Ana; or cheap; or comfort, and in no "
+        "other least way.",
+    ]
+    assert told("plans", "plan")[1].startswith(
+        "- With Ana and cheap, there are these 5 plans over days and price, no others: days = 4, "
+        "price = 300; days = 5,"
+    )
+    assert told("table", "plan")[1] == (
+        "- With Ana and cheap, the program is asked where days = 7..9, and answers cost = 2100..2400."
+    )
+    assert "--base FILE compares" in told("least")[2]
+    assert told("least", "all")[0] == (
+        "The certificate doesn't hold: it is of another network; gone since then: kick comfort"
+    )
+    assert "gone since then: cell _yes truth, " in told("least", "none")[0]
+
+
+def test_what_is_no_certificate_is_told_in_words(
+    tmp_path: Path, capsys: pytest.CaptureFixture[str]
+) -> None:
+    for second in ("[" * 100_000, "[" * 100_000 + "]" * 100_000, "[NaN]", "9" * 9999, "", "\udcff"):
+        lines = [checker_file.HEAD, second, "{}", "cell x span"]
+        text = "\n".join(lines).encode("utf-8", "surrogateescape")
+        path = tmp_path / "claim"
+        path.write_bytes(text + b"\n" + hashlib.sha256(text).hexdigest().encode() + b"\n")
+        assert main(["check", str(path)]) == 1
+        out = capsys.readouterr().out
+        assert out.startswith("The certificate doesn't hold: ") and "Error" not in out
 
 
 @settings(max_examples=30 * TIMES)

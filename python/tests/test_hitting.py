@@ -48,7 +48,7 @@ def test_each_least_set_comes_once_cheapest_first(drawn: tuple[list[float], list
 def test_many_sets_are_hit_soon() -> None:
     """Of 24 names in a ring two each that stand side by side: the least ways to hit all these pairs
     are few beside all ways to take one of each."""
-    ring = [{f"{number}", f"{(number + 1) % 24}"} for number in range(24)]
+    ring = [frozenset((f"{number}", f"{(number + 1) % 24}")) for number in range(24)]
     found = {frozenset(each) for each in hitting(ring)}
     assert all(each & pair for each in found for pair in ring)
     assert min(map(len, found)) == 12 and len(found) == 853

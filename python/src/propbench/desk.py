@@ -7,11 +7,12 @@ from collections.abc import Sequence
 from contextlib import suppress
 from pathlib import Path
 
-from propbench.checking import NoReport, check_file
+from propbench.checking import check_file
 from propbench.finding import NoProgram
 from propbench.pictures import NoGraphviz, picture_of
 from propbench.program import ProgramEnded
 from propbench.refusals import Refused
+from propbench.reports import NoReport
 from propbench.running import Way, lines_of, run_as_json, run_file, told_of
 from propbench.session import ORDERS
 from propbench.showing import printable, said_of
@@ -67,8 +68,8 @@ def parser() -> argparse.ArgumentParser:
         "check",
         help="hold a report of run --json, or a certificate, against the program",
         description="Carries out the lines of a report in a fresh session, and compares each answer"
-        " with that of the report; or asks what shows the claims of a certificate. Says what"
-        " differs, and ends with status 1 then.",
+        " with that of the report; or asks what shows the claims of a certificate, and tells these"
+        " in words. Says what differs, and ends with status 1 then.",
     )
     check.add_argument(
         "file", metavar="FILE", help="what `propdesk run --json` wrote, or a saved certificate"

@@ -21,7 +21,8 @@ _MISSING = "(nothing was told)"
 @dataclass(frozen=True)
 class Overview:
     """The values of the cells, in the order in which they were made; or the premises that can't all
-    hold. `plan` has the sides on which the choices stand."""
+    hold. `plan` has the sides on which the choices stand. `steps` tells after how many steps the run
+    was cut by the clock, None where it wasn't."""
 
     settled: bool
     conflict: tuple[str, ...] | None
@@ -29,6 +30,7 @@ class Overview:
     plan: tuple[str, ...]
     told: Told
     proved: bool
+    steps: int | None = None
 
     def named(self, premise: str) -> str:
         """A premise, or what a side of a choice says."""
@@ -79,7 +81,10 @@ def overview(
 ) -> Overview:
     """All that follows now, found by a run that is cut after so many seconds."""
     end = session.send("settle", seconds=seconds, progress=progress)
-    told = told_by(session.lines)
+    lines = session.lines
+    told = told_by(lines)
+    # (a run that was cut stands between its steps and the limit that was in force)
+    steps = int(lines[-3].split()[1]) if lines[-1] != "settle" else None
     if isinstance(end, Contradiction):
         return Overview(True, end.premises, (), (), told, session.proved)
     replies = session.look([*(f"why {cell}" for cell in session.known.cells), "worldview"])
@@ -87,4 +92,4 @@ def overview(
     plan: tuple[str, ...] = ()
     if told.choices and isinstance(replies[-1], Worldview):
         plan = tuple(name for name in replies[-1].inside if told.side(name))
-    return Overview(is_settled(end), None, values, plan, told, session.proved)
+    return Overview(is_settled(end), None, values, plan, told, session.proved, steps)

@@ -142,12 +142,17 @@ def _name_of(path: str) -> str:
     return "standard input" if path == "-" else printable(path)
 
 
-def report(session: Session, name: str, lines: list[str], way: Way) -> dict[str, object]:
+def report(
+    session: Session, name: str, lines: list[str], way: Way, steps: int | None = None
+) -> dict[str, object]:
     """What a run of the lines tells, as values that JSON has, with the lines and how they were run.
-    Refusals are told on standard error too."""
+    Refusals are told on standard error too. The run for the table is cut by the clock, or after so
+    many steps, where these are given."""
     ran = FileRun(session, name, way.keep_going)
     reached = ran.run(lines, None, sys.stderr)
-    end = overview(session, way.seconds) if reached else None
+    if reached and steps is not None:
+        session.send(f"limit {steps}")
+    end = overview(session, way.seconds if steps is None else None) if reached else None
     return {
         "file": ran.name,
         "lines": lines,
@@ -159,6 +164,7 @@ def report(session: Session, name: str, lines: list[str], way: Way) -> dict[str,
         ],
         "refused": [_refused_as_json(refused) for refused in ran.refused],
         "settled": end is not None and end.settled,
+        "steps": None if end is None else end.steps,
         "conflict": None if end is None or end.conflict is None else list(end.conflict),
         "plan": [] if end is None else list(end.plan),
         "cells": {

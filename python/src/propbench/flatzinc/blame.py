@@ -5,6 +5,7 @@ those of the workbench, with their certificate; the model is then solved without
 that the cheapest repair gives up.
 """
 
+import sys
 from collections.abc import Iterable, Iterator, Sequence
 from dataclasses import dataclass
 from pathlib import Path
@@ -37,8 +38,8 @@ class Asked:
 
 def blame_file(model: Path, data: Sequence[Path], asked: Asked, program: str | None) -> int:
     """Prints the conflicts and repairs of a model, and a solution without what the cheapest gives
-    up. Gives the exit status: 0, and 1 where it wasn't found out in time. Raises ValueError,
-    OSError, and as `Session` does."""
+    up. Gives the exit status: 0, and 1 where it wasn't found out in time, or no certificate can
+    show it. Raises ValueError, OSError, and as `Session` does."""
     made = compiled(model, data)
     with Workbench(program) as workbench:
         built = Built(made.flat, workbench)
@@ -49,7 +50,11 @@ def blame_file(model: Path, data: Sequence[Path], asked: Asked, program: str | N
     if asked.picture is not None:
         draw(asked.picture, dot_of(conflicts, repairs, made.texts))
     if asked.certificate is not None:
-        repairs.certificate.save(asked.certificate)
+        try:
+            repairs.certificate.save(asked.certificate)
+        except ValueError as error:
+            print(f"propdesk: {error}", file=sys.stderr)
+            return 1
     return 0 if repairs.complete else 1
 
 

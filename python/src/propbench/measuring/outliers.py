@@ -218,7 +218,7 @@ def find_outliers(
             premises = [*weeding.kept, *weeding.premises(mask)]
             evidence.add_tree(premises, [], tree)
             claims.append(("fails", {"given": evidence.lines_of(premises), "told": []}))
-        certificate = evidence.certificate(claims) if claims else None
+        certificate = evidence.certificate(claims)
         texts = {name: model.text(name) for name in readings}
         ordered = sorted(known, key=lambda each: (len(each), -each.share))
         return Outliers(ordered, weeding.complete, texts, certificate)

@@ -30,7 +30,7 @@ class Shaved(MeasuredAnswer):
         """What anyone can ask the program again. Raises ValueError where there is nothing to show."""
         if self._certificate is None:
             raise ValueError("there is nothing that a certificate could show")
-        return self._certificate
+        return self._certificate.finished()
 
 
 class Bench(Protocol):

@@ -152,7 +152,7 @@ class Bounding:
         """What is known by now."""
         evidence = Evidence.of(self.trial)
         claim = self.show(evidence)
-        certificate = evidence.certificate([claim]) if claim else None
+        certificate = evidence.certificate([claim] if claim else [])
         plan = self.trial.shown(self.fits.plan) if self.fits else None
         choices = self.trial.model.chosen(self.fits.plan) if self.fits else {}
         known = self.value, plan, self.bound, self.proved

@@ -3,27 +3,53 @@
 import hashlib
 import json
 import os
-from collections.abc import Iterable, Mapping, Sequence
+from collections import Counter
+from collections.abc import Callable, Iterable, Mapping, Sequence
 from dataclasses import dataclass, field
+from functools import partial
 
 from propbench.finding import find_wide
 from propbench.given import path_given
 from propbench.questions import checker
 from propbench.questions.checker import CertificateError
+from propbench.questions.completing import Completing
 from propbench.questions.model import Model
 from propbench.questions.outcomes import Fits, Fork
 from propbench.questions.trial import Trial
+from propbench.refusals import LimitReached
 from propbench.words import is_silent
 
+# What is said where a plan can't be shown.
+_OPEN = (
+    "there is no certificate of this: a plan leaves open cells that you never see, and no values "
+    "were found for these"
+)
+# So many lines are told that differ.
+_LINES = 5
 # What JSON has of a tree of cases: a cell, and its cases with what each comes to.
 Tree = list[object] | dict[str, str] | str | None
 
 
-@dataclass(frozen=True)
 class Certificate:
     """Claims, what shows them, and the lines that make the network, its base."""
 
-    lines: tuple[str, ...]
+    def __init__(
+        self, lines: Iterable[str], finish: Callable[[], Sequence[str]] | None = None
+    ) -> None:
+        """Of these lines, or of those that something gives once they are asked for."""
+        self._lines, self._finish = tuple(lines), finish
+
+    def finished(self) -> "Certificate":
+        """Itself, once it has its lines. Raises ValueError where a plan can't be shown, and as
+        `Session` does."""
+        if self._finish is not None:
+            self._lines, self._finish = tuple(self._finish()), None
+        return self
+
+    @property
+    def lines(self) -> tuple[str, ...]:
+        """The lines of the certificate. Raises as `finished`."""
+        return self.finished()._lines
 
     @property
     def base(self) -> tuple[str, ...]:
@@ -46,32 +72,45 @@ class Certificate:
         return check_lines(self.lines, find_wide(program).path)
 
     def save(self, path: str | os.PathLike[str]) -> None:
-        """Writes the certificate into a file, for `propdesk check`. Raises OSError."""
+        """Writes the certificate into a file, for `propdesk check`. Raises OSError; and as
+        `finished`, where nothing is written."""
+        lines = self.lines
         with open(path_given(path), "w", encoding="utf-8", newline="\n") as file:
-            file.writelines(f"{line}\n" for line in self.lines)
+            file.writelines(f"{line}\n" for line in lines)
 
 
 def check_base(lines: Sequence[str], base: str | os.PathLike[str] | Sequence[str]) -> None:
     """Raises CertificateError where the network of a certificate is not made of these lines, or
     those of a file, and OSError."""
     if isinstance(base, str | os.PathLike):
-        with open(base, encoding="utf-8") as file:
+        with open(base, encoding="utf-8", errors="surrogateescape", newline="\n") as file:
             base = file.read().split("\n")
-    if _said(base) != _said(lines[3:-1]):
-        raise CertificateError("the certificate is of another network")
+    now, then = _said(base), _said(lines[3:-1])
+    if now != then:
+        raise CertificateError(f"it is of another network; {_changes(then, now)}")
 
 
 def _said(lines: Iterable[str]) -> list[str]:
-    return [line.strip() for line in lines if not is_silent(line)]
+    return [line.strip(" \t\r") for line in lines if not is_silent(line)]
+
+
+def _changes(then: Sequence[str], now: Sequence[str]) -> str:
+    """What lines have come and gone."""
+    come, gone = Counter(now) - Counter(then), Counter(then) - Counter(now)
+    parts = [("since then", come), ("gone since then", gone)]
+    said = [f"{when}: {_some([*lines.elements()])}" for when, lines in parts if lines]
+    return "; ".join(said) or "its lines stand in another order"
+
+
+def _some(lines: Sequence[str]) -> str:
+    shown = ", ".join(lines[:_LINES])
+    return shown if len(lines) <= _LINES else f"{shown} and {len(lines) - _LINES} lines more"
 
 
 def check_lines(lines: Sequence[str], program: str) -> bool:
     """True where the program answers so that the lines of a certificate hold. Raises
     CertificateError, also for lines that are none."""
-    try:
-        return checker.check(lines, program)
-    except (ValueError, KeyError, TypeError, IndexError, AttributeError) as error:
-        raise CertificateError(f"this is no certificate: {error}") from error
+    return checker.check(lines, program)
 
 
 @dataclass
@@ -82,10 +121,11 @@ class Evidence:
     mark: str
     cells: Mapping[str, str]
     premises: Mapping[str, str]
+    program: str
     basis: list[str] = field(default_factory=list)
     rooms: dict[str, str] = field(default_factory=dict)
     choices: list[tuple[str, str]] = field(default_factory=list)
-    plans: list[dict[str, object]] = field(default_factory=list)
+    plans: list[tuple[list[str], dict[str, str]]] = field(default_factory=list)
     trees: list[tuple[object, Tree]] = field(default_factory=list)
 
     @staticmethod
@@ -97,17 +137,16 @@ class Evidence:
             if room is not None and room != trial.whole[cell]
         }
         basis = [trial.line[premise] for premise in trial.basis]
-        choices = list(trial.choices)
-        return Evidence(trial.base, trial.mark, trial.cell_line, trial.line, basis, rooms, choices)
+        names = trial.cell_line, trial.line, trial.session.program
+        return Evidence(trial.base, trial.mark, *names, basis, rooms, list(trial.choices))
 
     @staticmethod
     def without_trial(model: Model, mark: str) -> "Evidence":
         """That of a model for claims which need neither plans nor choices."""
         cells = {cell: model.cell_name(cell) for cell in model.cells()}
         premises = {premise: model.line_name(premise) for premise in model.premises()}
-        return Evidence(
-            [line for line in model.base() if not is_silent(line)], mark, cells, premises
-        )
+        base = [line for line in model.base() if not is_silent(line)]
+        return Evidence(base, mark, cells, premises, model.session.program)
 
     def lines_of(self, premises: Iterable[str]) -> list[str]:
         """The names of premises on lines, as the checker wants them."""
@@ -115,8 +154,7 @@ class Evidence:
 
     def add_plan(self, premises: Iterable[str], fits: Fits) -> None:
         """Adds a plan in which these premises hold."""
-        values = on_lines(self.cells, fits)
-        made: dict[str, object] = {"in": self.lines_of(premises), "values": values}
+        made = self.lines_of(premises), on_lines(self.cells, fits)
         if made not in self.plans:
             self.plans.append(made)
 
@@ -127,23 +165,68 @@ class Evidence:
         if tree is not None:
             self.trees.append(([self.lines_of(premises), told], as_json(tree)))
 
-    def certificate(self, claims: Sequence[tuple[str, dict[str, object]]]) -> Certificate:
-        """The certificate of claims, each by its sort and what it says."""
+    def certificate(self, claims: Sequence[tuple[str, dict[str, object]]]) -> Certificate | None:
+        """The certificate of claims, each by its sort and what it says; None where there are none.
+        Plans are made whole once its lines are asked for."""
+        if not claims:
+            return None
+        if self.plans or any(sort == "plans_are" for sort, _ in claims):
+            return Certificate((), partial(self._with_whole_plans, claims))
+        return Certificate(self._lines(claims, []))
+
+    def _with_whole_plans(self, claims: Sequence[tuple[str, dict[str, object]]]) -> list[str]:
+        """The lines of a certificate in which each plan has a value for each cell of the network.
+        Raises ValueError where none are found, or there is no room to name them."""
+        try:
+            completing = Completing(self.program, self.base, self.mark)
+        except LimitReached:
+            raise ValueError(_OPEN) from None
+
+        def whole(names: Iterable[str], values: Mapping[str, str]) -> dict[str, str]:
+            found = completing.whole(names, values)
+            if found is None:
+                raise ValueError(_OPEN)
+            return found
+
+        with completing:
+            plans = [(names, whole(names, values)) for names, values in self.plans]
+            made = []
+            for sort, claim in claims:
+                if isinstance(given := claim["given"], list) and "tree" in claim:
+                    claim = {**claim, "tree": _mapped(claim["tree"], partial(whole, given))}
+                made.append((sort, claim))
+        return self._lines(made, plans)
+
+    def _lines(
+        self,
+        claims: Sequence[tuple[str, dict[str, object]]],
+        plans: Sequence[tuple[list[str], dict[str, str]]],
+    ) -> list[str]:
         evidence = {
             "mark": self.mark,
             "basis": self.basis,
             "rooms": self.rooms,
             "choices": self.choices,
-            "plans": self.plans,
+            "plans": [{"in": names, "values": values} for names, values in plans],
             "trees": self.trees,
         }
         lines = [checker.HEAD, json.dumps(claims), json.dumps(evidence), *self.base]
-        return Certificate((*lines, hashlib.sha256("\n".join(lines).encode()).hexdigest()))
+        return [*lines, hashlib.sha256("\n".join(lines).encode()).hexdigest()]
 
 
 def on_lines(cells: Mapping[str, str], fits: Fits) -> dict[str, str]:
     """A plan as lines say it, by the names of cells on them."""
     return {cells[cell]: value for cell, value in fits.values.items()}
+
+
+def _mapped(tree: object, whole: Callable[[dict[str, str]], dict[str, str]]) -> object:
+    """A tree as JSON has it, of which each plan is made whole."""
+    if isinstance(tree, dict):
+        return whole(tree)
+    if not isinstance(tree, list):
+        return tree
+    cell, cases = tree
+    return [cell, [[case, _mapped(below, whole)] for case, below in cases]]
 
 
 def as_json(tree: Fork | None) -> Tree:

@@ -1,9 +1,9 @@
 """Checks a certificate, alone: python3 checker.py CERTIFICATE PROGRAM.
 
-A certificate has claims on a network, evidence (plans, choices, trees of cases), and the lines that
-make it. What is asked is derived from the claims. A plan fits where it tells one value for each cell
-of the user's (whose names don't begin with `_`) and the program settles; nothing fits where the
-program says `contradiction` in each of some cases that cover everything."""
+A certificate has claims on a network, evidence (plans, choices, trees of cases), and its base, the
+lines that make it. What is asked is derived from the claims. A plan fits where the program settles
+with it and each cell has one value, also those within compounds, which get names by what it lists.
+Nothing fits where the program contradicts each of some cases that cover everything."""
 
 import hashlib
 import json
@@ -12,14 +12,20 @@ import subprocess
 import sys
 from collections.abc import Callable, Iterable, Sequence
 from functools import partial
-from itertools import zip_longest
-from typing import Any  # (what JSON gives: each use fails where it is of another form)
+from typing import Any  # (what JSON gives: its form is looked at where it is used)
 
 HEAD, MOST, SIDES = "propbench certificate 1", 10**18, 8
-Room = Sequence[Any]  # what is left for a cell: the lowest and the highest number, or names
-Wanted = Callable[[str], object]  # what is wanted of a reply
-CONTRADICTS: Wanted = re.compile("contradiction:").match
-BESIDE = re.compile(".* = | unsettled$|^contradiction:.*")  # in a reply, beside the value
+Names = frozenset[str]
+Room = range | Names  # what is left for a cell: numbers, or names
+Told = tuple[tuple[str, str], ...]  # cells, and what is told of each
+Asks = list[str | tuple[str, Callable[[str], object]]]  # lines, of each is wanted: `ok`, or this
+KINDS: dict[str, Room] = {"span": range(-MOST, MOST + 1), "truth": frozenset(("no", "yes"))}
+SYMBOLS = frozenset("{}")  # any symbol: two that none can be, so no cases cover them
+SETTLED, CONTRADICTS = "settled".__eq__, re.compile("contradiction:").match
+IS_POINT = re.compile(r"\S+ = (?!nothing$)[^ .{]+").fullmatch
+WHY = {SETTLED: "a plan doesn't fit", CONTRADICTS: "a case isn't refuted", IS_POINT: "left open"}
+CLAIMS = ("fits", "fails", "optimum", "conflicts", "plans_are", "answer")
+MORE = ("choices", "plans", "trees")  # what an evidence has beside a mark, a basis and rooms
 
 
 class CertificateError(Exception):
@@ -31,29 +37,31 @@ def demand(holds: object, says: str) -> None:
         raise CertificateError(says)
 
 
-def room_of(value: str) -> Room:
-    """The values that a text or a reply leaves: `3`, `3..5`, `red`, `{red blue}`, `x = 3`."""
-    low, dots, high = (value := BESIDE.sub("", value)).partition("..")
-    is_number = low.removeprefix("-").isdecimal()
-    return [int(low), int(high if dots else low)] if is_number else value.strip("{}").split()
+def items(value: Any, count: int | None = None) -> Any:
+    demand(type(value) is list and count in (None, len(value)), f"{value!a:.60} is no such list")
+    return value
 
 
-def covers(parts: Iterable[str], room: Room) -> bool:
-    """Whether each value of the room is among those that one of these texts leaves."""
-    rooms = [[*room_of(part)] for part in parts]
-    if not room or isinstance(room[0], str):
-        return {*room} <= {name for each in rooms for name in each}
+def fields(value: Any, *names: str) -> list[Any]:
+    demand(type(value) is dict and {*value} == {*names}, f"not just {names}: {value!a:.60}")
+    return [value[name] for name in names]
+
+
+def covers(parts: Iterable[Room], room: Room) -> bool:
+    """Whether each value of the room is in one of these."""
+    if not isinstance(room, range):
+        return room <= {name for part in parts for name in part}
     low = room[0]
-    for first, last in sorted(rooms):
+    for first, last in sorted((part[0], part[-1]) for part in parts if isinstance(part, range)):
         low = max(low, last + 1) if first <= low else low
-    return bool(low > room[1])
+    return low > room[-1]
 
 
-def digits(cell: str, room: Room, mark: str) -> list[str]:
+def digits(cell: str, room: Sequence[int], mark: str) -> list[str]:
     """Lines that leave all plans as they are: a number of the room is its low end and the sum of
     cells, one for each digit to the base of 8, of which the largest is chosen first."""
     made, total = [f"cell {mark}low span", f"fix {mark}low {room[0]}"], f"{mark}low"
-    for size in reversed([SIDES**n for n in range(60) if SIDES ** n <= room[1] - room[0]]):
+    for size in reversed([SIDES**n for n in range(60) if SIDES ** n <= room[-1] - room[0]]):
         digit, sides = f"{mark}digit{size}", [str(n * size) for n in range(SIDES)]
         made += [f"cell {digit} span", f"fix {digit} 0..{sides[-1]}", f"cell {mark}to{size} span"]
         made += [f"attach sum {total} {digit} {mark}to{size}"]
@@ -62,137 +70,219 @@ def digits(cell: str, room: Room, mark: str) -> list[str]:
     return [*made, f"attach same {total} {cell}"]
 
 
-def hitting(sets: Iterable[Iterable[str]]) -> list[set[str]]:
+def hitting(sets: Iterable[Names]) -> list[Names]:
     """The least sets that have a name of each of these sets."""
-    found: list[set[str]] = [set()]
-    for names in sorted(({*each} for each in sets), key=len):
+    found: list[Names] = [frozenset()]
+    for names in sorted(sets, key=len):
         hits, rest = [[h for h in found if bool(h & names) is has] for has in (True, False)]
         by = {name: [hit - {name} for hit in hits if hit & names == {name}] for name in names}
         found = hits + [h | {n} for n in names for h in rest if not any(map(h.issuperset, by[n]))]
     return found
 
 
+def copies(listed: Iterable[str], mark: str) -> list[str]:
+    """Lines that make the cells within compounds, as `1.2.k`, once more, and all that is at them."""
+    inner = re.compile(r" [0-9][0-9.]*\.(?=[^\W\d])")
+    named = [inner.sub(lambda it: f" {mark}{it[0][1:]}".replace(".", "_"), line) for line in listed]
+    changed = {*named} - {*listed}
+    return [re.sub(r"^instance \S+ \S+", "attach", line) for line in named if line in changed]
+
+
+def replies(program: str, asks: Asks) -> list[str]:
+    """What the program answers behind these lines, each of which it has to answer as wanted."""
+    pairs = [(ask, "ok".__eq__) if isinstance(ask, str) else ask for ask in asks]
+    sent = "".join(f"{line}\n" for line, _ in pairs)
+    ran = subprocess.run([program], input=sent, capture_output=True, encoding="utf-8")
+    said = iter(ran.stdout.split("\n")[:-1])
+    for line, wanted in pairs:
+        says = f"{WHY.get(wanted, 'not as claimed')}: `{line}` is answered: "
+        demand(wanted(reply := next(said, ran.stderr)), says + reply)
+    return [*said]
+
+
 class Checker:
-    def __init__(self, base: Sequence[str], evidence: dict[str, Any]) -> None:
-        self.asked: list[tuple[str, Wanted]] = []  # the lines to send, what is wanted of replies
-        words = [line.split() for line in base]
-        self.basis, self.mark, self.plans = (evidence[key] for key in ("basis", "mark", "plans"))
-        self.trees = {json.dumps(key): tree for key, tree in evidence["trees"]}
-        demand(self.mark not in " ".join(base), "names of the base are taken for something else")
-        kinds: dict[str, Room] = {"span": [-MOST, MOST], "truth": ["no", "yes"]}
-        kinds |= {w[1]: w[2:] for w in words if w[0] == "domain"}
-        self.rooms = {w[1]: kinds.get(w[2], ["any symbol"]) for w in words if w[0] == "cell"}
-        self.say(*(line for line, w in zip(base, words) if w[0] != "choose"))
-        self.premises = sorted({w[1] for w in words if w[0] == "tell"})
-        self.believe(self.basis)
-        for cell, part in evidence["rooms"].items():  # no choice is made yet: all plans lie within
-            self.say(f"ask {cell}", wanted=partial(lambda p, s: covers([p], room_of(s)), part))
-            self.rooms[cell] = room_of(part)
-        self.say(*(line for line, w in zip(base, words) if w[0] == "choose"))
-        for n, (cell, parts) in enumerate(evidence["choices"]):
-            room, name = self.rooms[cell], f"{self.mark}c{n}"
-            demand(not parts or covers(parts.split(" or "), room), f"a choice leaves out {cell}")
-            self.say(*[f"choose {name} {cell} {parts}"] if parts else digits(cell, room, name))
-        for plan in self.plans:
-            self.believe(plan["in"])
-            self.settles([], plan["values"])
-            plan["in"] = {*plan["in"]}
+    """What to ask: `asks` with the network's own choices, and then `tries` with the evidence's."""
 
-    def say(self, *lines: str, wanted: Wanted = "ok".__eq__) -> None:
-        self.asked += [(line, wanted) for line in lines]
+    def __init__(self, base: Sequence[str], listed: Sequence[str], evidence: Any) -> None:
+        self.mark, basis, rooms, *more = fields(evidence, "mark", "basis", "rooms", *MORE)
+        is_own = re.fullmatch("_[0-9A-Za-z_]+", self.mark) and self.mark not in " ".join(base)
+        demand(is_own, f"{self.mark!a:.60} is no mark of names that the base hasn't")
+        words = [line.split() for line in [*base, *copies(listed, self.mark)]]
+        kinds = KINDS | {w[1]: frozenset(w[2:]) for w in words if w[0] == "domain"}
+        self.kinds = {w[1]: kinds.get(w[2], SYMBOLS) for w in words if w[0] == "cell"}
+        self.premises = {w[1] for w in words if w[0] == "tell"}
+        # What may tell nothing of points (but within `product` and `alike`), or is not listed.
+        used = {w for line in base for w in re.findall(r"(?:^\s*attach|[=;])\s*(\w+)", line)}
+        self.untold = [*used & {"divider", "parter", "" if listed else "local"}]
+        self.rooms, self.basis, self.tries = dict(self.kinds), self.names(basis), Asks()
+        self.asks: Asks = [" ".join(w) for w in words if w[0] != "choose"]
+        self.believe(self.asks, self.basis)
+        for cell, text in rooms.items():  # no choice is made yet: all plans lie within
+            self.rooms[cell] = self.room(cell, text)
+            self.asks.append((f"ask {cell}", partial(self.is_within, cell)))
+        self.asks += [" ".join(w) for w in words if w[0] == "choose"]
+        for n, pair in enumerate(items(more[0])):
+            self.tries += self.choice(f"{self.mark}c{n}", *items(pair, 2))
+        plans = [fields(plan, "in", "values") for plan in items(more[1])]
+        self.plans = [(self.names(n), self.plan(self.names(n), (), values)) for n, values in plans]
+        self.trees = {(self.names(n), self.told(t)): tree for (n, t), tree in items(more[2])}
 
-    def believe(self, names: Iterable[str]) -> None:
-        demand({*names}.issuperset(self.basis), "a premise of the basis is missing")
-        self.say(*(f"kick {name}" for name in self.premises), *(f"bring {name}" for name in names))
+    def names(self, value: Any) -> Names:
+        names = frozenset(value if isinstance(value, frozenset) else items(value))
+        is_each_once = names <= self.premises and len(names) == len(value)
+        demand(is_each_once, f"{value!a:.60} are not premises, each once")
+        return names
 
-    def tell(self, told: Any, line: str, wanted: Wanted) -> None:
-        """Wants this of the reply to a line after values are told, which are forgotten then."""
-        self.say(*(f"tell {self.mark}{n} {cell} {value}" for n, (cell, value) in enumerate(told)))
-        self.say(line, wanted=wanted)
-        self.say(*(f"forget {self.mark}{n}" for n in range(len(told))))
+    def told(self, value: Any) -> Told:
+        pairs = [items(pair, 2) for pair in items(value)]  # (`room` refuses what is no value)
+        return tuple((cell, text) for cell, text in pairs if self.room(cell, text))
 
-    def settles(self, told: Any, plan: dict[str, str]) -> None:
-        single = all(len({*room_of(value)}) == 1 for value in plan.values())
-        cells = {cell for cell in self.rooms if cell[0] != "_"}
-        demand(single and {*plan} >= cells, "a plan without one value for each cell")
-        self.tell([*told, *plan.items()], "settle", "settled".__eq__)
+    def room(self, cell: str, text: str) -> Room:
+        """What a text says of a cell: `3`, `3..5`, `red`, `{red blue}`."""
+        demand(cell in self.kinds and isinstance(text, str), f"{cell!a:.40} can't be {text!a:.40}")
+        if isinstance(whole := self.kinds[cell], range):
+            found = re.fullmatch(r"(-?[0-9]{1,19})(?:\.\.(-?[0-9]{1,19}))?", text)
+            room = range(int(found[1]), int(found[2] or found[1]) + 1) if found else range(0)
+            demand(room and room[0] in whole and room[-1] in whole, f"{text!a:.60} is no number")
+            return room
+        names = text[1:-1].split(" ") if text[:1] + text[-1:] == "{}" else [text]
+        is_symbol = text.isidentifier() and text != "nothing"
+        is_so = is_symbol if whole == SYMBOLS else whole.issuperset(names)
+        demand(is_so, f"{cell} can't be {text!a:.60}")
+        return frozenset(names)
 
-    def cases(self, tree: Any, told: Any, leaf: Callable[[Any, Any], None]) -> None:
-        """Goes to the leaves of a tree, where the cases of each fork cover all that may be."""
-        if not isinstance(tree, list):
-            return leaf(tree, told)
-        room = {**self.rooms, **{cell: room_of(part) for cell, part in told}}[tree[0]]
-        demand(covers([part for part, _ in tree[1]], room), f"a case of {tree[0]} is left out")
-        for part, below in tree[1]:
-            self.cases(below, [*told, [tree[0], part]], leaf)
+    def left(self, cell: str, told: Told) -> Room:
+        rooms = [self.room(name, text) for name, text in told if name == cell]
+        return [self.rooms[cell], *rooms][-1]
 
-    def fits(self, given: Iterable[str], told: Any) -> None:
+    def is_within(self, cell: str, reply: str) -> bool:
+        said = re.sub(f"^{cell} = | unsettled$", "", reply)
+        return covers([self.rooms[cell]], self.room(cell, said))
+
+    def choice(self, name: str, cell: str, parts: str) -> list[str]:
+        """Lines of a choice that covers what is left for a cell: of some parts, or by digits."""
+        if parts == "" and isinstance(room := self.rooms[cell], range):
+            return digits(cell, room, name)
+        rooms = [self.room(cell, part) for part in parts.split(" or ")]
+        demand(covers(rooms, self.rooms[cell]), f"a choice leaves out values of {cell}")
+        return [f"choose {name} {cell} {parts}"]
+
+    def believe(self, to: Asks, names: Names) -> None:
+        demand(self.basis <= names, "a premise of the basis is missing")
+        to += [f"{'bring' if name in names else 'kick'} {name}" for name in sorted(self.premises)]
+
+    def tell(self, to: Asks, told: Told, asks: Asks) -> None:
+        """Asks with values told, which are forgotten then."""
+        to += [f"tell {self.mark}told {cell} {text}" for cell, text in told]
+        to += [*asks, *([f"forget {self.mark}told"] if told else [])]
+
+    def plan(self, names: Names, told: Told, values: Any) -> dict[str, Room]:
+        """Wants it to settle with these values, and each cell that has none to show a single one."""
+        plan = {cell: self.room(cell, text) for cell, text in values.items()}
+        lacks = [cell for cell in self.kinds if cell[0] != "_" and len(plan.get(cell, "")) != 1]
+        demand(not lacks, f"a plan has no single value for {lacks!a:.60}")
+        says = (
+            f"no plan of a base with {self.untold} can be shown (a local only by propwide's list)"
+        )
+        demand(not self.untold, says)
+        others: Asks = [(f"ask {cell}", IS_POINT) for cell in self.kinds if cell not in plan]
+        self.believe(self.asks, names)
+        self.tell(self.asks, (*told, *values.items()), [("settle", SETTLED), *others])
+        return plan
+
+    def walk(self, given: Names, told: Told, tree: Any) -> list[tuple[Any, Told]]:
+        """Has each case of a tree contradicted, where those of each fork cover what is left; gives
+        what stands in place of that, and what is told there."""
+        self.believe(self.tries, given)
+        waiting, others = [(tree, told)], []
+        while waiting:
+            tree, told = waiting.pop()
+            if tree is None:
+                self.tell(self.tries, told, [("settle", CONTRADICTS)])
+            elif isinstance(tree, list):
+                cell, cases = tree
+                parts = [self.room(cell, part) for part, _ in items(cases)]
+                demand(covers(parts, self.left(cell, told)), f"a case of {cell} is left out")
+                waiting += [(below, (*told, (cell, part))) for part, below in cases]
+            else:
+                others.append((tree, told))
+        return others
+
+    def fits(self, given: Any, told: Any) -> None:
         """A plan of the evidence has these premises, and values among those that are told."""
-        plans = [plan["values"] for plan in self.plans if plan["in"].issuperset(given)]
-        found = any(all(covers([v], room_of(plan[c])) for c, v in told) for plan in plans)
-        demand(found, f"no plan is given with {[*given]} {[*told]}")
+        rooms = [(cell, self.room(cell, text)) for cell, text in self.told(told)]
+        plans = [plan for names, plan in self.plans if names >= self.names(given)]
+        fit = [plan for plan in plans if all(c in plan and covers([r], plan[c]) for c, r in rooms)]
+        demand(fit, f"no plan is given with {sorted(given)} {told}")
 
-    def fails(self, given: Iterable[str], told: Any) -> None:
+    def fails(self, given: Any, told: Any) -> None:
         """Nothing fits with these premises within what is told."""
-        self.believe(given)
-        tree = self.trees.get(json.dumps([sorted(given), told]))
-        self.cases(tree, told, lambda _, path: self.tell(path, "settle", CONTRADICTS))
+        key = self.names(given), self.told(told)
+        demand(not self.walk(*key, self.trees.get(key)), "a case is left open")
 
-    def optimum(self, sort: str, given: Any, cell: str, value: int, bound: int) -> None:
+    def optimum(self, given: Any, sort: str, cell: str, value: int, bound: int) -> None:
         """A plan has this value, and nothing fits where it is less, or greater, than the bound."""
+        beyond = {"least": f"{-MOST}..{bound - 1}", "greatest": f"{bound + 1}..{MOST}"}
+        demand(type(value) is type(bound) is int and sort in beyond, "no such best value")
         self.fits(given, [[cell, f"{value}"]])
-        beyond = f"{-MOST}..{bound - 1}" if sort == "least" else f"{bound + 1}..{MOST}"
-        self.fails(given, [[cell, beyond]])
+        self.fails(given, [[cell, beyond[sort]]])
 
     def conflicts(self, given: Any, keep: Any, told: Any, sets: Any, outs: Any, full: bool) -> None:
         """Each set fails beside what is kept, and fits without any name of it. All fits without
         each of the outs, and not with a name of it back. `full`: there are no others."""
+        every, kept, count = self.names(given), self.names(keep), len(items(sets) + items(outs))
+        sets, outs = ([*{self.names(each): each for each in some}] for some in (sets, outs))
+        demand(len(sets) + len(outs) == count, "a set stands twice")
+        demand(kept <= every and all(s <= every - kept for s in sets + outs), "a name is not given")
+        demand(type(full) is bool and (full or count), "nothing is claimed of sets")
+        self.told(told)  # (looked at where there are no sets too)
         for names in sets:
-            self.fails({*names, *keep}, told)
+            self.fails(names | kept, told)
             for name in names:
-                self.fits({*names, *keep} - {name}, told)
+                self.fits(names - {name} | kept, told)
         for out in [*outs, *(hitting(sets) if full else ())]:
-            self.fits({*given}.difference(out), told)
-            demand(not outs or any({*each} <= {*out} for each in outs), "a repair is left out")
-            for back in ({*given}.difference(out) | {name} for name in out if out in outs):
-                demand(any({*names} <= back for names in sets), f"{out} is no least repair")
+            self.fits(every - out, told)
+            demand(not outs or any(each <= out for each in outs), "a repair is left out")
+        for back in [every - out | {name} for out in outs for name in out]:
+            demand(any(names <= back for names in sets), "a repair could be less")
 
     def plans_are(self, given: Any, show: Any, plans: Any, tree: Any, complete: bool) -> None:
         """Each leaf is a contradiction, or a plan with one value for each cell that is shown."""
-        found = []
+        others = self.walk(self.names(given), (), tree)
+        leaves = [(leaf, told) for leaf, told in others if leaf != "open"]
+        demand(complete is False or complete is True and others == leaves, "a case is left open")
+        for leaf, told in leaves:
+            self.plan(self.names(given), told, leaf)
+        found = [tuple(self.left(cell, told) for cell in items(show)) for _, told in leaves]
+        wanted = [tuple(map(self.room, show, items(plan, len(show)))) for plan in items(plans)]
+        is_so = {*found} == {*wanted} and len({*found}) == len(found) == len(wanted)
+        demand(is_so and all(len(room) == 1 for plan in found for room in plan), "wrong plans")
 
-        def leaf(plan: Any, told: Any) -> None:
-            if not isinstance(plan, dict):
-                demand(plan is None or not complete, "a case is left open")
-                return None if plan else self.tell(told, "settle", CONTRADICTS)
-            rooms = {**self.rooms, **{cell: room_of(part) for cell, part in told}}
-            demand(all(len({*rooms[cell]}) == 1 for cell in show), "a case that may have two plans")
-            self.settles(told, plan)
-            found.append([plan[cell] for cell in show])
-
-        self.believe(given)
-        self.cases(tree, [], leaf)
-        is_each_once = len(found) == len({*map(str, found)})
-        demand(is_each_once and sorted(found) == sorted(plans), "wrong plans")
-
-    def answer(self, given: Iterable[str], told: Any, ask: str, said: str) -> None:
-        self.believe(given)
-        self.tell(told, ask, said.__eq__)
+    def answer(self, given: Any, told: Any, ask: str, said: str) -> None:
+        """The program answers a question so, with the network's own choices."""
+        cell, _, value = said.partition(" = ")
+        is_so = ask == f"ask {cell}" and (value == "nothing" or self.room(cell, value))
+        demand(is_so and cell in self.kinds, f"{ask!a:.60} is no question with such an answer")
+        self.believe(self.asks, self.names(given))
+        self.tell(self.asks, self.told(told), [(ask, said.__eq__)])
 
 
 def check(lines: Sequence[str], program: str) -> bool:
     """True where the program answers so that the claims hold, else CertificateError is raised."""
-    digest = hashlib.sha256("\n".join(lines[:-1]).encode()).hexdigest()
-    demand(lines[0] == HEAD and lines[-1] == digest, "not as it was written")
-    checker = Checker(lines[3:-1], json.loads(lines[2]))
-    for sort, claim in json.loads(lines[1]):
-        demand(sort in "fits fails optimum conflicts plans_are answer".split(), "no such claim")
-        getattr(checker, sort)(**claim)
-    sent = "".join(f"{line}\n" for line, _ in checker.asked)
-    ran = subprocess.run([program], input=sent, capture_output=True, encoding="utf-8")
-    for (line, wanted), said in zip_longest(checker.asked, ran.stdout.splitlines()):
-        demand(wanted(said or ""), f"{line} is answered: {said or ran.stderr}")
-    return True
+    digest = hashlib.sha256("\n".join(lines[:-1]).encode("utf-8", "replace")).hexdigest()
+    demand(len(lines) > 3 and lines[0] == HEAD and lines[-1] == digest, "not as it was written")
+    base = lines[3:-1]
+    demand(all(re.match(r"\s*[^\s#].*\Z", line) for line in base), "its base has what is no line")
+    try:
+        claims, evidence = map(json.loads, lines[1:3])
+        checker = Checker(base, replies(program, [*base, ("list", bool)]), evidence)
+        for sort, claim in items(claims):
+            demand(sort in CLAIMS, f"{sort!a:.60} is no sort of claim")
+            getattr(checker, sort)(**claim)
+    except (ValueError, KeyError, TypeError, AttributeError, RecursionError):
+        raise CertificateError("a part of it has not the form that it should have") from None
+    demand(claims, "nothing is claimed")
+    return not replies(program, checker.asks + checker.tries)
 
 
 if __name__ == "__main__":

@@ -23,7 +23,7 @@ class Snapshot:
     believed: frozenset[str]
     answers: Mapping[str, Answer]
     conflict: tuple[str, ...] | None
-    certificate: Certificate
+    certificate: Certificate | None
     complete: bool = True
 
     @property
@@ -47,7 +47,7 @@ class Differences(Shown, list[Difference]):
     both are known as far as they are settled. The certificate is of the answers now."""
 
     def __init__(
-        self, found: Iterable[Difference], certificate: Certificate, complete: bool
+        self, found: Iterable[Difference], certificate: Certificate | None, complete: bool
     ) -> None:
         super().__init__(found)
         self._certificate, self.complete = certificate, complete
@@ -104,7 +104,7 @@ def _snapshot(bench: Bench, asking: Asking) -> Snapshot:
     says = {premise: model.text(premise) for premise in model.premises()}
     conflict = None if row.conflict is None else row.conflict.names
     believed = frozenset(model.believed())
-    return Snapshot(says, believed, dict(row), conflict, table.certificate, table.complete)
+    return Snapshot(says, believed, dict(row), conflict, table._certificate, table.complete)
 
 
 def differences(before: Snapshot, now: Snapshot) -> Differences:

@@ -59,7 +59,7 @@ class Conflicts(Shown, list[Conflict]):
         complete: bool,
         texts: Mapping[str, str],
         kept: Sequence[str],
-        certificate: Certificate,
+        certificate: Certificate | None,
     ) -> None:
         super().__init__(found)
         self.complete = complete
@@ -90,7 +90,11 @@ class Repairs(Shown, list[Repair]):
     """Repairs of what is believed, the cheapest first; all there are where it is `complete`."""
 
     def __init__(
-        self, found: Iterable[Repair], complete: bool, kept: Sequence[str], certificate: Certificate
+        self,
+        found: Iterable[Repair],
+        complete: bool,
+        kept: Sequence[str],
+        certificate: Certificate | None,
     ) -> None:
         super().__init__(found)
         self.complete = complete
@@ -278,7 +282,7 @@ def _texts(model: Model) -> dict[str, str]:
 
 def _certificate(
     explored: Exploring, conflicts: Sequence[Refuted], outs: Sequence[int], full: bool
-) -> Certificate:
+) -> Certificate | None:
     """What shows that these conflicts are least, and that these repairs are; and that there are no
     more where these are all. Conflicts that may not be least are shown as what can't hold."""
     evidence = Evidence.of(explored.trial)
@@ -304,7 +308,8 @@ def _certificate(
         "outs": [lines(hit) for hit in outs] if is_sure else [],
         "full": full,
     }
-    claims: list[tuple[str, dict[str, object]]] = [("conflicts", claim)]
+    says_something = claim["sets"] or claim["outs"] or full
+    claims: list[tuple[str, dict[str, object]]] = [("conflicts", claim)] if says_something else []
     for refuted in conflicts:
         if not refuted.least:
             claims.append(("fails", {"given": [*kept_lines, *lines(refuted.mask)], "told": []}))

@@ -105,7 +105,7 @@ def find_slack(
         evidence = Evidence.of(trial)
         claims = [claim for bounding in ends if (claim := bounding.show(evidence))]
         proved = all(bounding.proved for bounding in ends)
-        certificate = evidence.certificate(claims) if claims else None
+        certificate = evidence.certificate(claims)
         return Slack(name, ends[0].value, ends[1].value, (), proved, certificate)
 
     return tried(trial, run, result)
@@ -117,7 +117,7 @@ def _slack_of_names(trial: Trial, cell: str) -> Slack:
     def result() -> Slack:
         plans = listing.result()
         values = tuple(plan[cell] for plan in plans)
-        return Slack(cell, None, None, values, plans.complete, plans.certificate)
+        return Slack(cell, None, None, values, plans.complete, plans._certificate)
 
     return tried(trial, listing.run, result)
 
@@ -158,7 +158,7 @@ def find_critical(
     return tried(trial, run, result)
 
 
-def _certificate(bounding: Bounding, explored: Exploring, refuted: Refuted) -> Certificate:
+def _certificate(bounding: Bounding, explored: Exploring, refuted: Refuted) -> Certificate | None:
     """What shows that nothing beyond fits with these premises, and does without any one of them."""
     evidence = Evidence.of(explored.trial)
     told = [[evidence.cells[bounding.cell], str(bounding.beyond_value)]]

@@ -37,7 +37,11 @@ class Plans(Shown, list[Plan]):
     `complete`. In `whole` the same plans have all cells but quantities."""
 
     def __init__(
-        self, show: Sequence[str], found: Iterable[Plan], complete: bool, certificate: Certificate
+        self,
+        show: Sequence[str],
+        found: Iterable[Plan],
+        complete: bool,
+        certificate: Certificate | None,
     ) -> None:
         super().__init__(found)
         self.show = tuple(show)
@@ -133,11 +137,11 @@ class Listing:
         """The plans that were found, in order."""
         found = sorted(self.found, key=self._place)
         shown = ({cell: fits.plan[cell] for cell in self.show} for fits in found)
-        plans = Plans(self.show, shown, self.complete, self._certificate())
+        plans = Plans(self.show, shown, self.complete, self._made())
         plans.whole = tuple(self.trial.shown(fits.plan) for fits in found)
         return plans
 
-    def _certificate(self) -> Certificate:
+    def _made(self) -> Certificate | None:
         """What shows that these are plans; and that there are no others, or where there may be."""
         evidence = Evidence.of(self.trial)
         given = evidence.lines_of(self.trial.basis)

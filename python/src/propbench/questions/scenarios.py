@@ -97,7 +97,7 @@ class Scenarios(Shown, dict[str, Row]):
         columns: Sequence[str],
         found: Mapping[str, Row],
         complete: bool,
-        certificate: Certificate,
+        certificate: Certificate | None,
     ) -> None:
         super().__init__(found)
         self.columns = tuple(columns)
@@ -200,7 +200,7 @@ class Asking:
         answers = [answer for row in rows.values() for answer in row.values()]
         is_cut = len(rows) < len(self.jobs) or any(each.is_cut for each in self._heard.values())
         is_all = not is_cut and all(answer.settled for answer in answers)
-        return Scenarios(self.columns, rows, is_all, self._certificate())
+        return Scenarios(self.columns, rows, is_all, self._made())
 
     def _row(self, heard: Heard) -> Row:
         row = Row()
@@ -215,7 +215,7 @@ class Asking:
         names = [name for change in self._changes.values() for name in change.believed]
         return next(name for name in names if self._model.line_name(name) == line)
 
-    def _certificate(self) -> Certificate:
+    def _made(self) -> Certificate | None:
         """What the program answers to each question of the table."""
         evidence = Evidence.without_trial(self._model, mark_for(self._base))
         known = {line.split()[1] for line in self._base if line.split()[0] == "tell"}

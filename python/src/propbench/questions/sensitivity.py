@@ -86,7 +86,7 @@ def of_answers(
             )
             for premise in model.believed()
         ]
-        return Sensitivity(name, values.get(_NOW), worths, table.complete, table.certificate)
+        return Sensitivity(name, values.get(_NOW), worths, table.complete, table._certificate)
 
     return answered(asking.here, result)
 
@@ -126,7 +126,7 @@ def of_optimum(
     def result() -> Sensitivity:
         evidence = Evidence.of(trial)
         claims = [claim for each in found.values() if (claim := each.show(evidence))]
-        certificate = evidence.certificate(claims) if claims else None
+        certificate = evidence.certificate(claims)
         values = {premise: _best(each.result()) for premise, each in found.items()}
         worths = [Worth(each, model.text(each), values.get(each)) for each in believed]
         proved = len(found) == len(believed) + 1 and all(each.proved for each in found.values())

@@ -37,10 +37,11 @@ class Shown:
 
     @property
     def certificate(self) -> "Certificate":
-        """What anyone can ask the program again. Raises ValueError where there is nothing to show."""
+        """What anyone can ask the program again. Raises ValueError where there is nothing to show, or
+        no way to show it, and as `Session` does."""
         if self._certificate is None:
             raise ValueError("there is nothing that a certificate could show")
-        return self._certificate
+        return self._certificate.finished()
 
     def __str__(self) -> str:
         rows = [[said(value) for value in row] for row in self.rows()]
