@@ -10,7 +10,7 @@ import propbench.workbench
 
 PAGE = REPOSITORY / "docs/WORKBENCH.md"
 # What the pages for who uses a workbench may take together.
-PAGES, MOST_BYTES = [PAGE, REPOSITORY / "docs/QUESTIONS.md"], 9_000
+PAGES, MOST_BYTES = [PAGE, REPOSITORY / "docs/QUESTIONS.md"], 9_500
 
 
 def test_the_page(
