@@ -5,7 +5,7 @@ from dataclasses import dataclass, field
 from decimal import Decimal
 from fractions import Fraction
 
-from propbench.measuring.readings import Exact, exact_of
+from propbench.measuring.exact import Exact, exact_of, number_in
 from propbench.measuring.terms import Real, Sort, Term
 from propbench.measuring.units import Unit, unit_of
 from propbench.model.answers import Answer
@@ -120,11 +120,8 @@ def measure_of(
 
 
 def _number(given: Exact | str) -> Fraction:
-    """An end or a step, exact. Raises ValueError for a text that is no number."""
-    try:
-        return Fraction(given) if isinstance(given, str) else exact_of(given)
-    except (ValueError, ZeroDivisionError):
-        raise ValueError(f"{given!r} is no number, as 5, 0.1 and 1/3 are") from None
+    """An end or a step, exact. Raises ValueError for a text that is no number, and TooLong."""
+    return number_in(given) if isinstance(given, str) else exact_of(given)
 
 
 def _usual_step(most: Fraction) -> Fraction:

@@ -120,7 +120,7 @@ def _constraint(translator: Translator, form: Form) -> Node:
 
 def _measure_of_root(root: Real, bounds: Bounds) -> Measure:
     """What the cell of a root counts, in base units."""
-    unit = Unit(dimension_text(root.dimension), root.dimension)
+    unit = Unit(dimension_text(root.dimension) if root.dimension else "1", root.dimension)
     return measure_of(text_of(root), unit, bounds[0], bounds[1], None)
 
 
