@@ -101,13 +101,22 @@ def measure_of(
     name: str, unit: Unit, low: Exact | str, high: Exact | str, step: Exact | str | None
 ) -> Measure:
     """What the cell of a quantity counts. Raises ValueError where it can't count that."""
-    ends = sorted(_number(end) * unit.factor + unit.offset for end in (low, high))
-    if _number(low) > _number(high):
+    ends = _number(low), _number(high)
+    if ends[0] > ends[1]:
         raise ValueError(f"from {low} to {high} there is no number, for {name!r}")
-    most = max(abs(end) for end in ends) or unit.factor
-    digits = _usual_step(most / unit.factor) if step is None else _number(step)
-    if digits <= 0:
+    digits = None if step is None else _number(step)
+    if digits is not None and digits <= 0:
         raise ValueError(f"a step is more than 0, and that of {name!r} is {step}")
+    return measure_between(name, unit, ends, digits)
+
+
+def measure_between(
+    name: str, unit: Unit, between: tuple[Fraction, Fraction], step: Fraction | None
+) -> Measure:
+    """The same, of a quantity between two numbers in its unit, the lower one in front."""
+    ends = [end * unit.factor + unit.offset for end in between]
+    most = max(abs(end) for end in ends) or unit.factor
+    digits = _usual_step(most / unit.factor) if step is None else step
     counted = digits * unit.factor
     if most > _MOST * counted:
         wanted = _usual_step(most / unit.factor)

@@ -11,7 +11,7 @@ from collections.abc import Sequence
 from dataclasses import dataclass
 from fractions import Fraction
 
-from propbench.measuring.amounts import Amount, NoReading, amount_of, check_length, same
+from propbench.measuring.amounts import UNIT, Amount, NoReading, amount_of, check_length, same
 from propbench.measuring.exact import EXPONENT, MOST_DIGITS, UNSIGNED, Exact, exact_of, short
 from propbench.measuring.tolerances import Part, Sort, parts_of, size_of, unit_in
 from propbench.measuring.units import SHARES, Unit, unit_of
@@ -23,9 +23,9 @@ COVERAGE = 3
 MOST_CHARACTERS = 4000
 
 # A number whose uncertainty stands in brackets, in units of its last digit.
-_BRACKETS = re.compile(rf"([-+]?{UNSIGNED})\((\d+)\)({EXPONENT})(?!\d)\s*(.*)")
+_BRACKETS = re.compile(rf"([-+]?{UNSIGNED})\((\d+)\)({EXPONENT})(?!\d)\s*({UNIT})")
 # A value with its tolerance in brackets, and the unit of both.
-_IN_BRACKETS = re.compile(r"\((.*)\)\s*(.*)")
+_IN_BRACKETS = re.compile(rf"\((.*)\)\s*({UNIT})")
 
 
 @dataclass(frozen=True)
@@ -119,6 +119,8 @@ def _with_tolerance(text: str, sign: str, unit: Unit, coverage: Fraction | None)
     if in_brackets:
         written, outer = in_brackets.groups()
     value, _, tolerance = written.partition(sign)
+    if coverage is not None and "+-" in tolerance:
+        raise NoReading(f"{short(text)!r} has a bound and a standard uncertainty: say one of them")
     amount, parts = amount_of(value, text), parts_of(tolerance, text)
     if outer:
         amount = _in_unit(amount, parts, outer, text)

@@ -30,6 +30,7 @@ _OF_RANGE = re.compile(
     r"(?:of\s+)?(?:the\s+)?(?:range|rng|full[ -]?scale|fs|fsd|span)", re.IGNORECASE
 )
 _OF = re.compile(r"of\s+(.*)")
+_UNIT = re.compile(UNIT)
 _DIGITS = re.compile(r"digits?|dgts?|counts?|lsd", re.IGNORECASE)
 # (A plus that is no power of ten's.)
 _PLUS = re.compile(r"(?<![\d.][eE])\+")
@@ -104,6 +105,8 @@ def _share(number: Fraction, name: str, behind: str, text: str) -> Part:
     of = _OF.fullmatch(behind)
     if of:
         return Part(size, Sort.AMOUNT, share=name, whole=amount_of(of[1], text))
+    if not _UNIT.fullmatch(behind):
+        raise _not_understood(behind, text)
     return Part(size, Sort.READING, behind, name)
 
 

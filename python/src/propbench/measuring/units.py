@@ -92,19 +92,23 @@ def _product(written: str) -> tuple[Dimension, Fraction]:
         sign = -1 if place else 1
         words = re.split(r"[*·\s]+", part.strip())
         for word in words:
+            if place == 0 and words == ["1"]:
+                continue
             matched = _WORD.fullmatch(word)
-            is_one = word == "1" and (place or len(words) > 1)
-            if not matched or is_one:
+            # (a share has no power, and is no factor: of `5 % m` nobody knows what it says)
+            if not matched or matched[1] in SHARES and (matched[2] or len(words) > 1):
                 raise UnknownUnit(_unknown(written, word))
-            power = sign * Fraction(matched[2] or (matched[3] or "1").strip("()"))
+            power = sign * Fraction((matched[2] or "1").strip("()"))
             of_word, factor_of_word = _named(matched[1], written)
             dimension = times(dimension, of_word, power)
             factor *= _to_power(factor_of_word, power, written)
     return dimension, factor
 
 
-# A unit, and its power: two digits at the most, or in brackets one by another, for a root.
-_WORD = re.compile(r"([^\W\d]+|%|Ω|°[CF]?|1)(?:\^?(-?\d{1,2})|\^(\(-?\d{1,2}/[248]\)))?")
+# A unit, and its power: three digits at the most, or in brackets one by another, for a root.
+_POWER = r"-?[1-9]\d{0,2}"
+_ROOT = rf"(?<=\^)\({_POWER}/(?:2|4|8|16|32|64)\)"
+_WORD = re.compile(rf"([^\W\d]+|%|Ω|°[CF]?)(?:\^?({_POWER}|{_ROOT}))?")
 
 
 def _to_power(factor: Fraction, power: Fraction, written: str) -> Fraction:
