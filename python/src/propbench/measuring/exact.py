@@ -33,7 +33,7 @@ def exact_of(number: object) -> Fraction:
     """A number that is meant exactly; a float is what its shortest text says. Raises TypeError for
     what is none, and ValueError for one that no quantity can have."""
     if not is_number(number):
-        raise TypeError(f"{number!r} is no number")
+        raise TypeError(f"{short(repr(number))} is no number")
     if isinstance(number, Decimal):
         return _exact_decimal(number)
     if isinstance(number, Rational):
@@ -48,7 +48,7 @@ def exact_of(number: object) -> Fraction:
     try:
         return _checked(Fraction(index(number)))
     except TypeError:
-        raise TypeError(f"{number!r} is no number") from None
+        raise TypeError(f"{short(repr(number))} is no number") from None
 
 
 def number_in(text: str) -> Fraction:

@@ -159,9 +159,10 @@ def _of_pint(word: str) -> tuple[Dimension, Fraction] | None:
         registry = pint.UnitRegistry(non_int_type=Fraction)
         found = registry.Quantity(Fraction(1), word).to_base_units()
         powers = {_OF_PINT.get(name, name): power for name, power in found.dimensionality.items()}
-        # (where it has an angle, pint has taken some fraction for pi)
-        is_angle = "radian" in str(found.units)
-        is_exact = isinstance(found.magnitude, int | Fraction) and not is_angle
+        # (in an angle pint takes some fraction for pi, and a zero of its own is no factor)
+        zero = registry.Quantity(Fraction(0), word).to_base_units().magnitude
+        is_exact = isinstance(found.magnitude, int | Fraction) and zero == 0
+        is_exact = is_exact and "radian" not in str(found.units)
     except Exception:  # (what pint raises for a text has no class in common)
         return None
     if not is_exact:

@@ -66,7 +66,7 @@ def _alike(reals: Sequence[Real], zeros: Sequence[Zeros]) -> Zeros:
     return known[0][1] if known else None
 
 
-_WAY_OUT = "differences of temperatures are in K, so write `5 K` for 5 degrees more"
+_WAY_OUT = "differences of temperatures are measured in K, so write `5 K` for 5 degrees more"
 
 
 def _is_bare_zero(real: Real) -> bool:
