@@ -76,7 +76,19 @@ def test_what_is_no_unit(text: str) -> None:
 
 @pytest.mark.parametrize(
     "text",
-    ["m 1", "m/12", "m0", "m01", "%2", "% m", "mm9999999999", "mm^(1/2)", "m^(1/3)", "m^1/2"],
+    [
+        "m 1",
+        "m/12",
+        "m0",
+        "m01",
+        "%2",
+        "% m",
+        "mm9999999999",
+        "mm999",
+        "mm^(1/2)",
+        "m^(1/3)",
+        "m^1/2",
+    ],
 )
 def test_what_would_be_half_a_unit(text: str) -> None:
     """A number within, a share as a factor, a power or a root that is not exact."""

@@ -13,7 +13,7 @@ from functools import cache
 from importlib import import_module
 from math import isqrt
 
-from propbench.measuring.exact import short
+from propbench.measuring.exact import MOST_DIGITS, short
 
 # Powers of base units by name, those that are not zero, in order of the names.
 Dimension = tuple[tuple[str, Fraction], ...]
@@ -81,7 +81,10 @@ def unit_of(text: str) -> Unit:
     if written in _OFFSETS:
         factor, offset = _OFFSETS[written]
         return Unit(written, _base("K"), factor, offset)
-    return Unit(written, *_product(written))
+    dimension, factor = _product(written)
+    if max(factor.numerator, factor.denominator) > 10**MOST_DIGITS:
+        raise UnknownUnit(f"{short(written)!r} is beyond 1e{MOST_DIGITS} or 1e-{MOST_DIGITS}")
+    return Unit(written, dimension, factor)
 
 
 def _product(written: str) -> tuple[Dimension, Fraction]:
