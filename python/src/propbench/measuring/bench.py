@@ -101,9 +101,9 @@ class Measuring(Questions):
     ) -> None:
         """States under a premise what was read of a quantity: a text as `468.0 +- 1.2 ohm`,
         `470 ohm +- 5%`, `330..345`, `468.0(47) ohm` or `468.0 ohm u=4.7`; an exact number, or the
-        two ends of an interval.
+        two ends of an interval. A tolerance may have parts: `12.34 V +- (0.5 % + 2 digits)`.
 
-        A standard uncertainty (in brackets, or behind `u=`) counts `coverage` times as a bound.
+        What isn't understood to its end is refused, and nothing is stated then. A standard uncertainty (in brackets, or behind `u=`) counts `coverage` times as a bound.
         Raises NoReading, UnknownUnit and MixedUnits, which are ValueErrors.
         """
         if not isinstance(quantity, Quantity):
