@@ -6,6 +6,7 @@ from decimal import Decimal
 from fractions import Fraction
 from itertools import product
 from pathlib import Path
+from typing import Any
 
 import pytest
 
@@ -23,6 +24,8 @@ from propbench import (
 )
 from propbench.measuring.quantities import MeasuredAnswer, Quantity
 from propbench.measuring.translation import TooCoarse
+from propbench.questions.clock import Clock
+from propbench.questions.trial import Seen, Trial
 
 Ends = tuple[Fraction, Fraction]
 
@@ -429,20 +432,28 @@ def test_a_halved_reading_may_leave_the_quantity_s_ends(w: Workbench) -> None:
     assert near and 0 <= 8 - near.low < Decimal("0.001") and 0 <= near.high - 9 < Decimal("0.001")
 
 
-def test_outliers_return_in_time(w: Workbench) -> None:
-    """2^16 ways to give up readings, of which some are found in half a second."""
-    for place in range(16):
+def test_outliers_return_in_time(w: Workbench, monkeypatch: pytest.MonkeyPatch) -> None:
+    """2^10 ways to give up readings, of which some are found until the time is over, which is here
+    when 200 questions were asked; then the program is asked no more."""
+    asked = []
+
+    def look(trial: Trial, *args: Any) -> Seen:
+        asked.append(args)
+        return plain_look(trial, *args)
+
+    plain_look = Trial.look
+    monkeypatch.setattr(Trial, "look", look)
+    monkeypatch.setattr(Clock, "is_over", lambda clock: len(asked) >= 200)
+    for place in range(10):
         x = w.measured(f"x{place}", unit="m", low=0, high=100, step="0.01")
         w.read(f"a{place}", x, "50 +- 3 m")
         w.read(f"b{place}", x, "60 +- 3 m")
-    began = time.monotonic()
-    found = w.outliers(most=10**6, seconds=0.5)
-    assert time.monotonic() - began < 1.5
-    assert found and not found.complete
+    found = w.outliers(most=10**6, seconds=100)
+    assert found and not found.complete and 200 <= len(asked) <= 202
     for each in found:
-        assert len(each) == 16
+        assert len(each) == 10
         # (53 at the most where b is given up, and 57 is its least)
-        assert [off.by for off in each.off.values()] == [Decimal("3.99")] * 16
+        assert [off.by for off in each.off.values()] == [Decimal("3.99")] * 10
 
 
 def test_outliers_tell_no_way_that_was_not_looked_at_to_its_end(w: Workbench) -> None:
@@ -453,7 +464,9 @@ def test_outliers_tell_no_way_that_was_not_looked_at_to_its_end(w: Workbench) ->
     w.law(x == y + "0.00001 m")
     w.law(y == x + "0.00001 m", under="too")
     w.read("a", x, "0 +- 900 m")
-    assert w.outliers(seconds=0.1) == []
+    found = w.outliers(seconds=0.1)
+    assert found == [] and not found.complete
+    assert str(found).startswith("In this time no way was found.")
 
 
 def test_a_law_tells_its_room(w: Workbench) -> None:

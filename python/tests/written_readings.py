@@ -371,7 +371,8 @@ def _unit_of_parts(parts: Sequence[Part], own: str) -> str:
     for name in names:
         check_same(name, own)
         one, other = unit_of(name), unit_of(own)
-        if one.zero != other.zero or len(parts) > 1 and one.factor != other.factor:
+        is_of_both = len(parts) == 1 and not parts[0].of
+        if one.zero != other.zero or one.factor != other.factor and not is_of_both:
             raise NoReading
     return names[0] if names else own
 

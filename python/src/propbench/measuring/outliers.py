@@ -56,9 +56,10 @@ class Outliers(Shown, list[Outlier]):
         self._certificate = certificate
 
     def headline(self) -> str:
-        if self.complete and not self:
-            return "What is no reading can't hold, whatever was read."
-        if self and not self[0]:
+        if not self:
+            no_reading = "What is no reading can't hold, whatever was read."
+            return no_reading if self.complete else "In this time no way was found."
+        if not self[0]:
             return "No reading has to be given up: nothing speaks against any of them."
         number = f"{len(self)} way{'' if len(self) == 1 else 's'}"
         others = "" if self.complete else f" (others are {NOT_REFUTED})"

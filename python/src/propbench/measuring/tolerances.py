@@ -126,11 +126,12 @@ def unit_in(amount: Amount, parts: Sequence[Part], unit: Unit, text: str) -> Uni
             said = f"{short(behind[0].unit)!r} behind `{behind[0].share}` is not understood"
             raise NoReading(f"{short(text)!r} is no reading: {said}")
         return same(amount.unit, unit, text)
+    is_unit_of_both = len(parts) == 1 and not parts[0].whole
     for name in names:
         named = same(name, unit, text)
         is_other = named.factor != unit.factor or named.offset != unit.offset
         # (of `20 +- 0.5 K` it is not known whether it is 20 K, where degC are read)
-        if is_other and (len(parts) > 1 or named.offset != unit.offset):
+        if is_other and not (is_unit_of_both and named.offset == unit.offset):
             said = f"is the value in {unit.text} or in {name}? Write its unit behind it"
             raise NoReading(f"{short(text)!r}: {said}")
     return same(next(iter(names), ""), unit, text)
