@@ -239,6 +239,7 @@ NOT_UNDERSTOOD = [
     ("m", "5.000 +- 0.01 % + 2 mm", "is the value in m or in mm?"),
     ("mV", "5 +- 0.1 % of 10 V", "is the value in mV or in V?"),
     ("degC", "20 +- 0.5 K", "is the value in degC or in K?"),
+    ("ohm", "1 mohm..345", "is the second end in mohm or in ohm?"),
     ("m", "0.3...4", "from one to another is written `330..345`"),
     ("1/s", "51/s", "is no reading"),
     ("m", "5 m 1", "'1' in 'm 1' is no unit"),

@@ -301,6 +301,9 @@ def _span(reader: Reader, own: str) -> Span:
         other = reader.amount()
         reader.end()
         first, last = amount.unit or other.unit or own, other.unit or own
+        one, second = unit_of(first), unit_of(last)
+        if not other.unit and (one.factor, one.zero) != (second.factor, second.zero):
+            raise NoReading
         return ordered(base(amount.value, first, own), base(other.value, last, own), False)
     if reader.take("u="):
         parts = reader.group()

@@ -108,6 +108,9 @@ def _interval(text: str, unit: Unit) -> Reading:
     low, high = (amount_of(part, text) for part in text.split("..", 1))
     named = same(high.unit, unit, text)
     first = same(low.unit or high.unit, unit, text)
+    if not high.unit and (first.factor != unit.factor or first.offset != unit.offset):
+        said = f"is the second end in {first.text} or in {unit.text}? Write its unit behind it"
+        raise NoReading(f"{short(text)!r}: {said}")
     ends = low.value * first.factor + first.offset, high.value * named.factor + named.offset
     return Reading(*ends, text)
 
