@@ -84,6 +84,7 @@ def _worked_out(name: str, values: list[Any]) -> Any:
         "product": lambda: first * others[0],
         "quotient": lambda: first // others[0],
         "remainder": lambda: first % others[0],
+        "power": lambda: first ** others[0],
         "absolute": lambda: abs(first),
         "maximum": lambda: max(values),
         "minimum": lambda: min(values),
@@ -123,6 +124,7 @@ def built(recipe: Recipe, cells: Mapping[str, Any]) -> Any:
         "product": lambda: first * others[0],
         "quotient": lambda: first // others[0],
         "remainder": lambda: first % others[0],
+        "power": lambda: first ** others[0],
         "absolute": lambda: abs(first),
         "maximum": lambda: maximum(values),
         "minimum": lambda: minimum(*values),
@@ -166,6 +168,7 @@ def _numbers_of(inner: st.SearchStrategy[Recipe]) -> st.SearchStrategy[Recipe]:
         st.tuples(st.sampled_from(two), inner, either),
         st.tuples(st.sampled_from(("maximum", "minimum", "total")), inner, either),
         st.tuples(st.sampled_from(("absolute", "negative")), inner),
+        st.tuples(st.just("power"), inner, st.just(("constant", 0))),
         st.tuples(st.just("if"), _simple_truths, inner, either),
         st.tuples(st.just("table"), _elements),
         st.tuples(st.just("count"), _truth_cells, _simple_truths),
@@ -185,6 +188,7 @@ comparisons: st.SearchStrategy[Recipe] = st.one_of(
     st.tuples(_orders, numbers, st.one_of(numbers, _constants)),
     st.tuples(st.just("different"), numbers, _number_cells, st.one_of(_number_cells, _constants)),
     st.tuples(st.just("different"), _elements, _elements, _days),
+    st.tuples(st.just("different"), numbers),
     _simple_truths,
 )
 truths: st.SearchStrategy[Recipe] = st.recursive(

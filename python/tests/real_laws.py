@@ -132,6 +132,16 @@ def _root(case: Case, depth: int) -> Drawn:
     return Drawn((legs[0].term ** 2 + legs[1].term ** 2).sqrt(), whole * size)
 
 
+def _half_powers(case: Case, depth: int) -> Drawn:
+    """Two roots of lengths, or one of a bare number."""
+    one, other = (Fraction(case.draw.randint(1, 90), case.draw.choice([1, 7, 10])) for _ in "ab")
+    first, second = (case.quantity(it**2, is_positive=True) for it in (one, other))
+    if case.draw.random() < 0.5:
+        return Drawn(first.term.sqrt() * second.term.sqrt(), one * other)
+    inner = case.term(depth)
+    return Drawn((first.term / second.term).sqrt() * inner.term, one / other * inner.value)
+
+
 def _absolute(case: Case, depth: int) -> Drawn:
     inner = case.term(depth)
     return Drawn(abs(inner.term), abs(inner.value))
@@ -161,6 +171,7 @@ _MAKERS: list[Callable[[Case, int], Drawn]] = [
     _inverse,
     _power,
     _root,
+    _half_powers,
     _absolute,
     _extreme,
     _mean,

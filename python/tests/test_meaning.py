@@ -26,6 +26,7 @@ from propbench.model.ranges import range_of
 X, Y, Z = map(cell, ENDS)
 TWO = ("sum", "difference", "product", "quotient", "remainder", "maximum", "minimum")
 TRUTH = ("less", X, ("constant", 1))
+BY_ZERO = [(name, X, Y) for name in ("quotient", "remainder")]
 
 
 def numbers(*of: Recipe) -> Iterator[Recipe]:
@@ -47,7 +48,20 @@ def recipes() -> list[Recipe]:
     compared = [(name, one, other) for name in orders for one in simple for other in (X, Z)]
     truths = [(name, TRUTH, cell("b")) for name in ("and", "or", "xor", "implies")]
     days = [("later", cell("d"), cell("e")), ("early", cell("d")), ("different", X, Y, Z)]
-    return [*simple, *within[::7], *compared, *truths, ("not", TRUTH), *days]
+    alone = [("different", each) for each in (X, *BY_ZERO)]
+    powers = [("power", each, ("constant", power)) for each in (X, *BY_ZERO) for power in (0, 1, 3)]
+    ones = [("equal", power, ("constant", 1)) for power in powers]
+    return [
+        *simple,
+        *within[::7],
+        *compared,
+        *truths,
+        ("not", TRUTH),
+        *days,
+        *alone,
+        *powers,
+        *ones,
+    ]
 
 
 @pytest.fixture(scope="module")

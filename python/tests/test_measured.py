@@ -1,16 +1,31 @@
 """Measured quantities: answers beside exact intervals, which are worked out by hand from formulas."""
 
+import time
 from collections.abc import Iterator
 from decimal import Decimal
 from fractions import Fraction
 from itertools import product
 from pathlib import Path
+from typing import Any
 
 import pytest
 
-from propbench import CertificateError, Conflict, Workbench, maximum, mean, minimum, total
+from propbench import (
+    CertificateError,
+    Conflict,
+    MixedUnits,
+    NoReading,
+    Workbench,
+    all_different,
+    maximum,
+    mean,
+    minimum,
+    total,
+)
 from propbench.measuring.quantities import MeasuredAnswer, Quantity
 from propbench.measuring.translation import TooCoarse
+from propbench.questions.clock import Clock
+from propbench.questions.trial import Seen, Trial
 
 Ends = tuple[Fraction, Fraction]
 
@@ -114,6 +129,33 @@ def test_operations_beside_exact_intervals(w: Workbench) -> None:
         z = w.measured(f"z{place}", unit=unit, low=-1000, high=1000, step="0.001")
         w.law(z == term)
         assert is_tight(z.ask(), ends(low, high), "0.001"), (term, z.ask())
+
+
+def test_roots_of_what_has_a_unit_or_none(w: Workbench) -> None:
+    """A root within a term has half the powers of its unit; two of metres are metres."""
+    b = w.measured("b", low=0, high=100, step="0.001")
+    x = w.measured("x", unit="m", low=1, high=100, step="0.001")
+    y = w.measured("y", unit="m", low=1, high=100, step="0.001")
+    h = w.measured("h", unit="m^(1/2)", low=0, high=100, step="0.001")
+    w.read("b", b, (4, 9))
+    w.read("x", x, (4, 4))
+    w.read("y", y, (9, 16))
+    cases = [
+        (b.sqrt() * "2 m", "m", (4, 6)),
+        (x.sqrt() * y.sqrt(), "m", (6, 8)),
+        (x.sqrt() * x.sqrt() + y, "m", (13, 20)),
+        (x * b.sqrt() / y, "1", ("1/2", "4/3")),
+        ((x / y).sqrt() + b.sqrt(), "1", ("5/2", "11/3")),
+        (x.sqrt() + y.sqrt() + h, "m^(1/2)", (5, 106)),
+        (y.sqrt() ** 3, "m^(3/2)", (27, 64)),
+    ]
+    for place, (term, unit, (low, high)) in enumerate(cases):
+        z = w.measured(f"z{place}", unit=unit, low=-1000, high=1000, step="0.001")
+        w.law(z == term)
+        assert is_tight(z.ask(), ends(low, high), "0.001"), (term, z.ask())
+    fourth = w.measured("fourth", unit="m^(1/4)", low=1, high=5)
+    w.law(fourth == y.sqrt().sqrt())
+    assert is_tight(fourth.ask(), ends("1.7320508075688773", 2), "0.001")
 
 
 def test_the_greatest_and_the_least(w: Workbench) -> None:
@@ -323,6 +365,110 @@ def test_what_a_further_reading_has_to_show(w: Workbench) -> None:
         x.ask()
 
 
+def reaches(shown: Fraction, share: Fraction, more: Fraction, left: Ends) -> bool:
+    """Whether a reading and its tolerance have something of what is left, by its meaning."""
+    off = share * abs(shown) + more
+    return shown - off <= left[1] and left[0] <= shown + off
+
+
+@pytest.mark.parametrize(
+    "low, high, written, share, more",
+    [
+        ("9.5", "11", "+- 5%", "0.05", "0"),
+        ("9.5", "11", "5 % + 0.25 mm", "0.05", "0.25"),
+        ("9.5", "11", "+- 2 % of reading +- 100 um", "0.02", "0.1"),
+        ("-2", "3", "10 % + 0.5 mm", "0.1", "0.5"),
+        ("-4", "-3", "50 %", "0.5", "0"),
+        ("1", "2", "+- 25 % + 3 mm", "0.25", "3"),
+        ("9.5", "11", "0.1 % of 20 mm", "0", "0.02"),
+    ],
+)
+def test_a_tolerance_in_shares_is_of_what_will_be_shown(
+    w: Workbench, low: str, high: str, written: str, share: str, more: str
+) -> None:
+    """Beside all numbers of a fine grid: those that a further reading may show, and no others."""
+    x = w.measured("x", unit="mm", low=-100, high=100, step="0.01")
+    w.read("a", x, (low, high))
+    found = w.predict(x, written)
+    shows = Fraction(found.shows.low), Fraction(found.shows.high)
+    left = ends(low, high)
+    grid = [Fraction(step, 100) for step in range(-2000, 2000)]
+    may = [it for it in grid if reaches(it, Fraction(share), Fraction(more), left)]
+    assert may and all(shows[0] <= it <= shows[1] for it in may)
+    near = Fraction(1, 100)
+    assert min(may) - shows[0] < near and shows[1] - max(may) < near
+
+
+def test_a_tolerance_that_tells_nothing_is_refused(w: Workbench) -> None:
+    x = w.measured("x", unit="mm", low=0, high=100)
+    for written, says in (
+        ("2 digits", "only a reading tells"),
+        ("+- 100 %", "tells nothing"),
+        ("5 % hello", "'hello' behind `%`"),
+        ("5 % mm", "'mm' behind `%`"),
+        ("+- -1 mm", "less than nothing"),
+        ("", "a tolerance is missing"),
+        ("1e999999999", "at most 400 digits"),
+        (-1, "less than nothing"),
+    ):
+        with pytest.raises(NoReading, match=says):
+            w.predict(x, written)
+    with pytest.raises(MixedUnits):
+        w.predict(x, "1 s")
+
+
+def test_a_halved_reading_may_leave_the_quantity_s_ends(w: Workbench) -> None:
+    x = w.measured("x", unit="m", low=0, high=10, step="0.001")
+    y = w.measured("y", unit="m", low=0, high=10, step="0.001")
+    w.law(y == x)
+    w.read("far", x, "1 m +- 1e30 m")
+    w.read("beyond", x, (8, "1e20 m"))
+    w.read("near", y, (6, 10))
+    found = {each.premise: each for each in w.sensitivity(y)}
+    assert set(found) == {"far", "beyond", "near"}
+    # (half of 8 to 10^20 leaves nothing of x; half of 6 to 10 is 7 to 9)
+    assert found["beyond"].halved is None
+    near = found["near"].halved
+    assert near and 0 <= 8 - near.low < Decimal("0.001") and 0 <= near.high - 9 < Decimal("0.001")
+
+
+def test_outliers_return_in_time(w: Workbench, monkeypatch: pytest.MonkeyPatch) -> None:
+    """2^10 ways to give up readings, of which some are found until the time is over, which is here
+    when 200 questions were asked; then the program is asked no more."""
+    asked = []
+
+    def look(trial: Trial, *args: Any) -> Seen:
+        asked.append(args)
+        return plain_look(trial, *args)
+
+    plain_look = Trial.look
+    monkeypatch.setattr(Trial, "look", look)
+    monkeypatch.setattr(Clock, "is_over", lambda clock: len(asked) >= 200)
+    for place in range(10):
+        x = w.measured(f"x{place}", unit="m", low=0, high=100, step="0.01")
+        w.read(f"a{place}", x, "50 +- 3 m")
+        w.read(f"b{place}", x, "60 +- 3 m")
+    found = w.outliers(most=10**6, seconds=100)
+    assert found and not found.complete and 200 <= len(asked) <= 202
+    for each in found:
+        assert len(each) == 10
+        # (53 at the most where b is given up, and 57 is its least)
+        assert [off.by for off in each.off.values()] == [Decimal("3.99")] * 10
+
+
+def test_outliers_tell_no_way_that_was_not_looked_at_to_its_end(w: Workbench) -> None:
+    """A run of 10^7 steps and more, before the conflict: that no reading has to be given up is not
+    known after a tenth of a second."""
+    x = w.measured("x", unit="m", low=-1000, high=1000, step="0.000001")
+    y = w.measured("y", unit="m", low=-1000, high=1000, step="0.000001")
+    w.law(x == y + "0.00001 m")
+    w.law(y == x + "0.00001 m", under="too")
+    w.read("a", x, "0 +- 900 m")
+    found = w.outliers(seconds=0.1)
+    assert found == [] and not found.complete
+    assert str(found).startswith("In this time no way was found.")
+
+
 def test_a_law_tells_its_room(w: Workbench) -> None:
     x = w.measured("x", unit="m", low=0, high=1000, step="0.001")
     y = w.measured("y", unit="m", low=0, high=1000, step="0.001")
@@ -389,6 +535,85 @@ def test_what_is_refused(w: Workbench) -> None:
             other.law(x == y)
 
 
+class Whole:
+    """A whole number of another sort, as numpy's are."""
+
+    def __init__(self, number: int) -> None:
+        self.number = number
+
+    def __index__(self) -> int:
+        return self.number
+
+
+def test_whole_numbers_of_other_sorts_are_numbers(w: Workbench) -> None:
+    one, two, three = map(Whole, (1, 2, 3))
+    x = w.measured("x", low=one, high=Whole(9), step=one)
+    y = w.measured("y", low=0, high=99)
+    w.law(y == two * x**three + one - x / two)
+    w.read("x", x, (two, two))
+    assert is_tight(y.ask(), ends(16, 16), "0.001")
+    assert repr(mean(x, two)) == "mean(x, 2)" and repr(maximum(three)) == "3"
+    assert w.predict(x, one).shows.high == 3
+    n = w.number("n", one, Whole(9))
+    w.require((n**two <= Whole(16)) & (total(n, two) >= three) & all_different(n, one))
+    w.tell("at least", n, two, Whole(9))
+    assert (n.ask().low, n.ask().high) == (2, 4)
+
+
+def test_numbers_of_numpy_are_numbers(w: Workbench) -> None:
+    numpy = pytest.importorskip("numpy")
+    x = w.measured("x", low=numpy.int64(0), high=numpy.float64(9), step=numpy.float32("0.1"))
+    n = w.number("n", numpy.int64(0), 9)
+    assert repr(numpy.int64(3) <= x) == "x >= 3" and repr(numpy.float32("0.1") * x) == "0.1 * x"
+    assert repr(numpy.int64(3) <= n) == "n >= 3" and repr(numpy.int64(3) * n) == "3 * n"
+    table = w.scenarios({"a": {"tell": [("told", n, numpy.int64(1), numpy.int64(3))]}}, [n])
+    assert table["a"]["n"].high == 3 and len(w.plans(most=numpy.int64(2))) == 2
+
+
+LONG = "9" * 5000
+TOO_LONG = ["1e999999999", "1e-999999999", LONG, 10**5000, Decimal("1e999999")]
+
+
+@pytest.mark.parametrize("end", TOO_LONG, ids=range(len(TOO_LONG)))
+def test_what_is_too_long_is_refused_at_once(w: Workbench, end: str | int | Decimal) -> None:
+    x = w.measured("x", unit="m", low=0, high=100)
+    calls = [
+        lambda: w.measured("a", "m", 0, end),
+        lambda: w.measured("a", "m", end, 1),
+        lambda: w.measured("a", "m", 0, 1, end),
+        lambda: w.read("r", x, end),
+        lambda: w.read("r", x, f"5 +- {end} m" if isinstance(end, str) else (0, end)),
+        lambda: w.fix(x, end),
+        lambda: w.read("r", x, "5(1)", coverage=end),  # type: ignore[arg-type]
+        lambda: w.predict(x, end),
+        lambda: x == end,
+        lambda: x * (f"{end} m" if isinstance(end, str) else end),
+    ]
+    for call in calls:
+        began = time.process_time()
+        with pytest.raises((ValueError, TypeError)) as caught:
+            call()
+        assert time.process_time() - began < 1 and len(str(caught.value)) < 300
+    assert w.premises == () and x.ask().high == 100
+
+
+def test_numbers_of_400_digits_are_worked_with(w: Workbench) -> None:
+    far = w.measured("far", unit="m", low="-1e400", high="1e400")
+    near = w.measured("near", unit="m", low=0, high="1e-400")
+    x = w.measured("x", unit="m", low=0, high=100)
+    w.law(x <= "1e400 m")
+    w.law(x * "1e-400" <= "1e30 m")
+    w.read("far", far, "5e399 m +- 1e399 m")
+    w.read("x", x, "50 m +- 1e400 m")
+    assert is_tight(far.ask(), ends("4e399", "6e399")) and is_tight(x.ask(), ends(0, 100))
+    assert is_tight(near.ask(), ends(0, "1e-400"))
+    for power in (1001, 10**9):
+        with pytest.raises(ValueError, match="a power is by 1000 at the most"):
+            x**power
+    with pytest.raises(ValueError, match="a power is by 1000 at the most"):
+        (x**100) ** 100
+
+
 def test_a_quantity_in_a_workbench(w: Workbench, tmp_path: Path) -> None:
     x = w.measured("length of it", unit="mm", low=0, high=100, step="0.1")
     y = w.measured("y", unit="cm", low=0, high=10, step="0.01")
@@ -438,6 +663,36 @@ def test_temperatures(w: Workbench) -> None:
     low, high = Fraction("9.9") - Fraction(5, 18), Fraction("10.1") + Fraction(5, 18)
     assert is_tight(drop.ask(), (low, high))
     assert str(inside.ask()).startswith("inside = 19.9..20.1 degC")
+
+
+def test_differences_of_temperatures_are_no_temperatures(w: Workbench) -> None:
+    """5 degC is 278.15 K: no difference of two is meant by it, nor what is added to one."""
+    inside = w.measured("inside", unit="degC", low=-50, high=100, step="0.1")
+    outside = w.measured("outside", unit="degF", low=-50, high=200, step="0.1")
+    drop = w.measured("drop", unit="degC", low=-100, high=100, step="0.1")
+    refused = [
+        (drop == inside - outside, "`drop` is a temperature, .* is a difference .* measured in K"),
+        (inside - outside == "5 degC", '`"5 degC"` is a temperature: .* write `5 K`'),
+        (inside + "5 degC" <= outside, '`inside [+] "5 degC"` is a sum of temperatures'),
+        (2 * abs(inside - outside) <= drop, "is a difference of temperatures"),
+        (maximum(inside - outside, drop) == outside, "is a difference of temperatures"),
+        (mean(inside, outside) - outside == drop, "is a difference of temperatures"),
+        (inside >= 0, "write `0 degC` or `0 K`"),
+    ]
+    for law, says in refused:
+        with pytest.raises(MixedUnits, match=says):
+            w.law(law)
+    # (what is meant can be told: in kelvin)
+    w.law(inside - outside <= "5 K")
+    w.law(inside >= "0 degC")
+    w.law(mean(inside, outside) == "285.15 K")
+    w.law(inside == outside + "4 K")
+    assert is_tight(inside.ask(), ends("14", "14"), "0.01")
+    rod = w.measured("rod", unit="m", low=0, high=3)
+    expansion = w.measured("expansion", unit="ppm/degC", low=0, high=100)
+    w.law(rod == "2 m" * (1 + expansion * (inside - "20 degC")))
+    w.read("tables", expansion, (12, 12))
+    assert is_tight(rod.ask(), ends("1.999856", "1.999856"), "0.0001")
 
 
 def test_a_run_may_be_cut(w: Workbench) -> None:

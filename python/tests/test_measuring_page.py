@@ -5,7 +5,7 @@ from conftest import REPOSITORY
 from page_examples import carried_out
 
 PAGE = REPOSITORY / "docs/MEASURING.md"
-MOST_BYTES = 7_000
+MOST_BYTES = 8_500
 
 
 def test_the_page(

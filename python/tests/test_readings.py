@@ -1,5 +1,6 @@
 """Units and readings: what stands in them, in base units, worked out by hand."""
 
+import time
 from decimal import Decimal
 from fractions import Fraction
 
@@ -33,6 +34,26 @@ UNITS = {
     "mAh": ("A*s", "3.6"),
     "%": ("a bare number", "0.01"),
     "1": ("a bare number", "1"),
+    "m**2": ("m2", "1"),
+    "ppm/degC": ("1/K", "0.000001"),
+    "%/°F": ("1/K", "9/500"),
+    "degC/W": ("K*s3/kg/m2", "1"),
+    # (13595.1 kg/m3, and 9.80665 m/s2, of which 0.001 m; a pound's weight on 0.0254 m squared)
+    "mmHg": ("kg/m/s2", "133.322387415"),
+    "Torr": ("kg/m/s2", "101325/760"),
+    "psi": ("kg/m/s2", "44482216152605/6451600000"),
+    "lbf": ("kg*m/s2", "4.4482216152605"),
+    "ppb": ("a bare number", "1e-9"),
+    "turn": ("deg", "360"),
+    "rad": ("a bare number", "1"),
+    "mrad": ("a bare number", "0.001"),
+    "deg": ("deg", "1"),
+    "arcsec": ("deg", "1/3600"),
+    "°": ("deg", "1"),
+    "m^(1/2)": ("m^(1/2)", "1"),
+    "cm^(-3/2)": ("1/m^(3/2)", "1000"),
+    "1/s^(1/4)": ("1/s^(1/4)", "1"),
+    "picohenry": ("kg*m2/A2/s2", "1e-12"),
 }
 
 
@@ -56,11 +77,56 @@ def test_what_is_no_unit(text: str) -> None:
         unit_of(text)
 
 
+@pytest.mark.parametrize(
+    "text",
+    [
+        "m 1",
+        "m/12",
+        "m0",
+        "m01",
+        "%2",
+        "% m",
+        "mm9999999999",
+        "mm999",
+        "mm^(1/2)",
+        "m^(1/3)",
+        "m^1/2",
+    ],
+)
+def test_what_would_be_half_a_unit(text: str) -> None:
+    """A number within, a share as a factor, a power or a root that is not exact."""
+    with pytest.raises(UnknownUnit):
+        unit_of(text)
+
+
+@pytest.mark.parametrize("text", ["pH", "pH/m", "7 pH"])
+def test_a_unit_that_may_be_two_is_asked_for(text: str) -> None:
+    with pytest.raises(UnknownUnit, match="a picohenry. A pH is a bare number: .*`1`.*`picohenry`"):
+        unit_of(text) if text[0] == "p" else reading_of(text, unit_of("1"))
+
+
+def test_degrees_and_radians_are_not_mixed() -> None:
+    """Pi is no fraction, so neither is exactly so many of the other."""
+    with pytest.raises(MixedUnits, match="no exact number of radians"):
+        reading_of("0.5 rad", unit_of("deg"))
+    with Workbench() as w:
+        turn = w.measured("turn", unit="deg", low=0, high=360)
+        arc = w.measured("arc", unit="rad", low=0, high=7)
+        length = w.measured("length", unit="m", low=0, high=70)
+        with pytest.raises(MixedUnits, match="`turn` is in deg, .* write all angles in one"):
+            turn == arc
+        assert repr(length == "10 m" * arc) == 'length == "10 m" * arc'
+
+
 def test_units_by_pint() -> None:
     pytest.importorskip("pint")
     furlong = unit_of("furlong")
     assert dimension_text(furlong.dimension) == "m"
     assert abs(furlong.factor - Fraction("201.168")) < Fraction(1, 1000)
+    # (a fraction for pi is not exact, and a zero of its own is no factor)
+    for word in ("degree", "rpm", "celsius"):
+        with pytest.raises(UnknownUnit):
+            unit_of(word)
 
 
 # What is read of ohms: between which it lies.
@@ -102,6 +168,154 @@ def test_readings(given: Given, low: str, high: str) -> None:
     assert (reading.low, reading.high) == (Fraction(low), Fraction(high))
     is_standard = isinstance(given, str) and ("(47)" in given or "u=" in given)
     assert reading.coverage == (3 if is_standard else None)
+
+
+# In a unit, a reading, and between which numbers of the unit it lies; by hand.
+TOLERANCES = [
+    # (a part of what is read, and so much)
+    ("m", "5 m +- 5 % of reading + 3 m", "1.75", "8.25"),
+    ("m", "5.000 m +- 0.01 % +- 2 mm", "4.9975", "5.0025"),
+    ("m", "5.000 m ±(0.01% rdg + 2 mm)", "4.9975", "5.0025"),
+    ("m", "5.000 m +- 0.01 % of the reading", "4.9995", "5.0005"),
+    ("m", "-5 m +- 1% + 1 cm + 1 mm", "-5.061", "-4.939"),
+    ("m", "5 +- 1 +- 2", "2", "8"),
+    ("m", "5 m +- 1e+2 mm + 2e-3 m", "4.898", "5.102"),
+    ("ohm", "470 ohm +- 200 ppm", "469.906", "470.094"),
+    ("ohm", "(470 +- 5% + 1) ohm", "445.5", "494.5"),
+    # (so many of the last digit)
+    ("V", "12.34 V +- 0.5 % + 2 digits", "12.2583", "12.4217"),
+    ("V", "12.34 V +- 3 counts", "12.31", "12.37"),
+    ("V", "1.234e2 V +- 1 digit", "123.3", "123.5"),
+    ("V", "12340 mV +- 2 dgt", "12.338", "12.342"),
+    # (a part of the end of a scale)
+    ("V", "5 V +- 0.1 % of 10 V", "4.99", "5.01"),
+    ("V", "5 V +- (0.1 % + 0.05 % of 10000 mV)", "4.99", "5.01"),
+    # (points, where what is read is told in shares itself)
+    ("%", "(50 +- 2) %", "48", "52"),
+    ("%", "50 % u=0.5 %", "48.5", "51.5"),
+    ("%", "50 +- 2 %", "48", "52"),
+    ("%", "50 % +- 100 ppm", "49.99", "50.01"),
+    ("%", "50 % +- 2 % of reading", "49", "51"),
+    ("1", "50 % +- 2 %", "0.48", "0.52"),
+    ("1", "0.5 +- 2 %", "0.49", "0.51"),
+    ("ppm", "500 +- 20 ppm", "480", "520"),
+    # (standard uncertainties, three times)
+    ("ohm", "468 ohm u=1 % + 2 ohm", "447.96", "488.04"),
+    ("ohm", "468 ohm u=(0.5 % + 1 digit)", "457.98", "478.02"),
+    ("degC", "20 degC +- 0.9 degF", "19.5", "20.5"),
+    ("degC", "20.0 degC +- 1 % + 1 digit", "19.7", "20.3"),
+    ("deg", "45.0 +- 0.5 °", "44.5", "45.5"),
+    ("psi", "14.7 psi +- 0.1 psi", "14.6", "14.8"),
+    ("1/s", "51 1/s", "50.5", "51.5"),
+]
+
+
+@pytest.mark.parametrize("unit, text, low, high", TOLERANCES)
+def test_tolerances(unit: str, text: str, low: str, high: str) -> None:
+    of = unit_of(unit)
+    reading = reading_of(text, of)
+    found = [(end - of.offset) / of.factor for end in (reading.low, reading.high)]
+    assert found == [Fraction(low), Fraction(high)]
+
+
+# In a unit, what is no reading or may be two, and what is said of it.
+NOT_UNDERSTOOD = [
+    ("m", "5 m +- 5 % hello", "'hello' behind `%` is not understood"),
+    ("m", "5 m +- 5 % m", "'m' behind `%` is not understood"),
+    ("ohm", "470 +- 5% hello", "'hello' is no unit"),
+    ("m", "5 m +- 5 % of readings", "is no reading"),
+    ("m", "5 m +- 2 mm hello", "'hello' in 'mm hello' is no unit"),
+    ("m", "5 m +- 5 % +", "a tolerance is missing"),
+    ("m", "5 m +- 5 % + hello", "'hello' in it is no tolerance"),
+    ("m", "5 m +- 1 mm + -2 mm", "less than nothing"),
+    ("m", "5 m +- 1 mm u=2 mm", "is no unit"),
+    ("m", "5 m u=1 mm +- 2 mm", "a bound and a standard uncertainty"),
+    ("m", "5 m + 2 mm", "is no unit"),
+    ("m", "(5 m +- 1) mm", "a unit within the brackets and one behind"),
+    ("V", "5 V +- 0.1 % of range", "how much is all of it?"),
+    ("V", "5 V +- 0.1 % FS", "how much is all of it?"),
+    ("%", "(50 +- 2 %) %", "write `of reading`"),
+    ("1", "0.5 +- 100 ppm", "write `ppm of reading`"),
+    ("m", "5.000 +- 0.01 % + 2 mm", "is the value in m or in mm?"),
+    ("mV", "5 +- 0.1 % of 10 V", "is the value in mV or in V?"),
+    ("degC", "20 +- 0.5 K", "is the value in degC or in K?"),
+    ("ohm", "1 mohm..345", "is the second end in mohm or in ohm?"),
+    ("m", "0.3...4", "from one to another is written `330..345`"),
+    ("1/s", "51/s", "is no reading"),
+    ("m", "5 m 1", "'1' in 'm 1' is no unit"),
+    ("1", "28(14) 1", "is no reading"),
+]
+
+
+@pytest.mark.parametrize("unit, text, says", NOT_UNDERSTOOD)
+def test_what_is_not_understood_to_its_end_is_refused(unit: str, text: str, says: str) -> None:
+    with pytest.raises(ValueError) as caught:
+        reading_of(text, unit_of(unit))
+    assert says in str(caught.value)
+
+
+LONG = "9" * 5000
+TOO_LONG: list[Given] = [
+    *["1e999999999", "1e9999999999 m", "1e-999999999", "-1e999999999 m", "1e401", "1e-401 m"],
+    *[
+        "5 +- 1e999999999 m",
+        "5 m +- 1e999999999 %",
+        "5 u=1e-999999999",
+        "5(1)e999999999",
+        "5(3" + LONG,
+    ],
+    *["1e999999999..2", "1..1e999999999", "(5 +- 1e999999999) m", "5 +- 1 % of 1e999999999 m"],
+    *[LONG, f"{LONG} m", f"0.{LONG}", f"5 +- {LONG}", f"5({LONG})", "7" * 401, "5 mm999999999"],
+    *[Decimal("1e999999999"), Decimal("1e-999999999"), Decimal(LONG), 10**5000, -(10**5000)],
+    *[Fraction(1, 10**5000), (0, 10**5000), ("1e999999999", 3), (0, Decimal("1e999999999"))],
+]
+
+
+@pytest.mark.parametrize("place", range(len(TOO_LONG)))
+def test_a_number_that_is_too_long_is_refused_at_once(place: int) -> None:
+    """Of 400 digits, and powers of ten up to 400 either way, all is exact; more is refused."""
+    began = time.process_time()
+    with pytest.raises(ValueError) as caught:
+        reading_of(TOO_LONG[place], unit_of("m"))
+    assert time.process_time() - began < 1
+    assert len(str(caught.value)) < 300
+
+
+def test_numbers_of_400_digits_are_exact() -> None:
+    digits = "7" * 400
+    assert reading_of(f"{digits} m +- 1e-400 m", unit_of("m")).low == int(digits) - Fraction(
+        1, 10**400
+    )
+    assert reading_of(Decimal("1e400"), unit_of("m")).high == 10**400
+    assert reading_of(10**400 - 1, unit_of("m")).high == 10**400 - 1
+
+
+class Whole:
+    """A whole number of another sort, as numpy's are."""
+
+    def __init__(self, number: int) -> None:
+        self.number = number
+
+    def __index__(self) -> int:
+        return self.number
+
+
+def test_whole_numbers_of_other_sorts_are_numbers() -> None:
+    ohm, five = unit_of("ohm"), Whole(5)
+    assert reading_of(five, ohm).low == 5
+    assert reading_of((five, Whole(7)), ohm).high == 7
+    assert reading_of("5(1)", ohm, Whole(2)).high == 7
+
+
+def test_what_is_taken_no_times_is_no_uncertainty() -> None:
+    for times in (0, -1):
+        with pytest.raises(ValueError, match="more than 0 times"):
+            reading_of("468.0(47)", unit_of("ohm"), times)
+
+
+def test_an_interval_has_two_ends() -> None:
+    with pytest.raises(NoReading, match="two ends, and not 3"):
+        reading_of((1, 2, 3), unit_of("ohm"))  # type: ignore[arg-type]
 
 
 def test_the_coverage_is_the_user_s() -> None:

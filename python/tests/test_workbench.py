@@ -210,6 +210,20 @@ def test_divisions(w: Workbench, under: str | None) -> None:
     assert implies(y == 0, q == 3).node.kind == (x == 3).node.kind
 
 
+def test_what_has_no_value_is_no_power_and_does_not_differ(w: Workbench) -> None:
+    """By zero there is no value, so what is made of it is false: its power by 0, and one alone."""
+    x, y = w.number("x", 1, 9), w.number("y", 0, 3)
+    w.require((x // y) ** 0 == 1, under="power")
+    w.require(all_different(x % y), under="alone")
+    w.require(~all_different(x // y), under="not")
+    for premise, low, high in (("power", 1, 3), ("alone", 1, 3), ("not", 0, 0)):
+        for each in ("power", "alone", "not"):
+            (w.bring if each == premise else w.kick)(each)
+        assert (y.ask().low, y.ask().high) == (low, high)
+    # (of what has a value both say nothing)
+    assert repr(x**0) == "1" and repr(all_different(x)) == "yes"
+
+
 def test_a_condition_guards_a_division(w: Workbench) -> None:
     x, y, share = w.number("x", 0, 9), w.number("y", 0, 9), w.number("share", 0, 99)
     w.require(share == if_else(y != 0, x // y, 50))

@@ -7,9 +7,9 @@ where each constraint holds on it, as it evaluates them (`violated` in model/sea
 """
 
 from propbench.finding import NoProgram, find_program, find_wide
+from propbench.measuring.amounts import NoReading
 from propbench.measuring.bounds import NoBound
 from propbench.measuring.functions import maximum, mean, minimum, total
-from propbench.measuring.readings import NoReading
 from propbench.measuring.translation import TooCoarse
 from propbench.measuring.units import MixedUnits, UnknownUnit
 from propbench.model.answers import Answer, Conflict, NotSettled

@@ -1,7 +1,7 @@
 """Times, counts and paths that a caller gives; where one is none, that is said in his words."""
 
 import os
-from numbers import Real
+from numbers import Integral, Real
 
 
 def seconds_given(seconds: object) -> float | None:
@@ -20,11 +20,11 @@ def seconds_given(seconds: object) -> float | None:
 def count_given(count: object, what: str) -> int:
     """How many, from 0 on. Raises TypeError for what is no whole number, and ValueError for less
     than nothing."""
-    if isinstance(count, bool) or not isinstance(count, int):
+    if isinstance(count, bool) or not isinstance(count, Integral):
         raise TypeError(f"{what} is a whole number: {count!r}")
     if count < 0:
         raise ValueError(f"{what} is a whole number from 0: {count}")
-    return count
+    return int(count)
 
 
 def path_given(path: object) -> str | os.PathLike[str]:

@@ -141,9 +141,9 @@ class Workbench(Measuring, Closing):
     def number(self, name: str, low: int | None = None, high: int | None = None) -> NumberCell:
         """A cell for a whole number from `low` to `high`, each of which may be left open."""
         ends = [end if end is None else point_of(end, Plain.NUMBER) for end in (low, high)]
-        if low is not None and high is not None and low > high:
-            raise ValueError(f"from {low} to {high} there is no number, for {name!r}")
         least, most = (None if end is None else int(end) for end in ends)
+        if least is not None and most is not None and least > most:
+            raise ValueError(f"from {low} to {high} there is no number, for {name!r}")
         return self._added(NumberCell(self._declared(name, Plain.NUMBER, least, most), self))
 
     def truth(self, name: str) -> TruthCell:

@@ -2,17 +2,19 @@
 
 from collections.abc import Sequence
 
+from propbench.measuring.exact import Exact
 from propbench.measuring.forms import Polynomial
 from propbench.measuring.outliers import Outliers, find_outliers
-from propbench.measuring.predict import Prediction, predicted
+from propbench.measuring.predict import Prediction, expected, predicted
 from propbench.measuring.quantities import MeasuredAnswer, Quantity, measure_of, measured
-from propbench.measuring.readings import COVERAGE, Exact, Given, reading_of
+from propbench.measuring.readings import COVERAGE, Given, reading_of
 from propbench.measuring.rooms import Room, find_room
 from propbench.measuring.sensitivity import Improvements, find_improvements
 from propbench.measuring.shaving import Shaved, find_shaved
 from propbench.measuring.stating import Stated, declared, quantities_in, read, stated
 from propbench.measuring.terms import Law, Real, text_of
 from propbench.measuring.units import unit_of
+from propbench.measuring.zeros import check_zeros
 from propbench.model.answers import Conflict
 from propbench.model.events import LawStated, Read
 from propbench.model.measures import Measure
@@ -62,7 +64,8 @@ class Measuring(Questions):
         """States that a law holds, always or under a premise.
 
         No real solution is lost: whichever real numbers fit the law and the readings lie in the
-        answers. Raises ValueError where a term has no bound, or a step is too coarse for the law.
+        answers. Raises ValueError where a term has no bound, or a step is too coarse for the law,
+        and MixedUnits where a temperature is compared with a difference of two.
         """
         if not isinstance(law, Law):
             raise TypeError(f"{law!r} is no law of measured quantities: `w.require` states others")
@@ -82,6 +85,7 @@ class Measuring(Questions):
             return made[root]
 
         try:
+            check_zeros(law)
             found, roots = stated(law, self._equations(under), under, root_of)
             events = [LawStated(it.constraint, under, it.law.text) for it in (found, *roots)]
         except RecursionError:
@@ -97,9 +101,9 @@ class Measuring(Questions):
     ) -> None:
         """States under a premise what was read of a quantity: a text as `468.0 +- 1.2 ohm`,
         `470 ohm +- 5%`, `330..345`, `468.0(47) ohm` or `468.0 ohm u=4.7`; an exact number, or the
-        two ends of an interval.
+        two ends of an interval. A tolerance may have parts: `12.34 V +- (0.5 % + 2 digits)`.
 
-        A standard uncertainty (in brackets, or behind `u=`) counts `coverage` times as a bound.
+        What isn't understood to its end is refused, and nothing is stated then. A standard uncertainty (in brackets, or behind `u=`) counts `coverage` times as a bound.
         Raises NoReading, UnknownUnit and MixedUnits, which are ValueErrors.
         """
         if not isinstance(quantity, Quantity):
@@ -161,15 +165,18 @@ class Measuring(Questions):
     def predict(
         self,
         quantity: Quantity,
-        tolerance: Given | None = None,
+        tolerance: str | Exact | None = None,
         *,
         seconds: float | None = None,
         progress: Progress | None = None,
     ) -> Prediction:
-        """What a further reading of a quantity would have to show, by a tolerance as `+- 0.5 ohm`,
-        so that it doesn't speak against what is believed."""
+        """What a further reading of a quantity would have to show, by a tolerance as `+- 0.5 ohm`
+        or `2 % + 1 ohm`, so that it doesn't speak against what is believed. Shares are of what it
+        shows. Raises NoReading, UnknownUnit and MixedUnits."""
+        self._own(quantity)
+        by = expected(tolerance, quantity.unit)
         left = self.shave(quantity, seconds=seconds, progress=progress)
-        return predicted(quantity, left, tolerance)
+        return predicted(quantity, left, by)
 
     def room(self, law: Law) -> Room:
         """What a law that was stated costs in width, since whole numbers stand for the reals.

@@ -4,7 +4,7 @@ from collections.abc import Callable, Iterable
 from functools import partial
 from typing import overload
 
-from propbench.measuring.readings import Exact
+from propbench.measuring.exact import Exact
 from propbench.measuring.terms import Sort, Term, extreme, mean, sum_of
 from propbench.model import expressions
 from propbench.model.expressions import Number

@@ -116,6 +116,8 @@ def _product(left: Linear, right: Linear) -> Linear:
         atom, coefficient = each.single or (real_of_linear(each), Fraction(1))
         atoms.append(atom)
         factor *= coefficient
+    if atoms[0].sort is Sort.ROOT and atoms[0] == atoms[1]:
+        return linear_of(atoms[0].args[0]).times(factor)
     return _alone(_joined(*sorted(atoms, key=text_of)), factor)
 
 

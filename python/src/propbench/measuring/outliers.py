@@ -17,7 +17,6 @@ from propbench.questions.model import Model
 from propbench.questions.outcomes import Fork
 from propbench.questions.shown import NOT_REFUTED, Shown, shortened
 from propbench.questions.trial import Trial
-from propbench.replies import Contradiction
 
 # The readings that a premise states, by the premise.
 Readings = Mapping[str, Sequence[Read]]
@@ -57,9 +56,10 @@ class Outliers(Shown, list[Outlier]):
         self._certificate = certificate
 
     def headline(self) -> str:
-        if self.complete and not self:
-            return "What is no reading can't hold, whatever was read."
-        if self and not self[0]:
+        if not self:
+            no_reading = "What is no reading can't hold, whatever was read."
+            return no_reading if self.complete else "In this time no way was found."
+        if not self[0]:
             return "No reading has to be given up: nothing speaks against any of them."
         number = f"{len(self)} way{'' if len(self) == 1 else 's'}"
         others = "" if self.complete else f" (others are {NOT_REFUTED})"
@@ -97,7 +97,7 @@ class Weeding:
         self.kept = list(trial.basis)
         self._hitting = Hitting([1] * len(self.names))
         self.conflicts: list[tuple[int, Fork | None]] = []
-        self.repairs: list[int] = []
+        self.found: list[Outlier] = []
         self.complete = False
 
     def premises(self, mask: int) -> list[str]:
@@ -105,21 +105,20 @@ class Weeding:
         return [name for place, name in enumerate(self.names) if mask >> place & 1]
 
     def step(self) -> bool:
-        """Finds one conflict or repair more; whether there may be others."""
+        """Finds one conflict or outlier more; whether there may be others, and time is left."""
         hit = self._hitting.next(self.trial.clock.is_over)
         if hit is None:
             self.complete = self._hitting.is_done
             return False
         rest = (1 << len(self.names)) - 1 & ~hit
         found = self._refuted(rest)
-        if found is None and self.trial.clock.is_over():
-            return False
-        if found is None:
-            self.repairs.append(hit)
-            self._hitting.finish(hit)
-        else:
+        if found is not None:
             self.conflicts.append(self._shrunk(*found))
             self._hitting.learn(self.conflicts[-1][0])
+        elif not self.trial.clock.is_over():
+            # (else it was not looked at to the end what speaks against the others)
+            self.found.append(self._outlier(hit))
+            self._hitting.finish(hit)
         return not self.trial.clock.is_over()
 
     def _refuted(self, mask: int) -> tuple[int, Fork | None] | None:
@@ -139,32 +138,31 @@ class Weeding:
         return sum(1 << place for place, is_in in enumerate(lines) if is_in) & mask, tree
 
     def _shrunk(self, mask: int, tree: Fork | None) -> tuple[int, Fork | None]:
-        """A least conflict within a set."""
+        """A least conflict within a set, or a smaller one where the time is over."""
         for bit in reversed(bits_of(mask)):
-            if mask & bit:
+            if mask & bit and not self.trial.clock.is_over():
                 found = self._refuted(mask & ~bit)
                 if found is not None:
                     mask, tree = found
         return mask, tree
 
-    def outlier(self, hit: int) -> Outlier:
-        """What is known of readings that are given up."""
+    def _outlier(self, hit: int) -> Outlier:
+        """What is known of readings that are given up, against the others of which nothing
+        speaks."""
         made = Outlier(self.premises(hit))
         rest = self.premises((1 << len(self.names)) - 1 & ~hit)
-        seen = self.trial.look([*self.kept, *rest], [])
         off: dict[str, Off] = {}
         share = Fraction(0)
-        if not isinstance(seen, Contradiction):
-            narrowing = Narrowing(self.trial, [*self.kept, *rest], ())
-            narrowing.begin()
-            for name in made:
-                for read in self.readings[name]:
-                    room = narrowing.left(read.cell.name)
-                    if room is not None and read.cell.measure is not None:
-                        measure = read.cell.measure
-                        ends = measure.reals(room.low, room.high)
-                        off[name], more = _off(read, measure, ends)
-                        share += more
+        narrowing = Narrowing(self.trial, [*self.kept, *rest], ())
+        narrowing.begin()
+        for name in made:
+            for read in self.readings[name]:
+                room = narrowing.left(read.cell.name)
+                if room is not None and read.cell.measure is not None:
+                    measure = read.cell.measure
+                    ends = measure.reals(room.low, room.high)
+                    off[name], more = _off(read, measure, ends)
+                    share += more
         made.off, made.share = off, share
         return made
 
@@ -204,15 +202,12 @@ def find_outliers(
     kept = [name for name in model.believed() if name not in readings]
     trial = Trial(model, kept, Clock(seconds, progress))
     weeding = Weeding(trial, readings, related)
-    found: list[Outlier] = []
 
     def run() -> None:
-        while weeding.step() and len(weeding.repairs) < most:
-            trial.clock.tell(f"{len(weeding.repairs)} ways, {len(weeding.conflicts)} conflicts")
-        found.extend(map(weeding.outlier, weeding.repairs))
+        while weeding.step() and len(weeding.found) < most:
+            trial.clock.tell(f"{len(weeding.found)} ways, {len(weeding.conflicts)} conflicts")
 
     def result() -> Outliers:
-        known = [*found, *(_bare(weeding, hit) for hit in weeding.repairs[len(found) :])]
         evidence, claims = Evidence.of(trial), []
         for mask, tree in weeding.conflicts:
             premises = [*weeding.kept, *weeding.premises(mask)]
@@ -220,14 +215,7 @@ def find_outliers(
             claims.append(("fails", {"given": evidence.lines_of(premises), "told": []}))
         certificate = evidence.certificate(claims)
         texts = {name: model.text(name) for name in readings}
-        ordered = sorted(known, key=lambda each: (len(each), -each.share))
+        ordered = sorted(weeding.found, key=lambda each: (len(each), -each.share))
         return Outliers(ordered, weeding.complete, texts, certificate)
 
     return tried(trial, run, result)
-
-
-def _bare(weeding: Weeding, hit: int) -> Outlier:
-    """Readings that are given up, without how far off they are."""
-    made = Outlier(weeding.premises(hit))
-    made.off, made.share = {}, Fraction(0)
-    return made

@@ -13,7 +13,7 @@ from math import ceil, floor, lcm
 from propbench.measuring.bounds import Bounds
 from propbench.model.expressions import Number, total
 from propbench.model.measures import HALF
-from propbench.model.nodes import Node
+from propbench.model.nodes import Node, number
 from propbench.model.ranges import uncut_range_of
 
 # The largest whole number that a law is told by, the largest that is divided or a divisor, and the
@@ -164,6 +164,8 @@ def _rounded_up(node: Node, factor: Fraction) -> tuple[Node, int]:
     divisor = floor(1 / factor)
     if divisor < 2:
         return node, ceil(factor)
+    if divisor > size_of(node):
+        return number(1), 1
     return (Number(node) // divisor + 1).node, 1
 
 

@@ -5,7 +5,7 @@ from dataclasses import dataclass, field
 from decimal import Decimal
 from fractions import Fraction
 
-from propbench.measuring.readings import Exact, exact_of
+from propbench.measuring.exact import Exact, exact_of, number_in
 from propbench.measuring.terms import Real, Sort, Term
 from propbench.measuring.units import Unit, unit_of
 from propbench.model.answers import Answer
@@ -101,13 +101,22 @@ def measure_of(
     name: str, unit: Unit, low: Exact | str, high: Exact | str, step: Exact | str | None
 ) -> Measure:
     """What the cell of a quantity counts. Raises ValueError where it can't count that."""
-    ends = sorted(_number(end) * unit.factor + unit.offset for end in (low, high))
-    if _number(low) > _number(high):
+    ends = _number(low), _number(high)
+    if ends[0] > ends[1]:
         raise ValueError(f"from {low} to {high} there is no number, for {name!r}")
-    most = max(abs(end) for end in ends) or unit.factor
-    digits = _usual_step(most / unit.factor) if step is None else _number(step)
-    if digits <= 0:
+    digits = None if step is None else _number(step)
+    if digits is not None and digits <= 0:
         raise ValueError(f"a step is more than 0, and that of {name!r} is {step}")
+    return measure_between(name, unit, ends, digits)
+
+
+def measure_between(
+    name: str, unit: Unit, between: tuple[Fraction, Fraction], step: Fraction | None
+) -> Measure:
+    """The same, of a quantity between two numbers in its unit, the lower one in front."""
+    ends = [end * unit.factor + unit.offset for end in between]
+    most = max(abs(end) for end in ends) or unit.factor
+    digits = _usual_step(most / unit.factor) if step is None else step
     counted = digits * unit.factor
     if most > _MOST * counted:
         wanted = _usual_step(most / unit.factor)
@@ -120,11 +129,8 @@ def measure_of(
 
 
 def _number(given: Exact | str) -> Fraction:
-    """An end or a step, exact. Raises ValueError for a text that is no number."""
-    try:
-        return Fraction(given) if isinstance(given, str) else exact_of(given)
-    except (ValueError, ZeroDivisionError):
-        raise ValueError(f"{given!r} is no number, as 5, 0.1 and 1/3 are") from None
+    """An end or a step, exact. Raises ValueError for a text that is no number, and TooLong."""
+    return number_in(given) if isinstance(given, str) else exact_of(given)
 
 
 def _usual_step(most: Fraction) -> Fraction:

@@ -7,7 +7,9 @@ from dataclasses import dataclass
 
 from propbench.measuring.narrowing import Impossible, Narrowing
 from propbench.measuring.quantities import Quantity
+from propbench.measuring.readings import Reading
 from propbench.model.events import Read
+from propbench.model.given import cells_of
 from propbench.model.measures import Interval
 from propbench.questions.asking import tried
 from propbench.questions.certificate import Certificate
@@ -114,5 +116,5 @@ def _halved(read: Read) -> Case:
     measure, reading = read.cell.measure, read.reading
     assert measure is not None
     middle, quarter = (reading.low + reading.high) / 2, (reading.high - reading.low) / 4
-    ends = measure.count(middle - quarter), measure.count(middle + quarter)
-    return read.cell.name, Numbers(*ends)
+    halved = Reading(middle - quarter, middle + quarter, reading.written)
+    return read.cell.name, Numbers(*cells_of(measure, halved))

@@ -7,7 +7,7 @@ from fractions import Fraction
 from propbench.measuring.bounds import Bounds
 from propbench.measuring.combining import combined
 from propbench.measuring.forms import Form, Polynomial, forms_of, polynomial_of
-from propbench.measuring.quantities import measure_of
+from propbench.measuring.quantities import measure_between
 from propbench.measuring.readings import Reading
 from propbench.measuring.terms import Law, Real, Sort, text_of
 from propbench.measuring.translation import Told, TooCoarse, Translator
@@ -120,8 +120,8 @@ def _constraint(translator: Translator, form: Form) -> Node:
 
 def _measure_of_root(root: Real, bounds: Bounds) -> Measure:
     """What the cell of a root counts, in base units."""
-    unit = Unit(dimension_text(root.dimension), root.dimension)
-    return measure_of(text_of(root), unit, bounds[0], bounds[1], None)
+    unit = Unit(dimension_text(root.dimension) if root.dimension else "1", root.dimension)
+    return measure_between(text_of(root), unit, bounds, None)
 
 
 def declared(name: str, measure: Measure, owner: object) -> Declared:

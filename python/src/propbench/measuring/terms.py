@@ -5,17 +5,18 @@ number, or a text with a unit, as `"9.81 m/s2"`.
 """
 
 from collections.abc import Iterable
-from dataclasses import dataclass
-from decimal import Decimal
+from dataclasses import dataclass, replace
 from enum import Enum
 from fractions import Fraction
 from typing import NoReturn
 
-from propbench.measuring.readings import Exact, constant_of, exact_of
+from propbench.measuring.exact import Exact, exact_of, is_number
+from propbench.measuring.readings import constant_of
 from propbench.measuring.units import (
     BARE,
     Dimension,
     MixedUnits,
+    angles_mixed,
     dimension_text,
     times,
     to_power,
@@ -46,7 +47,7 @@ class Sort(Enum):
 @dataclass(frozen=True)
 class Real:
     """A term as data. `number` is a constant, in base units, or the exponent of a power; `text` is
-    how a constant was written."""
+    how a constant was written, and `is_temperature` says that its unit has a zero of its own."""
 
     sort: Sort
     args: tuple["Real", ...]
@@ -54,6 +55,7 @@ class Real:
     number: Fraction = Fraction(0)
     declared: Declared | None = None
     text: str = ""
+    is_temperature: bool = False
 
     @property
     def quantity(self) -> Declared:
@@ -72,6 +74,9 @@ ONE = constant(Fraction(1))
 
 class Term:
     """A real number that is made of quantities: `+ - * / **`, `abs`, `.sqrt()`, comparisons."""
+
+    # (so a number of numpy's in front leaves it to the term what is made of both)
+    __array_ufunc__ = None
 
     @property
     def real(self) -> Real:
@@ -187,8 +192,9 @@ def real_of(value: object) -> Real:
         return value.real
     if isinstance(value, str):
         number, unit = constant_of(value)
-        return constant(number, unit.dimension, f'"{value.strip()}"')
-    if isinstance(value, int | float | Decimal | Fraction) and not isinstance(value, bool):
+        made = constant(number, unit.dimension, f'"{value.strip()}"')
+        return replace(made, is_temperature=bool(unit.offset))
+    if is_number(value):
         return constant(exact_of(value))
     raise TypeError(
         f"{value!r} is no measured quantity, no number, and no text as `9.81 m/s2`: of whole "
@@ -217,7 +223,7 @@ def sum_of(terms: "Iterable[object]") -> Term:
 def reals_of(terms: Iterable[object]) -> list[Real]:
     """What was given one by one, or as one list."""
     given = list(terms)
-    if len(given) == 1 and not isinstance(given[0], (Term, int, str)):
+    if len(given) == 1 and not isinstance(given[0], (Term, str)) and not is_number(given[0]):
         [several] = given
         if not isinstance(several, Iterable):
             raise TypeError(f"{several!r} is no term, and no list of terms")
@@ -225,6 +231,10 @@ def reals_of(terms: Iterable[object]) -> list[Real]:
     if not given:
         raise ValueError("of no terms there is no mean, and none is the greatest or the least")
     return [real_of(each) for each in given]
+
+
+# A power is by so much at the most: that of 1.04 is some 10^17.
+_MOST_POWER = 1000
 
 
 def power_of(base: Real, power: Fraction) -> Real:
@@ -235,12 +245,16 @@ def power_of(base: Real, power: Fraction) -> Real:
         raise ValueError(
             f"a power is by a whole number, or by 0.5 for the root, and not by {power}"
         )
+    if abs(power) > _MOST_POWER:
+        raise ValueError(f"a power is by {_MOST_POWER} at the most, and not by {power}")
     if power == 0:
         return ONE
     if power < 0:
         return _divided(ONE, power_of(base, -power))
     if power == 1:
         return base
+    if base.sort is Sort.POWER:
+        return power_of(base.args[0], base.number * power)
     return Real(Sort.POWER, (base,), to_power(base.dimension, power), power)
 
 
@@ -281,6 +295,7 @@ def _common(reals: list[Real]) -> Dimension:
         if other.dimension != first.dimension:
             raise MixedUnits(
                 f"`{text_of(first)}` is {_unit(first)}, and `{text_of(other)}` {_unit(other)}"
+                + angles_mixed(first.dimension, other.dimension)
             )
     return first.dimension
 

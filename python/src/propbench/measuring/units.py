@@ -1,7 +1,8 @@
 """Units: a table of those that laboratories use most, with prefixes; others by pint, where it is.
 
-A unit is written as `mm`, `mm2` or `mm^2`, `m/s`, `kg*m/s2`, `ohm`, `kohm`, and `1` for a bare
-number. Its factor is exact.
+A unit is written as `mm`, `mm2` or `mm^2`, `m/s`, `kg*m/s2`, `ohm`, `kohm`, `ppm/degC`, `m^(1/2)`,
+and `1` for a bare number. Its factor is exact. A radian is a bare number, as an arc is its radius
+times an angle; a degree is a base unit of its own, for pi is no fraction: they can't be mixed.
 """
 
 import re
@@ -10,6 +11,9 @@ from dataclasses import dataclass
 from fractions import Fraction
 from functools import cache
 from importlib import import_module
+from math import isqrt
+
+from propbench.measuring.exact import MOST_DIGITS, short
 
 # Powers of base units by name, those that are not zero, in order of the names.
 Dimension = tuple[tuple[str, Fraction], ...]
@@ -62,35 +66,74 @@ def _powered(name: str, power: Fraction) -> str:
     return f"{name}{power}" if power.denominator == 1 else f"{name}^({power})"
 
 
+def angles_mixed(one: Dimension, other: Dimension) -> str:
+    """What an error says more where degrees are mixed with what has none, as radians."""
+    if ("deg" in dict(one)) is ("deg" in dict(other)):
+        return ""
+    return "; a degree is no exact number of radians, so write all angles in one of both"
+
+
 def unit_of(text: str) -> Unit:
-    """The unit that a text names. Raises UnknownUnit."""
+    """The unit that a text names. Raises UnknownUnit, and TypeError for what is no text."""
+    if not isinstance(text, str):
+        raise TypeError(f"a unit is a text, as `mm` and `1`: {text!r}")
     written = text.strip()
     if written in _OFFSETS:
         factor, offset = _OFFSETS[written]
         return Unit(written, _base("K"), factor, offset)
-    return Unit(written, *_product(written))
+    dimension, factor = _product(written)
+    if max(factor.numerator, factor.denominator) > 10**MOST_DIGITS:
+        raise UnknownUnit(f"{short(written)!r} is beyond 1e{MOST_DIGITS} or 1e-{MOST_DIGITS}")
+    return Unit(written, dimension, factor)
 
 
 def _product(written: str) -> tuple[Dimension, Fraction]:
     """The dimension and the factor of units with `*` and `/` between them."""
     dimension, factor = BARE, Fraction(1)
-    for place, part in enumerate(written.split("/")):
+    # (a line within brackets is that of a power, as in `m^(1/2)`)
+    for place, part in enumerate(re.split(r"/(?![^(]*\))", written.replace("**", "^"))):
         sign = -1 if place else 1
-        for word in re.split(r"[*·\s]+", part.strip()):
-            matched = re.fullmatch(r"([^\W\d]+|%|Ω|°|1)(?:\^|\*\*)?(-?\d+)?", word)
-            if not matched:
+        words = re.split(r"[*·\s]+", part.strip())
+        for word in words:
+            if place == 0 and words == ["1"]:
+                continue
+            matched = _WORD.fullmatch(word)
+            # (a share has no power, and is no factor: of `5 % m` nobody knows what it says)
+            if not matched or matched[1] in SHARES and (matched[2] or len(words) > 1):
                 raise UnknownUnit(_unknown(written, word))
-            power = Fraction(sign * int(matched[2] or 1))
+            power = sign * Fraction((matched[2] or "1").strip("()"))
             of_word, factor_of_word = _named(matched[1], written)
             dimension = times(dimension, of_word, power)
-            factor *= Fraction(factor_of_word ** int(power))
+            factor *= _to_power(factor_of_word, power, written)
     return dimension, factor
+
+
+# A unit, and its power: three digits at the most, or in brackets one by another, for a root.
+_POWER = r"-?[1-9]\d{0,2}"
+_ROOT = rf"(?<=\^)\({_POWER}/(?:2|4|8|16|32|64)\)"
+_WORD = re.compile(rf"([^\W\d]+|%|Ω|°[CF]?)(?:\^?({_POWER}|{_ROOT}))?")
+
+
+def _to_power(factor: Fraction, power: Fraction, written: str) -> Fraction:
+    """The power of a factor, exact. Raises UnknownUnit where it is no fraction."""
+    root, times_rooted = factor, power.denominator
+    while times_rooted > 1:
+        found = Fraction(isqrt(root.numerator), isqrt(root.denominator))
+        if found * found != root:
+            raise UnknownUnit(f"{short(written)!r} has the root of a number that is no square")
+        root, times_rooted = found, times_rooted // 2
+    return Fraction(root**power.numerator)
 
 
 def _named(word: str, written: str) -> tuple[Dimension, Fraction]:
     """The unit of one name, with a prefix or without."""
     if word in _UNITS:
         return _UNITS[word]
+    if word in _OFFSETS:
+        # (in a product it is a difference: `ppm/degC` is as much for each kelvin)
+        return _base("K"), _OFFSETS[word][0]
+    if word in _TWO_WAYS:
+        raise UnknownUnit(f"{short(written)!r}: {_TWO_WAYS[word]}")
     for prefix, size in _PREFIXES.items():
         name = word.removeprefix(prefix)
         if name != word and name in _PREFIXED:
@@ -103,8 +146,9 @@ def _named(word: str, written: str) -> tuple[Dimension, Fraction]:
 
 
 def _unknown(written: str, word: str) -> str:
-    part = "" if word == written else f" in {written!r}"
-    return f"{word!r}{part} is no unit that is known; more are where Python's pint is installed"
+    part = "" if word == written else f" in {short(written)!r}"
+    known = "is no unit that is known; more are where Python's pint is installed"
+    return f"{short(word)!r}{part} {known}"
 
 
 @cache
@@ -118,7 +162,10 @@ def _of_pint(word: str) -> tuple[Dimension, Fraction] | None:
         registry = pint.UnitRegistry(non_int_type=Fraction)
         found = registry.Quantity(Fraction(1), word).to_base_units()
         powers = {_OF_PINT.get(name, name): power for name, power in found.dimensionality.items()}
-        is_exact = isinstance(found.magnitude, int | Fraction)
+        # (in an angle pint takes some fraction for pi, and a zero of its own is no factor)
+        zero = registry.Quantity(Fraction(0), word).to_base_units().magnitude
+        is_exact = isinstance(found.magnitude, int | Fraction) and zero == 0
+        is_exact = is_exact and "radian" not in str(found.units)
     except Exception:  # (what pint raises for a text has no class in common)
         return None
     if not is_exact:
@@ -167,9 +214,18 @@ _PREFIXES = {
     "G": Fraction(10**9),
     "T": Fraction(10**12),
 }
-_PREFIXED = frozenset("m s g A K mol L l V ohm Ohm Ω W J N Hz F H C S T Wb Pa bar eV".split())
+_PREFIXED = frozenset("m s g A K mol L l V ohm Ohm Ω W J N Hz F H C S T Wb Pa bar eV rad".split())
+# Names of shares: behind a value that has another unit they are of what is read.
+SHARES = frozenset(("%", "ppm", "ppb"))
+# What may mean one or another.
+_TWO_WAYS = {
+    "pH": "is it how acid something is, or a picohenry? A pH is a bare number: give its quantity "
+    "the unit `1`, and write its readings without one. A picohenry is written `picohenry`"
+}
 _UNITS: dict[str, tuple[Dimension, Fraction]] = {
-    **_units({"1": "1", "%": "1/100", "ppm": "1/1000000"}, ""),
+    **_units({"1 rad": "1", "%": "1/100", "ppm": "1/1000000", "ppb": "1/1000000000"}, ""),
+    # angles, none of which is so many radians exactly
+    **_units({"deg °": "1", "arcmin": "1/60", "arcsec": "1/3600", "turn": "360"}, "deg"),
     # lengths, areas by powers of these, and volumes
     **_units({"m": "1", "inch in": "0.0254", "ft": "0.3048", "yd": "0.9144"}, "m"),
     **_units({"mi": "1609.344", "nmi": "1852"}, "m"),
@@ -179,8 +235,11 @@ _UNITS: dict[str, tuple[Dimension, Fraction]] = {
     **_units({"Hz": "1"}, "s-1"),
     # masses, forces, pressures, energies and powers
     **_units({"g": "1/1000", "t": "1000", "lb": "0.45359237", "oz": "0.028349523125"}, "kg"),
-    **_units({"N": "1"}, "kg m s-2"),
+    **_units({"N": "1", "lbf": "4.4482216152605"}, "kg m s-2"),
     **_units({"Pa": "1", "bar": "100000", "atm": "101325"}, "kg m-1 s-2"),
+    # (a pound's weight on a square inch: lb * 9.80665 m/s2 / in2)
+    **_units({"psi": "44482216152605/6451600000"}, "kg m-1 s-2"),
+    **_units({"mmHg": "133.322387415", "Torr torr": "101325/760"}, "kg m-1 s-2"),
     **_units({"J": "1", "Wh": "3600", "kWh": "3600000", "cal": "4.184"}, "kg m2 s-2"),
     **_units({"eV": "1.602176634e-19"}, "kg m2 s-2"),
     **_units({"W": "1"}, "kg m2 s-3"),
@@ -195,7 +254,7 @@ _UNITS: dict[str, tuple[Dimension, Fraction]] = {
     **_units({"ohm Ohm Ω": "1"}, "kg m2 s-3 A-2"),
     **_units({"S": "1"}, "kg-1 m-2 s3 A2"),
     **_units({"F": "1"}, "kg-1 m-2 s4 A2"),
-    **_units({"H": "1"}, "kg m2 s-2 A-2"),
+    **_units({"H": "1", "picohenry": "1e-12"}, "kg m2 s-2 A-2"),
     **_units({"Wb": "1"}, "kg m2 s-2 A-1"),
     **_units({"T": "1"}, "kg s-2 A-1"),
 }

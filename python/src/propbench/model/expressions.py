@@ -6,9 +6,11 @@ names of elements and symbols.
 """
 
 from collections.abc import Iterable, Mapping
+from numbers import Integral
 from operator import index
 from typing import NoReturn, SupportsIndex, TypeVar, cast, overload
 
+from propbench.model.definedness import has_value
 from propbench.model.kinds import MOST, Domain, Kind, Plain, Point, kind_text
 from propbench.model.meaning import value_of
 from propbench.model.nodes import (
@@ -29,6 +31,9 @@ from propbench.model.writing import text_of
 
 class Expression:
     """Something with a value: a cell, or what is made of cells and constants."""
+
+    # (so a number of numpy's in front leaves it to the expression what is made of both)
+    __array_ufunc__ = None
 
     def __init__(self, node: Node) -> None:
         self._node = node
@@ -100,11 +105,13 @@ class Number(Expression):
     def __rtruediv__(self, other: object) -> NoReturn:
         raise TypeError(f"numbers are whole: write `{other!r} // {self!r}`, which rounds down")
 
-    def __pow__(self, power: int) -> "Number":
-        if not isinstance(power, int) or isinstance(power, bool) or power < 0:
+    def __pow__(self, power: SupportsIndex) -> "Number":
+        if isinstance(power, bool) or not isinstance(power, SupportsIndex) or index(power) < 0:
             raise TypeError(f"a power is a constant whole number from 0: {power!r}")
+        power = index(power)
         if power == 0:
-            return Number(number(1))
+            # (what has no value has no power either)
+            return Number(number(1)) if has_value(self._node) is TRUE else self * 0 + 1
         half = self ** (power // 2) if power > 1 else self
         if power == 1:
             return self
@@ -365,10 +372,13 @@ def count(*truths: "Truth | bool | Iterable[Truth | bool]") -> Number:
 def all_different(*values: "Expression | Point | Iterable[Expression | Point]") -> Truth:
     """The constraint that no two of these are the same, given one by one or as one list."""
     given = _several(values)
-    if len(given) < 2:
+    if not given:
         return Truth(TRUE)
     kind = _common_kind(given)
-    return Truth(_folded(Op.ALL_DIFFERENT, [node_of(each, kind) for each in given]))
+    nodes = [node_of(each, kind) for each in given]
+    if len(nodes) == 1 and has_value(nodes[0]) is TRUE:
+        return Truth(TRUE)
+    return Truth(_folded(Op.ALL_DIFFERENT, nodes))
 
 
 def element(cell: Element, table: "Mapping[str, int]") -> Number:
@@ -422,7 +432,7 @@ def _extreme(op: Op, numbers: "tuple[Number | int | Iterable[Number | int], ...]
 
 def _several(given: "tuple[object, ...]") -> list[object]:
     """What was given one by one, or as one list."""
-    if len(given) == 1 and not isinstance(given[0], (Expression, int, str)):
+    if len(given) == 1 and not isinstance(given[0], (Expression, Integral, str)):
         [values] = given
         return list(cast("Iterable[object]", values))
     return list(given)
@@ -435,7 +445,7 @@ def _common_kind(values: "list[object]") -> Kind:
             return value.node.kind
     if isinstance(values[0], bool):
         return Plain.TRUTH
-    return Plain.NUMBER if isinstance(values[0], int) else Plain.SYMBOL
+    return Plain.NUMBER if isinstance(values[0], SupportsIndex) else Plain.SYMBOL
 
 
 def expression_of(made: Node) -> Expression:

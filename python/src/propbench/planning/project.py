@@ -2,6 +2,7 @@
 
 from collections.abc import Iterable, Mapping, Sequence
 from datetime import date
+from operator import index
 from typing import TYPE_CHECKING, SupportsIndex
 
 from propbench.model.cells import NumberCell, words_of
@@ -162,8 +163,8 @@ class Project:
     def day(self, given: int | date | str) -> int:
         """A day of the plan, by its number, or by a date where the plan has a calendar, as
         `2026-12-04`. Raises ValueError for one that is none, and TypeError."""
-        if isinstance(given, int):
-            return given
+        if isinstance(given, SupportsIndex):
+            return index(given)
         if self.calendar is None:
             raise ValueError(f"the plan has no calendar: say by number which day {given} is")
         return self.calendar.day_of(date_given(given))

@@ -2,6 +2,8 @@
 
 from collections.abc import Iterable, Mapping, Sequence
 from dataclasses import dataclass
+from numbers import Integral
+from operator import index
 
 from propbench.nearby import near_names
 from propbench.questions.asking import cell_named, premises_named, several
@@ -104,6 +106,7 @@ def value_text(model: Model, cell: str, value: object, high: object = None) -> s
     """A value, or the numbers up to another, as a line says it."""
     if model.is_measured(cell):
         return model.read(cell, value, high)
+    value, high = _plain(value), _plain(high)
     candidates = model.candidates(cell)
     is_number = candidates is None or isinstance(candidates, range)
     if high is not None:
@@ -124,6 +127,11 @@ def value_text(model: Model, cell: str, value: object, high: object = None) -> s
             raise ValueError(f"{cell} can't be {quoted(str(name))}.{hint}")
     written = " ".join(model.literal(cell, str(name)) for name in names)
     return written if len(names) == 1 else f"{{{written}}}"
+
+
+def _plain(value: object) -> object:
+    """A whole number of another sort, as numpy's, as Python's own; any other value as it is."""
+    return index(value) if isinstance(value, Integral) and not isinstance(value, bool) else value
 
 
 def _several(value: object) -> list[object]:
