@@ -1,24 +1,20 @@
 """The network of a workbench: what was stated so far, and the session that holds it.
 
-An event is carried out whole or not at all. A copy has a session of its own.
+What is stated is carried out whole or not at all: a record of all of it is put in the place of the
+one before only when the program was told everything. A copy has a session of its own.
 """
 
-from collections.abc import Sequence
+from collections.abc import Iterator, Sequence
+from contextlib import contextmanager
+from dataclasses import dataclass, field, replace
 
-from propbench.model.events import (
-    CellMade,
-    ConstraintChoice,
-    DomainMade,
-    Event,
-    Required,
-    Told,
-    ValueChoice,
-)
 from propbench.model.either import Either
+from propbench.model.events import Event, Required
 from propbench.model.kinds import Domain
 from propbench.model.kit import offered, written
 from propbench.model.nodes import Declared, Node
 from propbench.model.premises import Premises
+from propbench.model.record import Record, Standing
 from propbench.model.script import Owner, Script
 from propbench.model.vocabulary import Vocabulary
 from propbench.model.writer import YES
@@ -27,62 +23,110 @@ from propbench.refusals import LimitReached, LineTooLong, NotAName, Refused
 from propbench.session import Session
 
 
+@dataclass
+class Program:
+    """What is known of the program: procedures that it offers, and whether it takes words for
+    names. It is the same for all copies."""
+
+    offered: frozenset[str] = frozenset()
+    names: dict[str, bool] = field(default_factory=dict)
+
+
 class Network:
-    """Events in order, premises, and the program that was told all of it."""
+    """Events in order, premises, and the program that was told all of it.
 
-    def __init__(self, session: Session) -> None:
-        """Nothing as yet, in a session to which nothing was said."""
-        self.session = session
-        self.vocabulary = Vocabulary(self._is_taken_as_name)
-        self.premises = Premises()
-        self.events: list[Event] = []
-        self.cells: dict[str, Declared] = {}
-        self.domains: dict[str, Domain] = {}
-        self.offered: frozenset[str] = frozenset()
-        # Whose values questions try out first.
-        self.first: tuple[First, ...] = ()
-        # What makes the network from nothing, while that is known.
-        self._base: Script | None = None
-        self._script = self.new_script()
-        self.session.send_all(self._script.writer.taken())
-        self.offered = offered(self.session, YES)
+    All that is kept is the record. Where the rest, the session included, is that of another record,
+    as behind a statement that was refused, it is made anew when it is next looked at.
+    """
 
-    def copy(self, events: Sequence[Event] | None = None) -> "Network":
-        """The same in a session of its own; with other events where these are given."""
-        made = Network(self.session.fresh())
-        made.vocabulary, made.offered = self.vocabulary, self.offered
-        made.cells, made.domains = dict(self.cells), dict(self.domains)
-        made.first = self.first
-        if events is None:
-            made.premises = self.premises.copy()
-        made.events = list(self.events if events is None else events)
-        made.begin_anew()
-        return made
+    def __init__(
+        self, session: Session, program: Program | None = None, record: Record | None = None
+    ) -> None:
+        """What a record has, or nothing as yet, in a session to which nothing was said."""
+        self._session = session
+        self._program = program or Program()
+        self._record = record or Record()
+        # Whether nothing was said to the session.
+        self._is_fresh = True
+        self._standing = self._stand()
+        if program is None:
+            self._program.offered = offered(self.session, YES)
+
+    # --- how things stand ---
+
+    @property
+    def session(self) -> Session:
+        """The session, which was told all that is stated, and nothing else."""
+        self._catch_up()
+        return self._session
+
+    @property
+    def vocabulary(self) -> Vocabulary:
+        """How things are called on lines."""
+        return self._now().vocabulary
+
+    @property
+    def premises(self) -> Premises:
+        """The premises and choices."""
+        return self._now().premises
+
+    @property
+    def events(self) -> Sequence[Event]:
+        """What was stated, in order."""
+        return self._now().events
+
+    @property
+    def cells(self) -> dict[str, Declared]:
+        """The cells by name, in the order in which they were made."""
+        return self._now().cells
+
+    @property
+    def domains(self) -> dict[str, Domain]:
+        """The domains by name."""
+        return self._now().domains
+
+    @property
+    def first(self) -> tuple[First, ...]:
+        """Whose values questions try out first."""
+        return self._record.first
+
+    @property
+    def offered(self) -> frozenset[str]:
+        """The procedures of the wider kit that the program has."""
+        return self._program.offered
+
+    @property
+    def lacks(self) -> list[str]:
+        """What was written for which the program has no procedure, as a user writes it."""
+        return written(self._now().script.writer.missed)
+
+    def _now(self) -> Standing:
+        """How things stand by the record."""
+        if self._standing.record is not self._record:
+            self._standing = self._stand()
+        return self._standing
+
+    def _stand(self) -> Standing:
+        return Standing(self._record, Vocabulary(self._is_taken_as_name), self._offers)
+
+    def _offers(self, name: str) -> bool:
+        return name in self._program.offered
+
+    # --- what is stated ---
 
     def do(self, event: Event) -> list[str]:
         """Carries out an event, and gives its lines. Where one is refused, nothing of it is kept.
 
         Raises ValueError where the program has no room for it, or it can't be said on lines.
         """
-        lines: list[str] = []
+        standing = self._opened()
         try:
-            lines = self._script.lines_of(event)
-            self.session.send_all(lines)
-        except BaseException as error:
-            self.begin_anew()
-            if isinstance(error, (LimitReached, LineTooLong, RecursionError)):
-                raise ValueError(f"{_why_not(error)}; nothing of this was stated") from None
-            raise
-        self._base = None
-        self.events.append(event)
-        if isinstance(event, CellMade):
-            self.cells[event.cell.name] = event.cell
-        elif isinstance(event, DomainMade):
-            self.domains[event.domain.name] = event.domain
-        elif isinstance(event, (Required, Told)):
-            self.premises.state(event)
-        elif isinstance(event, (ValueChoice, ConstraintChoice)):
-            self.premises.choices[event.name] = event
+            lines = standing.script.lines_of(event)
+            self._session.send_all(lines)
+        except (LimitReached, LineTooLong, RecursionError) as error:
+            raise ValueError(f"{_why_not(error)}; nothing of this was stated") from None
+        standing.add(event)
+        self._record = standing.becomes(self._record)
         return lines
 
     def kick(self, premise: str) -> None:
@@ -95,97 +139,143 @@ class Network:
 
     def forget(self, premise: str) -> None:
         """All that was stated under a premise goes, and the premise with it."""
+        standing = self._opened()
+        name = standing.vocabulary.premises.line(premise)
         # (a premise that nothing names is believed, in case that it is named again)
-        self.bring(premise)
-        self.session.send(f"forget {self.vocabulary.premises.line(premise)}")
-        self._script.forget(premise)
-        self.premises.forget(premise)
-        self.events = [each for each in self.events if premise_of(each) != premise]
-        self._base = None
+        self._session.send_all([f"bring {name}", f"forget {name}"])
+        standing.forget(premise)
+        kicked = self._record.kicked - {premise}
+        self._record = standing.becomes(replace(self._record, kicked=kicked))
 
-    @property
-    def lacks(self) -> list[str]:
-        """What was written for which the program has no procedure, as a user writes it."""
-        return written(self._script.writer.missed)
+    def try_first(self, first: tuple[First, ...]) -> None:
+        """Questions try out these values first from now on."""
+        self._record = self._now().becomes(replace(self._record, first=first))
+
+    @contextmanager
+    def whole(self) -> Iterator[None]:
+        """Has all that is stated within be carried out, or nothing: where something is refused, or
+        it ends by another exception, Ctrl-C included, all is as it was before."""
+        before = self._record
+        try:
+            yield
+        except BaseException:
+            self._record = before
+            raise
+
+    @contextmanager
+    def tried(self) -> Iterator[Session]:
+        """The session, to try something in it that is taken back in the end. Where it doesn't come
+        to that, the session is told anew what is stated."""
+        session, standing = self.session, self._now()
+        standing.is_told = False
+        yield session
+        standing.is_told = True
+
+    def _opened(self) -> Standing:
+        """How things stand, to be changed as the session is. Meanwhile it is that of no record: if
+        it doesn't come to another, both are made anew."""
+        self._catch_up()
+        self._standing.record = None
+        return self._standing
+
+    def _catch_up(self) -> None:
+        """Sees to it that the session was told all that is stated, and nothing else."""
+        standing = self._now()
+        if not standing.is_told:
+            is_fresh, self._is_fresh = self._is_fresh, False
+            if is_fresh:
+                self._session.send_all(standing.lines())
+            else:
+                self._session.replay(standing.lines())
+            standing.is_told = True
+
+    def _believe(self, premise: str, is_believed: bool) -> None:
+        standing = self._opened()
+        command = "bring" if is_believed else "kick"
+        self._session.send(f"{command} {standing.vocabulary.premises.line(premise)}")
+        standing.believe([premise], is_believed)
+        others = self._record.kicked - {premise}
+        kicked = others if is_believed else others | {premise}
+        self._record = standing.becomes(replace(self._record, kicked=kicked))
+
+    # --- copies ---
+
+    def copy(self, events: Sequence[Event] | None = None) -> "Network":
+        """The same in a session of its own; with other events where these are given, of which
+        none is kicked out."""
+        record = self._record
+        if events is not None:
+            record = replace(record, events=list(events), count=len(events), kicked=frozenset())
+        return Network(self._session.fresh(), self._program, record)
+
+    def begin_anew(self) -> None:
+        """Has the program begin anew, with what is known to be carried out."""
+        self._standing = self._stand()
+        self._catch_up()
+
+    def close(self) -> None:
+        """Ends the program."""
+        self._session.close()
+
+    # --- lines ---
 
     def base(self) -> list[str]:
         """The lines that make the network as it is: a fresh session that is sent these is in the
         state of this one."""
-        if self._base is None:
-            self._base = self.new_script()
-            for event in self.events:
-                self._base.lines_of(event)
-        return [*self._base.writer.lines, *self.kicks()]
+        return [*self._base().writer.lines, *self.kicks(self.vocabulary)]
+
+    def new_script(self) -> Script:
+        """A script that begins from nothing, also with names: of what was forgotten, or refused,
+        none is left."""
+        return Script(Vocabulary(self._is_taken_as_name), self._offers)
+
+    def kicks(self, vocabulary: Vocabulary) -> list[str]:
+        """The lines that kick out what isn't believed, with names of this vocabulary."""
+        return self._now().kicks(vocabulary)
 
     @property
     def forks(self) -> dict[str, Either]:
         """Inner truths of the base, by which one way or another is taken where one of some holds,
         by their cells on lines."""
-        self.base()
-        assert self._base
-        return self._base.translation.forks
+        return self._base().translation.forks
 
     def lines_of(self, constraint: Node) -> list[str]:
         """The lines of the base that state a constraint, wherever it was required."""
         lines: dict[str, None] = {}
-        self.base()
-        assert self._base
+        base = self._base()
         for event in self.events:
             if isinstance(event, Required) and event.constraint is constraint:
-                lines.update(dict.fromkeys(self._base.explained(event)))
+                lines.update(dict.fromkeys(base.explained(event)))
         return list(lines)
 
     def owners(self) -> dict[str, Owner]:
         """What the lines are for that the session was told, by the line."""
-        return self._script.owners()
+        return self._now().script.owners()
 
     def base_owners(self) -> dict[str, Owner]:
         """What the lines of the base are for."""
-        self.base()
-        assert self._base
-        return self._base.owners()
+        return self._base().owners()
 
-    def begin_anew(self) -> None:
-        """Has the program begin anew, with what is known to be carried out."""
-        self._script = self.new_script()
-        lines = self._script.writer.taken()
-        for event in self.events:
-            lines += self._script.lines_of(event)
-        self.session.replay([*lines, *self.kicks()])
-
-    def _believe(self, premise: str, is_believed: bool) -> None:
-        command = "bring" if is_believed else "kick"
-        self.session.send(f"{command} {self.vocabulary.premises.line(premise)}")
-        self.premises.believed[premise] = is_believed
-        self._base = None
-
-    def new_script(self) -> Script:
-        """A script that begins from nothing."""
-        return Script(self.vocabulary, lambda name: name in self.offered)
-
-    def kicks(self) -> list[str]:
-        """The lines that kick out what isn't believed."""
-        names = self.vocabulary.premises
-        return [
-            f"kick {names.line(name)}"
-            for name, is_believed in self.premises.believed.items()
-            if not is_believed
-        ]
+    def _base(self) -> Script:
+        standing = self._now()
+        if standing.base is None:
+            standing.base = Script(standing.vocabulary, self._offers)
+            for event in standing.events:
+                standing.base.lines_of(event)
+        return standing.base
 
     def _is_taken_as_name(self, word: str) -> bool:
         """Whether the program takes a word for a name: nothing changes by asking."""
-        try:
-            self.session.send(f"ask {word}")
-        except NotAName:
-            return False
-        except Refused:
-            pass
-        return True
-
-
-def premise_of(event: Event) -> str | None:
-    """The premise that something is stated under, where it is one."""
-    return event.premise if isinstance(event, (Required, Told)) else None
+        known = self._program.names
+        if word not in known:
+            try:
+                self._session.send(f"ask {word}")
+                known[word] = True
+            except NotAName:
+                known[word] = False
+            except Refused:
+                known[word] = True
+        return known[word]
 
 
 def _why_not(error: LimitReached | LineTooLong | RecursionError) -> str:

@@ -194,9 +194,9 @@ class Questions:
         Behind the `with` the workbench is as it was, whatever was stated within.
         """
         change = changed(kick, bring, tell)
-        resolved(self.model, change)
-        kept = self._set_aside()
-        try:
+        with self._set_aside():
+            # (what is wrong with it is said here, and names that it gives are those of the copy)
+            resolved(self.model, change)
             for premise in change.kick:
                 self.kick(premise)
             for premise in change.bring:
@@ -206,8 +206,6 @@ class Questions:
                 if told not in change.kick:
                     self.bring(str(told))
             yield self
-        finally:
-            self._put_back(kept)
 
     def snapshot(self: Bench) -> Snapshot:
         """What is stated and answered now, to be compared later by `diff`. It can be pickled."""
