@@ -14,7 +14,7 @@ from propbench.model.kinds import Domain
 from propbench.model.kit import offered, written
 from propbench.model.nodes import Declared, Node
 from propbench.model.premises import Premises
-from propbench.model.record import Record, Standing
+from propbench.model.record import Index, Record
 from propbench.model.script import Owner, Script
 from propbench.model.vocabulary import Vocabulary
 from propbench.model.writer import YES
@@ -35,8 +35,9 @@ class Program:
 class Network:
     """Events in order, premises, and the program that was told all of it.
 
-    All that is kept is the record. Where the rest, the session included, is that of another record,
-    as behind a statement that was refused, it is made anew when it is next looked at.
+    All that is kept is the record. The index, the script and the session know of which record they
+    are; where that is another, as behind a line that was refused, they are made anew when they are
+    needed next.
     """
 
     def __init__(
@@ -46,29 +47,21 @@ class Network:
         self._session = session
         self._program = program or Program()
         self._record = record or Record()
-        # Whether nothing was said to the session.
+        self._index = Index(self._record)
+        self._script = self.new_script()
+        # The records of which the script has the lines, and of which the session was told them.
+        self._written: Record | None = None
+        self._told: Record | None = None
+        # Whether the session was never told anything.
         self._is_fresh = True
-        self._standing = self._stand()
+        # Whether something is being stated, of which the index has more than the record.
+        self._is_stating = False
+        # What makes the network from nothing, while that is known.
+        self._base: Script | None = None
         if program is None:
             self._program.offered = offered(self.session, YES)
 
-    # --- how things stand ---
-
-    @property
-    def session(self) -> Session:
-        """The session, which was told all that is stated, and nothing else."""
-        self._catch_up()
-        return self._session
-
-    @property
-    def vocabulary(self) -> Vocabulary:
-        """How things are called on lines."""
-        return self._now().vocabulary
-
-    @property
-    def premises(self) -> Premises:
-        """The premises and choices."""
-        return self._now().premises
+    # --- what there is ---
 
     @property
     def events(self) -> Sequence[Event]:
@@ -86,6 +79,11 @@ class Network:
         return self._now().domains
 
     @property
+    def premises(self) -> Premises:
+        """The premises and choices."""
+        return self._now().premises
+
+    @property
     def first(self) -> tuple[First, ...]:
         """Whose values questions try out first."""
         return self._record.first
@@ -96,38 +94,51 @@ class Network:
         return self._program.offered
 
     @property
+    def session(self) -> Session:
+        """The session, which was told all that is stated, and nothing else."""
+        self._catch_up()
+        return self._session
+
+    @property
+    def vocabulary(self) -> Vocabulary:
+        """How things are called on lines."""
+        return self._writing().vocabulary
+
+    @property
     def lacks(self) -> list[str]:
         """What was written for which the program has no procedure, as a user writes it."""
-        return written(self._now().script.writer.missed)
-
-    def _now(self) -> Standing:
-        """How things stand by the record."""
-        if self._standing.record is not self._record:
-            self._standing = self._stand()
-        return self._standing
-
-    def _stand(self) -> Standing:
-        return Standing(self._record, Vocabulary(self._is_taken_as_name), self._offers)
-
-    def _offers(self, name: str) -> bool:
-        return name in self._program.offered
+        return written(self._writing().writer.missed)
 
     # --- what is stated ---
 
-    def do(self, event: Event) -> list[str]:
-        """Carries out an event, and gives its lines. Where one is refused, nothing of it is kept.
+    def do(self, event: Event) -> None:
+        """Carries out an event. Where a line of it is refused, nothing of it is kept.
 
         Raises ValueError where the program has no room for it, or it can't be said on lines.
         """
-        standing = self._opened()
+        with self.whole():
+            self._index.record = None
+            self._index.add(event)
+
+    @contextmanager
+    def whole(self) -> Iterator[None]:
+        """Has all that is stated within be carried out in the end, or nothing: where something is
+        refused, or it ends by another exception, Ctrl-C included, all is as it was before. Within
+        another it is a part of that."""
+        if self._is_stating:
+            yield
+            return
+        self._now()
+        before = self._record
         try:
-            lines = standing.script.lines_of(event)
-            self._session.send_all(lines)
-        except (LimitReached, LineTooLong, RecursionError) as error:
-            raise ValueError(f"{_why_not(error)}; nothing of this was stated") from None
-        standing.add(event)
-        self._record = standing.becomes(self._record)
-        return lines
+            self._is_stating = True
+            yield
+            self._carry_out()
+        except BaseException:
+            self._record = before
+            raise
+        finally:
+            self._is_stating = False
 
     def kick(self, premise: str) -> None:
         """A premise is no longer believed."""
@@ -139,78 +150,112 @@ class Network:
 
     def forget(self, premise: str) -> None:
         """All that was stated under a premise goes, and the premise with it."""
-        standing = self._opened()
-        name = standing.vocabulary.premises.line(premise)
-        # (a premise that nothing names is believed, in case that it is named again)
-        self._session.send_all([f"bring {name}", f"forget {name}"])
-        standing.forget(premise)
-        kicked = self._record.kicked - {premise}
-        self._record = standing.becomes(replace(self._record, kicked=kicked))
+        with self.whole():
+            self._carry_out()
+            name = self.vocabulary.premises.line(premise)
+            self._leave()
+            # (a premise that nothing names is believed, in case that it is named again)
+            self._session.send_all([f"bring {name}", f"forget {name}"])
+            self._script.forget(premise)
+            self._base = None
+            self._index.forget(premise)
+            self._stand(self._record.believing(premise, True))
 
     def try_first(self, first: tuple[First, ...]) -> None:
         """Questions try out these values first from now on."""
-        self._record = self._now().becomes(replace(self._record, first=first))
-
-    @contextmanager
-    def whole(self) -> Iterator[None]:
-        """Has all that is stated within be carried out, or nothing: where something is refused, or
-        it ends by another exception, Ctrl-C included, all is as it was before."""
-        before = self._record
-        try:
-            yield
-        except BaseException:
-            self._record = before
-            raise
+        self._catch_up()
+        self._stand(replace(self._record, first=first))
 
     @contextmanager
     def tried(self) -> Iterator[Session]:
         """The session, to try something in it that is taken back in the end. Where it doesn't come
         to that, the session is told anew what is stated."""
-        session, standing = self.session, self._now()
-        standing.is_told = False
+        session, record = self.session, self._record
+        self._told = None
         yield session
-        standing.is_told = True
-
-    def _opened(self) -> Standing:
-        """How things stand, to be changed as the session is. Meanwhile it is that of no record: if
-        it doesn't come to another, both are made anew."""
-        self._catch_up()
-        self._standing.record = None
-        return self._standing
-
-    def _catch_up(self) -> None:
-        """Sees to it that the session was told all that is stated, and nothing else."""
-        standing = self._now()
-        if not standing.is_told:
-            is_fresh, self._is_fresh = self._is_fresh, False
-            if is_fresh:
-                self._session.send_all(standing.lines())
-            else:
-                self._session.replay(standing.lines())
-            standing.is_told = True
+        self._told = record
 
     def _believe(self, premise: str, is_believed: bool) -> None:
-        standing = self._opened()
-        command = "bring" if is_believed else "kick"
-        self._session.send(f"{command} {standing.vocabulary.premises.line(premise)}")
-        standing.believe([premise], is_believed)
-        others = self._record.kicked - {premise}
-        kicked = others if is_believed else others | {premise}
-        self._record = standing.becomes(replace(self._record, kicked=kicked))
+        with self.whole():
+            self._carry_out()
+            name = self.vocabulary.premises.line(premise)
+            self._leave()
+            self._session.send(f"{'bring' if is_believed else 'kick'} {name}")
+            self._index.premises.believed[premise] = is_believed
+            self._stand(self._record.believing(premise, is_believed))
+
+    def _carry_out(self) -> None:
+        """Tells the program what is stated and it wasn't told."""
+        events = self._index.events[self._record.count :]
+        if not events:
+            return
+        self._catch_up()
+        self._leave()
+        try:
+            lines = [line for event in events for line in self._script.lines_of(event)]
+            self._session.send_all(lines)
+        except (LimitReached, LineTooLong, RecursionError) as error:
+            raise ValueError(f"{_why_not(error)}; nothing of this was stated") from None
+        self._base = None
+        self._stand(self._record)
+
+    def _leave(self) -> None:
+        """The index, the script and the session, which are those of the record, become those of
+        another: of none, should it not come to that."""
+        self._catch_up()
+        self._written = self._told = self._index.record = None
+
+    def _stand(self, record: Record) -> None:
+        """The index, the script and the session are those of this record from now on, with all
+        events that the index has."""
+        stands = record.with_events(self._index.events)
+        self._index.record = self._written = self._told = stands
+        self._record = stands
+
+    # --- what follows from the record ---
+
+    def _now(self) -> Index:
+        """The index, which is that of the record, or of what is being stated."""
+        if self._index.record is not self._record and not self._is_stating:
+            self._index = Index(self._record)
+        return self._index
+
+    def _writing(self) -> Script:
+        """The script, which has the lines of the record."""
+        if self._written is not self._record:
+            self._written = self._told = self._base = None
+            self._script = self.new_script()
+            for event in self._record.events[: self._record.count]:
+                self._script.lines_of(event)
+            self._script.writer.taken()
+            self._written = self._record
+        return self._script
+
+    def _catch_up(self) -> None:
+        """Sees to it that the session was told the lines of the record, and nothing else."""
+        script = self._writing()
+        if self._told is not self._record:
+            lines = [*script.writer.lines, *self.kicks(script.vocabulary)]
+            is_fresh, self._is_fresh = self._is_fresh, False
+            if is_fresh:
+                self._session.send_all(lines)
+            else:
+                self._session.replay(lines)
+            self._told = self._record
 
     # --- copies ---
 
     def copy(self, events: Sequence[Event] | None = None) -> "Network":
         """The same in a session of its own; with other events where these are given, of which
         none is kicked out."""
-        record = self._record
+        record = self._record.with_events(list(self.events))
         if events is not None:
-            record = replace(record, events=list(events), count=len(events), kicked=frozenset())
+            record = replace(record.with_events(list(events)), kicked=frozenset())
         return Network(self._session.fresh(), self._program, record)
 
     def begin_anew(self) -> None:
         """Has the program begin anew, with what is known to be carried out."""
-        self._standing = self._stand()
+        self._written = None
         self._catch_up()
 
     def close(self) -> None:
@@ -222,27 +267,28 @@ class Network:
     def base(self) -> list[str]:
         """The lines that make the network as it is: a fresh session that is sent these is in the
         state of this one."""
-        return [*self._base().writer.lines, *self.kicks(self.vocabulary)]
+        return [*self._based().writer.lines, *self.kicks(self.vocabulary)]
 
     def new_script(self) -> Script:
-        """A script that begins from nothing, also with names: of what was forgotten, or refused,
-        none is left."""
+        """A script that begins from nothing, with names too: what was forgotten, or refused, has
+        left none."""
         return Script(Vocabulary(self._is_taken_as_name), self._offers)
 
     def kicks(self, vocabulary: Vocabulary) -> list[str]:
-        """The lines that kick out what isn't believed, with names of this vocabulary."""
-        return self._now().kicks(vocabulary)
+        """The lines that kick out what isn't believed, by names of this vocabulary."""
+        believed, names = self.premises.believed, vocabulary.premises
+        return [f"kick {names.line(name)}" for name, is_in in believed.items() if not is_in]
 
     @property
     def forks(self) -> dict[str, Either]:
         """Inner truths of the base, by which one way or another is taken where one of some holds,
         by their cells on lines."""
-        return self._base().translation.forks
+        return self._based().translation.forks
 
     def lines_of(self, constraint: Node) -> list[str]:
         """The lines of the base that state a constraint, wherever it was required."""
         lines: dict[str, None] = {}
-        base = self._base()
+        base = self._based()
         for event in self.events:
             if isinstance(event, Required) and event.constraint is constraint:
                 lines.update(dict.fromkeys(base.explained(event)))
@@ -250,19 +296,23 @@ class Network:
 
     def owners(self) -> dict[str, Owner]:
         """What the lines are for that the session was told, by the line."""
-        return self._now().script.owners()
+        return self._writing().owners()
 
     def base_owners(self) -> dict[str, Owner]:
         """What the lines of the base are for."""
-        return self._base().owners()
+        return self._based().owners()
 
-    def _base(self) -> Script:
-        standing = self._now()
-        if standing.base is None:
-            standing.base = Script(standing.vocabulary, self._offers)
-            for event in standing.events:
-                standing.base.lines_of(event)
-        return standing.base
+    def _based(self) -> Script:
+        """A script of what is stated alone, with the names that it has."""
+        script = self._writing()
+        if self._base is None:
+            self._base = Script(script.vocabulary, self._offers)
+            for event in self.events:
+                self._base.lines_of(event)
+        return self._base
+
+    def _offers(self, name: str) -> bool:
+        return name in self._program.offered
 
     def _is_taken_as_name(self, word: str) -> bool:
         """Whether the program takes a word for a name: nothing changes by asking."""
@@ -279,7 +329,7 @@ class Network:
 
 
 def _why_not(error: LimitReached | LineTooLong | RecursionError) -> str:
-    """Why an event can't be carried out, in the user's words."""
+    """Why something can't be carried out, in the user's words."""
     if isinstance(error, LimitReached):
         return f"the program has no room for more {error.text.rpartition(': ')[2]}"
     if isinstance(error, LineTooLong):
