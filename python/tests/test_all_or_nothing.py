@@ -55,7 +55,7 @@ class Front:
 
     def law(self, under: str | None = None) -> None:
         """A law with a root in it, which has a quantity of its own."""
-        self.w.law(self.q == (self.r * self.r + "9 m2") ** Fraction(1, 2), under)
+        self.w.law(self.q <= (self.r * self.r + "9 m2") ** Fraction(1, 2) + self.r, under)
 
     def task(self, name: str, under: str | None = None) -> None:
         """A task behind others, of one who is away."""
