@@ -74,8 +74,8 @@ class Measuring(Questions):
         if under is not None:
             self._network.premises.check(under)
         self._check_there(quantities_in(law))
-        events = self._network.events
-        known = {each.root: each.cell for each in events if isinstance(each, RootMade)}
+        roots_made = (each for each in self._network.events if isinstance(each, RootMade))
+        known = {each.root: each.cell for each in roots_made}
         made: dict[Real, Declared] = {}
 
         def root_of(root: Real, measure: Measure) -> Declared:
@@ -87,12 +87,11 @@ class Measuring(Questions):
             found, roots = stated(law, self._equations(under), under, root_of)
         except RecursionError:
             raise ValueError("a law is nested too deeply: name parts of it by quantities") from None
-        with self._network.whole():
-            for root, cell in made.items():
-                self._network.do(RootMade(cell, root))
-            self._network.do(LawTold(found.constraint, under, law.text, found))
-            for each in roots:
-                self._network.do(LawStated(each.constraint, under, each.law.text))
+        self._network.do(
+            *(RootMade(cell, root) for root, cell in made.items()),
+            LawTold(found.constraint, under, law.text, found),
+            *(LawStated(each.constraint, under, each.law.text) for each in roots),
+        )
 
     def read(
         self, premise: str, quantity: Quantity, reading: Given, *, coverage: Exact = COVERAGE

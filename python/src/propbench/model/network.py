@@ -4,9 +4,10 @@ What is stated is carried out whole or not at all: a record of all of it is put 
 one before only when the program was told everything. A copy has a session of its own.
 """
 
-from collections.abc import Iterator, Sequence
+from collections.abc import Callable, Iterator, Sequence
 from contextlib import contextmanager
 from dataclasses import dataclass, field, replace
+from typing import TypeVar
 
 from propbench.model.either import Either
 from propbench.model.events import Event, Required
@@ -21,6 +22,9 @@ from propbench.model.writer import YES
 from propbench.questions.model import First
 from propbench.refusals import LimitReached, LineTooLong, NotAName, Refused
 from propbench.session import Session
+
+
+Found = TypeVar("Found")
 
 
 @dataclass
@@ -111,32 +115,26 @@ class Network:
 
     # --- what is stated ---
 
-    def do(self, event: Event) -> None:
-        """Carries out an event. Where a line of it is refused, nothing of it is kept.
+    def do(self, *events: Event) -> None:
+        """Carries out events. Where a line of one is refused, nothing of any is kept.
 
         Raises ValueError where the program has no room for it, or it can't be said on lines.
         """
-        with self.whole():
-            self._index.record = None
-            self._index.add(event)
+        self.whole(lambda: self._add(events))
 
-    @contextmanager
-    def whole(self) -> Iterator[None]:
-        """Has all that is stated within be carried out in the end, or nothing: where something is
-        refused, or it ends by another exception, Ctrl-C included, all is as it was before. Within
-        another it is a part of that."""
+    def whole(self, state: Callable[[], Found]) -> Found:
+        """Has all events that a function carries out be told at once in the end, or none: where one
+        is refused, or it ends by another exception, Ctrl-C included, all is as it was before.
+        Within another it is a part of that."""
+        # (no context manager: Ctrl-C between a block and what ends it would leave that undone)
         if self._is_stating:
-            yield
-            return
+            return state()
         self._now()
-        before = self._record
         try:
             self._is_stating = True
-            yield
+            found = state()
             self._carry_out()
-        except BaseException:
-            self._record = before
-            raise
+            return found
         finally:
             self._is_stating = False
 
@@ -150,20 +148,18 @@ class Network:
 
     def forget(self, premise: str) -> None:
         """All that was stated under a premise goes, and the premise with it."""
-        with self.whole():
-            self._carry_out()
-            name = self.vocabulary.premises.line(premise)
-            self._leave()
-            # (a premise that nothing names is believed, in case that it is named again)
-            self._session.send_all([f"bring {name}", f"forget {name}"])
-            self._script.forget(premise)
-            self._base = None
-            self._index.forget(premise)
-            self._stand(self._record.believing(premise, True))
+        name = self.vocabulary.premises.line(premise)
+        self._leave()
+        # (a premise that nothing names is believed, in case that it is named again)
+        self._session.send_all([f"bring {name}", f"forget {name}"])
+        self._script.forget(premise)
+        self._base = None
+        self._index.forget(premise)
+        self._stand(self._record.believing(premise, True))
 
     def try_first(self, first: tuple[First, ...]) -> None:
         """Questions try out these values first from now on."""
-        self._catch_up()
+        self._leave()
         self._stand(replace(self._record, first=first))
 
     @contextmanager
@@ -176,20 +172,22 @@ class Network:
         self._told = record
 
     def _believe(self, premise: str, is_believed: bool) -> None:
-        with self.whole():
-            self._carry_out()
-            name = self.vocabulary.premises.line(premise)
-            self._leave()
-            self._session.send(f"{'bring' if is_believed else 'kick'} {name}")
-            self._index.premises.believed[premise] = is_believed
-            self._stand(self._record.believing(premise, is_believed))
+        name = self.vocabulary.premises.line(premise)
+        self._leave()
+        self._session.send(f"{'bring' if is_believed else 'kick'} {name}")
+        self._index.premises.believed[premise] = is_believed
+        self._stand(self._record.believing(premise, is_believed))
+
+    def _add(self, events: Sequence[Event]) -> None:
+        self._index.record = None
+        for event in events:
+            self._index.add(event)
 
     def _carry_out(self) -> None:
         """Tells the program what is stated and it wasn't told."""
         events = self._index.events[self._record.count :]
         if not events:
             return
-        self._catch_up()
         self._leave()
         try:
             lines = [line for event in events for line in self._script.lines_of(event)]
@@ -200,8 +198,9 @@ class Network:
         self._stand(self._record)
 
     def _leave(self) -> None:
-        """The index, the script and the session, which are those of the record, become those of
-        another: of none, should it not come to that."""
+        """The index, the script and the session become those of another record: of none, should it
+        not come to that."""
+        self._now()
         self._catch_up()
         self._written = self._told = self._index.record = None
 

@@ -100,7 +100,8 @@ class Project:
         ways = checked_ways(name, days, cost, options)
         earlier = self._earlier(name, after)
         others, aways = self.tasks.values(), self._aways()
-        with self.workbench.network.whole():
+
+        def state() -> Task:
             task = self._made(name, people, any(way.cost for way in ways.values()))
             if options is not None:
                 self._choose(task, ways)
@@ -112,10 +113,10 @@ class Project:
                 before = (other.end <= task.start).node
                 self._state(TaskOrdered(before, under or f"{name} after {other.name}", self))
             self._keep_apart(task, others)
-            for away in aways:
-                if away.person in people:
-                    self._keep_off(task, away)
-        return task
+            self._keep_off([task], [away for away in aways if away.person in people])
+            return task
+
+        return self.workbench.network.whole(state)
 
     def away(
         self, person: str, first: int | date, last: int | date, under: str | None = None
@@ -129,41 +130,37 @@ class Project:
             raise ValueError(f"{person} can't be away from day {begin} to day {end}")
         away = Away(person, begin, end, under or f"{person} away {begin} to {end}")
         theirs = [task for task in self.tasks.values() if person in task.people]
-        with self.workbench.network.whole():
-            if not theirs:
-                # (A premise under which nothing is stated yet would not be known.)
-                self._state(KeptOff(TRUE, away.premise, away, self))
-            for task in theirs:
-                self._keep_off(task, away)
+        if theirs:
+            self.workbench.network.whole(lambda: self._keep_off(theirs, [away]))
+        else:
+            # (A premise under which nothing is stated yet would not be known.)
+            self._state(KeptOff(TRUE, away.premise, away, self))
         return away.premise
 
     def done_by(self, day: int | date, under: str | None = None, task: Task | None = None) -> str:
         """A task, or all, is done before the beginning of a day; the premise of that."""
         last, what = self.day(day), "all" if task is None else task.name
         premise = under or f"{what} done by {last}"
-        with self.workbench.network.whole():
+
+        def state() -> None:
             end = self.end if task is None else task.end
             self.workbench.require(end <= last, under=premise)
+
+        self.workbench.network.whole(state)
         return premise
 
     @property
     def end(self) -> NumberCell:
         """The day by which all is done. No task can be added once it was asked for."""
         if self._end is None or not self._has(self._end):
-            with self.workbench.network.whole():
-                self._end = self.workbench.number("end", 0, self.days)
-                if self.tasks:
-                    self._bound(self._end)
+            self._end = self.workbench.network.whole(self._made_end)
         return self._end
 
     @property
     def total_cost(self) -> NumberCell:
         """What all tasks cost. No task can be added once it was asked for."""
         if self._total is None or not self._has(self._total):
-            costs = [task.cost for task in self.tasks.values() if task.cost is not None]
-            with self.workbench.network.whole():
-                self._total = self.workbench.number("total cost", 0, MOST_COST)
-                self.workbench.require(self._total == (total(costs) if costs else 0))
+            self._total = self.workbench.network.whole(self._made_total)
         return self._total
 
     def day(self, given: int | date) -> int:
@@ -257,10 +254,24 @@ class Project:
                 apart = (other.end <= task.start) | (task.end <= other.start)
                 self.workbench.require(apart)
 
-    def _keep_off(self, task: Task, away: Away) -> None:
-        """Nothing of a task is done while somebody is away."""
-        apart = (task.end <= away.first) | (task.start >= away.last)
-        self._state(KeptOff(apart.node, away.premise, away, self))
+    def _keep_off(self, tasks: Iterable[Task], aways: Sequence[Away]) -> None:
+        """Nothing of these tasks is done while somebody is away."""
+        for task in tasks:
+            for away in aways:
+                apart = (task.end <= away.first) | (task.start >= away.last)
+                self._state(KeptOff(apart.node, away.premise, away, self))
+
+    def _made_total(self) -> NumberCell:
+        costs = [task.cost for task in self.tasks.values() if task.cost is not None]
+        made = self.workbench.number("total cost", 0, MOST_COST)
+        self.workbench.require(made == (total(costs) if costs else 0))
+        return made
+
+    def _made_end(self) -> NumberCell:
+        made = self.workbench.number("end", 0, self.days)
+        if self.tasks:
+            self._bound(made)
+        return made
 
     def _bound(self, end: NumberCell) -> None:
         """The end is that of the last task; a person's days of work are a bound of it, which is so
