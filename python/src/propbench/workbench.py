@@ -85,7 +85,9 @@ class Workbench(Measuring, Closing):
     Questions that take many asks are methods too: `conflicts`, `repairs`, `least`, `greatest`,
     `plans`, `what_if` and others. `save` and `load` keep a workbench in a file.
 
-    Each statement is carried out at once, or refused as a whole by ValueError or TypeError.
+    Each call is carried out at once and whole. Where it is refused, by ValueError or TypeError, or
+    ends by another exception, as at Ctrl-C, nothing of it is stated: answers are as before, but of
+    several reasons that are all right others may be named where the program had to begin anew.
     """
 
     def __init__(

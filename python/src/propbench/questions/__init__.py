@@ -191,7 +191,8 @@ class Questions:
         more were told: `with w.what_if(kick=["ana"], tell=[("guess", x, 3, 5)]): x.ask()`. What is
         told counts, also under a premise that is kicked out otherwise.
 
-        Behind the `with` the workbench is as it was, whatever was stated within.
+        Behind the `with` the workbench is as it was, its projects and quantities too, whatever was
+        stated within: what was made there is gone.
         """
         change = changed(kick, bring, tell)
         with self._set_aside():
