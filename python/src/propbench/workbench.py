@@ -327,24 +327,26 @@ class Workbench(Measuring, Closing):
         self, command: str, cell: Declared, seconds: float | None, over: str | None
     ) -> Answer:
         """What follows for a cell: by `why`, or by `core`."""
+        if self._network.cells.get(cell.name) is not cell:
+            self._check_there([cell])
         if over is not None:
             if over != "all plans":
                 raise ValueError(f'an answer may be over="all plans", and not over={over!r}')
             return self._over_all_plans(cell, seconds)
-        self._check_there([cell])
-        network = self._network
-        reply = network.session.send(
-            f"{command} {network.vocabulary.cells.line(cell.name)}", seconds=seconds
-        )
+        # (these take a while each to be looked at, and cells are asked often)
+        session, names = self._network.session, self._network.vocabulary
+        premises = self._network.premises
+        reply = session.send(f"{command} {names.cells.line(cell.name)}", seconds=seconds)
         if not isinstance(reply, Value):
             assert isinstance(reply, Contradiction)
             raise self._conflict(reply)
-        if not network.premises.choices:
-            return self._reader.answer(cell, reply, {})
+        read = Reader(names, premises)
+        if not premises.choices:
+            return read.answer(cell, reply, {})
         if command == "core" and reply.settled:
             # (after a core every procedure is called once more, before the plan is known)
-            network.session.send("worldview", seconds=seconds)
-        return self._reader.answer(cell, reply, self._plan())
+            session.send("worldview", seconds=seconds)
+        return read.answer(cell, reply, self._plan())
 
     def table(self, *cells: Cell, seconds: float | None = None) -> Table:
         """What follows for these cells, of all where none is given, as a table.

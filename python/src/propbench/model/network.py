@@ -100,7 +100,8 @@ class Network:
     @property
     def session(self) -> Session:
         """The session, which was told all that is stated, and nothing else."""
-        self._catch_up()
+        if self._told is not self._record:
+            self._catch_up()
         return self._session
 
     @property
