@@ -2,13 +2,18 @@
 
 import os
 import signal
+import sys
 from collections.abc import Callable, Sequence
+from types import FrameType
 from typing import Any
 
 import pytest
 
+import propbench
 from propbench import LimitReached, ProgramEnded, Refused, Session
 
+Trace = Callable[[FrameType, str, object], Any]
+_PACKAGE = os.path.dirname(propbench.__file__)
 # Commands that state nothing.
 _QUESTIONS = ("ask", "why", "core", "settle", "worldview", "nogoods", "list", "how", "limit")
 KINDS = ("refused", "no room", "ended", "interrupted")
@@ -64,3 +69,31 @@ class Faults:
             raise KeyboardInterrupt
         os.kill(session.pid, signal.SIGKILL)
         return send(lines[place:])
+
+
+class Interrupting:
+    """Has Ctrl-C come at a line of the package's code, counted from 1; `count` is how many there
+    were."""
+
+    def __init__(self, at: int = 0) -> None:
+        self._at, self.count = at, 0
+
+    def run(self, call: Callable[[], object]) -> bool:
+        """Whether a call came to its end."""
+        sys.settrace(self._trace)
+        try:
+            call()
+        except KeyboardInterrupt:
+            return False
+        finally:
+            sys.settrace(None)
+        return True
+
+    def _trace(self, frame: FrameType, event: str, arg: object) -> "Trace | None":
+        if not frame.f_code.co_filename.startswith(_PACKAGE):
+            return None
+        self.count += event == "line"
+        if event == "line" and self.count == self._at:
+            sys.settrace(None)
+            raise KeyboardInterrupt
+        return self._trace

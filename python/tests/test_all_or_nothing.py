@@ -10,7 +10,7 @@ from tempfile import TemporaryDirectory
 
 import pytest
 from conftest import TIMES
-from faults import COMES_TO, KINDS, Faults
+from faults import COMES_TO, KINDS, Faults, Interrupting
 from hypothesis import given, settings
 from hypothesis import strategies as st
 
@@ -168,6 +168,26 @@ def test_each_line_of_a_call_may_go_wrong(tmp_path: Path, faults: Faults, call: 
         assert (f.seen() != before) is (call not in ("what if", "load"))
         carried_out(other)
         assert f.seen() == other.seen()
+
+
+@pytest.mark.parametrize("call", ["number", "law", "forget", "task", "done by", "total cost"])
+def test_ctrl_c_may_come_at_any_place(tmp_path: Path, call: str) -> None:
+    """Between any two lines of the package: a call is carried out whole then, or not at all."""
+    carried_out = calls(OF.get(call, "n.1"))[call]
+    f, other = Front(tmp_path), Front(tmp_path)
+    with f.w, other.w:
+        before, counting = f.seen(), Interrupting()
+        assert counting.run(lambda: carried_out(other))
+        after, shares = other.seen(), 10 * TIMES
+        for share in range(shares):
+            at = 1 + counting.count * share // shares
+            # (how many lines there are depends on how long the program takes)
+            if Interrupting(at).run(lambda: carried_out(f)) or f.seen() != before:
+                break
+        assert f.seen() in (before, after) and before != after
+        if f.seen() == before:
+            carried_out(f)
+        assert f.seen() == after
 
 
 some_calls = st.tuples(st.sampled_from(list(calls(""))), st.sampled_from(NAMES))
