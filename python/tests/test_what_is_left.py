@@ -77,6 +77,17 @@ def test_a_what_if_leaves_nothing(
 ) -> None:
     """Also within others, and when it ends by an exception; and all is free to be stated again."""
     begun(w)
+    leaves_nothing(w, tmp_path, error)
+
+
+def test_a_what_if_leaves_nothing_in_what_was_loaded(w: Workbench, tmp_path: Path) -> None:
+    begun(w)
+    w.save(tmp_path / "it.prop")
+    with Workbench.load(tmp_path / "it.prop") as loaded:
+        leaves_nothing(loaded, tmp_path, None)
+
+
+def leaves_nothing(w: Workbench, tmp_path: Path, error: type[BaseException] | None) -> None:
     before, lines = (seen(w), saved(w, tmp_path)), w.session.lines
 
     def state() -> None:
