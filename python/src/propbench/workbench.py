@@ -12,7 +12,7 @@
 
 import os
 from collections.abc import Collection, Iterable, Iterator, Mapping, Sequence
-from contextlib import contextmanager
+from contextlib import ExitStack, contextmanager
 from datetime import date
 from typing import TYPE_CHECKING, TypeVar, overload
 from weakref import WeakValueDictionary
@@ -498,16 +498,14 @@ class Workbench(Measuring, Closing):
             lines = file.read().split("\n")
         owner = object()
         events, kicked = read(lines, owner)
-        made = cls(program)
-        made._owner = owner
-        try:
+        with ExitStack() as closing:
+            made = closing.enter_context(cls(program))
+            made._owner = owner
             for event in events:
                 made._network.do(event)
             for premise in kicked:
                 made.kick(premise)
-        except BaseException:
-            made.close()
-            raise
+            closing.pop_all()
         return made
 
     # --- within ---
