@@ -221,12 +221,36 @@ BUGS = [
     ),
     Bug(
         "model/network.py",
-        "            if not is_believed\n",
-        "            if is_believed\n",
+        "for name, is_in in believed.items() if not is_in]",
+        "for name, is_in in believed.items() if is_in]",
         "workbench_files::a_file_is_the_workbench what_ifs::what_if_leaves_no_trace",
     ),
     Bug(
         "model/network.py",
+        "        self._written = self._told = self._index.record = None\n",
+        "        self._index.record = None\n",
+        "all_or_nothing::each_line_of_a_call_may_go_wrong",
+    ),
+    Bug(
+        "model/network.py",
+        "        if self._is_stating:\n            return state()\n",
+        "",
+        "planning::what_is_refused_leaves_nothing",
+    ),
+    Bug(
+        "workbench.py",
+        "            copy, self._network = self._network, kept\n",
+        "            copy = self._network\n",
+        "what_is_left::a_what_if_leaves_nothing",
+    ),
+    Bug(
+        "workbench.py",
+        "            if known.get(cell.name) is not cell:\n",
+        "            if cell.name not in known:\n",
+        "what_is_left::what_was_made_in_a_what_if_says_that_it_is_gone",
+    ),
+    Bug(
+        "model/record.py",
         "        self.events = [each for each in self.events if premise_of(each) != premise]\n",
         "",
         "workbench::a_premise_is_forgotten",
@@ -453,8 +477,8 @@ BUGS = [
     ),
     Bug(
         "planning/project.py",
-        "(task.start >= end), under=premise)",
-        "(task.start > end), under=premise)",
+        "(task.start >= away.last)",
+        "(task.start > away.last)",
         f"planning::facts_are_premises {_PROJECTS}",
     ),
     Bug(

@@ -1,6 +1,6 @@
 """Projects hold against trying all starts of a few tasks, and say what is wrong in tasks."""
 
-from collections.abc import Iterator
+from collections.abc import Callable, Iterator
 from dataclasses import dataclass
 from datetime import date, datetime
 from itertools import product
@@ -156,6 +156,38 @@ def test_what_is_wrong(p: Project) -> None:
     assert p.total_cost.ask(over="all plans").low == 1510
     with pytest.raises(ValueError, match="before the end or the total cost"):
         p.task("talk", 2)
+
+
+def test_what_is_refused_leaves_nothing(p: Project) -> None:
+    """Whatever it is refused for: a name that is taken, or a choice where a premise has to be."""
+    w = p.workbench
+    w.tell("talk", w.number("talk days", 0, 9), 1)
+    w.number("food cost", 0, 9)
+
+    def seen() -> list[object]:
+        return [w.model.base(), w.premises, w.cells, p.facts, list(p.tasks), w.session.lines]
+
+    before = seen()
+    two = {"one": dict(days=1), "two": dict(days=2)}
+    refused: list[tuple[Callable[[], object], str]] = [
+        (lambda: p.task("talk", options=two), "there is a cell of this name: 'talk days'"),
+        (lambda: p.task("food", 1, cost=3), "there is a cell of this name: 'food cost'"),
+        (lambda: p.task("tea", 1, under="venue"), "'venue' is a choice"),
+        (lambda: p.task("late", 10**20), "lie"),
+        (lambda: p.away("ana", 3, 5, under="venue"), "'venue' is a choice"),
+        (lambda: p.done_by(5, under="venue"), "'venue' is a choice"),
+        (lambda: p.done_by(5, under="venue", task=p.tasks["review"]), "'venue' is a choice"),
+    ]
+    for call, says in refused:
+        with pytest.raises(ValueError, match=says):
+            call()
+        assert seen() == before
+    p.task("tea", 1, who="ana", under="talk")
+    w.number("end", 0, 9)
+    with pytest.raises(ValueError, match="there is a cell of this name: 'end'"):
+        p.end
+    p.task("food", 1)
+    assert list(p.tasks) == ["venue", "review", "tea", "food"]
 
 
 def test_dates(p: Project) -> None:

@@ -414,12 +414,11 @@ def test_a_copy_stands_in_its_place(w: Workbench) -> None:
     w.require(x <= 7, under="low")
     w.tell("high", x, 5, 9)
     base, lines = w.model.base(), w.session.lines
-    kept = w._set_aside()
-    w.kick("high")
-    w.tell("new", x, 2)
-    w.forget("low")
-    assert (x.ask().value, w.believed) == (2, ("new",))
-    w._put_back(kept)
+    with w._set_aside():
+        w.kick("high")
+        w.tell("new", x, 2)
+        w.forget("low")
+        assert (x.ask().value, w.believed) == (2, ("new",))
     assert (w.believed, w.model.base(), w.session.lines) == (("low", "high"), base, lines)
     assert x.ask().value == Span(5, 7)
 

@@ -12,9 +12,10 @@
 
 import os
 from collections.abc import Collection, Iterable, Iterator, Mapping, Sequence
+from contextlib import ExitStack, contextmanager
 from datetime import date
 from typing import TYPE_CHECKING, TypeVar, overload
-
+from weakref import WeakValueDictionary
 
 from propbench.closing import Closing
 from propbench.finding import find_wide
@@ -24,7 +25,7 @@ from propbench.measuring.quantities import Quantity, coverage_of
 from propbench.measuring.sensitivity import Improvements
 from propbench.measuring.readings import reading_of
 from propbench.measuring import stating
-from propbench.measuring.terms import Law, Real
+from propbench.measuring.terms import Law
 from propbench.model.answers import Answer, Conflict, NotSettled, ends_of
 from propbench.model.blaming import always, beyond
 from propbench.model.cells import Cell, ElementCell, NumberCell, SymbolCell, TruthCell, words_of
@@ -85,7 +86,9 @@ class Workbench(Measuring, Closing):
     Questions that take many asks are methods too: `conflicts`, `repairs`, `least`, `greatest`,
     `plans`, `what_if` and others. `save` and `load` keep a workbench in a file.
 
-    Each statement is carried out at once, or refused as a whole by ValueError or TypeError.
+    Each call is carried out at once and whole. Where it is refused, by ValueError or TypeError, or
+    ends by another exception, as at Ctrl-C, nothing of it is stated: answers are as before, but of
+    several reasons that are all right others may be named where the program had to begin anew.
     """
 
     def __init__(
@@ -101,14 +104,13 @@ class Workbench(Measuring, Closing):
         those of a `Session`."""
         found = find_wide(program).path
         self._owner = object()
-        self._use(Network(Session(found, order=order, seed=seed, limit=limit)))
-        self._cells: dict[str, Cell] = {}
-        self._laws: dict[Law, stating.Stated] = {}
-        self._roots: dict[Real, Declared] = {}
+        self._network = Network(Session(found, order=order, seed=seed, limit=limit))
+        # The cells that anyone has, by how they were declared.
+        self._cells: WeakValueDictionary[Declared, Cell] = WeakValueDictionary()
 
     def close(self) -> None:
         """Ends the program. Nothing can be stated or asked after that."""
-        self._network.session.close()
+        self._network.close()
 
     @property
     def session(self) -> Session:
@@ -181,12 +183,12 @@ class Workbench(Measuring, Closing):
             near = near_names(name, self._network.cells)
             hint = f" Did you mean {' or '.join(map(repr, near))}?" if near else ""
             raise ValueError(f"no cell is called {name!r}.{hint}")
-        return self._cells[name]
+        return self._cell(self._network.cells[name])
 
     @property
     def cells(self) -> tuple[Cell, ...]:
         """The cells, in the order in which they were made."""
-        return tuple(self._cells[name] for name in self._network.cells)
+        return tuple(map(self._cell, self._network.cells.values()))
 
     # --- statements ---
 
@@ -305,9 +307,11 @@ class Workbench(Measuring, Closing):
         group by group, and in each the cell with the fewest values first. A group is some cells,
         and whether of their values the greatest comes first. It changes no answer, but when it
         comes."""
-        self._network.first = tuple(
-            First(tuple(self._own(cell).name for cell in cells), is_from_top)
-            for cells, is_from_top in groups
+        self._network.try_first(
+            tuple(
+                First(tuple(self._own(cell).name for cell in cells), is_from_top)
+                for cells, is_from_top in groups
+            )
         )
 
     def settle(self, *, seconds: float | None = None) -> bool:
@@ -324,23 +328,26 @@ class Workbench(Measuring, Closing):
         self, command: str, cell: Declared, seconds: float | None, over: str | None
     ) -> Answer:
         """What follows for a cell: by `why`, or by `core`."""
+        if self._network.cells.get(cell.name) is not cell:
+            self._check_there([cell])
         if over is not None:
             if over != "all plans":
                 raise ValueError(f'an answer may be over="all plans", and not over={over!r}')
             return self._over_all_plans(cell, seconds)
-        network, clock = self._network, Clock(seconds, None)
-        reply = network.session.send(
-            f"{command} {network.vocabulary.cells.line(cell.name)}", seconds=seconds
-        )
+        # (these take a while each to be looked at, and cells are asked often)
+        session, names = self._network.session, self._network.vocabulary
+        premises, clock = self._network.premises, Clock(seconds, None)
+        reply = session.send(f"{command} {names.cells.line(cell.name)}", seconds=seconds)
         if not isinstance(reply, Value):
             assert isinstance(reply, Contradiction)
             raise self._conflict(reply, clock.seconds_left())
-        if not network.premises.choices:
-            return self._reader.answer(cell, reply, {})
+        read = Reader(names, premises)
+        if not premises.choices:
+            return read.answer(cell, reply, {})
         if command == "core" and reply.settled:
             # (after a core every procedure is called once more, before the plan is known)
-            network.session.send("worldview", seconds=clock.seconds_left())
-        return self._reader.answer(cell, reply, self._plan())
+            session.send("worldview", seconds=clock.seconds_left())
+        return read.answer(cell, reply, self._plan())
 
     def table(self, *cells: Cell, seconds: float | None = None) -> Table:
         """What follows for these cells, of all where none is given, as a table.
@@ -445,10 +452,10 @@ class Workbench(Measuring, Closing):
         Lines may rest on other constraints: where `z == x + y` holds, `z` stands for that sum.
         """
         if isinstance(constraint, Law):
-            known = self._laws.get(constraint)
-            found = [] if known is None else self._network.lines_of(known.constraint)
+            nodes = [it.constraint for it in self._laws() if it.law == constraint]
         else:
-            found = self._network.lines_of(node_of(constraint, Plain.TRUTH))
+            nodes = [node_of(constraint, Plain.TRUTH)]
+        found = list(dict.fromkeys(line for node in nodes for line in self._network.lines_of(node)))
         if not found:
             raise ValueError(f"`{constraint!r}` was not required")
         return found
@@ -494,35 +501,35 @@ class Workbench(Measuring, Closing):
             lines = file.read().split("\n")
         owner = object()
         events, kicked = read(lines, owner)
-        made = cls(program)
-        made._owner = owner
-        for event in events:
-            if isinstance(event, CellMade):
-                made._added(_cell_of(event.cell, made))
-            else:
+        with ExitStack() as closing:
+            made = closing.enter_context(cls(program))
+            made._owner = owner
+            for event in events:
                 made._network.do(event)
-        for premise in kicked:
-            made.kick(premise)
+            for premise in kicked:
+                made.kick(premise)
+            closing.pop_all()
         return made
 
     # --- within ---
 
-    def _set_aside(self) -> Network:
-        """Has a copy of the network, in a session of its own, stand in its place; gives the one
-        that is to be put back."""
+    @contextmanager
+    def _set_aside(self) -> Iterator[None]:
+        """Has a copy of the network, in a session of its own, stand in its place for a while. All
+        that is stated is the network's, so what is stated meanwhile ends with the copy."""
         kept = self._network
-        self._use(kept.copy())
-        return kept
+        try:
+            self._network = kept.copy()
+            yield
+        finally:
+            copy, self._network = self._network, kept
+            if copy is not kept:
+                copy.close()
 
-    def _put_back(self, kept: Network) -> None:
-        """Ends the copy, and puts back the network that it stood for."""
-        self._network.session.close()
-        self._use(kept)
-
-    def _use(self, network: Network) -> None:
-        """Has this network be that of the workbench."""
-        self._network = network
-        self._reader = Reader(network.vocabulary, network.premises)
+    @property
+    def _reader(self) -> Reader:
+        """What reads replies as answers."""
+        return Reader(self._network.vocabulary, self._network.premises)
 
     def _notes(self, answers: Sequence[Answer]) -> Iterator[str]:
         """What is to be known of the answers, and of the program."""
@@ -562,7 +569,8 @@ class Workbench(Measuring, Closing):
         """The conflict, made small as far as there is time."""
         names, clock = self._network.vocabulary.premises, Clock(seconds, None)
         believed = [names.line(name) for name in self._network.premises.in_force]
-        kept = map(names.text, shrunk(self.session, believed, found.premises, seconds))
+        with self._network.tried() as session:
+            kept = [names.text(line) for line in shrunk(session, believed, found.premises, seconds)]
         says = {name: self._network.premises.text(name) for name in kept}
         if says and clock.is_over():
             return Conflict(tuple(says), says, (_MAY_BE_FEWER,))
@@ -589,8 +597,15 @@ class Workbench(Measuring, Closing):
 
     def _added(self, cell: SomeCell) -> SomeCell:
         self._network.do(CellMade(cell.declared))
-        self._cells[cell.name] = cell
+        self._cells[cell.declared] = cell
         return cell
+
+    def _cell(self, declared: Declared) -> Cell:
+        """The cell that was declared so, the same as long as anyone has it."""
+        found = self._cells.get(declared)
+        if found is None:
+            found = self._cells[declared] = _cell_of(declared, self)
+        return found
 
     def _own(self, cell: object) -> Declared:
         """The cell, where it is one of this workbench. Raises TypeError and ValueError."""
@@ -601,9 +616,15 @@ class Workbench(Measuring, Closing):
         return cell.declared
 
     def _check_own(self, node: Node) -> None:
-        for cell in cells_in(node):
+        self._check_there(cells_in(node))
+
+    def _check_there(self, cells: Iterable[Declared]) -> None:
+        known = self._network.cells
+        for cell in cells:
             if cell.owner is not self._owner:
                 raise ValueError(f"{cell.name!r} is a cell of another workbench")
+            if known.get(cell.name) is not cell:
+                raise ValueError(f"{cell.name!r} was made in a what-if that is over: make it anew")
 
     def _constraints(self, stated: Stated) -> tuple[Node, ...]:
         """The constraints of an alternative."""

@@ -1,6 +1,6 @@
 """What a workbench does with measured quantities: it has these methods."""
 
-from collections.abc import Sequence
+from collections.abc import Iterable, Sequence
 
 from propbench.measuring.exact import Exact
 from propbench.measuring.forms import Polynomial
@@ -11,7 +11,15 @@ from propbench.measuring.readings import COVERAGE, Given, reading_of
 from propbench.measuring.rooms import Room, find_room
 from propbench.measuring.sensitivity import Improvements, find_improvements
 from propbench.measuring.shaving import Shaved, find_shaved
-from propbench.measuring.stating import Stated, declared, quantities_in, read, stated
+from propbench.measuring.stating import (
+    LawTold,
+    RootMade,
+    Stated,
+    declared,
+    quantities_in,
+    read,
+    stated,
+)
 from propbench.measuring.terms import Law, Real, text_of
 from propbench.measuring.units import unit_of
 from propbench.measuring.zeros import check_zeros
@@ -33,9 +41,6 @@ class Measuring(Questions):
 
     _network: Network
     _owner: object
-    _laws: dict[Law, Stated]
-    # The roots within laws, which are quantities too.
-    _roots: dict[Real, Declared]
 
     # --- what is stated ---
 
@@ -71,30 +76,26 @@ class Measuring(Questions):
             raise TypeError(f"{law!r} is no law of measured quantities: `w.require` states others")
         if under is not None:
             self._network.premises.check(under)
-        for quantity in quantities_in(law):
-            if quantity.owner is not self._owner:
-                raise ValueError(f"{quantity.name!r} is a quantity of another workbench")
+        self._check_there(quantities_in(law))
+        roots_made = (each for each in self._network.events if isinstance(each, RootMade))
+        known = {each.root: each.cell for each in roots_made}
         made: dict[Real, Declared] = {}
 
         def root_of(root: Real, measure: Measure) -> Declared:
-            known = self._roots.get(root)
-            if known is not None and self._network.cells.get(known.name) is known:
-                return known
-            if root not in made:
+            if root not in known and root not in made:
                 made[root] = declared(self._free_name(text_of(root)), measure, self._owner)
-            return made[root]
+            return made[root] if root in made else known[root]
 
         try:
             check_zeros(law)
             found, roots = stated(law, self._equations(under), under, root_of)
-            events = [LawStated(it.constraint, under, it.law.text) for it in (found, *roots)]
         except RecursionError:
             raise ValueError("a law is nested too deeply: name parts of it by quantities") from None
-        for root, cell in made.items():
-            self._roots[root] = self._quantity(cell).declared
-        for event in events:
-            self._network.do(event)
-        self._laws[law] = found
+        self._network.do(
+            *(RootMade(cell, root) for root, cell in made.items()),
+            LawTold(found.constraint, under, law.text, found),
+            *(LawStated(each.constraint, under, each.law.text) for each in roots),
+        )
 
     def read(
         self, premise: str, quantity: Quantity, reading: Given, *, coverage: Exact = COVERAGE
@@ -183,9 +184,10 @@ class Measuring(Questions):
 
         Raises ValueError for a law that was not stated.
         """
-        if law not in self._laws:
+        told = [it for it in self._laws() if it.law == law]
+        if not told:
             raise ValueError(f"`{law!r}` was not stated")
-        return find_room(self.model, self._laws[law])
+        return find_room(self.model, told[-1])
 
     # --- within ---
 
@@ -242,6 +244,10 @@ class Measuring(Questions):
     def _own(self, cell: object) -> Declared:
         raise NotImplementedError
 
+    def _check_there(self, cells: Iterable[Declared]) -> None:
+        """Raises ValueError where one is a cell of another workbench, or is gone."""
+        raise NotImplementedError
+
     def _quantity(self, made: Declared) -> Quantity:
         """Makes the cell of a quantity."""
         raise NotImplementedError
@@ -258,10 +264,11 @@ class Measuring(Questions):
 
     def _equations(self, under: str | None) -> list[Polynomial]:
         """The equations that hold always, with which one that does may be combined."""
-        always = {
-            each.constraint
-            for each in self._network.events
-            if isinstance(each, LawStated) and each.premise is None and under is None
-        }
-        stated_always = [it for it in self._laws.values() if it.under is None]
-        return [it.equation for it in stated_always if it.equation and it.constraint in always]
+        if under is not None:
+            return []
+        always = {it.law: it for it in self._laws() if it.under is None}
+        return [it.equation for it in always.values() if it.equation]
+
+    def _laws(self) -> list[Stated]:
+        """The laws, as they are told, in the order in which they were stated."""
+        return [each.stated for each in self._network.events if isinstance(each, LawTold)]

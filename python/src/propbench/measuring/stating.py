@@ -1,7 +1,7 @@
 """What a user states of quantities, as events: cells, laws in whole numbers, and readings."""
 
 from collections.abc import Callable, Sequence
-from dataclasses import dataclass, replace
+from dataclasses import dataclass, field, replace
 from fractions import Fraction
 
 from propbench.measuring.bounds import Bounds
@@ -12,7 +12,7 @@ from propbench.measuring.readings import Reading
 from propbench.measuring.terms import Law, Real, Sort, text_of
 from propbench.measuring.translation import Told, TooCoarse, Translator
 from propbench.measuring.units import Unit, dimension_text
-from propbench.model.events import Read
+from propbench.model.events import CellMade, LawStated, Read
 from propbench.model.given import cells_of
 from propbench.model.kinds import Plain
 from propbench.model.measures import Measure, rounded
@@ -36,6 +36,20 @@ class Stated:
     constraint: Node
     # The law as a sum of products that is zero, where it is one.
     equation: Polynomial | None
+
+
+@dataclass(frozen=True)
+class LawTold(LawStated):
+    """A law of the user's holds, and how it is told."""
+
+    stated: Stated = field(compare=False)
+
+
+@dataclass(frozen=True)
+class RootMade(CellMade):
+    """A quantity is there for a root within a law."""
+
+    root: Real = field(compare=False)
 
 
 def stated(

@@ -5,9 +5,9 @@ can't hold by itself, which of it.
 from collections.abc import Iterable, Iterator, Sequence
 from dataclasses import replace
 
-from propbench.model.events import ConstraintChoice, Event, Required, Told
+from propbench.model.events import ConstraintChoice, Event, Required, Told, premise_of
 from propbench.model.kinds import MOST, Plain
-from propbench.model.network import Network, premise_of
+from propbench.model.network import Network
 from propbench.model.nodes import Declared, Node, Op, cells_in
 from propbench.model.ranges import Range, Ranges, declared_range, range_of
 from propbench.model.shrinking import shrunk
@@ -78,7 +78,7 @@ def always(network: Network, seconds: float | None = None) -> list[str]:
             return []
         return [_text(named[names.text(line)]) for line in lines]
     finally:
-        copy.session.close()
+        copy.close()
 
 
 def _text(event: Event) -> str:
@@ -116,15 +116,16 @@ def _without(
 ) -> dict[Declared, Range]:
     """Between which numbers the cells lie by all that is believed but the premise, and by what is
     told under it of the cells themselves."""
-    names, session = network.vocabulary, network.session
+    names = network.vocabulary
     found = {cell: declared_range(cell) for cell in cells}
     line = names.premises.line(premise) if premise else ""
-    if line:
-        session.send(f"kick {line}")
-        session.send("settle", seconds=clock.seconds_left())
-    replies = session.look([f"ask {names.cells.line(cell.name)}" for cell in cells])
-    if line:
-        session.send(f"bring {line}")
+    with network.tried() as session:
+        if line:
+            session.send(f"kick {line}")
+            session.send("settle", seconds=clock.seconds_left())
+        replies = session.look([f"ask {names.cells.line(cell.name)}" for cell in cells])
+        if line:
+            session.send(f"bring {line}")
     for cell, reply in zip(cells, replies):
         if isinstance(reply, Value) and isinstance(reply.value, Span):
             found[cell] = _both(found[cell], (reply.value.low, reply.value.high))

@@ -169,6 +169,11 @@ Event = DomainMade | CellMade | Required | Told | ValueChoice | ConstraintChoice
 Statement = Required | Told | ValueChoice | ConstraintChoice
 
 
+def premise_of(event: Event) -> str | None:
+    """The premise that something is stated under, where it is one."""
+    return event.premise if isinstance(event, (Required, Told)) else None
+
+
 def values_text(cell: Declared, values: Values) -> str:
     """What is stated of a cell, for people."""
     if cell.measure is not None:

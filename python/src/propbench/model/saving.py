@@ -23,7 +23,7 @@ def saved(network: Network) -> Iterator[str]:
         yield from script.lines_of(event)
     kicked = [name for name, believed in network.premises.believed.items() if not believed]
     yield from comments({"kicked": kicked})
-    yield from network.kicks()
+    yield from network.kicks(script.vocabulary)
 
 
 class NotAWorkbench(ValueError):

@@ -5,12 +5,12 @@ This is all that `propbench.questions` uses of a workbench beside what a user do
 
 from collections.abc import Mapping, Sequence
 
-from propbench.model.events import CellMade, DomainMade, Event, Statement
+from propbench.model.events import CellMade, DomainMade, Event, Statement, premise_of
 from propbench.model.given import values_of
 from propbench.model.kinds import Domain, Plain, Point
 from propbench.model.meaning import Beyond, Plan
 from propbench.model.nodes import Declared
-from propbench.model.network import Network, premise_of
+from propbench.model.network import Network
 from propbench.model.writer import span_text
 from propbench.model.writing import text_of
 from propbench.questions.model import First

@@ -6,10 +6,24 @@ from operator import index
 from typing import TYPE_CHECKING, SupportsIndex
 
 from propbench.model.cells import NumberCell, words_of
+from propbench.model.events import Required, Told
 from propbench.model.expressions import Truth, maximum, total
+from propbench.model.given import values_of
+from propbench.model.nodes import TRUE
 from propbench.nearby import near_names
 from propbench.planning.calendar import Calendar, date_given
-from propbench.planning.tasks import Option, Task, Way, checked_ways, tasks_in
+from propbench.planning.tasks import (
+    Away,
+    KeptOff,
+    Option,
+    Task,
+    TaskMade,
+    TaskOrdered,
+    TaskTold,
+    Way,
+    checked_ways,
+    tasks_in,
+)
 from propbench.questions.clock import Progress
 from propbench.questions.model import Plan
 
@@ -47,17 +61,25 @@ class Project:
             )
         self.workbench, self.days, self.calendar = workbench, days, calendar
         self.people = words_of(people)
-        self.tasks: dict[str, Task] = {}
-        self._away: list[tuple[str, int, int, str]] = []
-        self._facts: dict[str, None] = {}
+        # The cells that were made last for these; the workbench says whether they are there.
         self._end: NumberCell | None = None
         self._total: NumberCell | None = None
+
+    @property
+    def tasks(self) -> dict[str, Task]:
+        """The tasks by name, in the order in which they were made."""
+        made = (each for each in self.workbench.network.events if isinstance(each, TaskMade))
+        return {each.task.name: each.task for each in made if each.project is self}
 
     @property
     def facts(self) -> tuple[str, ...]:
         """The premises that say what the tasks are: how long they take, what they cost, in which
         order they come. `w.repairs(keep=p.facts)` gives up none of them."""
-        return tuple(self._facts)
+        found: dict[str, None] = {}
+        for each in self.workbench.network.events:
+            if isinstance(each, (TaskTold, TaskOrdered)) and each.project is self and each.premise:
+                found[each.premise] = None
+        return tuple(found)
 
     def task(
         self,
@@ -84,20 +106,24 @@ class Project:
         people = self._checked(name, who)
         ways = checked_ways(name, days, cost, options)
         earlier = self._earlier(name, after)
-        task = self._made(name, people, any(way.cost for way in ways.values()))
-        self.tasks[name] = task
-        if options is not None:
-            self._choose(task, ways)
-        else:
-            self._tell(under or f"{name} takes {days}", task.days, ways[""].days)
-            if task.cost is not None:
-                self._tell(under or f"{name} costs {cost}", task.cost, cost)
-        for other in earlier:
-            premise = under or f"{name} after {other.name}"
-            self.workbench.require(other.end <= task.start, under=premise)
-            self._facts[premise] = None
-        self._keep_apart(task)
-        return task
+        others, aways = self.tasks.values(), self._aways()
+
+        def state() -> Task:
+            task = self._made(name, people, any(way.cost for way in ways.values()))
+            if options is not None:
+                self._choose(task, ways)
+            else:
+                self._tell(under or f"{name} takes {days}", task.days, ways[""].days)
+                if task.cost is not None:
+                    self._tell(under or f"{name} costs {cost}", task.cost, cost)
+            for other in earlier:
+                before = (other.end <= task.start).node
+                self._state(TaskOrdered(before, under or f"{name} after {other.name}", self))
+            self._keep_apart(task, others)
+            self._keep_off([task], [away for away in aways if away.person in people])
+            return task
+
+        return self.workbench.network.whole(state)
 
     def away(
         self, person: str, first: int | date | str, last: int | date | str, under: str | None = None
@@ -117,21 +143,22 @@ class Project:
                 f"{person} can't be away from {_day_text(first)} to {_day_text(last)}: the second is"
                 " the day of the return"
             )
-        premise = under or f"{person} away {begin} to {end}"
-        self._away.append((person, begin, end, premise))
-        if not any(person in task.people for task in self.tasks.values()):
+        away = Away(person, begin, end, under or f"{person} away {begin} to {end}")
+        theirs = [task for task in self.tasks.values() if person in task.people]
+        if theirs:
+            self.workbench.network.whole(lambda: self._keep_off(theirs, [away]))
+        else:
             # (A premise under which nothing is stated yet would not be known.)
-            self.workbench.require(True, under=premise)
-        for task in self.tasks.values():
-            if person in task.people:
-                self._keep_off(task, begin, end, premise)
-        return premise
+            self._state(KeptOff(TRUE, away.premise, away, self))
+        return away.premise
 
     @property
     def returns(self) -> tuple[tuple[str, int], ...]:
         """Who comes back on which day, by premises that are believed."""
         believed = set(self.workbench.believed)
-        return tuple((person, end) for person, _, end, name in self._away if name in believed)
+        return tuple(
+            (away.person, away.last) for away in self._aways() if away.premise in believed
+        )
 
     def done_by(
         self, day: int | date | str, under: str | None = None, task: Task | None = None
@@ -139,25 +166,26 @@ class Project:
         """A task, or all, is done before the beginning of a day; the premise of that."""
         last, what = self.day(day), "all" if task is None else task.name
         premise = under or f"{what} done by {last}"
-        self.workbench.require((self.end if task is None else task.end) <= last, under=premise)
+
+        def state() -> None:
+            end = self.end if task is None else task.end
+            self.workbench.require(end <= last, under=premise)
+
+        self.workbench.network.whole(state)
         return premise
 
     @property
     def end(self) -> NumberCell:
         """The day by which all is done. No task can be added once it was asked for."""
         if self._end is None or not self._has(self._end):
-            self._end = self.workbench.number("end", 0, self.days)
-            if self.tasks:
-                self._bound(self._end)
+            self._end = self.workbench.network.whole(self._made_end)
         return self._end
 
     @property
     def total_cost(self) -> NumberCell:
         """What all tasks cost. No task can be added once it was asked for."""
         if self._total is None or not self._has(self._total):
-            costs = [task.cost for task in self.tasks.values() if task.cost is not None]
-            self._total = self.workbench.number("total cost", 0, MOST_COST)
-            self.workbench.require(self._total == (total(costs) if costs else 0))
+            self._total = self.workbench.network.whole(self._made_total)
         return self._total
 
     def day(self, given: int | date | str) -> int:
@@ -211,7 +239,7 @@ class Project:
 
     def _has(self, cell: NumberCell) -> bool:
         """Whether the workbench has the cell: one that was made for a what-if is gone behind it."""
-        return any(each is cell for each in self.workbench.cells)
+        return self.workbench.network.cells.get(cell.name) is cell.declared
 
     def _person(self, person: str) -> None:
         if person not in self.people:
@@ -226,12 +254,24 @@ class Project:
             number(f"{name} {what}", 0, self.days) for what in ("start", "end", "days")
         )
         cost = number(f"{name} cost", 0, MOST_COST) if has_cost else None
-        self.workbench.require(end == start + days)
-        return Task(name, people, start, end, days, cost)
+        task = Task(name, people, start, end, days, cost)
+        self._state(TaskMade((end == start + days).node, None, task, self))
+        return task
 
     def _tell(self, premise: str, cell: NumberCell, value: int) -> None:
-        self.workbench.tell(premise, cell, value)
-        self._facts[premise] = None
+        values = values_of(cell.declared, value)
+        self._state(TaskTold(cell.declared, values, premise, self))
+
+    def _state(self, event: Required | Told) -> None:
+        """Carries out what is the project's own."""
+        if event.premise is not None:
+            self.workbench.network.premises.check(event.premise)
+        self.workbench.network.do(event)
+
+    def _aways(self) -> list[Away]:
+        """When somebody is away."""
+        kept = (each for each in self.workbench.network.events if isinstance(each, KeptOff))
+        return list(dict.fromkeys(each.away for each in kept if each.project is self))
 
     def _choose(self, task: Task, ways: Mapping[str, Way]) -> None:
         def stated(way: Way) -> list[Truth]:
@@ -240,18 +280,31 @@ class Project:
 
         self.workbench.choose(task.name, {name: stated(way) for name, way in ways.items()})
 
-    def _keep_apart(self, task: Task) -> None:
-        """Its people do one thing at a time, and nothing while they are away."""
-        for other in self.tasks.values():
-            if other is not task and set(other.people) & set(task.people):
+    def _keep_apart(self, task: Task, others: Iterable[Task]) -> None:
+        """Its people do one thing at a time."""
+        for other in others:
+            if set(other.people) & set(task.people):
                 apart = (other.end <= task.start) | (task.end <= other.start)
                 self.workbench.require(apart)
-        for person, begin, end, premise in self._away:
-            if person in task.people:
-                self._keep_off(task, begin, end, premise)
 
-    def _keep_off(self, task: Task, begin: int, end: int, premise: str) -> None:
-        self.workbench.require((task.end <= begin) | (task.start >= end), under=premise)
+    def _keep_off(self, tasks: Iterable[Task], aways: Sequence[Away]) -> None:
+        """Nothing of these tasks is done while somebody is away."""
+        for task in tasks:
+            for away in aways:
+                apart = (task.end <= away.first) | (task.start >= away.last)
+                self._state(KeptOff(apart.node, away.premise, away, self))
+
+    def _made_total(self) -> NumberCell:
+        costs = [task.cost for task in self.tasks.values() if task.cost is not None]
+        made = self.workbench.number("total cost", 0, MOST_COST)
+        self.workbench.require(made == (total(costs) if costs else 0))
+        return made
+
+    def _made_end(self) -> NumberCell:
+        made = self.workbench.number("end", 0, self.days)
+        if self.tasks:
+            self._bound(made)
+        return made
 
     def _bound(self, end: NumberCell) -> None:
         """The end is that of the last task; a person's days of work are a bound of it, which is so

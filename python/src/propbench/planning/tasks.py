@@ -1,10 +1,14 @@
-"""A task of a plan: when it starts and ends, how long it takes, what it costs, and who does it."""
+"""A task of a plan: when it starts and ends, how long it takes, what it costs, and who does it.
+
+What a project knows stands in what was stated to its workbench, and nowhere else.
+"""
 
 from collections.abc import Iterable, Mapping, Sequence
 from dataclasses import dataclass
 from typing import SupportsIndex
 
 from propbench.model.cells import NumberCell
+from propbench.model.events import Required, Told
 from propbench.model.expressions import Number
 
 # An alternative of a task: its days, and maybe its cost.
@@ -38,6 +42,46 @@ class Task:
     def __repr__(self) -> str:
         who = f" by {' and '.join(self.people)}" if self.people else ""
         return f"task {self.name}{who}"
+
+
+@dataclass(frozen=True)
+class TaskMade(Required):
+    """There is a task of a project: it ends when its days are over."""
+
+    task: Task
+    project: object
+
+
+@dataclass(frozen=True)
+class TaskTold(Told):
+    """What a task of a project takes, or costs."""
+
+    project: object
+
+
+@dataclass(frozen=True)
+class TaskOrdered(Required):
+    """A task of a project comes after another."""
+
+    project: object
+
+
+@dataclass(frozen=True)
+class Away:
+    """Somebody does nothing from the beginning of one day to that of another, under a premise."""
+
+    person: str
+    first: int
+    last: int
+    premise: str
+
+
+@dataclass(frozen=True)
+class KeptOff(Required):
+    """Somebody is away: that a task is not done then, or nothing more, where there is none."""
+
+    away: Away
+    project: object
 
 
 def checked_ways(

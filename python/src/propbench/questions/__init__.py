@@ -197,12 +197,13 @@ class Questions:
         more were told: `with w.what_if(kick=["ana"], tell=[("guess", x, 3, 5)]): x.ask()`. What is
         told counts, also under a premise that is kicked out otherwise.
 
-        Behind the `with` the workbench is as it was, whatever was stated within.
+        Behind the `with` the workbench is as it was, its projects and quantities too, whatever was
+        stated within: what was made there is gone.
         """
         change = changed(kick, bring, tell)
-        resolved(self.model, change)
-        kept = self._set_aside()
-        try:
+        with self._set_aside():
+            # (what is wrong with it is said here, and names that it gives are those of the copy)
+            resolved(self.model, change)
             for premise in change.kick:
                 self.kick(premise)
             for premise in change.bring:
@@ -212,8 +213,6 @@ class Questions:
                 if told not in change.kick:
                     self.bring(str(told))
             yield self
-        finally:
-            self._put_back(kept)
 
     def snapshot(
         self: Bench, *, seconds: float | None = None, progress: Progress | None = None

@@ -1,5 +1,6 @@
 """What questions use of a workbench beside its model: what a user does with it."""
 
+from contextlib import AbstractContextManager
 from typing import Any, Protocol
 
 from propbench.model.answers import Answer
@@ -17,8 +18,8 @@ class AskedCell(Protocol):
 
 
 class Bench(Protocol):
-    """A workbench. What stands in for a cell or a value, and what is set aside, is the workbench's
-    own, which questions only pass on: that is what is Any here."""
+    """A workbench. What stands in for a cell or a value is the workbench's own, which questions only
+    pass on: that is what is Any here."""
 
     @property
     def model(self) -> Model:
@@ -41,10 +42,7 @@ class Bench(Protocol):
         """The cell of this name."""
         ...
 
-    def _set_aside(self) -> Any:
-        ...
-
-    def _put_back(self, kept: Any) -> None:
+    def _set_aside(self) -> AbstractContextManager[None]:
         ...
 
     def _read(self, cell: str, reply: Value, inside: tuple[str, ...]) -> Answer:

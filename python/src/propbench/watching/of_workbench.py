@@ -121,7 +121,6 @@ class WorkbenchWatched:
 
     def wish(self, choice: str, side: int | None) -> None:
         made = self.workbench.network
-        event = made.premises.choices[choice]
         for (other, _), premise in self._wishes.items():
             if other == choice and made.premises.believed.get(premise):
                 made.kick(premise)
@@ -131,15 +130,20 @@ class WorkbenchWatched:
         if made.premises.believed.get(premise) is not None:
             made.bring(premise)
             return
-        premise = f"{choice}: {event.sides[side]}"
+        premise = self._state_wish(made.premises.choices[choice], side)
+        self._wishes[choice, side] = premise
+
+    def _state_wish(self, event: ValueChoice | ConstraintChoice, side: int) -> str:
+        """States that a choice takes an alternative; the premise of that."""
+        made = self.workbench.network
+        premise = f"{event.name}: {event.sides[side]}"
         while premise in made.premises.believed or premise in made.premises.choices:
             premise += " (wished)"
         if isinstance(event, ValueChoice):
             made.do(Told(event.cell, event.alternatives[side], premise))
         else:
-            for constraint in event.alternatives[side][1]:
-                made.do(Required(constraint, premise))
-        self._wishes[choice, side] = premise
+            made.do(*(Required(each, premise) for each in event.alternatives[side][1]))
+        return premise
 
     def wished(self) -> dict[str, int]:
         believed = self.workbench.network.premises.believed
