@@ -142,10 +142,11 @@ module _ {V : Type 0} {below : V → V → Type 0} {bottom top : V} {join : V �
       still : (first last : List (Supported V)) (x : Supported V) → Contains ((first ++ left) ++ last) x
           → Contains ((first ++ (left ++ rest)) ++ last) x
       still first last x here = elim (Contains-append_cases (first ++ left) last x here) [
-        | inl front ↦ Contains-append_left (first ++ (left ++ rest)) last x (elim (Contains-append_cases first left x front) [
-          | inl a ↦ Contains-append_left first (left ++ rest) x a
-          | inr b ↦ Contains-append_right first (left ++ rest) x (Contains-append_left left rest x b)
-        ])
+        | inl front ↦ Contains-append_left (first ++ (left ++ rest)) last x
+            (elim (Contains-append_cases first left x front) [
+              | inl a ↦ Contains-append_left first (left ++ rest) x a
+              | inr b ↦ Contains-append_right first (left ++ rest) x (Contains-append_left left rest x b)
+            ])
         | inr b ↦ Contains-append_right (first ++ (left ++ rest)) last x b
       ]
 
@@ -353,7 +354,8 @@ All-first P gains n h = subst (All P) (take-map (λ (x : Gain _). entry_of x.ent
 pub thinned_first : {V : Type 0} {below : V → V → Type 0} {bottom top : V} {join : V → V → V}
     (laws : IsInformationOrder below bottom top join) (all : List (Supported V)) (w : Members) (v : V)
     (gains : List (Gain V)) (n : ℕ) (after : V)
-    (support : List ℕ) → v ≡ merge_of_all bottom join all → IsThinned bottom join all w v (gained_of gains) after support
+    (support : List ℕ) → v ≡ merge_of_all bottom join all
+    → IsThinned bottom join all w v (gained_of gains) after support
     → below v (join (merge_of_all bottom join (gained_of (take n gains))) after)
     → IsThinned bottom join all w v (gained_of (take n gains)) after support
 thinned_first {bottom = bottom} {join = join} laws all w v gains n after support is t says =

@@ -1,5 +1,6 @@
 -- Entries of few premises that are enough for what is believed, and of which none can be left out.
-use Rattle.std.proofs.Common.{◌≡◌, ◌≢◌, ◌∙◌, ◌<◌, ◌≤◌, ◌||◌, ℕ, zero, suc, Bool, true, false, List, [], ◌∷◌, ◌++◌, length}
+use Rattle.std.proofs.Common.{◌≡◌, ◌≢◌, ◌∙◌, ◌<◌, ◌≤◌, ◌||◌, ℕ, zero, suc, Bool, true, false, List, []}
+use Rattle.std.proofs.Common.{◌∷◌, ◌++◌, length}
 use Rattle.std.proofs.Common.{slice_get, Some, refl, sym, ap, subst, arith, inl, inr, Contains, All}
 use Rattle.std.specs.List.{remove}
 use Rattle.std.specs.List.Sorted.{IsStrictlyIncreasing}
@@ -32,7 +33,8 @@ or_false false = refl
 pub light_is_free : {V : Type 0} (es : List (Supported V)) (e x : Supported V) → length e.support ≤ 1
     → Contains (lighter_of es e) x → x.support ≡ []
 light_is_free es e x few here =
-    none x.support (let lt = ltb-true (length x.support) (length e.support) (in_lighter es e x here).1 in omega (arith, lt, few))
+    none x.support (let lt = ltb-true (length x.support) (length e.support) (in_lighter es e x here).1 in
+    omega (arith, lt, few))
   where
     none : (ps : List ℕ) → length ps < 1 → ps ≡ []
     none [] l = refl
@@ -43,10 +45,12 @@ module _ {V : Type 0} {below : V → V → Type 0} {bottom top : V} {join : V �
   -- what entries on no premises say is said freely
   pub freely_above : (es : List (Supported V)) (x : Supported V) → Contains es x → x.support ≡ []
       → below x.value (belief_of bottom join nobody es)
-  freely_above es x here none = below_belief laws nobody es x here (subst (λ ps. is_within nobody ps ≡ true) (sym none) refl)
+  freely_above es x here none = below_belief laws nobody es x here
+      (subst (λ ps. is_within nobody ps ≡ true) (sym none) refl)
 
   -- light entries among some are so among all, where all are said
-  pub light_among : (w : Members) (es gained : List (Supported V)) (v : V) (support : List ℕ) → v ≡ belief_of bottom join w es
+  pub light_among : (w : Members) (es gained : List (Supported V)) (v : V) (support : List ℕ)
+      → v ≡ belief_of bottom join w es
       → All (Contains es) gained → HasSaid bottom w es gained
       → IsLight bottom join gained w v support → IsLight bottom join es w v support
   light_among w es gained v support is among said light = record {
@@ -179,7 +183,8 @@ module _ {V : Type 0} {below : V → V → Type 0} {bottom top : V} {join : V �
       light says =
           let z = merge_of_all bottom join (lighter_of (e ∷ []) e) in
           let here : below e.value z =
-          subst (λ (xs : List (Supported V)). below e.value (merge_of_all bottom join (lighter_of xs e))) (sym only) says in
+          subst (λ (xs : List (Supported V)). below e.value (merge_of_all bottom join (lighter_of xs e)))
+          (sym only) says in
           some (laws.transitive e.value z bottom here (merge_under laws (lighter_of (e ∷ []) e) bottom none))
 
   -- two entries that say the value together, neither of which does with what is said on fewer premises
@@ -218,7 +223,8 @@ module _ {V : Type 0} {below : V → V → Type 0} {bottom top : V} {join : V �
       needed_a : merge_of_all bottom join (lighter_of (believed_of w es) a ++ b ∷ []) ≢ v
       needed_a whole =
           let m = merge_of_all bottom join (lighter_of (believed_of w es) a) in
-          light_a (subst (λ u. below u (join b.value m)) whole (beside a b (join b.value m) (second_below laws b.value m)
+          light_a (subst (λ u. below u (join b.value m)) whole
+          (beside a b (join b.value m) (second_below laws b.value m)
           (first_below laws b.value m)))
 
       needed_b : merge_of_all bottom join (lighter_of (believed_of w es) b ++ a ∷ []) ≢ v
@@ -245,7 +251,8 @@ module _ {V : Type 0} {below : V → V → Type 0} {bottom top : V} {join : V �
       let n = ap length free in
       less (laws.transitive v (join other z) other says (join_below laws other z other (laws.reflexive other)
       (merge_under laws (lighter_of es e) other (λ x here.
-      let lt = ltb-true (length x.support) (length e.support) (in_lighter es e x here).1 in absurd (omega (arith, lt, n))))))
+      let lt = ltb-true (length x.support) (length e.support) (in_lighter es e x here).1 in
+      absurd (omega (arith, lt, n))))))
 
   -- an entry of one premise at most is needed beside another one that doesn't say the value with what is said freely
   pub light_beside_few : (es : List (Supported V)) (e : Supported V) (other freely v : V)
@@ -256,7 +263,8 @@ module _ {V : Type 0} {below : V → V → Type 0} {bottom top : V} {join : V �
       let less : below z freely = rw is (merge_under laws (lighter_of es e) (belief_of bottom join nobody es)
       (λ x here. freely_above es x (in_lighter es e x here).0 (light_is_free es e x few here))) in
       without (laws.transitive v (join other z) (join other freely) says (join_below laws other z (join other freely)
-      (first_below laws other freely) (laws.transitive z freely (join other freely) less (second_below laws other freely))))
+      (first_below laws other freely)
+      (laws.transitive z freely (join other freely) less (second_below laws other freely))))
 
   -- ---- where the last entry is set apart
 

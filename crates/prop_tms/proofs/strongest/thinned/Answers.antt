@@ -79,7 +79,8 @@ loop-gain-preserved g c =
     rw is at c.enough-in-Some.ensures.says in
     let among : All (Contains all) (gained_of left ++ e ∷ []) = rw (items, gained_of-push left gain) at kept.among in
     let parts : all ≡ gained_of left ++ e ∷ kept.front.0 =
-    kept.front.1 ∙ ap (λ xs. gained_of xs ++ kept.front.0) items ∙ ap (λ xs. xs ++ kept.front.0) (gained_of-push left gain)
+    kept.front.1 ∙ ap (λ xs. gained_of xs ++ kept.front.0) items
+    ∙ ap (λ xs. xs ++ kept.front.0) (gained_of-push left gain)
     ∙ append_assoc (gained_of left) (e ∷ []) kept.front.0 in
     let here : Contains all e = All-last (Contains all) (gained_of left) e among in
     record {
