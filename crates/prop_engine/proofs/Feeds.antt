@@ -9,7 +9,8 @@ use Rattle.prop_engine.specs.Answers.{Answer, is_refusal}
 use Rattle.prop_engine.specs.Calls.{Call, Leads}
 use Rattle.prop_engine.specs.Dialogues.{AreGiven, IsGiven}
 use Rattle.prop_engine.specs.Transcripts.{Machine}
-use Rattle.prop_engine.specs.inner.Progress.{CountsAnswer, Advances, Stops, GrowsAtMost, IsCutAnswer, HasCarriedOut, refusals}
+use Rattle.prop_engine.specs.inner.Progress.{CountsAnswer, Advances, Stops, GrowsAtMost, IsCutAnswer, HasCarriedOut}
+use Rattle.prop_engine.specs.inner.Progress.{refusals}
 use Rattle.prop_engine.specs.inner.Lines.{IsWithoutFeed}
 use Rattle.prop_engine.specs.declared.outcome.Counts.{Counts}
 use Rattle.prop_engine.specs.Machines.{AsksByPrefix}
@@ -74,7 +75,8 @@ module _ {D S : Type 0} (may : D → Call → D → Type 0) (a b : D) (machine :
   to_bytes : (bytes kept'' : List ℕ) → IsWithoutFeed bytes → kept'' ≡ kept_of (kept' ++ bytes)
       → Advances machine now kept counts (fed.done ++ bytes) fed.said now' kept'' counts'
   to_bytes bytes kept'' h k old input before p =
-      bytes_progress machine old (input ++ fed.done) kept' (before ++ fed.said) counts' now' (fed.so_far old input before p)
+      bytes_progress machine old (input ++ fed.done) kept' (before ++ fed.said) counts' now' (fed.so_far old input
+      before p)
       bytes h (input ++ (fed.done ++ bytes)) (sym (append_assoc input fed.done bytes)) kept'' k
 
   -- the whole piece was taken

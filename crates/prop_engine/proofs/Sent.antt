@@ -1,5 +1,6 @@
 -- Texts that are written, and how far.
-use Rattle.std.proofs.Common.{◌≡◌, ◌⊎◌, ℕ, ◌+◌, ◌-◌, ◌<◌, ◌≤◌, List, [], ◌∷◌, ◌++◌, length, take, drop, refl, sym, subst}
+use Rattle.std.proofs.Common.{◌≡◌, ◌⊎◌, ℕ, ◌+◌, ◌-◌, ◌<◌, ◌≤◌, List, [], ◌∷◌, ◌++◌, length, take, drop, refl, sym}
+use Rattle.std.proofs.Common.{subst}
 use Rattle.std.proofs.Common.{ap, arith, inl, inr, append-nil, append_assoc, ◌∙◌}
 use Rattle.std.specs.Prelude.{Ok, Err}
 use Rattle.std.proofs.lemmas.List.{take_rest, length-drop, drop-drop, drop_all}
@@ -99,7 +100,8 @@ count_in_range text at count h k =
     omega (arith, length-drop at text)
 
 -- one more answer
-pub given_more : (said : List Answer) (answer : Answer) (calls one : List Call) → AreGiven said calls → IsGiven answer one
+pub given_more : (said : List Answer) (answer : Answer) (calls one : List Call) → AreGiven said calls
+    → IsGiven answer one
     → AreGiven (said ++ answer ∷ []) (calls ++ one)
 given_more [] answer calls one e g = (one, [], g, refl, ap (λ l. l ++ one) e ∙ sym (append-nil one))
 given_more (a ∷ said) answer calls one (first, others, g, given, e) h = (

@@ -6,7 +6,8 @@ use Rattle.std.proofs.lemmas.List.{take-append-drop, take_all}
 use Rattle.std.proofs.lemmas.Grind.{flat_map-append}
 use Rattle.prop_engine.specs.Answers.{Answer, Silent, Done, Text, Refused, text_written}
 use Rattle.prop_engine.specs.Calls.{Call, ReadCall, WriteCall, FlushCall, bytes_read, bytes_written}
-use Rattle.prop_engine.specs.Dialogues.{Patiently, IsWritten, IsSent, IsStopped, IsCut, IsGiven, AreGiven, Turns, IsEnded}
+use Rattle.prop_engine.specs.Dialogues.{Patiently, IsWritten, IsSent, IsStopped, IsCut, IsGiven, AreGiven, Turns}
+use Rattle.prop_engine.specs.Dialogues.{IsEnded}
 use Rattle.prop_engine.specs.Dialogues.{IsDialogue, Ends}
 use Rattle.prop_engine.specs.Dialogues.IsWritten.{none as unwritten, more as written_more}
 use Rattle.prop_engine.specs.Dialogues.Turns.{none as no_turn, more as one_turn}
@@ -80,7 +81,8 @@ read_moves : (bytes : List ℕ) (calls : List Call) → Patiently (ReadCall 4_09
 read_moves bytes calls p = moved _ calls _ bytes [] (idle_read p.interrupted 4_096) p.calls_are
     record { read_is = append-nil bytes; written_is = refl }
 
-failed_moves : (failure : Failure) (calls : List Call) → Patiently (ReadCall 4_096) (Err failure) calls → Moves calls [] []
+failed_moves : (failure : Failure) (calls : List Call) → Patiently (ReadCall 4_096) (Err failure) calls
+    → Moves calls [] []
 failed_moves failure calls p = moved _ calls _ [] [] (idle_read p.interrupted 4_096) p.calls_are
     record { read_is = refl; written_is = refl }
 
@@ -89,7 +91,8 @@ write_moves : (bytes : List ℕ) (count : ℕ) (calls : List Call) → Patiently
 write_moves bytes count calls p = moved _ calls _ [] (take count bytes) (idle_write p.interrupted bytes) p.calls_are
     record { read_is = refl; written_is = append-nil (take count bytes) }
 
-unwritten_moves : (bytes : List ℕ) (failure : Failure) (calls : List Call) → Patiently (WriteCall bytes) (Err failure) calls
+unwritten_moves : (bytes : List ℕ) (failure : Failure) (calls : List Call)
+    → Patiently (WriteCall bytes) (Err failure) calls
     → Moves calls [] []
 unwritten_moves bytes failure calls p = moved _ calls _ [] [] (idle_write p.interrupted bytes) p.calls_are
     record { read_is = refl; written_is = refl }
@@ -115,7 +118,8 @@ sent_moves text calls s =
     let on = text_moves text [] s.writes s.written in
     let m = moves_join s.writes s.flushes [] on.0 [] [] on.1 (flush_moves _ s.flushes s.passed_on) in
     let all : on.0 ++ [] ≡ text = sym on.2 in
-    subst (λ (l : List Call). Moves l [] text) (sym s.calls_are) (subst (λ (t : List ℕ). Moves (s.writes ++ s.flushes) [] t) all m)
+    subst (λ (l : List Call). Moves l [] text) (sym s.calls_are) (subst (λ (t : List ℕ). Moves (s.writes ++
+    s.flushes) [] t) all m)
 
 stopped_moves : (left : List ℕ) (calls : List Call) → IsStopped left calls → Moves calls [] []
 stopped_moves [] calls (failure, p) = flush_moves _ calls p
@@ -155,7 +159,8 @@ turns_move n input answers calls no_turn = moves_none
 turns_move n input answers calls (one_turn k first bytes before said earlier tries replies t some p given count) =
     let m = moves_join earlier (tries ++ replies) first (flat_map text_written before) (bytes ++ [])
     ([] ++ flat_map text_written said) (turns_move k first before earlier t)
-    (moves_join tries replies bytes [] [] (flat_map text_written said) (read_moves bytes tries p) (answers_move said replies given))
+    (moves_join tries replies bytes [] [] (flat_map text_written said) (read_moves bytes tries p) (answers_move said
+    replies given))
     in record {
       read_is = m.read_is ∙ ap (λ l. first ++ l) (append-nil bytes);
       written_is = m.written_is ∙ sym (flat_map-append text_written before said);
@@ -163,7 +168,8 @@ turns_move n input answers calls (one_turn k first bytes before said earlier tri
 
 -- ---- a dialogue that came to its end, and one that a fault ended
 
-whole_run : {S : Type 0} (machine : Machine S) (old : S) (n : ℕ) (lines : List (List ℕ)) (answers : List Answer) (new : S)
+whole_run : {S : Type 0} (machine : Machine S) (old : S) (n : ℕ) (lines : List (List ℕ)) (answers : List Answer) (new
+    : S)
     → n ≡ length lines → Run machine old (take n lines) answers new → Run machine old lines answers new
 whole_run machine old n lines answers new e r =
     subst (λ (l : List (List ℕ)). Run machine old l answers new) (take_all n lines (omega (arith, e))) r
@@ -185,7 +191,8 @@ pub dialogue_transcript : {S : Type 0} (machine : Machine S) (reads : ℕ) (old 
     → IsTranscript machine old (bytes_read calls) (bytes_written calls) counts.lines counts.refused new
 dialogue_transcript machine reads old counts calls new d =
     let m = ended_moves reads counts d.input d.answers calls d.in_turn in
-    subst (λ (i : List ℕ). IsTranscript machine old i (bytes_written calls) counts.lines counts.refused new) (sym m.read_is)
+    subst (λ (i : List ℕ). IsTranscript machine old i (bytes_written calls) counts.lines counts.refused new) (sym
+    m.read_is)
     record {
       answers = d.answers;
       run = whole_run machine old (length d.answers) (lines_of d.input) d.answers new d.in_turn.all d.run;
@@ -217,11 +224,13 @@ faulted_moves reads faults.Read input answers calls u =
     )
 faulted_moves reads faults.Write input answers calls u =
     let cut = cut_moves (text_written u.last) u.cut u.stopped in
-    let m = moves_join u.earlier (u.tries ++ (u.replies ++ u.cut)) u.first (flat_map text_written u.before) (u.bytes ++ [])
+    let m = moves_join u.earlier (u.tries ++ (u.replies ++ u.cut)) u.first (flat_map text_written u.before) (u.bytes
+    ++ [])
     (flat_map text_written u.said ++ cut.0) (turns_move u.n u.first u.before u.earlier u.turns)
     (moves_join u.tries (u.replies ++ u.cut) u.bytes [] [] (flat_map text_written u.said ++ cut.0)
     (read_moves u.bytes u.tries u.read)
-    (moves_join u.replies u.cut [] (flat_map text_written u.said) [] cut.0 (answers_move u.said u.replies u.sent) cut.2))
+    (moves_join u.replies u.cut [] (flat_map text_written u.said) [] cut.0 (answers_move u.said u.replies u.sent)
+    cut.2))
     in (
       flat_map text_written u.before ++ (flat_map text_written u.said ++ cut.0),
       cut.1,
@@ -245,6 +254,7 @@ dialogue_prefix machine total reads old fault calls new d =
     let n = length d.answers in
     let all : lines_of d.input ≡ take n (lines_of d.input) ++ drop n (lines_of d.input) =
     sym (take-append-drop n (lines_of d.input)) in
-    let p = prefix machine total old d.input f.0 (take n (lines_of d.input)) (drop n (lines_of d.input)) d.answers new f.1
+    let p = prefix machine total old d.input f.0 (take n (lines_of d.input)) (drop n (lines_of d.input)) d.answers
+    new f.1
     all d.run f.3 in
     rw (f.2.read_is, f.2.written_is) p

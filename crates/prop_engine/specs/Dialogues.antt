@@ -1,6 +1,6 @@
 -- In which order a session over a machine calls its reader and its writer.
-use Rattle.std.specs.Prelude.{◌≡◌, ◌≢◌, ◌⊎◌, ℕ, ◌+◌, ◌<◌, ◌≤◌, List, [], ◌∷◌, ◌++◌, length, take, drop}
-use Rattle.std.specs.Prelude.{replicate, count_by, Result, Ok, Err}
+use Rattle.std.specs.Prelude.{◌≡◌, ◌≢◌, ◌⊎◌, ℕ, ◌+◌, ◌<◌, ◌≤◌, List, [], ◌∷◌, ◌++◌, length, take}
+use Rattle.std.specs.Prelude.{drop, replicate, count_by, Result, Ok, Err}
 use Rattle.prop_engine.specs.Answers.{Answer, Silent, text_written, is_refusal}
 use Rattle.prop_engine.specs.Calls.{Call, Leads, ReadCall, WriteCall, FlushCall}
 use Rattle.prop_engine.specs.Lines.{lines_of, ended_lines}
@@ -67,9 +67,10 @@ AreGiven (answer ∷ answers) calls = (first : List Call) × (rest : List Call) 
 -- before the next, those to the lines that it ended.
 pub data Turns : ℕ → List ℕ → List Answer → List Call → Type 0 where
   none : Turns 0 [] [] []
-  more : (n : ℕ) (input bytes : List ℕ) (before said : List Answer) (calls tries replies : List Call)
-      → Turns n input before calls → 0 < length bytes → Patiently (ReadCall 4_096) (Ok bytes) tries →
-      AreGiven said replies → length (before ++ said) ≡ length (ended_lines (input ++ bytes)) →
+  more : (n : ℕ) (input bytes : List ℕ) (before said : List Answer)
+      (calls tries replies : List Call) → Turns n input before calls → 0 < length bytes →
+      Patiently (ReadCall 4_096) (Ok bytes) tries → AreGiven said replies →
+      length (before ++ said) ≡ length (ended_lines (input ++ bytes)) →
       Turns (n + 1) (input ++ bytes) (before ++ said) (calls ++ (tries ++ replies))
 
 -- behind the last turn a read told the end, and what is left of the input, if anything, was

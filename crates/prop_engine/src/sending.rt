@@ -32,7 +32,7 @@ fn put<D: Devices>(devices: &mut D, bytes: &[u8]) -> Result<(), EngineFault>
 }
 
 /// Writes a text, in one write where the writer takes it, and passes it on. `EngineFault::Write`
-/// where a write or the flush fails, or a write takes no byte: then a prefix of the text was written.
+/// where a write or the flush fails, or a write takes no byte: then a prefix of it was written.
 pub fn send<D: Devices>(devices: &mut D, text: &[u8]) -> Result<(), EngineFault>
     ensures calls { (calls : List Call) × Leads D.calls devices.old calls devices.new
         × MatchResult result (λ _. IsSent text.now calls) (λ _. IsCut text.now calls) }

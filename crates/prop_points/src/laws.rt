@@ -13,8 +13,8 @@ pub fn rules_are_exact()
     ensures excluders { ExcludersAreExact }
 {}
 
-/// So the points of a solution in points over the kit lie in all that is stated, and belong together
-/// at each instance but those of `divider` and `parter`.
+/// So the points of a solution in points over the kit lie in all that is stated, and belong
+/// together at each instance but those of `divider` and `parter`.
 pub fn singles_of_the_kit_solve()
     ensures { SinglesSolve (library_of form_of value_of in_order) (related_in KitTells in_order) }
 {}

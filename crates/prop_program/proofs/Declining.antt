@@ -72,7 +72,8 @@ module _ {D : Type 0} (may : D → Call → D → Type 0) (name : List ℕ) (giv
       → IsSent text calls → Declines name (Some given) may a b 0
   declines_told a b text t calls l s = told given text calls refl (asks name given kind reason t) l s refl
 
-  pub declines_untold : (a b : D) (text : List ℕ) (status : ℕ) → IsForText kind → (calls : List Call) → Leads may a calls b
+  pub declines_untold : (a b : D) (text : List ℕ) (status : ℕ) → IsForText kind → (calls : List Call)
+      → Leads may a calls b
       → IsCut text calls → status ≡ 2 → Declines name (Some given) may a b status
   declines_untold a b text status t calls l s e = untold given text calls refl (asks name given kind reason t) l s e
 

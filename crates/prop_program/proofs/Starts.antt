@@ -87,7 +87,8 @@ module _ {D : Type 0} (may : D → Call → D → Type 0) (from to : D) where
 
   -- a session with this library, from where a new one stands
   pub worked_by : {O : Type 0} (picks : Picks O) (order : O) (library known : List Stored) (prelude : List (List ℕ))
-      (begun : Standing O) (limit : ℕ) (result : Result Counts Fault) → library ≡ known → begun ≡ new_standing limit order
+      (begun : Standing O) (limit : ℕ) (result : Result Counts Fault) → library ≡ known
+      → begun ≡ new_standing limit order
       → Serves may from to (working picks library) begun prelude result
       → Serves may from to (working picks known) (new_standing limit order) prelude result
   worked_by picks order library known prelude begun limit result same new h =
@@ -114,7 +115,8 @@ served_by_fault may d machine begun prelude result fault e h =
     subst (λ (r : Result Counts Fault). Serves may d d machine begun prelude r) (sym e)
     (nothing_served may d machine begun prelude fault h)
 
-pub worked_by_fault : {D : Type 0} (may : D → Call → D → Type 0) (d : D) (pick : Pick) (seed : ℕ) (library : List Stored)
+pub worked_by_fault : {D : Type 0} (may : D → Call → D
+    → Type 0) (d : D) (pick : Pick) (seed : ℕ) (library : List Stored)
     (prelude : List (List ℕ)) (limit : ℕ) (result : Result Counts Fault) (fault : Fault) → result ≡ Err fault
     → IsMemory fault → IsWorked pick seed library prelude limit may d d result
 worked_by_fault may d pick seed library prelude limit result fault e h =

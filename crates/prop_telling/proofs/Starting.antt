@@ -35,7 +35,8 @@ noting begun = record { standing = begun; notes = no_notes }
 
 -- a session with this library, from where a new one stands
 pub told_by : {D O : Type 0} (may : D → Call → D → Type 0) (from to : D) (picks : Picks O) (order : O)
-    (library known : List Stored) (begun : Standing O) (prelude : List (List ℕ)) (limit : ℕ) (result : Result Counts Fault)
+    (library known : List Stored) (begun : Standing O) (prelude : List (List ℕ)) (limit : ℕ) (result : Result Counts
+    Fault)
     → library ≡ known → begun ≡ new_standing limit order
     → Serves may from to (telling picks library) (noting begun) prelude result
     → Serves may from to (telling picks known) (new_told limit order) prelude result

@@ -42,16 +42,16 @@ and in /usr/share/doc/propbench of the Debian package.",
 
 /// What the program does by the words of its command line, with the status that it ends with.
 ///
-/// It serves over `devices` with the options that the words give. Where they ask for help or for the
-/// version, that is sent there. What else there is to say it says on `errors`.
+/// It serves over `devices` with the options that the words give. Where they ask for help or for
+/// the version, that is sent there. What else there is to say it says on `errors`.
 pub fn program<D: Devices, E: Write>(
     alloc: Global,
     words: io::Result<Args>,
     devices: &mut D,
     errors: &mut E,
 ) -> ExitCode
-    // By the options that the words give it holds a dialogue in which each line is answered by a step
-    // of the workbench over the kit.
+    // By the options that the words give it holds a dialogue in which each line is answered by a
+    // step of the workbench over the kit.
     ensures answered { Does (codes "propbench") (given_words words) D.calls
         (λ options end. Serves D.calls devices.old devices.new (workbench kit)
         (new_state options.limit) prelude_lines end)

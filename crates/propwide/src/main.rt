@@ -1,8 +1,8 @@
 //! The workbench with more rules, for plans and measurements, over standard input and output.
 //!
-//! By the options that its words give the program holds a dialogue: behind each read, and before the
-//! next, each line that the read ended is answered by a step of the workbench over the kit, the wider
-//! rules, the excluders and their preludes, or, where it is `step`, `how` or `list`, told
+//! By the options that its words give the program holds a dialogue: behind each read, and before
+//! the next, each line that the read ended is answered by a step of the workbench over the kit, the
+//! wider rules, the excluders and their preludes, or, where it is `step`, `how` or `list`, told
 //! (prop_telling), with work behind it in the order that was chosen, from the seed that was given.
 //! The procedures' answers hold the points that belong together; those of a plan in points do so at
 //! each instance but those of `divider` and `parter`. Help and the version are sent on standard

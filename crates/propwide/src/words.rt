@@ -37,8 +37,8 @@ sources, and in /usr/share/doc/propbench of the Debian package.",
 
 /// What the program does by the words of its command line, with the status that it ends with.
 ///
-/// It serves over `devices` with the options that the words give. Where they ask for help or for the
-/// version, that is sent there. What else there is to say it says on `errors`.
+/// It serves over `devices` with the options that the words give. Where they ask for help or for
+/// the version, that is sent there. What else there is to say it says on `errors`.
 pub fn program<D: Devices, E: Write>(
     alloc: Global,
     words: io::Result<Args>,
@@ -46,8 +46,8 @@ pub fn program<D: Devices, E: Write>(
     errors: &mut E,
 ) -> ExitCode
     // By the options that the words give it holds a dialogue in which each reply is the session's,
-    // earned by steps that were taken in the order that was chosen, or tells a step or what makes up
-    // a value.
+    // earned by steps that were taken in the order that was chosen, or tells a step or what makes
+    // up a value.
     ensures told { Does (codes "propwide") (given_words words) D.calls
         (λ options end. IsTold wide options.order options.seed options.limit
         D.calls devices.old devices.new end)

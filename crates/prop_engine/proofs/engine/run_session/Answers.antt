@@ -5,7 +5,8 @@ use Rattle.std.proofs.lemmas.List.{length-take}
 use Rattle.prop_engine.specs.Dialogues.Turns.{none}
 use Rattle.prop_engine.proofs.Machines.{same_step, same_advance, same_stop}
 use Rattle.prop_engine.proofs.Runs.{start_progress}
-use Rattle.prop_engine.proofs.Ending.{read_failed, too_many, ended_plain, ended_line, ended_cut, turned, stopped, by_fault}
+use Rattle.prop_engine.proofs.Ending.{read_failed, too_many, ended_plain, ended_line, ended_cut, turned, stopped}
+use Rattle.prop_engine.proofs.Ending.{by_fault}
 use Rattle.prop_engine.proofs.engine.run_session.Goals as goal
 
 pub loop-turn-init : goal.loop-turn-init
@@ -42,7 +43,8 @@ returns-in_err-answer-clause-speaks g c =
     let step' = same_step g.M.Interpreter.machine _ _ c.loop-turn.invariant.same _ _ _ _ step in
     by_fault _ _ _ _ _ _ _ _ _ p.1 (p.2 ∙ c.in_err-answer.ensures.fault)
     (ended_cut g.D.Devices.calls _ _ _ _ _ _ _ _ _ c.loop-turn.invariant.so_far c.args.reads c.loop-turn-test.true
-    r.0 r.1 (g.met.M.Interpreter.asks_by_prefix _) s.0 _ s.1 _ s.2 step' r.2 (λ e. false≢true (sym c.if-not-is_empty.true ∙ c.is_empty.ensures.1 e)) s.4)
+    r.0 r.1 (g.met.M.Interpreter.asks_by_prefix _) s.0 _ s.1 _ s.2 step' r.2 (λ e. false≢true (sym
+    c.if-not-is_empty.true ∙ c.is_empty.ensures.1 e)) s.4)
 
 pub returns-in_ok-answer-clause-speaks : goal.returns-in_ok-answer-clause-speaks
 returns-in_ok-answer-clause-speaks g c =
@@ -53,7 +55,8 @@ returns-in_ok-answer-clause-speaks g c =
     (g.M.Interpreter.state c.answer.new.interpreter) = rw (← c.as_slice.ensures) s.3 in
     let step' = same_step g.M.Interpreter.machine _ _ c.loop-turn.invariant.same _ _ _ _ step in
     ended_line g.D.Devices.calls _ _ _ _ _ _ _ _ _ c.loop-turn.invariant.so_far c.args.reads c.loop-turn-test.true
-    r.0 r.1 (g.met.M.Interpreter.asks_by_prefix _) s.0 _ s.1 _ s.2 step' r.2 (λ e. false≢true (sym c.if-not-is_empty.true ∙ c.is_empty.ensures.1 e)) s.4.0 _ s.4.1
+    r.0 r.1 (g.met.M.Interpreter.asks_by_prefix _) s.0 _ s.1 _ s.2 step' r.2 (λ e. false≢true (sym
+    c.if-not-is_empty.true ∙ c.is_empty.ensures.1 e)) s.4.0 _ s.4.1
 
 pub returns-else-not-is_empty-clause-speaks : goal.returns-else-not-is_empty-clause-speaks
 returns-else-not-is_empty-clause-speaks g c =
@@ -69,7 +72,14 @@ returns-in_err-feed-clause-speaks g c =
     let stops = same_stop g.M.Interpreter.machine _ _ c.loop-turn.invariant.same _ _ _ _ _ _ f.2 in
     by_fault _ _ _ _ _ _ _ _ _ p.1 (p.2 ∙ c.in_err-feed.ensures.fault)
     (stopped g.D.Devices.calls _ _ _ _ _ _ _ _ _ c.loop-turn.invariant.so_far c.args.reads c.loop-turn-test.true
-    r.0 r.1 _ (omega (arith, c.if-count-eq0.false, c.in-Ok.ensures.bound.0, c.in-Ok.ensures.bound.1, length-take c.in-Ok.count c.read.new.buffer)) r.2 _ f.0 f.1 _ stops)
+    r.0 r.1 _ (omega (
+      arith,
+      c.if-count-eq0.false,
+      c.in-Ok.ensures.bound.0,
+      c.in-Ok.ensures.bound.1,
+      length-take
+          c.in-Ok.count c.read.new.buffer,
+    )) r.2 _ f.0 f.1 _ stops)
 
 pub loop-turn-preserved : goal.loop-turn-preserved
 loop-turn-preserved g c =
@@ -80,7 +90,14 @@ loop-turn-preserved g c =
       ready = c.in_ok-feed.ensures.ready;
       so_far = turned g.D.Devices.calls _ _ _ _ _ _ _ _ _ c.loop-turn.invariant.so_far c.args.reads
           c.loop-turn-test.true r.0 r.1 _
-          (omega (arith, c.if-count-eq0.false, c.in-Ok.ensures.bound.0, c.in-Ok.ensures.bound.1, length-take c.in-Ok.count c.read.new.buffer))
+          (omega (
+            arith,
+            c.if-count-eq0.false,
+            c.in-Ok.ensures.bound.0,
+            c.in-Ok.ensures.bound.1,
+            length-take
+                c.in-Ok.count c.read.new.buffer,
+          ))
           r.2 _ f.1 f.2 f.0 f.3 _ _ _ advanced;
       piece = omega (arith, c.read.auto.buffer, c.loop-turn.invariant.piece);
       lines = omega (

@@ -37,6 +37,7 @@ returns g c =
     let last : c.loop-try._try - 1 + 1 ≡ 65_536 =
     omega (arith, c.loop-try.invariant.begun, c.loop-try-test.false, c.loop-try.auto._try-end) in
     record {
-      calls = tried g.D.Devices.calls FlushCall c.flush-2.result _ _ _ (c.loop-try._try - 1) (omega (arith, last)) (λ e. last) so_far
+      calls = tried g.D.Devices.calls FlushCall c.flush-2.result _ _ _ (c.loop-try._try - 1) (omega (arith, last)) (λ
+          e. last) so_far
           (c.flush-2.ensures.call);
     }

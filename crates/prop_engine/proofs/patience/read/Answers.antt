@@ -15,7 +15,8 @@ returns-in-Err-Other-clause-calls g c =
 pub returns-in-Ok-clause-calls : goal.returns-in-Ok-clause-calls
 returns-in-Ok-clause-calls g c =
     let so_far = c.loop-try.invariant.so_far in
-    tried g.D.Devices.calls (ReadCall (length c.args.buffer.now)) (Ok (take c.in-Ok.count c.read.new.buffer)) _ _ _ (c.loop-try._try - 1)
+    tried g.D.Devices.calls (ReadCall (length c.args.buffer.now)) (Ok (take c.in-Ok.count c.read.new.buffer)) _ _ _
+    (c.loop-try._try - 1)
     (omega (arith, c.loop-try.invariant.begun, c.loop-try-test.true)) (λ e. absurd (not_failed _ e)) so_far
     (rw c.loop-try.invariant.buffer at c.in-Ok.ensures.call)
 
@@ -33,5 +34,6 @@ returns-clause-calls g c =
     let so_far = c.loop-try.invariant.so_far in
     let last : c.loop-try._try - 1 + 1 ≡ 65_536 =
     omega (arith, c.loop-try.invariant.begun, c.loop-try-test.false, c.loop-try.auto._try-end) in
-    tried g.D.Devices.calls (ReadCall (length c.args.buffer.now)) (given c.read-2.result c.read-2.new.buffer) _ _ _ (c.loop-try._try - 1) (omega (arith, last)) (λ e. last) so_far
+    tried g.D.Devices.calls (ReadCall (length c.args.buffer.now)) (given c.read-2.result c.read-2.new.buffer) _ _ _
+    (c.loop-try._try - 1) (omega (arith, last)) (λ e. last) so_far
     (rw c.loop-try.invariant.buffer at c.read-2.ensures.call)

@@ -32,5 +32,8 @@ returns-clause-calls g c =
     let so_far = c.loop-try.invariant.so_far in
     let last : c.loop-try._try - 1 + 1 ≡ 65_536 =
     omega (arith, c.loop-try.invariant.begun, c.loop-try-test.false, c.loop-try.auto._try-end) in
-    tried g.D.Devices.calls (WriteCall c.args.bytes.now) c.write-2.result _ _ _ (c.loop-try._try - 1) (omega (arith, last)) (λ e. last) so_far
+    tried g.D.Devices.calls (WriteCall c.args.bytes.now) c.write-2.result _ _ _ (c.loop-try._try - 1) (omega (
+      arith,
+      last,
+    )) (λ e. last) so_far
     (c.write-2.ensures.call)

@@ -45,7 +45,8 @@ returns-in_ok-new-in-Lifo-clause-earned g c =
     let same = ap (stored_of g.R.Rule.value_of) (c.in_ok-new-in-Lifo.ensures.library ∙ c.new-network.ensures.library)
     ∙ ap (λ p. map (stored_as g.R.Rule.value_of) p.items) c.new.ensures in
     rw c.in-Lifo.is
-    (worked_by g.D.Devices.calls _ _ picks_last _ _ _ _ _ _ c.serve-in-Lifo.result same c.in_ok-new-in-Lifo.ensures.state
+    (worked_by g.D.Devices.calls _ _ picks_last _ _ _ _ _ _ c.serve-in-Lifo.result same
+    c.in_ok-new-in-Lifo.ensures.state
     c.serve-in-Lifo.ensures)
 
 pub returns-in_ok-new-in-Lifo-clause-answered : goal.returns-in_ok-new-in-Lifo-clause-answered
@@ -55,12 +56,14 @@ returns-in_ok-new-in-Lifo-clause-answered g c =
 
 pub returns-in_err-new-in-Lifo-clause-answered : goal.returns-in_err-new-in-Lifo-clause-answered
 returns-in_err-new-in-Lifo-clause-answered g c =
-    let p = err_from_is_err_and c.from_residual-in_err-new-in-Lifo.result c.from_residual-in_err-new-in-Lifo.ensures.1 in
+    let p = err_from_is_err_and c.from_residual-in_err-new-in-Lifo.result
+    c.from_residual-in_err-new-in-Lifo.ensures.1 in
     served_by_fault g.D.Devices.calls _ _ _ _ _ p.0 p.1 p.2
 
 pub returns-in_err-new-in-Lifo-clause-earned : goal.returns-in_err-new-in-Lifo-clause-earned
 returns-in_err-new-in-Lifo-clause-earned g c =
-    let p = err_from_is_err_and c.from_residual-in_err-new-in-Lifo.result c.from_residual-in_err-new-in-Lifo.ensures.1 in
+    let p = err_from_is_err_and c.from_residual-in_err-new-in-Lifo.result
+    c.from_residual-in_err-new-in-Lifo.ensures.1 in
     worked_by_fault g.D.Devices.calls _ c.args.options.order c.args.options.seed _ _ c.args.options.limit _ p.0 p.1 p.2
 
 -- ---- mixed
@@ -71,10 +74,12 @@ serve-requires-in-Mixed-clause-means g c =
 
 pub returns-in_ok-session-in-Mixed-clause-earned : goal.returns-in_ok-session-in-Mixed-clause-earned
 returns-in_ok-session-in-Mixed-clause-earned g c =
-    let same = ap (stored_of g.R.Rule.value_of) (c.in_ok-session-in-Mixed.ensures.library ∙ c.new-network.ensures.library)
+    let same = ap (stored_of g.R.Rule.value_of) (c.in_ok-session-in-Mixed.ensures.library
+    ∙ c.new-network.ensures.library)
     ∙ ap (λ p. map (stored_as g.R.Rule.value_of) p.items) c.new.ensures in
     rw (c.in-Mixed.is, ← c.new-in-Mixed.ensures)
-    (worked_by g.D.Devices.calls _ _ picks_mixed _ _ _ _ _ _ c.serve-in-Mixed.result same c.in_ok-session-in-Mixed.ensures.state
+    (worked_by g.D.Devices.calls _ _ picks_mixed _ _ _ _ _ _ c.serve-in-Mixed.result same
+    c.in_ok-session-in-Mixed.ensures.state
     c.serve-in-Mixed.ensures)
 
 pub returns-in_ok-session-in-Mixed-clause-answered : goal.returns-in_ok-session-in-Mixed-clause-answered
@@ -84,10 +89,12 @@ returns-in_ok-session-in-Mixed-clause-answered g c =
 
 pub returns-in_err-session-in-Mixed-clause-answered : goal.returns-in_err-session-in-Mixed-clause-answered
 returns-in_err-session-in-Mixed-clause-answered g c =
-    let p = err_from_is_err_and c.from_residual-in_err-session-in-Mixed.result c.from_residual-in_err-session-in-Mixed.ensures.1 in
+    let p = err_from_is_err_and c.from_residual-in_err-session-in-Mixed.result
+    c.from_residual-in_err-session-in-Mixed.ensures.1 in
     served_by_fault g.D.Devices.calls _ _ _ _ _ p.0 p.1 p.2
 
 pub returns-in_err-session-in-Mixed-clause-earned : goal.returns-in_err-session-in-Mixed-clause-earned
 returns-in_err-session-in-Mixed-clause-earned g c =
-    let p = err_from_is_err_and c.from_residual-in_err-session-in-Mixed.result c.from_residual-in_err-session-in-Mixed.ensures.1 in
+    let p = err_from_is_err_and c.from_residual-in_err-session-in-Mixed.result
+    c.from_residual-in_err-session-in-Mixed.ensures.1 in
     worked_by_fault g.D.Devices.calls _ c.args.options.order c.args.options.seed _ _ c.args.options.limit _ p.0 p.1 p.2

@@ -3,7 +3,8 @@ use Rattle.std.proofs.lemmas.Bool.{false≢true}
 use denote.Enum.Bare.{sameb}
 use Rattle.clap.specs.contracts.error.kind.ErrorKind.{the_type}
 use Rattle.clap.specs.declared.error.kind.ErrorKind.TheVariants.{OutOfMemory}
-use Rattle.prop_program.proofs.Declining.{declines_words, declines_told, declines_untold, for_text, is_no_text, not_used}
+use Rattle.prop_program.proofs.Declining.{declines_words, declines_told, declines_untold, for_text, is_no_text}
+use Rattle.prop_program.proofs.Declining.{not_used}
 use Rattle.prop_program.proofs.starting.declined.Goals as goal
 
 pub returns-then-use_stderr-clause-declines : goal.returns-then-use_stderr-clause-declines

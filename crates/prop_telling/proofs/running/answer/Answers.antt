@@ -14,7 +14,8 @@ run_session-requires g c = record {
 pub returns-in-Ok-run_session : goal.returns-in-Ok-run_session
 returns-in-Ok-run_session g c =
     let same = c.load_prelude.ensures.same in
-    let machine : telling g.O.Order.picks (stored_of g.R.Rule.value_of c.load_prelude.new.self.session.live.network.library)
+    let machine : telling g.O.Order.picks (stored_of g.R.Rule.value_of
+    c.load_prelude.new.self.session.live.network.library)
     ≡ telling g.O.Order.picks (stored_of g.R.Rule.value_of c.args.teller.now.session.live.network.library) =
     λ i. telling g.O.Order.picks (stored_of g.R.Rule.value_of (same i)) in
     spoken_after g.D.Devices.calls _ _ _ (told_of c.args.teller.now) (told_of c.load_prelude.new.self)
@@ -24,7 +25,8 @@ returns-in-Ok-run_session g c =
 pub returns-in-Err-run_session : goal.returns-in-Err-run_session
 returns-in-Err-run_session g c =
     let same = c.load_prelude.ensures.same in
-    let machine : telling g.O.Order.picks (stored_of g.R.Rule.value_of c.load_prelude.new.self.session.live.network.library)
+    let machine : telling g.O.Order.picks (stored_of g.R.Rule.value_of
+    c.load_prelude.new.self.session.live.network.library)
     ≡ telling g.O.Order.picks (stored_of g.R.Rule.value_of c.args.teller.now.session.live.network.library) =
     λ i. telling g.O.Order.picks (stored_of g.R.Rule.value_of (same i)) in
     spoken_after g.D.Devices.calls _ _ _ (told_of c.args.teller.now) (told_of c.load_prelude.new.self)

@@ -38,7 +38,8 @@ returns-in_ok-new-in-Lifo g c =
 
 pub returns-in_err-new-in-Lifo : goal.returns-in_err-new-in-Lifo
 returns-in_err-new-in-Lifo g c =
-    let p = err_from_is_err_and c.from_residual-in_err-new-in-Lifo.result c.from_residual-in_err-new-in-Lifo.ensures.1 in
+    let p = err_from_is_err_and c.from_residual-in_err-new-in-Lifo.result
+    c.from_residual-in_err-new-in-Lifo.ensures.1 in
     told_by_fault g.D.Devices.calls _ _ c.args.options.order c.args.options.seed c.args.options.limit _ p.0 p.1 p.2
 
 -- ---- mixed
@@ -49,12 +50,15 @@ serve-requires-in-Mixed-clause-means g c =
 
 pub returns-in_ok-session-in-Mixed : goal.returns-in_ok-session-in-Mixed
 returns-in_ok-session-in-Mixed g c =
-    let same = ap (stored_of g.R.Rule.value_of) (c.in_ok-session-in-Mixed.ensures.library ∙ c.new-network.ensures.library)
+    let same = ap (stored_of g.R.Rule.value_of) (c.in_ok-session-in-Mixed.ensures.library
+    ∙ c.new-network.ensures.library)
     ∙ ap (λ p. map (stored_as g.R.Rule.value_of) p.items) c.new.ensures in
-    rw (c.in-Mixed.is, ← c.new-in-Mixed.ensures) (told_by g.D.Devices.calls _ _ picks_mixed _ _ _ _ _ _ c.serve-in-Mixed.result same
+    rw (c.in-Mixed.is, ← c.new-in-Mixed.ensures) (told_by g.D.Devices.calls _ _ picks_mixed _ _ _ _ _ _
+    c.serve-in-Mixed.result same
     c.in_ok-session-in-Mixed.ensures.state c.serve-in-Mixed.ensures)
 
 pub returns-in_err-session-in-Mixed : goal.returns-in_err-session-in-Mixed
 returns-in_err-session-in-Mixed g c =
-    let p = err_from_is_err_and c.from_residual-in_err-session-in-Mixed.result c.from_residual-in_err-session-in-Mixed.ensures.1 in
+    let p = err_from_is_err_and c.from_residual-in_err-session-in-Mixed.result
+    c.from_residual-in_err-session-in-Mixed.ensures.1 in
     told_by_fault g.D.Devices.calls _ _ c.args.options.order c.args.options.seed c.args.options.limit _ p.0 p.1 p.2
