@@ -527,3 +527,35 @@ def test_a_thousand_cells(program: str, browser: Any) -> None:
             page.until(lambda: page.text("cell-name") == "x999")
             page.keep("thousand")
             assert opened_in < 2 and switched_in < 0.1
+
+
+def test_save_where_another_has_changed_it(program: str, tmp_path: Path, browser: Any) -> None:
+    path = tmp_path / "premises.prop"
+    shutil.copy(EXAMPLES / "measuring/premises.prop", path)
+    mine, others = path.read_text() + "kick fall\n", "# of somebody else\n"
+    with opened(str(path), Way(), program) as watched:
+        with shown(browser, Page(watched, path.name, path=str(path))) as page:
+            page.switch("fall")
+            page.one("#plain summary").click()
+            path.write_text(others)
+            page.press("save")
+            page.until(lambda: page.one("#difference").is_displayed())
+            difference = page.text("difference").split("\n")
+            assert "- # of somebody else" in difference and "+ kick fall" in difference
+            assert "was changed by somebody else" in page.text("save-says")
+            assert path.read_text() == others
+            page.keep("changed")
+            page.one("#save-as").send_keys("mine.prop")
+            page.one("#save-form button:not([id])").click()
+            page.until(lambda: page.text("status") == f"Saved to {tmp_path / 'mine.prop'}.")
+            assert (tmp_path / "mine.prop").read_text() == mine and path.read_text() == others
+            assert not page.one("#save-form").is_displayed()
+    with opened(str(path), Way(), program) as watched:
+        with shown(browser, Page(watched, path.name, path=str(path))) as page:
+            page.one("#plain summary").click()
+            path.write_text(mine)
+            page.press("save")
+            page.until(lambda: page.one("#overwrite").is_displayed())
+            page.press("overwrite")
+            page.until(lambda: page.text("status") == f"Saved to {path}.")
+            assert path.read_text() == others

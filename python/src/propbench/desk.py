@@ -8,6 +8,7 @@ from contextlib import suppress
 from pathlib import Path
 
 from propbench.checking import NoReport, check_file
+from propbench.files import OpenedFile
 from propbench.finding import NoProgram
 from propbench.pictures import NoGraphviz, picture_of
 from propbench.program import ProgramEnded
@@ -182,9 +183,11 @@ def _done(options: argparse.Namespace) -> int:
     if options.command in ("page", "draw"):
         from propbench.watching.opening import opened
 
+        # (it is taken note of before it is read)
+        file = OpenedFile(options.file)
         with opened(options.file, Way(**begin), options.program) as watched:
             if options.command == "page":
-                return _page(watched, options.file, options.port)
+                return _page(watched, file, options.port)
             return _draw(watched, options.file, options.cell, options.out)
     if options.command == "shell":
         from propbench.shell import run_shell
@@ -203,10 +206,11 @@ def _lines(path: str | None) -> list[str]:
     return []
 
 
-def _page(watched: Watched, path: str, port: int) -> int:
+def _page(watched: Watched, file: OpenedFile, port: int) -> int:
     from propbench.page import serve
 
-    serve(watched, os.path.basename(path), path=path, port=port)
+    title = "standard input" if file.path == "-" else os.path.basename(file.path)
+    serve(watched, title, path=file, port=port)
     return 0
 
 

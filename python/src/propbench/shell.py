@@ -3,12 +3,14 @@
 `Shell` takes lines and writes what comes of them; how lines are read stands in terminal.py.
 """
 
+import os
 import sys
 import time
 from collections.abc import Callable, Sequence
 from functools import partial
 from typing import TypeVar
 
+from propbench.files import ChangedSince, OpenedFile
 from propbench.grammar import ASKING
 from propbench.helping import all_help, columns, help_on
 from propbench.listing import Told, told_by
@@ -47,7 +49,8 @@ ASIDES = {
     ":how": "X  what makes up what is known of X, as a tree, over propwide",
     ":draw": "[X] [FILE]  draws the network, or what bears on the cell X, as SVG or .dot",
     ":limit": "[N]  shows or sets how many steps a run takes at most",
-    ":save": "FILE  writes the lines that were carried out",
+    ":save": "FILE [overwrite]  writes the lines that were carried out; over what another changed"
+    " there by the word overwrite alone",
     ":load": "FILE  carries out the lines of a file, to the first that is refused",
     ":help": "[COMMAND]  all commands, or one; a procedure; the number of a refusal",
     ":quit": "ends",
@@ -55,6 +58,12 @@ ASIDES = {
 
 # The commands that `:undo` takes for nothing that was changed.
 _KEPT = ASKING | {"limit"}
+# The word by which what somebody else has changed in a file is lost.
+_OVERWRITE = "overwrite"
+_REFUSED_SAVE = """\
+{}
+(- is there now, + is what you have)
+:save under another name keeps both; `:save {} overwrite` keeps yours alone."""
 # After so many seconds it is told how far a run is, and then so often.
 _TOLD_AFTER, _TOLD_EVERY = 1.0, 0.5
 
@@ -76,6 +85,8 @@ class Shell:
         self.session = session
         self._write = write
         self._status = status
+        # The files that were loaded or saved, by where they lie.
+        self._files: dict[str, OpenedFile] = {}
         # When the run began, and when it was told last how far it is.
         self._begun = self._told = 0.0
         self._asides: dict[str, Callable[[list[str]], None]] = {
@@ -279,13 +290,25 @@ class Shell:
         self._write(f"A run takes at most {self.session.limit:,} steps.")
 
     def _save(self, words: list[str]) -> None:
-        if len(words) != 1:
+        path, *more = words or [""]
+        if not path or more not in ([], [_OVERWRITE]):
             self._write("Say where: :save FILE")
             return
         lines = self.session.lines
-        with open(words[0], "w", encoding="utf-8", newline="\n") as file:
-            file.writelines(f"{line.strip()}\n" for line in lines)
-        self._write(f"{len(lines)} lines are written to {words[0]}.")
+        text = "".join(f"{line.strip()}\n" for line in lines)
+        try:
+            self._opened(path).save(text.encode("utf-8", "surrogateescape"), bool(more))
+        except ChangedSince as changed:
+            self._write(_REFUSED_SAVE.format(changed, printable(path)))
+            return
+        self._write(f"{len(lines)} lines are written to {path}.")
+
+    def _opened(self, path: str) -> OpenedFile:
+        """The file at this path, as it was when it was loaded or saved last."""
+        place = os.path.realpath(path)
+        if place not in self._files:
+            self._files[place] = OpenedFile(path)
+        return self._files[place]
 
     def _load(self, words: list[str]) -> None:
         if len(words) != 1:
@@ -295,12 +318,14 @@ class Shell:
 
     def load(self, path: str) -> None:
         """Carries out the lines of a file, up to the first that is refused. Raises OSError."""
+        opened = self._files[os.path.realpath(path)] = OpenedFile(path)
         lines = lines_of(path)
         for number, line in enumerate(lines, 1):
             try:
                 reply = self._watched(partial(self.session.send, line, progress=self._progress))
             except Refused as refused:
                 refused.line_number = number
+                opened.was_read_in_part()
                 self._write(told_of(refused, printable(path)))
                 return
             if not isinstance(reply, Done | Silent):

@@ -2,10 +2,21 @@
 
 import unicodedata
 
+# So many letters of what somebody else wrote are shown at once.
+MOST_SHOWN = 200
+
 
 def printable(text: str) -> str:
     """The text with what can't be printed escaped, and a space for each tab."""
     return text if text.isprintable() else "".join(map(_printable, text))
+
+
+def cut(text: str, most: int = MOST_SHOWN) -> str:
+    """The text made printable, of which at most so many letters are shown and how many more there
+    are is told."""
+    if len(text) <= most:
+        return printable(text)
+    return f"{printable(text[:most])}.. ({len(text) - most:,} more letters)"
 
 
 def _printable(character: str) -> str:

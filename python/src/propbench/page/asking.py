@@ -4,15 +4,17 @@ Questions are carried out one after another. One that takes long can be stopped 
 the session goes on then.
 """
 
+import os
 import threading
 from collections.abc import Callable, Iterator, Mapping
 from contextlib import contextmanager
 from dataclasses import asdict, replace
 
+from propbench.files import ChangedSince, OpenedFile
 from propbench.program import ProgramEnded
 from propbench.refusals import Refused
 from propbench.replies import Reply
-from propbench.showing import printable, said_of
+from propbench.showing import printable, quoted, said_of
 from propbench.watching import (
     Frame,
     Network,
@@ -24,6 +26,8 @@ from propbench.watching import (
     bears,
 )
 
+# How a file is called that has no name yet: what is read from standard input.
+UNNAMED = "-"
 # A page is told of so many steps at once at the most.
 _MOST_STEPS = 200
 # So many reasons are told of a cell that nobody looks at.
@@ -35,10 +39,11 @@ class Stopped(KeyboardInterrupt):
 
 
 class Asking:
-    """What is served: a session or a workbench, and the file that it came from, if any."""
+    """What is served: a session or a workbench, and the file that it came from, if any; one that
+    has no name yet is UNNAMED."""
 
-    def __init__(self, watched: Watched, title: str, path: str | None) -> None:
-        self._watched, self._title, self._path = watched, title, path
+    def __init__(self, watched: Watched, title: str, file: OpenedFile | None) -> None:
+        self._watched, self._title, self._file = watched, title, file
         self._lock = threading.RLock()
         self._stop = threading.Event()
         self._busy = ""
@@ -197,11 +202,20 @@ class Asking:
         return {**told, "same": _same(before, self._look())}
 
     def _save(self, asked: Mapping[str, object]) -> dict[str, object]:
-        if self._path is None:
+        if self._file is None:
             raise ValueError("no file was opened: download the lines")
-        with open(self._path, "w", encoding="utf-8", errors="surrogateescape") as file:
-            file.write(self.saved())
-        return {"saved": printable(self._path)}
+        file = self._file
+        if "as" in asked:
+            file = _beside(file, _text(asked, "as"))
+        elif file.path == UNNAMED:
+            return {"saved": None, "says": "What shall the file be called?", "difference": []}
+        try:
+            is_meant = file is self._file and asked.get("overwrite") is True
+            file.save(self.saved().encode("utf-8", "surrogateescape"), is_meant)
+        except ChangedSince as changed:
+            return {"saved": None, "says": changed.said, "difference": changed.difference}
+        self._file = file
+        return {"saved": printable(file.path), "says": "", "difference": []}
 
     # --- what is told ---
 
@@ -225,7 +239,7 @@ class Asking:
         return {
             **told,
             "title": printable(self._title),
-            "file": None if self._path is None else printable(self._path),
+            "file": None if self._file is None else printable(self._file.path),
             "proved": watched.session.proved,
             "workbench": watched.is_workbench,
             "network": _network(watched.network()),
@@ -304,6 +318,17 @@ class Asking:
         self._busy = text
         if self._stop.is_set():
             raise Stopped
+
+
+def _beside(file: OpenedFile, name: str) -> OpenedFile:
+    """A new file beside this one; one without a name lies where the server was begun. Raises
+    ValueError for what is no name, and where something has it."""
+    if name in ("", ".", "..") or "/" in name or "\0" in name or name.startswith("."):
+        raise ValueError(f"a file is saved beside the other, by its name alone: {quoted(name)}")
+    path = os.path.join(os.path.dirname(file.path), name)
+    if os.path.lexists(path):
+        raise ValueError(f"there is something called {quoted(name)} already: take another name")
+    return OpenedFile(path)
 
 
 def _text(asked: Mapping[str, object], key: str) -> str:

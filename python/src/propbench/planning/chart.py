@@ -6,6 +6,7 @@ from dataclasses import dataclass
 from html import escape
 from typing import TYPE_CHECKING
 
+from propbench.files import write_file
 from propbench.given import path_given
 from propbench.questions.bounding import LEAST, GREATEST, Bounding
 from propbench.questions.clock import Clock
@@ -32,9 +33,8 @@ class Chart:
         return self.svg
 
     def save(self, path: str | os.PathLike[str]) -> None:
-        """Writes the chart to a file."""
-        with open(path_given(path), "w", encoding="utf-8") as file:
-            file.write(f"{self.svg}\n")
+        """Writes the chart to a file, whole or not at all. Raises OSError."""
+        write_file(path_given(path), f"{self.svg}\n")
 
 
 def chart_of(project: "Project", plan: Plan | None, has_rooms: bool) -> Chart:

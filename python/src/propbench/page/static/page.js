@@ -459,9 +459,22 @@ press("go-on", async () => {
   const told = await asked({ what: "look" });
   if (told) take(told);
 });
-press("save", async () => {
-  const told = await asked({ what: "save" });
-  if (told) say(`Saved to ${told.saved}.`);
+// Saves, and shows why not: what somebody else has changed in the file, or that it has no name yet.
+async function save(how) {
+  const told = await asked({ what: "save", ...how });
+  if (!told) return;
+  at("save-form").hidden = told.saved !== null;
+  at("save-says").textContent = told.says;
+  at("difference").hidden = at("overwrite").hidden = !told.difference.length;
+  at("difference").textContent = ["- is there now, + is what you have", ...told.difference].join("\n");
+  if (told.saved !== null) say(`Saved to ${told.saved}.`);
+  else say(told.says, true);
+}
+press("save", () => save({}));
+press("overwrite", () => save({ overwrite: true }));
+at("save-form").addEventListener("submit", (event) => {
+  event.preventDefault();
+  save({ as: at("save-as").value });
 });
 press("replay", async () => {
   const told = await asked({ what: "replay" });
