@@ -151,7 +151,7 @@ def main(words: Sequence[str] | None = None) -> int:
     except KeyboardInterrupt:
         return 130
     except ValueError as error:
-        print(f"propdesk: {error}", file=sys.stderr)
+        print(f"propdesk: {said_of(error)}", file=sys.stderr)
         return 2
     except Refused as refused:
         print(told_of(refused, printable(options.file)), file=sys.stderr)

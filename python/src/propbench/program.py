@@ -135,6 +135,8 @@ class Program:
 
     def hear(self) -> str:
         """The first line of a reply, where no other is under way. Raises ProgramEnded."""
+        if self._lines or self._part:
+            return self.next_line()
         said = os.read(self._out, _REPLY)
         first, _, more = said.partition(b"\n")
         if more or self._part or self._lines or len(first) == len(said):

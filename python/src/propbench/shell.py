@@ -33,7 +33,7 @@ from propbench.replies import (
 from propbench.running import lines_of, told_of
 from propbench.runs import is_settled
 from propbench.session import Session
-from propbench.showing import printable, said_of
+from propbench.showing import printable, said_of, shown
 from propbench.tables import table
 from propbench.watching.instances import listing_of
 from propbench.watching.of_session import SessionWatched
@@ -83,7 +83,7 @@ class Shell:
         status: Callable[[str], None] = lambda text: None,
     ) -> None:
         self.session = session
-        self._write = write
+        self._out = write
         self._status = status
         # The files that were loaded or saved, by where they lie.
         self._files: dict[str, OpenedFile] = {}
@@ -101,6 +101,9 @@ class Shell:
             ":help": self._help,
             ":quit": self._quit,
         }
+
+    def _write(self, text: str) -> None:
+        self._out(shown(text))
 
     def obey(self, line: str) -> None:
         """Does what a line says, whatever comes of it. Raises Quit where it says so."""

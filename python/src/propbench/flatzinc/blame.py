@@ -15,7 +15,7 @@ from propbench.flatzinc.picture import dot_of, draw
 from propbench.flatzinc.solving import solve
 from propbench.flatzinc.writing import solution
 from propbench.questions.conflicts import Conflicts, Repair, Repairs, find_both
-from propbench.showing import printable
+from propbench.showing import printable, shown
 from propbench.workbench import Workbench
 
 
@@ -39,7 +39,7 @@ def blame_file(model: Path, data: Sequence[Path], asked: Asked, program: str | N
         built = Built(made.flat, workbench)
         conflicts, repairs = blamed(built, made, asked)
         for line in report(built, conflicts, repairs, asked.seconds):
-            print(line)
+            print(shown(line))
     if asked.picture is not None:
         draw(asked.picture, dot_of(conflicts, repairs, made.texts))
     if asked.certificate is not None:

@@ -11,6 +11,7 @@ from pathlib import Path
 
 from propbench.files import write_file
 from propbench.questions.conflicts import Conflicts, Repairs
+from propbench.showing import printable
 
 # A line of a box has so many letters at the most, and a box so many lines.
 _WIDE, _LINES = 34, 4
@@ -58,5 +59,6 @@ def _wrapped(text: str) -> list[str]:
 
 
 def _quoted(lines: Sequence[str]) -> str:
-    escaped = [line.replace("\\", "\\\\").replace('"', '\\"') for line in lines if line]
+    shown = [printable(line) for line in lines if line]
+    escaped = [line.replace("\\", "\\\\").replace('"', '\\"') for line in shown]
     return '"' + "\\n".join(escaped) + '"'

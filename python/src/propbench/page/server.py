@@ -38,6 +38,7 @@ _FILES = {
     "page.js": ("page.js", "text/javascript; charset=utf-8"),
     "drawing.js": ("drawing.js", "text/javascript; charset=utf-8"),
     "layout.js": ("layout.js", "text/javascript; charset=utf-8"),
+    "texts.js": ("texts.js", "text/javascript; charset=utf-8"),
 }
 _JSON, _TEXT = "application/json", "text/plain; charset=utf-8"
 
