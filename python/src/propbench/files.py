@@ -123,11 +123,17 @@ def _sync_folder(folder: str) -> None:
 class OpenedFile:
     """A file that was read, or will be made, and is saved again: `path` is how it was named."""
 
-    def __init__(self, path: str) -> None:
-        """Takes note of what is there now: it is made before the file is read."""
+    def __init__(self, path: str, checksum: str | None = None) -> None:
+        """Takes note of what is there now, so that it is made before the file is read; or of what
+        was there when its content had this checksum."""
         self.path = path
-        self._known = _checksum(_content(path))
+        self._known = _checksum(_content(path)) if checksum is None else checksum
         self._why = CHANGED
+
+    @property
+    def checksum(self) -> str | None:
+        """That of what was read or saved last, None where there was no file."""
+        return self._known
 
     def was_read_in_part(self) -> None:
         """Takes note that what is there is not all known here."""

@@ -13,6 +13,7 @@ from typing import TypeVar
 from propbench.files import ChangedSince, OpenedFile
 from propbench.grammar import ASKING
 from propbench.helping import all_help, columns, help_on
+from propbench.journal import Journal, Left, left
 from propbench.listing import Told, told_by
 from propbench.overview import UNPROVED, overview
 from propbench.pictures import NoGraphviz, picture_of
@@ -52,6 +53,7 @@ ASIDES = {
     ":save": "FILE [overwrite]  writes the lines that were carried out; over what another changed"
     " there by the word overwrite alone",
     ":load": "FILE  carries out the lines of a file, to the first that is refused",
+    ":resume": "[no]  goes on with what a shell had carried out that was cut off; or forgets it",
     ":help": "[COMMAND]  all commands, or one; a procedure; the number of a refusal",
     ":quit": "ends",
 }
@@ -81,8 +83,13 @@ class Shell:
         session: Session,
         write: Callable[[str], None],
         status: Callable[[str], None] = lambda text: None,
+        journal: Journal | None = None,
     ) -> None:
         self.session = session
+        self._journal = journal
+        # What was cut off that one may go on with, and the lines that this one began with.
+        self._left: list[Left] = []
+        self._first: list[str] = []
         self._out = write
         self._status = status
         # The files that were loaded or saved, by where they lie.
@@ -98,6 +105,7 @@ class Shell:
             ":limit": self._limit,
             ":save": self._save,
             ":load": self._load,
+            ":resume": self._resume,
             ":help": self._help,
             ":quit": self._quit,
         }
@@ -118,6 +126,23 @@ class Shell:
             self.session.replay()
         except (NoGraphviz, OSError, ValueError) as error:
             self._write(said_of(error))
+        self._keep()
+
+    def offer(self) -> None:
+        """Tells of a shell that was cut off, if there is one, and takes note of what this one began
+        with."""
+        self._first = self.session.lines
+        self._left = left("shell")
+        if self._left:
+            self._write(f"{self._left[0]}\n:resume goes on with it, :resume no forgets it.")
+
+    def _keep(self) -> None:
+        """Has the journal hold all that was stated."""
+        if self._journal is not None:
+            lines = [line for line in self.session.lines if line.split()[0] not in ASKING]
+            told = self._journal.keep(lines)
+            if told:
+                self._write(told)
 
     def _obey(self, line: str) -> None:
         words = line.split()
@@ -335,6 +360,32 @@ class Shell:
                 self._write(f"{printable(line.strip())}\n{printable_lines(reply)}")
         self._write(f"{len(lines)} lines of {printable(path)} are carried out.")
 
+    def _resume(self, words: list[str]) -> None:
+        if not self._left:
+            self._write("Nothing was cut off.")
+        elif words == ["no"]:
+            self._left.pop(0).forget()
+            self.offer()
+        elif words:
+            self._write("Say it alone, or no behind it: :resume, :resume no")
+        elif self.session.lines != self._first:
+            self._write("Say it first of all in a new shell: what is stated here would be lost.")
+        else:
+            self._go_on(self._left[0])
+
+    def _go_on(self, with_it: Left) -> None:
+        """Begins anew with the lines of a journal, which goes once this one's has them."""
+        outcomes = self.session.replay(with_it.lines)
+        refused = [each for each in outcomes if isinstance(each, Refused)]
+        self._keep()
+        if refused:
+            self._write(refused[0].told())
+            self._write(f"{len(refused)} lines of {with_it.path} are refused here; it stays.")
+            return
+        self._left.pop(0)
+        with_it.forget()
+        self._write(f"{len(with_it.lines)} lines are carried out.")
+
     def _help(self, words: list[str]) -> None:
         if words:
             self._write(help_on(words[0], self.session.known))
@@ -370,16 +421,20 @@ def printable_lines(reply: Reply) -> str:
     return "\n".join(map(printable, str(reply).split("\n")))
 
 
-def run_shell(session: Session, path: str | None) -> int:
-    """Speaks with the user to the end, and gives the status."""
+def run_shell(session: Session, path: str | None, journal: Journal | None = None) -> int:
+    """Speaks with the user to the end, and gives the status. The journal, where one is kept, goes
+    in the end, but where the terminal was taken away."""
     from propbench.terminal import reader
 
-    shell = Shell(session, print, _show_status)
+    shell = Shell(session, print, _show_status, journal)
+    is_terminal = sys.stdin.isatty()
     print(WELCOME)
     if not session.proved:
         print(UNPROVED)
     if path:
         shell.load(path)
+    if journal is not None:
+        shell.offer()
     read = reader(session)
     while True:
         try:
@@ -387,6 +442,8 @@ def run_shell(session: Session, path: str | None) -> int:
         except KeyboardInterrupt:
             continue
         except (EOFError, Quit):
+            if journal is not None and is_terminal == sys.stdin.isatty():
+                journal.end()
             return 0
 
 

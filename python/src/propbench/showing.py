@@ -43,8 +43,9 @@ def _printable(character: str) -> str:
 
 def said_of(error: Exception) -> str:
     """An error as a user reads it; of a file its name and what is wrong, without the number."""
-    if isinstance(error, OSError) and error.filename and error.strerror:
-        return f"{printable(str(error.filename))}: {error.strerror}"
+    if isinstance(error, OSError) and error.strerror:
+        name = f"{printable(str(error.filename))}: " if error.filename else ""
+        return f"{name}{error.strerror}"
     return shown(str(error))
 
 

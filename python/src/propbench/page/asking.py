@@ -5,16 +5,18 @@ the session goes on then.
 """
 
 import os
+import sys
 import threading
 from collections.abc import Callable, Iterator, Mapping
 from contextlib import contextmanager
 from dataclasses import asdict, replace
 
 from propbench.files import ChangedSince, OpenedFile
+from propbench.journal import Journal
 from propbench.program import ProgramEnded
 from propbench.refusals import Refused
 from propbench.replies import Reply
-from propbench.showing import printable, quoted, said_of
+from propbench.showing import printable, quoted, said_of, shown
 from propbench.watching import (
     Frame,
     Network,
@@ -26,6 +28,8 @@ from propbench.watching import (
     bears,
 )
 
+# What changes what is stated.
+_CHANGING = frozenset(("believe", "wish", "apply", "line"))
 # How a file is called that has no name yet: what is read from standard input.
 UNNAMED = "-"
 # A page is told of so many steps at once at the most.
@@ -42,8 +46,15 @@ class Asking:
     """What is served: a session or a workbench, and the file that it came from, if any; one that
     has no name yet is UNNAMED."""
 
-    def __init__(self, watched: Watched, title: str, file: OpenedFile | None) -> None:
+    def __init__(
+        self,
+        watched: Watched,
+        title: str,
+        file: OpenedFile | None,
+        journal: Journal | None = None,
+    ) -> None:
         self._watched, self._title, self._file = watched, title, file
+        self._journal = journal
         self._lock = threading.RLock()
         self._stop = threading.Event()
         self._busy = ""
@@ -106,7 +117,16 @@ class Asking:
         if what not in self._does:
             raise ValueError(f"there is no question {what!r}")
         with self._lock, self._watching(what):
-            return self._does[what](asked)
+            told = self._does[what](asked)
+            self._keep(what)
+            return told
+
+    def _keep(self, what: str) -> None:
+        """Has the journal hold what a change has made."""
+        if self._journal is not None and what in _CHANGING:
+            told = self._journal.keep(self._watched.saved())
+            if told:
+                print(shown(told), file=sys.stderr)
 
     # --- questions ---
 
@@ -215,6 +235,8 @@ class Asking:
         except ChangedSince as changed:
             return {"saved": None, "says": changed.said, "difference": changed.difference}
         self._file = file
+        if self._journal is not None:
+            self._journal.end()
         return {"saved": printable(file.path), "says": "", "difference": []}
 
     # --- what is told ---

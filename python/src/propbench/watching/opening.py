@@ -14,12 +14,14 @@ from propbench.workbench import Workbench
 
 
 @contextmanager
-def opened(path: str, way: Way, program: str | None = None) -> Iterator[Watched]:
-    """What a file states. Raises OSError, as a Session does, and the refusal of its first line that
+def opened(
+    path: str, way: Way, program: str | None = None, instead: Sequence[str] | None = None
+) -> Iterator[Watched]:
+    """What a file states, or what these lines state instead. Raises OSError, as a Session does, and the refusal of its first line that
     is refused; for a workbench's file ValueError where its lines were changed."""
-    lines = lines_of(path)
+    lines = lines_of(path) if instead is None else list(instead)
     if lines[:1] == [SAVED]:
-        with _loaded(path, lines, program) as workbench:
+        with _loaded(path if instead is None else "-", lines, program) as workbench:
             yield WorkbenchWatched(workbench)
         return
     with way.session(program, lines) as session:
