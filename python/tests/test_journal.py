@@ -236,7 +236,8 @@ def test_the_desk_offers_it_after_a_kill_and_not_after_an_end(state: Path) -> No
         ran = subprocess.run(command, input=lines, stdout=subprocess.PIPE, timeout=PATIENCE)
         return ran.stdout.decode()
 
-    assert "cut off" not in said(b"cell x span\n:quit\n") + said(b"cell x span\n") + said(b"")
+    assert "cut off" not in said(b"") and not state.exists()
+    assert "cut off" not in said(b"cell x span\n:quit\n") + said(b"cell x span\n")
     assert list(state.iterdir()) == []
     with subprocess.Popen(command, stdin=subprocess.PIPE, stdout=subprocess.PIPE) as ran:
         assert ran.stdin and ran.stdout
@@ -343,6 +344,26 @@ def test_a_page_goes_on_after_a_kill(
     assert "cut off" in capsys.readouterr().out
     assert main(["page", plan, "--resume"]) == 2
     assert "no page of" in capsys.readouterr().err
+
+
+def test_a_page_goes_on_from_what_it_has_saved(
+    plan: str, served: Served, state: Path, tmp_path: Path
+) -> None:
+    """Also under another name."""
+
+    def change(asking: Asking) -> None:
+        asking.do({"what": "believe", "premise": "ana", "believed": False})
+        assert asking.do({"what": "save"})["saved"] == plan
+        asking.do({"what": "believe", "premise": "ben", "believed": False})
+        assert asking.do({"what": "save", "as": "other.prop"})["saved"]
+        asking.do({"what": "believe", "premise": "ana", "believed": True})
+
+    served(plan, does=change)
+    assert main(["page", plan, "--resume"]) == 2
+    other = str(tmp_path / "other.prop")
+    saved = served(other, "--resume", does=lambda asking: asking.do({"what": "save"}))
+    assert saved["believed"] == ["ana"] and list(state.iterdir()) == []
+    assert served(other)["believed"] == ["ana"] and served(plan)["believed"] == ["ben"]
 
 
 def test_a_page_that_goes_on_sees_what_another_changed(

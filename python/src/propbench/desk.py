@@ -245,6 +245,8 @@ def _page(options: argparse.Namespace, way: Way) -> int:
             print(f"{shown(str(cut_off[0]))} {_OFFERED}", flush=True)
         title = "standard input" if place == "-" else os.path.basename(options.file)
         serve(watched, title, path=file, port=options.port, journal=journal)
+        if journal:
+            journal.leave()
     return 0
 
 

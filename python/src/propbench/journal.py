@@ -31,10 +31,14 @@ _FULL = "The journal is full: what comes now is on the disk once it is saved, an
 def state_folder() -> Path:
     """Where what a user did is kept: his own folder, which nobody else may read. It is made where
     it isn't there. Raises OSError, and PermissionError where it is another's."""
+    return _own_folder(_state())
+
+
+def _state() -> Path:
     told = os.environ.get("XDG_STATE_HOME", "")
     # (the standard says that a path which isn't absolute is to be ignored)
     state = told if os.path.isabs(told) else os.path.expanduser("~/.local/state")
-    return _own_folder(Path(state) / "propbench")
+    return Path(state) / "propbench"
 
 
 def _own_folder(folder: Path) -> Path:
@@ -97,11 +101,21 @@ class Journal:
         """Whether nothing is kept in it."""
         return self._path is None
 
+    def saved(self, file: str, checksum: str | None) -> None:
+        """Ends it: all is in this file, of which the next lines are."""
+        self.end()
+        self._about |= {"file": file, "checksum": checksum}
+
     def end(self) -> None:
         """Takes the journal away: all is well. More lines begin another."""
         if self._path is not None:
             with suppress(OSError):
                 self._path.unlink()
+        self.leave()
+
+    def leave(self) -> None:
+        """Lets go of the journal, so that another may go on with it."""
+        if self._path is not None:
             os.close(self._descriptor)
         self._path, self._lines, self._size = None, [], 0
 
@@ -170,11 +184,12 @@ class Left:
 def left(sort: str, file: str | None = None) -> list[Left]:
     """The journals of what was cut off, the newest first: of a sort, and about a file where one is
     told. What can't be read is none."""
-    if not is_on():
+    folder = _state() / "journal"
+    if not is_on() or not folder.is_dir():
         return []
     found: list[Left] = []
     with suppress(OSError):
-        for path in _journals(_own_folder(state_folder() / "journal")):
+        for path in _journals(_own_folder(folder)):
             read = _read(path)
             if read and read.lines and read.sort == sort and file in (None, read.file):
                 found.append(read)

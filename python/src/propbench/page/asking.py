@@ -236,7 +236,7 @@ class Asking:
             return {"saved": None, "says": changed.said, "difference": changed.difference}
         self._file = file
         if self._journal is not None:
-            self._journal.end()
+            self._journal.saved(os.path.realpath(file.path), file.checksum)
         return {"saved": printable(file.path), "says": "", "difference": []}
 
     # --- what is told ---
