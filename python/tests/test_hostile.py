@@ -167,7 +167,7 @@ def spoilt(draw: st.DrawFn, folder: str) -> bytes:
 
 @pytest.mark.parametrize("folder, name, reader", READERS, ids=IDS)
 def test_what_is_made_of_them(folder: str, name: str, reader: Reader) -> None:
-    @settings(max_examples=30 * TIMES)
+    @settings(max_examples=80 * TIMES)
     @given(spoilt(folder))
     def is_answered(data: bytes) -> None:
         out = answered(name, reader, data)

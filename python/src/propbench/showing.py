@@ -46,6 +46,8 @@ def said_of(error: Exception) -> str:
     if isinstance(error, OSError) and error.strerror:
         name = f"{printable(str(error.filename))}: " if error.filename else ""
         return f"{name}{error.strerror}"
+    if isinstance(error, UnicodeDecodeError):
+        return f"this is no text in UTF-8, from byte {error.start + 1:,} on: save it as that"
     return shown(str(error))
 
 
