@@ -101,6 +101,18 @@ def test_a_saved_workbench_with_a_hostile_reading(
         assert "was not saved by a workbench" in capsys.readouterr().err
 
 
+@pytest.mark.parametrize("head", ["", "propbench certificate 1\n"])
+def test_what_is_checked_of_deep_json(
+    tmp_path: Path, head: str, capsys: pytest.CaptureFixture[str]
+) -> None:
+    path = tmp_path / "report.json"
+    path.write_text(head + "[" * 100_000 + "\n" + "0" * 64 * bool(head))
+    with within_a_second():
+        assert main(["check", str(path)]) in (1, 2, 3)
+    said = capsys.readouterr()
+    assert len(said.out + said.err) < 1000
+
+
 @pytest.mark.parametrize(
     "length, body",
     [("9" * 5000, b""), ("²", b""), ("-1", b""), ("50000", b"[" * 50_000), ("65537", b"x" * 9)],

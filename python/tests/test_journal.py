@@ -89,6 +89,20 @@ def test_a_shell_goes_on_after_a_kill(state: Path) -> None:
     assert path.read_text().split("\n")[1:] == [*stated, ""] and left("shell") == []
 
 
+def test_a_line_is_on_the_disk_before_its_reply_is_shown(state: Path) -> None:
+    held: list[tuple[str, int]] = []
+
+    def write(text: str) -> None:
+        [path] = state.iterdir()
+        held.append((text, path.read_text().count("\n") - 1))
+
+    with Session() as session:
+        shell = Shell(session, write, journal=Journal("shell"))
+        for line in ("cell x span", "cell y span", "fix x 3", "ask x"):
+            shell.obey(line)
+    assert held == [("ok", 1), ("ok", 2), ("ok", 3), ("x = 3", 3)]
+
+
 def test_what_is_stated_is_not_lost_to_a_resume(state: Path) -> None:
     killed(SHELL, "cell x span")
     with Session() as session:
@@ -208,7 +222,7 @@ def test_a_disk_that_is_full_ends_no_conversation(state: Path) -> None:
             shell.obey("cell a_name_for_which_there_is_no_room_any_more_in_it span")
         finally:
             resource.setrlimit(resource.RLIMIT_FSIZE, (soft, hard))
-        assert said[-2:] == ["ok", "No journal is kept: File too large"]
+        assert said[-2:] == ["No journal is kept: File too large", "ok"]
         shell.obey("ask x")
         assert said[-1] == "x = nothing" and len(session.lines) == 3
 

@@ -162,6 +162,9 @@ def main(words: Sequence[str] | None = None) -> int:
     except ValueError as error:
         print(f"propdesk: {said_of(error)}", file=sys.stderr)
         return 2
+    except RecursionError:
+        print(f"propdesk: {printable(options.file)} is nested too deeply", file=sys.stderr)
+        return 2
     except Refused as refused:
         print(told_of(refused, printable(options.file)), file=sys.stderr)
         return 1

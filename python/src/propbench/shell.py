@@ -90,6 +90,9 @@ class Shell:
         # What was cut off that one may go on with, and the lines that this one began with.
         self._left: list[Left] = []
         self._first: list[str] = []
+        # What the journal was given: the lines so far, and those of them that state something.
+        self._seen: list[str] = []
+        self._stated_lines: list[str] = []
         self._out = write
         self._status = status
         # The files that were loaded or saved, by where they lie.
@@ -137,12 +140,19 @@ class Shell:
             self._write(f"{self._left[0]}\n:resume goes on with it, :resume no forgets it.")
 
     def _keep(self) -> None:
-        """Has the journal hold all that was stated."""
-        if self._journal is not None:
-            lines = [line for line in self.session.lines if line.split()[0] not in ASKING]
-            told = self._journal.keep(lines)
-            if told:
-                self._write(told)
+        """Has the journal hold all that was stated: a line is on the disk before its reply is
+        shown."""
+        if self._journal is None:
+            return
+        lines = self.session.lines
+        if lines[: len(self._seen)] != self._seen:
+            self._seen, self._stated_lines = [], []
+        new = lines[len(self._seen) :]
+        self._stated_lines += [line for line in new if line.split(None, 1)[0] not in ASKING]
+        self._seen = lines
+        told = self._journal.keep(self._stated_lines)
+        if told:
+            self._write(told)
 
     def _obey(self, line: str) -> None:
         words = line.split()
@@ -150,6 +160,7 @@ class Shell:
             self._aside(words)
             return
         reply = self._watched(partial(self.session.send, line, progress=self._progress))
+        self._keep()
         if not isinstance(reply, Silent):
             self._write(printable_lines(reply))
             self._explain(reply)
