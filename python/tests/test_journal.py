@@ -23,11 +23,8 @@ from propbench.desk import main
 from propbench.files import OpenedFile
 from propbench.journal import Journal, left
 from propbench.page.asking import Asking
-from propbench.running import Way
 from propbench.shell import Shell
-from propbench.watching.of_session import SessionWatched
-from propbench.watching.of_workbench import WorkbenchWatched
-from propbench.watching.opening import opened
+from propbench.watching import Watched
 
 # So many seconds something is waited for, far longer than it takes on a busy machine.
 PATIENCE = 120
@@ -297,7 +294,8 @@ from propbench.watching.opening import opened
 path = sys.argv[1]
 with opened(path, Way()) as watched:
     file = OpenedFile(path)
-    asking = Asking(watched, path, file, Journal("page", path, file.checksum))
+    file.journal = Journal("page", path, file.checksum)
+    asking = Asking(watched, path, file)
     for premise in sys.argv[2:]:
         asking.do({"what": "believe", "premise": premise, "believed": False})
     kill()
@@ -331,8 +329,8 @@ def served(monkeypatch: pytest.MonkeyPatch) -> Served:
     ) -> dict[str, object]:
         found: dict[str, object] = {}
 
-        def serve(watched: object, title: str, *, path: object, port: int, journal: object) -> None:
-            asking = Asking(watched, title, path, journal)  # type: ignore[arg-type]
+        def serve(watched: Watched, title: str, *, path: OpenedFile, port: int) -> None:
+            asking = Asking(watched, title, path)
             found.update(asking.state())
             does(asking)
 

@@ -240,16 +240,16 @@ def _page(options: argparse.Namespace, way: Way) -> int:
     # (it is taken note of before it is read)
     file = OpenedFile(options.file, resumed.checksum if resumed else None)
     with opened(options.file, way, options.program, resumed.lines if resumed else None) as watched:
-        journal = _journal(options, place, file.checksum)
-        if resumed and journal:
-            print(journal.keep(watched.saved()) or shown(str(resumed)), flush=True)
+        file.journal = _journal(options, place, file.checksum)
+        if resumed and file.journal:
+            print(file.journal.keep(watched.saved()) or shown(str(resumed)), flush=True)
             resumed.forget()
         elif cut_off:
             print(f"{shown(str(cut_off[0]))} {_OFFERED}", flush=True)
         title = "standard input" if place == "-" else os.path.basename(options.file)
-        serve(watched, title, path=file, port=options.port, journal=journal)
-        if journal:
-            journal.leave()
+        serve(watched, title, path=file, port=options.port)
+        if file.journal:
+            file.journal.leave()
     return 0
 
 

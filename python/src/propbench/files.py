@@ -13,6 +13,7 @@ import stat
 from collections.abc import Callable, Iterator
 from contextlib import suppress
 
+from propbench.journal import Journal
 from propbench.showing import cut, printable
 
 # What the name of a file begins with that is not yet in its place; a kill may leave one.
@@ -121,12 +122,14 @@ def _sync_folder(folder: str) -> None:
 
 
 class OpenedFile:
-    """A file that was read, or will be made, and is saved again: `path` is how it was named."""
+    """A file that was read, or will be made, and is saved again: `path` is how it was named, and
+    `journal` has what is not saved in it yet, where one is kept."""
 
     def __init__(self, path: str, checksum: str | None = None) -> None:
         """Takes note of what is there now, so that it is made before the file is read; or of what
         was there when its content had this checksum."""
         self.path = path
+        self.journal: Journal | None = None
         self._known = _checksum(_content(path)) if checksum is None else checksum
         self._why = CHANGED
 
@@ -142,7 +145,7 @@ class OpenedFile:
     def save(self, content: str | bytes, overwrite: bool = False) -> None:
         """Writes the file as `write_file` does, where it is as it was when it was read or saved
         last, or is gone, or where it is to `overwrite` it. Raises ChangedSince, and as that does;
-        nothing is changed then."""
+        nothing is changed then. What was in the journal is in the file."""
         data = content if isinstance(content, bytes) else content.encode()
 
         def check() -> None:
@@ -154,6 +157,8 @@ class OpenedFile:
             check()
         write_file(self.path, data, check if not overwrite else lambda: None)
         self._known, self._why = _checksum(data), CHANGED
+        if self.journal is not None:
+            self.journal.saved(os.path.realpath(self.path), self._known)
 
 
 def _content(path: str) -> bytes | None:

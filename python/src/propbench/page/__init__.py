@@ -9,7 +9,6 @@ from contextlib import AbstractContextManager
 
 from propbench.closing import Closing
 from propbench.files import OpenedFile
-from propbench.journal import Journal
 from propbench.page.asking import Asking
 from propbench.page.server import Server
 from propbench.watching import Watched
@@ -25,13 +24,12 @@ class Page(Closing):
         *,
         path: str | OpenedFile | None = None,
         port: int = 0,
-        journal: Journal | None = None,
     ) -> None:
         """Serves what is watched, which was read from this file, if from any; from one that is
         `-` standard input, which is saved under a name that the page asks for. What is changed is
-        kept in the journal, where there is one, until it is saved."""
+        kept in the file's journal, where there is one, until it is saved."""
         file = OpenedFile(path) if isinstance(path, str) else path
-        self._asking = Asking(watched, title, file, journal)
+        self._asking = Asking(watched, title, file)
         self._server = Server(self._asking, port)
         self._thread = threading.Thread(target=self._server.serve_forever, daemon=True)
         self._thread.start()
@@ -66,10 +64,9 @@ def serve(
     path: str | OpenedFile | None = None,
     port: int = 0,
     wait: bool = True,
-    journal: Journal | None = None,
 ) -> Page:
     """Serves a page and prints its address; until Ctrl-C, where it is to `wait`."""
-    page = Page(watched, title, path=path, port=port, journal=journal)
+    page = Page(watched, title, path=path, port=port)
     print(f"The page is at {page.address}", flush=True)
     if wait:
         print("Ctrl-C ends it.", flush=True)
@@ -77,6 +74,7 @@ def serve(
             page.wait()
         except KeyboardInterrupt:
             page.close()
+            journal = path.journal if isinstance(path, OpenedFile) else None
             if journal is not None and not journal.is_empty:
                 print("\nWhat was not saved is kept: --resume goes on with it.", flush=True)
     return page

@@ -12,7 +12,6 @@ from contextlib import contextmanager
 from dataclasses import asdict, replace
 
 from propbench.files import ChangedSince, OpenedFile
-from propbench.journal import Journal
 from propbench.program import ProgramEnded
 from propbench.refusals import Refused
 from propbench.replies import Reply
@@ -46,15 +45,8 @@ class Asking:
     """What is served: a session or a workbench, and the file that it came from, if any; one that
     has no name yet is UNNAMED."""
 
-    def __init__(
-        self,
-        watched: Watched,
-        title: str,
-        file: OpenedFile | None,
-        journal: Journal | None = None,
-    ) -> None:
+    def __init__(self, watched: Watched, title: str, file: OpenedFile | None) -> None:
         self._watched, self._title, self._file = watched, title, file
-        self._journal = journal
         self._lock = threading.RLock()
         self._stop = threading.Event()
         self._busy = ""
@@ -123,8 +115,8 @@ class Asking:
 
     def _keep(self, what: str) -> None:
         """Has the journal hold what a change has made."""
-        if self._journal is not None and what in _CHANGING:
-            told = self._journal.keep(self._watched.saved())
+        if self._file is not None and self._file.journal is not None and what in _CHANGING:
+            told = self._file.journal.keep(self._watched.saved())
             if told:
                 print(shown(told), file=sys.stderr)
 
@@ -235,8 +227,6 @@ class Asking:
         except ChangedSince as changed:
             return {"saved": None, "says": changed.said, "difference": changed.difference}
         self._file = file
-        if self._journal is not None:
-            self._journal.saved(os.path.realpath(file.path), file.checksum)
         return {"saved": printable(file.path), "says": "", "difference": []}
 
     # --- what is told ---
@@ -350,7 +340,9 @@ def _beside(file: OpenedFile, name: str) -> OpenedFile:
     path = os.path.join(os.path.dirname(file.path), name)
     if os.path.lexists(path):
         raise ValueError(f"there is something called {quoted(name)} already: take another name")
-    return OpenedFile(path)
+    made = OpenedFile(path)
+    made.journal = file.journal
+    return made
 
 
 def _text(asked: Mapping[str, object], key: str) -> str:
