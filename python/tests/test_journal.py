@@ -11,11 +11,10 @@ import stat
 import subprocess
 import sys
 import time
-from collections.abc import Callable, Iterator
+from collections.abc import Callable
 from pathlib import Path
 
 import pytest
-from conftest import REPOSITORY
 
 from propbench import Session, Workbench
 from propbench import journal as journals
@@ -24,7 +23,7 @@ from propbench.files import OpenedFile
 from propbench.journal import Journal, left
 from propbench.page.asking import Asking
 from propbench.shell import Shell
-from propbench.watching import Watched
+from propbench.watching import Seen, Watched
 
 # So many seconds something is waited for, far longer than it takes on a busy machine.
 PATIENCE = 120
@@ -356,6 +355,28 @@ def test_a_page_goes_on_after_a_kill(
     assert "cut off" in capsys.readouterr().out
     assert main(["page", plan, "--resume"]) == 2
     assert "no page of" in capsys.readouterr().err
+
+
+def test_a_change_is_kept_before_it_is_looked_what_follows(
+    plan: str, served: Served, state: Path, monkeypatch: pytest.MonkeyPatch
+) -> None:
+    def change(asking: Asking) -> None:
+        kept: list[bool] = []
+
+        def look() -> Seen:
+            [path] = state.iterdir()
+            kept.append(path.read_text().endswith("kick ana\n"))
+            return Seen()
+
+        asking.do({"what": "look"})
+        if not asking.state()["workbench"]:
+            asking.do({"what": "line", "line": "ask x"})
+        assert not state.exists() or list(state.iterdir()) == []
+        monkeypatch.setattr(asking, "_look", look)
+        asking.do({"what": "believe", "premise": "ana", "believed": False})
+        assert kept == [True]
+
+    served(plan, does=change)
 
 
 def test_a_page_goes_on_from_what_it_has_saved(

@@ -1,10 +1,8 @@
 """Texts for eyes: nothing that somebody wrote moves the cursor, hides, or turns what is beside it."""
 
 import json
-import re
 import unicodedata
 from pathlib import Path
-from typing import Any
 
 import pytest
 from hypothesis import given

@@ -138,6 +138,10 @@ class OpenedFile:
         """That of what was read or saved last, None where there was no file."""
         return self._known
 
+    def had(self, content: bytes) -> bool:
+        """Whether this is what was read or saved last."""
+        return _checksum(content) == self._known
+
     def was_read_in_part(self) -> None:
         """Takes note that what is there is not all known here."""
         self._known, self._why = "", "has lines that were not carried out here"

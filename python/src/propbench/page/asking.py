@@ -50,6 +50,8 @@ class Asking:
         self._lock = threading.RLock()
         self._stop = threading.Event()
         self._busy = ""
+        # Whether what is asked now changes what is stated.
+        self._changes = False
         # How often something may have changed; what was seen last, and the network as it was then.
         self._version = 1
         self._seen: Seen | None = None
@@ -109,16 +111,22 @@ class Asking:
         if what not in self._does:
             raise ValueError(f"there is no question {what!r}")
         with self._lock, self._watching(what):
-            told = self._does[what](asked)
-            self._keep(what)
-            return told
+            self._changes = what in _CHANGING
+            return self._does[what](asked)
 
-    def _keep(self, what: str) -> None:
-        """Has the journal hold what a change has made."""
-        if self._file is not None and self._file.journal is not None and what in _CHANGING:
-            told = self._file.journal.keep(self._watched.saved())
-            if told:
-                print(shown(told), file=sys.stderr)
+    def _keep(self) -> None:
+        """Has the journal hold what a change has made, before it is looked what follows."""
+        journal = None if self._file is None or not self._changes else self._file.journal
+        if journal is None or (journal.is_empty and self._is_saved()):
+            return
+        told = journal.keep(self._watched.saved())
+        if told:
+            print(shown(told), file=sys.stderr)
+
+    def _is_saved(self) -> bool:
+        """Whether the file has all that there is, as it was opened or saved last."""
+        content = self.saved().encode("utf-8", "surrogateescape")
+        return self._file is not None and self._file.had(content)
 
     # --- questions ---
 
@@ -273,6 +281,7 @@ class Asking:
 
     def _changed_told(self) -> dict[str, object]:
         self._changed()
+        self._keep()
         return self._told()
 
     def _end_steps(self) -> None:
