@@ -27,7 +27,7 @@ from propbench.showing import shown
 
 HOSTILE = Path(__file__).parent / "hostile"
 # No end that doesn't come: so many seconds, of which a file takes some hundredths.
-PATIENCE = 60
+PATIENCE = 300
 Reader = Callable[[str], int]
 
 
@@ -78,7 +78,7 @@ def patience() -> Iterator[None]:
     """What takes longer is a hang."""
 
     def stop(number: int, frame: FrameType | None) -> None:
-        raise TimeoutError("no end after a minute")
+        raise TimeoutError("no end after minutes")
 
     before = signal.signal(signal.SIGALRM, stop)
     signal.alarm(PATIENCE)

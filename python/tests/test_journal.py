@@ -26,7 +26,7 @@ from propbench.shell import Shell
 from propbench.watching import Seen, Watched
 
 # So many seconds something is waited for, far longer than it takes on a busy machine.
-PATIENCE = 120
+PATIENCE = 300
 
 
 @pytest.fixture(autouse=True)
