@@ -266,13 +266,18 @@ def test_the_desk_offers_it_after_a_kill_and_not_after_an_end(state: Path) -> No
     assert "cut off" not in said(b"")
 
 
-def test_a_closed_terminal_is_a_cut(state: Path) -> None:
+def test_a_closed_terminal_is_a_cut(state: Path, monkeypatch: pytest.MonkeyPatch) -> None:
+    monkeypatch.setenv("TERM", "xterm")
+    monkeypatch.setenv("PROMPT_TOOLKIT_NO_CPR", "1")
     number, master = pty.fork()
     if number == 0:
         os.execv(sys.executable, [sys.executable, "-m", "propbench", "shell"])
     heard = b""
-    os.write(master, b"cell x span\n")
     until = time.monotonic() + PATIENCE
+    while b"> " not in heard:
+        assert time.monotonic() < until, heard
+        heard += os.read(master, 65_536)
+    os.write(master, b"cell x span\r")
     while not state.exists() or not any(b"cell x" in each.read_bytes() for each in state.iterdir()):
         assert time.monotonic() < until, heard
         if select.select([master], [], [], 0.05)[0]:
