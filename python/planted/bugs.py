@@ -566,4 +566,52 @@ BUGS = [
         'under = ""',
         "how::a_workbench_tells_how",
     ),
+    Bug(
+        "files.py",
+        "            os.fsync(descriptor)\n        before()",
+        "            pass\n        before()",
+        "files::it_is_on_the_disk_before_it_takes_the_place",
+    ),
+    Bug(
+        "files.py",
+        "if there not in (None, data) and _checksum(there) != self._known:",
+        "if there not in (None, data) and _checksum(there) == self._known:",
+        "files::what_another_changed_is_neither_lost_nor_hidden",
+    ),
+    Bug(
+        "files.py",
+        "write_file(self.path, data, check if not overwrite else lambda: None)",
+        "write_file(self.path, data)",
+        "files::a_change_at_the_last_moment_is_seen",
+    ),
+    Bug(
+        "journal.py",
+        'head, *lines = file.read().split(b"\\n")[:-1] or [b""]',
+        'head, *lines = file.read().split(b"\\n") or [b""]',
+        "journal::a_torn_line_is_dropped",
+    ),
+    Bug(
+        "journal.py",
+        "descriptor = os.open(path, flags, 0o600)",
+        "descriptor = os.open(path, flags, 0o644)",
+        "journal::its_owner_alone_may_read_it",
+    ),
+    Bug(
+        "shell.py",
+        "        self._keep()\n        if not isinstance(reply, Silent):",
+        "        if not isinstance(reply, Silent):",
+        "journal::a_line_is_on_the_disk_before_its_reply_is_shown",
+    ),
+    Bug(
+        "page/asking.py",
+        '"/" in name or ',
+        "",
+        "files::the_page_sees_a_change",
+    ),
+    Bug(
+        "showing.py",
+        "if text.isprintable() and not _HAS_UNSEEN.search(text):",
+        "if text.isprintable():",
+        "texts::a_terminal_gets_no_orders",
+    ),
 ]

@@ -82,6 +82,8 @@ def over(request: pytest.FixtureRequest) -> Iterator[None]:
     with pytest.MonkeyPatch.context() as patch:
         patch.setenv("PROPBENCH", PROGRAMS[getattr(request, "param", "propbench")])
         patch.delenv("PROPWIDE", raising=False)
+        # (the tests of journals turn them on, in a folder of their own)
+        patch.setenv("PROPBENCH_JOURNAL", "off")
         yield
 
 

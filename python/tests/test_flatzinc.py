@@ -63,12 +63,36 @@ def test_the_grammar() -> None:
         ("var 1..2: x;\nconstraint int_le(x,?);", 2, "no word of FlatZinc begins with '?'"),
         ("var 1..2: x;\nsolve improve x;", 2, "and not 'improve'"),
         ("var -9..9: x;\nconstraint int_pow(x,x,4);\nsolve satisfy;", 2, "exponents from 0"),
+        ("var 1..2: x;\nconstraint int_le(x,y);\nsolve satisfy;", 2, "nothing is called `y`"),
+        ("var 1..2: x;\nsolve minimize y;", 2, "nothing is called `y`"),
+        ("var 1..2: x = y;\nsolve satisfy;", 1, "nothing is called `y`"),
+        ("\narray [1..1] of var int: a = [y];\nsolve satisfy;", 2, "nothing is called `y`"),
+        ("predicate f(", 1, "';' is wanted"),
+        ("\npredicate f(var int: x)\n", 3, "';' is wanted"),
+        ("var 1..2", 1, "':' is wanted, and not the end of the file"),
+        ("var 1..2: x;\nvar 1..3: x;\nsolve satisfy;", 2, "x is declared twice"),
+        ("var 1..2: x;\nconstraint int_le(x);\nsolve satisfy;", 2, "has 1 arguments, and takes 2"),
+        ("var 1..2: x;\nconstraint set_in(x,3);\nsolve satisfy;", 2, "has to be a set of numbers"),
+        ("var 1..2: x;\nconstraint int_lin_le([1],[x,x],3);", 2, "as many factors as variables"),
+        ("var 1..2: x;\nconstraint int_lin_le([x],[x],3);", 2, "an array of constants"),
+        (
+            "var bool: x;\nconstraint propbench_blame(x);\nsolve satisfy;",
+            2,
+            "the mark of a constraint",
+        ),
+        ("constraint int_le(" + "[" * 99_999, 1, "more than 100 deep"),
+        ("var 1..2: x :: " + "a(" * 5000 + ")" * 5000, 1, "more than 100 deep"),
+        ("var 1.." + "9" * 5000 + ": x;", 1, "a number has more than 40 letters"),
+        ("array [1..1] of int: a :: output_array([1..99999999999999]) = [1];", 1, "other places"),
+        ("array [1..1] of int: a :: output_array(7) = [1];", 1, "printed over sets of numbers"),
     ],
+    ids=lambda given: repr(given)[-40:],
 )
 def test_what_is_refused_names_the_line(program: str, text: str, line: int, said: str) -> None:
     with pytest.raises(NotSupported) as refused, Workbench(program) as workbench:
         Built(read(text), workbench)
     assert str(refused.value).startswith(f"line {line}: ") and said in str(refused.value)
+    assert "propbench_" not in str(refused.value) and "Name(" not in str(refused.value)
 
 
 def test_a_refusal_is_told(

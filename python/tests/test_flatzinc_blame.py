@@ -130,6 +130,25 @@ def test_a_model_that_can_be_solved_has_no_blame(
     assert capsys.readouterr().out == "No conflict: all that is believed fits together.\n"
 
 
+@pytest.mark.skipif(shutil.which("minizinc") is None, reason="MiniZinc isn't there")
+@pytest.mark.parametrize(
+    "constraint, place, said",
+    [
+        ("x > 2 /\\ x > ", "2.25", "syntax error"),
+        ("x > 2 /\\ z > 3", "2.21", "undefined identifier"),
+        ('assert(false, "too small")', "2", "too small"),
+    ],
+)
+def test_what_minizinc_says_has_no_marks(
+    tmp_path: Path, capsys: pytest.CaptureFixture[str], constraint: str, place: str, said: str
+) -> None:
+    model = tmp_path / "m.mzn"
+    model.write_text(f"var 1..3: x;\nconstraint {constraint};\nsolve satisfy;\n")
+    assert main(["blame", str(model)]) == 2
+    told = capsys.readouterr().err
+    assert said in told and f"{model}:{place}" in told and "propbench_" not in told
+
+
 @pytest.mark.skipif(shutil.which("dot") is None, reason="Graphviz isn't there")
 def test_a_picture_is_drawn(
     program: str, tmp_path: Path, capsys: pytest.CaptureFixture[str]

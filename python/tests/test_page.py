@@ -537,3 +537,107 @@ def test_a_thousand_cells(program: str, browser: Any) -> None:
             page.until(lambda: page.text("cell-name") == "x999")
             page.keep("thousand")
             assert opened_in < 2 and switched_in < 0.1
+
+
+def test_save_where_another_has_changed_it(program: str, tmp_path: Path, browser: Any) -> None:
+    path = tmp_path / "premises.prop"
+    shutil.copy(EXAMPLES / "measuring/premises.prop", path)
+    mine, others = path.read_text() + "kick fall\n", "# of somebody else\n"
+    with opened(str(path), Way(), program) as watched:
+        with shown(browser, Page(watched, path.name, path=str(path))) as page:
+            page.switch("fall")
+            page.one("#plain summary").click()
+            path.write_text(others)
+            page.press("save")
+            page.until(lambda: page.one("#difference").is_displayed())
+            difference = page.text("difference").split("\n")
+            assert "- # of somebody else" in difference and "+ kick fall" in difference
+            assert "was changed by somebody else" in page.text("save-says")
+            assert path.read_text() == others
+            page.keep("changed")
+            page.one("#save-as").send_keys("mine.prop")
+            page.one("#save-form button:not([id])").click()
+            page.until(lambda: page.text("status") == f"Saved to {tmp_path / 'mine.prop'}.")
+            assert (tmp_path / "mine.prop").read_text() == mine and path.read_text() == others
+            assert not page.one("#save-form").is_displayed()
+    with opened(str(path), Way(), program) as watched:
+        with shown(browser, Page(watched, path.name, path=str(path))) as page:
+            page.one("#plain summary").click()
+            path.write_text(mine)
+            page.press("save")
+            page.until(lambda: page.one("#overwrite").is_displayed())
+            page.press("overwrite")
+            page.until(lambda: page.text("status") == f"Saved to {path}.")
+            assert path.read_text() == others
+
+
+def test_names_that_every_object_has(program: str, bare: Bare, browser: Any) -> None:
+    """`constructor`, `toString` and `__proto__` are names like others."""
+    names = ["constructor", "toString", "__proto__", "hasOwnProperty", "valueOf"]
+    lines = [f"cell {name} span" for name in names]
+    lines += [f"choose {name} {name} {at} or {at + 10}" for at, name in enumerate(names[:4])]
+    lines += [f"tell {name}_told {name} 0..20" for name in names]
+    lines += ["tell valueOf valueOf 3", "tell isPrototypeOf valueOf 4"]
+    with Session(program) as session:
+        session.send_all([*lines, "kick isPrototypeOf"])
+        with shown(browser, Page(SessionWatched(session), "names")) as page:
+            wanted = answers(bare, [*lines, "kick isPrototypeOf"])
+            assert page.values == {name: value for name, (value, _) in wanted.items()}
+            assert {each.text for each in page.all(".stands")} == {
+                f"{name} = {at}" for at, name in enumerate(names[:4])
+            }
+            # nothing is wished for as yet, and then the second side of `__proto__`
+            checked = "fieldset .side:nth-child(2) input:checked"
+            assert len(page.all(checked)) == 4
+            page.all("fieldset:nth-of-type(3) input")[2].click()
+            page.until(lambda: page.values["__proto__"] == "12")
+            assert "__proto__: __proto__ = 12" in page.text("status")
+            assert len(page.all(checked)) == 3
+            page.click("toString")
+            page.until(lambda: page.text("cell-name") == "toString")
+            page.press("unlit")
+            page.switch("isPrototypeOf")
+            page.until(lambda: "isPrototypeOf: valueOf = 4" in page.text("clash-says"))
+            assert "valueOf: valueOf = 3" in page.text("clash-says")
+
+
+def test_what_hides_is_shown_and_what_turns_is_apart(program: str, browser: Any) -> None:
+    """Control characters and marks that turn the direction are escaped; a name in letters that run
+    from right to left is a <bdi>, and turns nothing beside it."""
+    hides, turns = "a\x1b[31m\u202eb\u200bc\u3164", "\u05d0\u05d1 (\u05d2)"
+    with Workbench(program) as w:
+        x, y = w.number(hides, 0, 9), w.number(turns, 0, 9)
+        w.tell(hides, x, 3)
+        w.tell(turns, y, 4)
+        w.tell("other", y, 5)
+        w.kick("other")
+        w.choose(turns + " or", {turns: x <= 4, hides: x <= 5})
+        with shown(browser, Page(WorkbenchWatched(w), hides)) as page:
+            escaped = r"a\x1b[31m\u202eb\u200bc\u3164"
+            assert page.values == {escaped: "3", turns: "4"} and page.text("title") == escaped
+            page.switch("other")
+            page.until(lambda: page.text("clash-says"))
+            page.until(lambda: "give up" in page.text("mending"))
+            page.switch("other")
+            page.until(lambda: page.values == {escaped: "3", turns: "4"})
+            page.all("#cells button")[1].click()
+            page.until(lambda: page.text("cell-name") == turns)
+            text = page.js(
+                "return document.documentElement.textContent"
+                " + [...document.querySelectorAll('#drawing text')].map(it => it.textContent)"
+            )
+            assert not any(each in text for each in "\x1b\u202e\u200b\u3164")
+            # wherever letters that turn stand in a text, that is in a <bdi> or a text of the drawing
+            apart = page.js(
+                """
+                const found = [];
+                const texts = document.createTreeWalker(document.body, NodeFilter.SHOW_TEXT);
+                while (texts.nextNode()) {
+                  const node = texts.currentNode.parentElement;
+                  if (/[\\u0590-\\u05ff]/.test(texts.currentNode.data)
+                      && !node.closest("bdi, svg, pre")) found.push(node.outerHTML);
+                }
+                return found;
+            """
+            )
+            assert apart == [] and turns in text

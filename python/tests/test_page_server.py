@@ -306,7 +306,8 @@ def test_texts_are_never_markup() -> None:
     banned += r"|createContextualFragment|srcdoc|setTimeout\(\s*[\"'`]|javascript:|\.style\b"
     banned += r"|https?://(?!www\.w3\.org/2000/svg)|//cdn|WebSocket|XMLHttpRequest|localStorage"
     scripts = sorted(STATIC.glob("*.js"))
-    assert [script.name for script in scripts] == ["drawing.js", "layout.js", "page.js"]
+    names = ["drawing.js", "layout.js", "page.js", "texts.js"]
+    assert [script.name for script in scripts] == names
     for script in scripts:
         assert not re.search(banned, script.read_text()), script.name
     page = (STATIC / "index.html").read_text()

@@ -35,7 +35,8 @@ WAITING = "another start builds the program already; waiting for it"
 NO_RT = """\
 no program is built here, and rt, which builds it, is not on the path:
 {of}: put the folder bin/ of rattle-kit-13f there, or install the Debian package"""
-NO_FOLDER = "no folder can be written to for the program that has to be built: {}"
+NO_FOLDER = "no folder of yours can be written to for the program that has to be built: {}"
+NOT_RUN = "what is kept is not run: {}"
 ELSEWHERE = "this kit keeps its program where it can't be taken, so rt try runs the session"
 AT_TERMINAL = "which needs a file: ./{of} < examples/first.prop"
 
@@ -103,7 +104,9 @@ def build(of: str, state: str, is_soon: bool) -> tuple[str, str]:
         raise NotBuilt(NO_RT.format(of=of))
     where = kept.folder()
     if not where:
-        raise NotBuilt(NO_FOLDER.format(", ".join(kept.candidates())))
+        paths = list(kept.candidates())
+        reasons = [kept.not_own(path) for path in paths if os.path.isdir(path)]
+        raise NotBuilt("\n".join([NO_FOLDER.format(", ".join(paths)), *filter(None, reasons)]))
     builder = Builder(of, state, where, is_soon)
     try:
         word, text = outcome(of, builder)
@@ -131,7 +134,7 @@ def run_unproved(of: str, become: Callable[[str, list[str]], int], words: list[s
     end_on_signals()
     is_terminal = os.isatty(0)
     state = kept.state(of)
-    program = kept.kept_program(of, state)
+    program = kept.kept_program(of, state, lambda why: say(of, NOT_RUN.format(why)))
     word = "done"
     try:
         if not program:

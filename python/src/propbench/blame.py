@@ -107,7 +107,9 @@ class _Case:
 def blame_for(line: str, number: int, text: str, known: Known) -> Blame:
     """The word that a refusal of a line speaks of, by its number and text and what was known."""
     find = _FINDERS.get(number)
-    return find(_Case(line, text, known, parsed(line))) if find else Blame()
+    # (a line that is too long is not read, as it may be a million times too long)
+    parse = parsed(line if number != 1 else "")
+    return find(_Case(line, text, known, parse)) if find else Blame()
 
 
 def _at(token: Token, says: str, *among: Collection[str]) -> Blame:

@@ -8,14 +8,16 @@ from contextlib import suppress
 from pathlib import Path
 
 from propbench.checking import check_file
+from propbench.files import OpenedFile
 from propbench.finding import NoProgram
+from propbench.journal import Journal, left
 from propbench.pictures import NoGraphviz, picture_of
 from propbench.program import ProgramEnded
 from propbench.refusals import Refused
 from propbench.reports import NoReport
 from propbench.running import Way, lines_of, run_as_json, run_file, told_of
 from propbench.session import ORDERS
-from propbench.showing import printable, said_of
+from propbench.showing import printable, said_of, shown
 from propbench.watching import Watched
 
 DESCRIPTION = """\
@@ -120,6 +122,14 @@ def parser() -> argparse.ArgumentParser:
     )
     for each in (run, shell, check, blame, page, draw):
         each.add_argument("--program", metavar="PATH", help="the program that answers")
+    page.add_argument(
+        "--resume", action="store_true", help="go on with what a page of the file did that was cut"
+    )
+    page.add_argument("--forget", action="store_true", help="forget it, and show the file")
+    for each in (shell, page):
+        each.add_argument(
+            "--no-journal", action="store_true", help="don't keep what is carried out on the disk"
+        )
     for each in (run, shell, page, draw):
         _add_begin(each)
     return top
@@ -151,7 +161,10 @@ def main(words: Sequence[str] | None = None) -> int:
     except KeyboardInterrupt:
         return 130
     except ValueError as error:
-        print(f"propdesk: {error}", file=sys.stderr)
+        print(f"propdesk: {said_of(error)}", file=sys.stderr)
+        return 2
+    except RecursionError:
+        print(f"propdesk: {printable(options.file)} is nested too deeply", file=sys.stderr)
         return 2
     except Refused as refused:
         print(told_of(refused, printable(options.file)), file=sys.stderr)
@@ -181,17 +194,17 @@ def _done(options: argparse.Namespace) -> int:
         return _blamed(options)
     begin = {"order": options.order, "seed": options.seed, "limit": options.limit}
     if options.command in ("page", "draw"):
+        if options.command == "page":
+            return _page(options, Way(**begin))
         from propbench.watching.opening import opened
 
         with opened(options.file, Way(**begin), options.program) as watched:
-            if options.command == "page":
-                return _page(watched, options.file, options.port)
             return _draw(watched, options.file, options.cell, options.out)
     if options.command == "shell":
         from propbench.shell import run_shell
 
         with Way(**begin).session(options.program, _lines(options.file)) as session:
-            return run_shell(session, options.file)
+            return run_shell(session, options.file, _journal(options, options.file or ""))
     way = Way(options.keep_going, options.seconds, **begin)
     run = run_as_json if options.json else run_file
     return run(options.file, options.program, way)
@@ -204,10 +217,40 @@ def _lines(path: str | None) -> list[str]:
     return []
 
 
-def _page(watched: Watched, path: str, port: int) -> int:
-    from propbench.page import serve
+_OFFERED = "--resume goes on with it, --forget forgets it."
 
-    serve(watched, os.path.basename(path), path=path, port=port)
+
+def _journal(options: argparse.Namespace, file: str, checksum: str | None = None) -> Journal | None:
+    """The journal of what these options ask for, None where none is kept."""
+    return None if options.no_journal else Journal(options.command, file, checksum)
+
+
+def _page(options: argparse.Namespace, way: Way) -> int:
+    from propbench.page import serve
+    from propbench.watching.opening import opened
+
+    place = options.file if options.file == "-" else os.path.realpath(options.file)
+    cut_off = [] if options.no_journal else left("page", place)
+    if options.forget:
+        for each in cut_off:
+            each.forget()
+        cut_off = []
+    resumed = cut_off[0] if cut_off and options.resume else None
+    if options.resume and not resumed:
+        raise ValueError(f"no page of {printable(options.file)} was cut off")
+    # (it is taken note of before it is read)
+    file = OpenedFile(options.file, resumed.checksum if resumed else None)
+    with opened(options.file, way, options.program, resumed.lines if resumed else None) as watched:
+        file.journal = _journal(options, place, file.checksum)
+        if resumed and file.journal:
+            print(file.journal.keep(watched.saved()) or shown(str(resumed)), flush=True)
+            resumed.forget()
+        elif cut_off:
+            print(f"{shown(str(cut_off[0]))} {_OFFERED}", flush=True)
+        title = "standard input" if place == "-" else os.path.basename(options.file)
+        serve(watched, title, path=file, port=options.port)
+        if file.journal:
+            file.journal.leave()
     return 0
 
 

@@ -144,6 +144,8 @@ class Program:
 
     def hear(self) -> str:
         """The first line of a reply, where no other is under way. Raises ProgramEnded."""
+        if self._lines or self._part:
+            return self.next_line()
         if self.until is not None:
             self._wait()
         said = os.read(self._out, _REPLY)

@@ -5,7 +5,7 @@ from itertools import chain
 
 from propbench.blame import Blame
 from propbench.nearby import near_names
-from propbench.showing import printable, width
+from propbench.showing import MOST_SHOWN, cut, shown, width
 
 
 @dataclass(eq=False)
@@ -55,13 +55,17 @@ class Refused(Exception):
         return " ".join(filter(None, [self.blame.says, f"Did you mean {near}?" if near else ""]))
 
     def pointed(self, indent: str = "  ") -> str:
-        """The line, and under it carets that point to the word, where there is one."""
-        shown = printable(self.line.removesuffix("\r"))
+        """The line, and under it carets that point to the word, where there is one. Of a line of more
+        than 200 letters that is so much, about the word."""
         if self.blame.start is None:
-            return indent + shown
-        before = width(self.line[: self.blame.start])
-        carets = "^" * max(1, width(self.word or ""))
-        return f"{indent}{shown}\n{indent}{' ' * before}{carets}"
+            return indent + cut(self.line.removesuffix("\r"))
+        # (of a long line the part that has the word)
+        line, start = self.line.removesuffix("\r"), self.blame.start
+        first = 0 if len(line) <= MOST_SHOWN else max(0, start - MOST_SHOWN // 2)
+        front = ".. " if first else ""
+        before = width(front + line[first:start])
+        carets = "^" * max(1, width((self.word or "")[: MOST_SHOWN - (start - first)]))
+        return f"{indent}{front}{cut(line[first:])}\n{indent}{' ' * before}{carets}"
 
     def told(self, place: str = "") -> str:
         """What the program answered, with a place in front where one is given; the line, with the
@@ -71,7 +75,7 @@ class Refused(Exception):
             self.pointed(),
             f"  {self.says}",
         ]
-        return "\n".join(line for line in lines if line.strip())
+        return shown("\n".join(line for line in lines if line.strip()))
 
     def __str__(self) -> str:
         return self.told(f"line {self.line_number}")

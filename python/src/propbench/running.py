@@ -15,7 +15,7 @@ from propbench.overview import overview
 from propbench.refusals import Refused
 from propbench.replies import Done, Reply, Silent
 from propbench.session import Session
-from propbench.showing import printable
+from propbench.showing import printable, shown
 from propbench.words import as_line
 
 
@@ -105,7 +105,7 @@ class FileRun:
 
 
 def _exchange(line: str, reply: Reply) -> str:
-    answered = "\n".join(f"  {each}" for each in str(reply).split("\n"))
+    answered = "\n".join(f"  {each}" for each in shown(str(reply)).split("\n"))
     return f"{printable(line.strip())}\n{answered}"
 
 
@@ -121,7 +121,7 @@ def _ran(ran: FileRun, lines: list[str], seconds: float) -> int:
     """Runs the lines, shows what follows, and gives the status."""
     if ran.run(lines, sys.stdout, sys.stderr):
         end = overview(ran.session, seconds)
-        print(f"\n{end}" if ran.asked else str(end))
+        print(shown(f"\n{end}" if ran.asked else str(end)))
     else:
         print("Stopped at a refused line; --keep-going goes on behind such lines.", file=sys.stderr)
     return 1 if ran.refused else 0
@@ -132,10 +132,19 @@ def run_as_json(path: str, program: str | None, way: Way) -> int:
     lines = lines_of(path)
     with way.session(program, lines) as session:
         told = report(session, _name_of(path), lines, way)
-    text = json.dumps(told, ensure_ascii=False, indent=2)
-    # (a byte that is no text stands as JSON escapes it)
-    print(text.encode("utf-8", "backslashreplace").decode("utf-8"))
+    print(as_json(told))
     return 1 if told["refused"] else 0
+
+
+def as_json(value: object) -> str:
+    """A value in JSON, on lines. What can't be printed or seen stands as JSON escapes it."""
+    lines = json.dumps(value, ensure_ascii=False, indent=2).split("\n")
+    return "\n".join(line if printable(line) == line else _escaped(line) for line in lines)
+
+
+def _escaped(line: str) -> str:
+    """A line of JSON in which all stands as JSON escapes it that `printable` escapes."""
+    return "".join(each if printable(each) == each else json.dumps(each)[1:-1] for each in line)
 
 
 def _name_of(path: str) -> str:

@@ -3,14 +3,17 @@
 `Shell` takes lines and writes what comes of them; how lines are read stands in terminal.py.
 """
 
+import os
 import sys
 import time
 from collections.abc import Callable, Sequence
 from functools import partial
 from typing import TypeVar
 
+from propbench.files import ChangedSince, OpenedFile
 from propbench.grammar import ASKING
 from propbench.helping import all_help, columns, help_on
+from propbench.journal import Journal, Left, left
 from propbench.listing import Told, told_by
 from propbench.overview import UNPROVED, overview
 from propbench.pictures import NoGraphviz, picture_of
@@ -31,7 +34,7 @@ from propbench.replies import (
 from propbench.running import lines_of, told_of
 from propbench.runs import is_settled
 from propbench.session import Session
-from propbench.showing import printable, said_of
+from propbench.showing import printable, said_of, shown
 from propbench.tables import table
 from propbench.watching.instances import listing_of
 from propbench.watching.of_session import SessionWatched
@@ -47,8 +50,10 @@ ASIDES = {
     ":how": "X  what makes up what is known of X, as a tree, over propwide",
     ":draw": "[X] [FILE]  draws the network, or what bears on the cell X, as SVG or .dot",
     ":limit": "[N]  shows or sets how many steps a run takes at most",
-    ":save": "FILE  writes the lines that were carried out",
+    ":save": "FILE [overwrite]  writes the lines that were carried out; over what another changed"
+    " there by the word overwrite alone",
     ":load": "FILE  carries out the lines of a file, to the first that is refused",
+    ":resume": "[no]  goes on with what a shell had carried out that was cut off; or forgets it",
     ":help": "[COMMAND]  all commands, or one; a procedure; the number of a refusal",
     ":quit": "ends",
 }
@@ -58,6 +63,12 @@ _HELP, _END = "Write :help for help", "Write :quit to end"
 _MEANT = {"help": _HELP, "?": _HELP, "quit": _END, "exit": _END}
 # The commands that `:undo` takes for nothing that was changed.
 _KEPT = ASKING | {"limit"}
+# The word by which what somebody else has changed in a file is lost.
+_OVERWRITE = "overwrite"
+_REFUSED_SAVE = """\
+{}
+(- is there now, + is what you have)
+:save under another name keeps both; `:save {} overwrite` keeps yours alone."""
 # After so many seconds it is told how far a run is, and then so often.
 _TOLD_AFTER, _TOLD_EVERY = 1.0, 0.5
 
@@ -75,10 +86,20 @@ class Shell:
         session: Session,
         write: Callable[[str], None],
         status: Callable[[str], None] = lambda text: None,
+        journal: Journal | None = None,
     ) -> None:
         self.session = session
-        self._write = write
+        self._journal = journal
+        # What was cut off that one may go on with, and the lines that this one began with.
+        self._left: list[Left] = []
+        self._first: list[str] = []
+        # What the journal was given: the lines so far, and those of them that state something.
+        self._seen: list[str] = []
+        self._stated_lines: list[str] = []
+        self._out = write
         self._status = status
+        # The files that were loaded or saved, by where they lie.
+        self._files: dict[str, OpenedFile] = {}
         # When the run began, and when it was told last how far it is.
         self._begun = self._told = 0.0
         self._asides: dict[str, Callable[[list[str]], None]] = {
@@ -90,9 +111,13 @@ class Shell:
             ":limit": self._limit,
             ":save": self._save,
             ":load": self._load,
+            ":resume": self._resume,
             ":help": self._help,
             ":quit": self._quit,
         }
+
+    def _write(self, text: str) -> None:
+        self._out(shown(text))
 
     def obey(self, line: str) -> None:
         """Does what a line says, whatever comes of it. Raises Quit where it says so."""
@@ -107,6 +132,30 @@ class Shell:
             self.session.replay()
         except (NoGraphviz, OSError, ValueError) as error:
             self._write(said_of(error))
+        self._keep()
+
+    def offer(self) -> None:
+        """Tells of a shell that was cut off, if there is one, and takes note of what this one began
+        with."""
+        self._first = self.session.lines
+        self._left = left("shell")
+        if self._left:
+            self._write(f"{self._left[0]}\n:resume goes on with it, :resume no forgets it.")
+
+    def _keep(self) -> None:
+        """Has the journal hold all that was stated: a line is on the disk before its reply is
+        shown."""
+        if self._journal is None:
+            return
+        lines = self.session.lines
+        if lines[: len(self._seen)] != self._seen:
+            self._seen, self._stated_lines = [], []
+        new = lines[len(self._seen) :]
+        self._stated_lines += [line for line in new if line.split(None, 1)[0] not in ASKING]
+        self._seen = lines
+        told = self._journal.keep(self._stated_lines)
+        if told:
+            self._write(told)
 
     def _obey(self, line: str) -> None:
         words = line.split()
@@ -117,6 +166,7 @@ class Shell:
             self._write(f"{words[0]} is no command of the language. {_MEANT[words[0]]}.")
             return
         reply = self._watched(partial(self.session.send, line, progress=self._progress))
+        self._keep()
         if not isinstance(reply, Silent):
             self._write(printable_lines(reply))
             self._explain(reply)
@@ -285,13 +335,25 @@ class Shell:
         self._write(f"A run takes at most {self.session.limit:,} steps.")
 
     def _save(self, words: list[str]) -> None:
-        if len(words) != 1:
+        path, *more = words or [""]
+        if not path or more not in ([], [_OVERWRITE]):
             self._write("Say where: :save FILE")
             return
         lines = self.session.lines
-        with open(words[0], "w", encoding="utf-8", newline="\n") as file:
-            file.writelines(f"{line.strip()}\n" for line in lines)
-        self._write(f"{len(lines)} lines are written to {words[0]}.")
+        text = "".join(f"{line.strip()}\n" for line in lines)
+        try:
+            self._opened(path).save(text.encode("utf-8", "surrogateescape"), bool(more))
+        except ChangedSince as changed:
+            self._write(_REFUSED_SAVE.format(changed, printable(path)))
+            return
+        self._write(f"{len(lines)} lines are written to {path}.")
+
+    def _opened(self, path: str) -> OpenedFile:
+        """The file at this path, as it was when it was loaded or saved last."""
+        place = os.path.realpath(path)
+        if place not in self._files:
+            self._files[place] = OpenedFile(path)
+        return self._files[place]
 
     def _load(self, words: list[str]) -> None:
         if len(words) != 1:
@@ -301,17 +363,45 @@ class Shell:
 
     def load(self, path: str) -> None:
         """Carries out the lines of a file, up to the first that is refused. Raises OSError."""
+        opened = self._files[os.path.realpath(path)] = OpenedFile(path)
         lines = lines_of(path)
         for number, line in enumerate(lines, 1):
             try:
                 reply = self._watched(partial(self.session.send, line, progress=self._progress))
             except Refused as refused:
                 refused.line_number = number
+                opened.was_read_in_part()
                 self._write(told_of(refused, printable(path)))
                 return
             if not isinstance(reply, Done | Silent):
                 self._write(f"{printable(line.strip())}\n{printable_lines(reply)}")
         self._write(f"{len(lines)} lines of {printable(path)} are carried out.")
+
+    def _resume(self, words: list[str]) -> None:
+        if not self._left:
+            self._write("Nothing was cut off.")
+        elif words == ["no"]:
+            self._left.pop(0).forget()
+            self.offer()
+        elif words:
+            self._write("Say it alone, or no behind it: :resume, :resume no")
+        elif self.session.lines != self._first:
+            self._write("Say it first of all in a new shell: what is stated here would be lost.")
+        else:
+            self._go_on(self._left[0])
+
+    def _go_on(self, with_it: Left) -> None:
+        """Begins anew with the lines of a journal, which goes once this one's has them."""
+        outcomes = self.session.replay(with_it.lines)
+        refused = [each for each in outcomes if isinstance(each, Refused)]
+        self._keep()
+        if refused:
+            self._write(refused[0].told())
+            self._write(f"{len(refused)} lines of {with_it.path} are refused here; it stays.")
+            return
+        self._left.pop(0)
+        with_it.forget()
+        self._write(f"{len(with_it.lines)} lines are carried out.")
 
     def _help(self, words: list[str]) -> None:
         if words:
@@ -348,16 +438,20 @@ def printable_lines(reply: Reply) -> str:
     return "\n".join(map(printable, str(reply).split("\n")))
 
 
-def run_shell(session: Session, path: str | None) -> int:
-    """Speaks with the user to the end, and gives the status."""
+def run_shell(session: Session, path: str | None, journal: Journal | None = None) -> int:
+    """Speaks with the user to the end, and gives the status. The journal, where one is kept, goes
+    in the end, but where the terminal was taken away."""
     from propbench.terminal import reader
 
-    shell = Shell(session, print, _show_status)
+    shell = Shell(session, print, _show_status, journal)
+    is_terminal = sys.stdin.isatty()
     print(WELCOME)
     if not session.proved:
         print(UNPROVED)
     if path:
         shell.load(path)
+    if journal is not None:
+        shell.offer()
     read = reader(session)
     while True:
         try:
@@ -365,6 +459,8 @@ def run_shell(session: Session, path: str | None) -> int:
         except KeyboardInterrupt:
             continue
         except (EOFError, Quit):
+            if journal is not None and is_terminal == sys.stdin.isatty():
+                journal.end()
             return 0
 
 

@@ -6,6 +6,7 @@ import sys
 from collections.abc import Callable, Iterable
 from pathlib import Path
 
+from propbench.journal import state_folder
 from propbench.session import Session
 from propbench.shell import ASIDES
 
@@ -13,11 +14,11 @@ PROMPT = "> "
 
 
 def history_file() -> Path:
-    """Where the history is kept; its folder is made."""
-    state = os.environ.get("XDG_STATE_HOME") or os.path.expanduser("~/.local/state")
-    folder = Path(state) / "propbench"
-    folder.mkdir(parents=True, exist_ok=True)
-    return folder / "history"
+    """Where the history is kept, which its owner alone may read; it is made. Raises OSError."""
+    path = state_folder() / "history"
+    os.close(os.open(path, os.O_WRONLY | os.O_CREAT | os.O_NOFOLLOW | os.O_CLOEXEC, 0o600))
+    path.chmod(0o600)
+    return path
 
 
 def reader(session: Session) -> Callable[[], str]:

@@ -18,6 +18,7 @@ from typing import TYPE_CHECKING, TypeVar, overload
 from weakref import WeakValueDictionary
 
 from propbench.closing import Closing
+from propbench.files import write_file
 from propbench.finding import find_wide
 from propbench.given import path_given
 from propbench.measuring.bench import Measuring
@@ -483,11 +484,11 @@ class Workbench(Measuring, Closing):
     # --- files ---
 
     def save(self, path: str | os.PathLike[str]) -> None:
-        """Writes the workbench to a file.
+        """Writes the workbench to a file, whole or not at all.
 
-        It is a session of the language, whose comments tell what its lines are for."""
-        with open(path_given(path), "w", encoding="utf-8") as file:
-            file.writelines(f"{line}\n" for line in saved(self._network))
+        It is a session of the language, whose comments tell what its lines are for. Raises OSError;
+        a file that is there stays then."""
+        write_file(path_given(path), "".join(f"{line}\n" for line in saved(self._network)))
 
     @classmethod
     def load(

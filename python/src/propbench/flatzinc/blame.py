@@ -17,7 +17,7 @@ from propbench.flatzinc.solving import solve
 from propbench.flatzinc.writing import solution
 from propbench.questions.clock import Clock
 from propbench.questions.conflicts import Conflicts, Repair, Repairs, find_both
-from propbench.showing import printable
+from propbench.showing import printable, shown
 from propbench.workbench import Workbench
 
 
@@ -46,7 +46,7 @@ def blame_file(model: Path, data: Sequence[Path], asked: Asked, program: str | N
         clock = Clock(asked.seconds, None)
         conflicts, repairs = blamed(built, made, asked)
         for line in report(built, conflicts, repairs, clock.seconds_left()):
-            print(line)
+            print(shown(line))
     if asked.picture is not None:
         draw(asked.picture, dot_of(conflicts, repairs, made.texts))
     if asked.certificate is not None:

@@ -8,8 +8,10 @@ from collections.abc import Iterable
 
 from propbench.flatzinc import meaning, symbolic
 from propbench.flatzinc.arithmetic import NO, YES, constant, every, same_truth, within
+from propbench.flatzinc.forms import check
 from propbench.flatzinc.meaning import differing
 from propbench.flatzinc.terms import (
+    BLAMED,
     Call,
     Constraint,
     Flat,
@@ -32,8 +34,6 @@ from propbench.model.expressions import (
 from propbench.model.kinds import Domain
 from propbench.workbench import Workbench
 
-# The constraint by which a model's own constraint has a name: it holds where that is believed.
-BLAMED = "propbench_blame"
 # Definitions lie so deep within one another at the most; then a cell has the value.
 _DEEPEST = 30
 
@@ -43,6 +43,7 @@ class Built:
 
     def __init__(self, flat: Flat, workbench: Workbench) -> None:
         """States all of the model. Raises NotSupported, and ValueError where there is no room."""
+        check(flat)
         self.flat, self.workbench = flat, workbench
         self.cells: dict[str, Cell] = {}
         self._expressions: dict[str, Number | Truth | Element] = {}
@@ -60,6 +61,12 @@ class Built:
             and each.defined not in kept
         }
         self._done: set[int] = set()
+        try:
+            self._state_all(flat)
+        except RecursionError:
+            raise NotSupported(0, "definitions lie too deep within one another") from None
+
+    def _state_all(self, flat: Flat) -> None:
         for variable in flat.variables.values():
             if variable.name not in self._definitions:
                 self._expression(variable.name)
@@ -160,7 +167,7 @@ class Built:
             return constant(found)
         if isinstance(found, Name) and found.text in self.flat.variables:
             return self._expression(found.text)
-        raise NotSupported(0, f"nothing is called {found!r}")
+        raise NotSupported(0, "a variable or a constant is wanted")
 
     # --- variables ---
 

@@ -1,5 +1,6 @@
 """MiniZinc run: a model with marks at its constraints, and data, made into FlatZinc."""
 
+import re
 import shutil
 import subprocess
 import tempfile
@@ -8,10 +9,9 @@ from dataclasses import dataclass, replace
 from pathlib import Path
 
 from propbench.finding import NoProgram
-from propbench.flatzinc.building import BLAMED
 from propbench.flatzinc.grammar import read
 from propbench.flatzinc.marking import label_of, marked
-from propbench.flatzinc.terms import Flat, Text
+from propbench.flatzinc.terms import BLAMED, Flat, Text
 
 CONFIGURATION = Path(__file__).parent / "propbench.msc"
 
@@ -59,6 +59,22 @@ def _flattened(model: Path, text: str, data: Sequence[Path]) -> str:
         words += ["--fzn", str(flat), "--ozn", str(Path(folder, "model.ozn")), str(made)]
         ran = subprocess.run([*words, *map(str, data)], text=True, capture_output=True)
         if ran.returncode or not flat.exists():
-            said = (ran.stderr or ran.stdout).replace(str(made), str(model)).strip()
-            raise NoMiniZinc(f"MiniZinc says of {model}:\n{said}")
+            said = _said(ran).replace(str(made), str(model))
+            # (as it says of the model itself, where that is wrong without any marks)
+            alone = subprocess.run(
+                [*words[:-1], str(model), *map(str, data)], text=True, capture_output=True
+            )
+            told = _said(alone) if alone.returncode else _without_marks(said, str(model))
+            raise NoMiniZinc(f"MiniZinc says of {model}:\n{told}")
         return flat.read_text(encoding="utf-8")
+
+
+def _said(ran: subprocess.CompletedProcess[str]) -> str:
+    return (ran.stderr or ran.stdout).strip()
+
+
+def _without_marks(said: str, model: str) -> str:
+    """What MiniZinc says of a model with marks, as if it had none: columns are others there."""
+    said = re.sub(rf"\b{BLAMED}\((.*?), \"\d+\|[^\"]*\"\)", r"\1", said)
+    lines = [line for line in said.split("\n") if "propbench_" not in line and line.strip(" ^")]
+    return re.sub(rf"({re.escape(model)}:\d+)\.[-.\d]+", r"\1", "\n".join(lines))

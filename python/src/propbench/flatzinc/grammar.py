@@ -22,6 +22,9 @@ from propbench.flatzinc.terms import (
     Variable,
 )
 
+# Brackets lie so deep within one another at the most, and numbers and shown words have so many
+# letters.
+_DEEPEST, _LONGEST, _SHOWN = 100, 40, 60
 _WORD = re.compile(
     r"(?P<silent>[ \t\r]+|%[^\n]*)|(?P<line>\n)|(?P<float>-?[0-9]+(\.[0-9]+([eE][-+]?[0-9]+)?"
     r"|[eE][-+]?[0-9]+))|(?P<number>-?(0x[0-9A-Fa-f]+|0o[0-7]+|[0-9]+))|(?P<name>[A-Za-z_]\w*)"
@@ -64,6 +67,7 @@ class _Reader:
 
     def __init__(self, words: list[_Word]) -> None:
         self._words, self._place = words, 0
+        self._deep = 0
         self._flat = Flat()
 
     def model(self) -> Flat:
@@ -80,7 +84,7 @@ class _Reader:
 
     def _take(self) -> _Word:
         word = self._next
-        self._place += 1
+        self._place += word.sort != "end"
         return word
 
     def _is(self, text: str) -> bool:
@@ -91,7 +95,7 @@ class _Reader:
 
     def _want(self, text: str) -> None:
         if not self._is(text):
-            raise self._error(f"{text!r} is wanted, and not {self._next.text!r}")
+            raise self._error(f"{text!r} is wanted, and not {_said(self._next)}")
 
     def _error(self, text: str) -> NotSupported:
         return NotSupported(self._next.line, text)
@@ -99,8 +103,15 @@ class _Reader:
     def _name(self) -> str:
         word = self._take()
         if word.sort != "name":
-            raise NotSupported(word.line, f"a name is wanted, and not {word.text!r}")
+            raise NotSupported(word.line, f"a name is wanted, and not {_said(word)}")
         return word.text
+
+    def _new_name(self) -> str:
+        """A name that nothing has yet."""
+        line, name, flat = self._next.line, self._name(), self._flat
+        if name in flat.variables or name in flat.parameters or name in flat.arrays:
+            raise NotSupported(line, f"{name[:_SHOWN]} is declared twice")
+        return name
 
     def _list(self, one: Callable[[], Some], end: str) -> list[Some]:
         """What stands between commas, up to an end."""
@@ -139,7 +150,7 @@ class _Reader:
         args = tuple(self._list(self._term, ")"))
         defined = None
         for each in self._annotations():
-            if isinstance(each, Call) and each.name == "defines_var":
+            if isinstance(each, Call) and each.name == "defines_var" and len(each.args) == 1:
                 [variable] = each.args
                 defined = variable.text if isinstance(variable, Name) else None
         self._flat.constraints.append(Constraint(name, args, defined, line))
@@ -149,35 +160,36 @@ class _Reader:
         annotations = self._annotations()
         sort = self._name()
         if sort not in ("satisfy", "minimize", "maximize"):
-            raise self._error(f"a goal is satisfy, minimize or maximize, and not {sort!r}")
+            raise NotSupported(
+                line, f"a goal is satisfy, minimize or maximize, and not {sort[:_SHOWN]!r}"
+            )
         objective = None if sort == "satisfy" else self._term()
         self._flat.goal = Goal(sort, objective, annotations, line)
 
     def _array(self) -> None:
+        line = self._next.line
         self._want("[")
         self._term()
         self._want("]")
         self._want("of")
         self._kind(may_be_set=not self._is("var"))
         self._want(":")
-        name = self._name()
+        name = self._new_name()
         printed: tuple[Numbers, ...] | None = None
         for each in self._annotations():
             if isinstance(each, Call) and each.name == "output_array":
-                [sets] = each.args
-                assert isinstance(sets, tuple)
-                printed = tuple(each for each in sets if isinstance(each, Numbers))
+                printed = _sets(each, line)
         self._want("=")
         elements = self._term()
         if not isinstance(elements, tuple):
-            raise self._error(f"the array {name} has to be told by its elements")
-        self._flat.arrays[name] = Array(name, elements, printed)
+            raise NotSupported(line, f"the array {name[:_SHOWN]} has to be told by its elements")
+        self._flat.arrays[name] = Array(name, elements, printed, line)
 
     def _variable(self) -> None:
         line = self._next.line
         is_truth, values = self._kind()
         self._want(":")
-        name = self._name()
+        name = self._new_name()
         annotations = self._annotations()
         value = self._term() if self._is("=") else None
         made = Variable(name, is_truth, values, annotations, value, line)
@@ -186,7 +198,7 @@ class _Reader:
     def _parameter(self) -> None:
         self._kind(may_be_set=True)
         self._want(":")
-        name = self._name()
+        name = self._new_name()
         self._annotations()
         self._want("=")
         self._flat.parameters[name] = self._term()
@@ -206,7 +218,7 @@ class _Reader:
             return self._kind()
         values = self._term()
         if not isinstance(values, Numbers):
-            raise self._error(f"no kind of a variable: {values!r}")
+            raise self._error("a kind is bool, int, or a set of numbers")
         return False, values
 
     def _annotations(self) -> tuple[Term, ...]:
@@ -218,7 +230,17 @@ class _Reader:
     # --- terms ---
 
     def _term(self) -> Term:
+        self._deep += 1
+        if self._deep > _DEEPEST:
+            raise self._error(f"brackets lie more than {_DEEPEST} deep within one another")
+        found = self._term_within()
+        self._deep -= 1
+        return found
+
+    def _term_within(self) -> Term:
         word = self._take()
+        if word.sort == "number" and len(word.text) > _LONGEST:
+            raise NotSupported(word.line, f"a number has more than {_LONGEST} letters")
         if word.sort == "number":
             low = int(word.text, 0) if word.text.lstrip("-")[:2] in ("0x", "0o") else int(word.text)
             return Numbers.span(low, self._number()) if self._is("..") else low
@@ -233,8 +255,8 @@ class _Reader:
         if word.text == "{":
             return Numbers.of(self._list(self._number, "}"))
         if word.sort == "float":
-            raise NotSupported(word.line, f"floats are not supported, as {word.text} is")
-        raise NotSupported(word.line, f"a value is wanted, and not {word.text!r}")
+            raise NotSupported(word.line, f"floats are not supported, as {word.text[:_SHOWN]} is")
+        raise NotSupported(word.line, f"a value is wanted, and not {_said(word)}")
 
     def _args(self) -> tuple[Term, ...]:
         return tuple(self._list(self._term, ")"))
@@ -244,3 +266,16 @@ class _Reader:
         if isinstance(value, bool) or not isinstance(value, int):
             raise self._error("a whole number is wanted")
         return value
+
+
+def _said(word: _Word) -> str:
+    """A word as a message shows it."""
+    return word.text if word.sort == "end" else repr(word.text[:_SHOWN])
+
+
+def _sets(printed: Call, line: int) -> tuple[Numbers, ...]:
+    """The sets over which an array is printed."""
+    sets = printed.args[0] if len(printed.args) == 1 else None
+    if not isinstance(sets, tuple) or not all(isinstance(each, Numbers) for each in sets):
+        raise NotSupported(line, "an array is printed over sets of numbers")
+    return tuple(each for each in sets if isinstance(each, Numbers))

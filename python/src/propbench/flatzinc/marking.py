@@ -10,7 +10,7 @@ import re
 from collections.abc import Sequence
 from dataclasses import dataclass
 
-from propbench.flatzinc.building import BLAMED
+from propbench.flatzinc.terms import BLAMED
 
 _TOKEN = re.compile(
     r"(?P<silent>\s+|%[^\n]*|/\*.*?\*/)|(?P<text>\"(?:[^\"\\]|\\.)*\")|(?P<name>[A-Za-z_]\w*|'[^'\n]*')"

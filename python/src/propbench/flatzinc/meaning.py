@@ -10,6 +10,7 @@ from typing import Protocol
 
 from propbench.flatzinc import arithmetic
 from propbench.flatzinc.arithmetic import every, picked, same_truth, sides_of, some, sum_of
+from propbench.flatzinc.forms import called
 from propbench.flatzinc.terms import Constraint, Name, NotSupported, Numbers, Term
 from propbench.model.expressions import (
     Expression,
@@ -79,7 +80,7 @@ def stated(terms: Terms, constraint: Constraint) -> Truth:
         return _SAYS[name](terms, args)
     if name in _GIVES:
         return _is_value(terms, constraint)
-    raise NotSupported(constraint.line, f"the constraint {name} is not supported")
+    raise NotSupported(constraint.line, f"{called(name)} is not supported")
 
 
 def defined(terms: Terms, constraint: Constraint) -> tuple[Number | Truth, Truth] | None:

@@ -36,9 +36,9 @@ def _groups(built: Built, annotation: Term) -> Iterator[Group]:
     if not isinstance(annotation, Call):
         return
     if annotation.name == "seq_search":
-        for each in built.elements(annotation.args[0]):
+        for each in _elements(built, annotation.args[0] if annotation.args else ()):
             yield from _groups(built, each)
-    elif annotation.name in _SEARCHES:
+    elif annotation.name in _SEARCHES and len(annotation.args) >= 3:
         variables, by, value = annotation.args[:3]
         cells = tuple(_cells(built, variables))
         is_from_top = isinstance(value, Name) and value.text in _FROM_TOP
@@ -49,6 +49,12 @@ def _groups(built: Built, annotation: Term) -> Iterator[Group]:
 
 
 def _cells(built: Built, variables: Term) -> Iterator[Cell]:
-    for each in built.elements(variables):
+    for each in _elements(built, variables):
         if isinstance(each, Name) and each.text in built.cells:
             yield built.cells[each.text]
+
+
+def _elements(built: Built, term: Term) -> tuple[Term, ...]:
+    """The elements of an array in an annotation, which is only a hint: none where it is none."""
+    found = built.flat.resolved(term)
+    return found if isinstance(found, tuple) else ()

@@ -9,7 +9,9 @@ import textwrap
 from collections.abc import Mapping, Sequence
 from pathlib import Path
 
+from propbench.files import write_file
 from propbench.questions.conflicts import Conflicts, Repairs
+from propbench.showing import printable
 
 # A line of a box has so many letters at the most, and a box so many lines.
 _WIDE, _LINES = 34, 4
@@ -35,17 +37,20 @@ def draw(path: Path, dot: str) -> None:
     """Draws the picture into a file, by what its name ends with: `.dot` is the text itself. Raises
     ValueError where Graphviz isn't there or can't, and OSError."""
     if path.suffix == ".dot":
-        path.write_text(dot, encoding="utf-8")
+        write_file(path, dot)
         return
     program = shutil.which("dot")
     if program is None:
         raise ValueError(
             "a picture needs Graphviz (apt-get install graphviz): without it ask for a .dot"
         )
-    words: Sequence[str] = [program, f"-T{path.suffix[1:]}", "-o", str(path)]
-    ran = subprocess.run(words, input=dot, text=True, capture_output=True)
+    words: Sequence[str] = [program, f"-T{path.suffix[1:]}"]
+    ran = subprocess.run(words, input=dot.encode("utf-8", "backslashreplace"), capture_output=True)
     if ran.returncode:
-        raise ValueError(f"Graphviz can't draw {path}: {ran.stderr.strip()}")
+        raise ValueError(
+            f"Graphviz can't draw {path}: {ran.stderr.decode(errors='replace').strip()}"
+        )
+    write_file(path, ran.stdout)
 
 
 def _wrapped(text: str) -> list[str]:
@@ -54,5 +59,6 @@ def _wrapped(text: str) -> list[str]:
 
 
 def _quoted(lines: Sequence[str]) -> str:
-    escaped = [line.replace("\\", "\\\\").replace('"', '\\"') for line in lines if line]
+    shown = [printable(line) for line in lines if line]
+    escaped = [line.replace("\\", "\\\\").replace('"', '\\"') for line in shown]
     return '"' + "\\n".join(escaped) + '"'

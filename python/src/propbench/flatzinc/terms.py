@@ -5,6 +5,10 @@ from dataclasses import dataclass, field
 from typing import Union
 
 
+# The constraint by which a model's own constraint has a name: it holds where that is believed.
+BLAMED = "propbench_blame"
+
+
 class NotSupported(ValueError):
     """A file that is no FlatZinc, or has what the workbench doesn't know; it names the line."""
 
@@ -104,6 +108,7 @@ class Array:
     name: str
     elements: tuple[Term, ...]
     printed: tuple[Numbers, ...] | None
+    line: int = 0
 
 
 @dataclass(frozen=True)

@@ -29,6 +29,10 @@ from propbench.model.core import among
 from propbench.model.writing import text_of
 
 
+# A number is raised to so much at the most.
+_MOST_POWER = 64
+
+
 class Expression:
     """Something with a value: a cell, or what is made of cells and constants."""
 
@@ -115,6 +119,8 @@ class Number(Expression):
         half = self ** (power // 2) if power > 1 else self
         if power == 1:
             return self
+        if power > _MOST_POWER:
+            raise ValueError(f"a power is by {_MOST_POWER} at the most: 2 ** 60 is above 10^18")
         return half * half * self if power % 2 else half * half
 
     def __neg__(self) -> "Number":
@@ -265,7 +271,8 @@ def _checked_number(value: object) -> int:
         raise TypeError(f"{value!r} is no whole number")
     number = index(value)
     if abs(number) > MOST:
-        raise ValueError(f"{number} lies beyond 10^18 either way")
+        told = str(number) if abs(number) < MOST**3 else "a number of so many digits"
+        raise ValueError(f"{told} lies beyond 10^18 either way")
     return number
 
 

@@ -8,8 +8,12 @@ from propbench.model.network import Network
 from propbench.model.script import Script
 from propbench.model.storing import Records, comments, record_of, records
 from propbench.model.vocabulary import Vocabulary
+from propbench.showing import cut
 
 _FORM = 1
+# What comes of records that are none of a workbench's, or are nested without end.
+_WRONG: tuple[type[Exception], ...] = (KeyError, TypeError, ValueError, IndexError, AttributeError)
+_WRONG += (ArithmeticError, AssertionError, RecursionError)
 
 
 def saved(network: Network) -> Iterator[str]:
@@ -38,15 +42,15 @@ def read(lines: Sequence[str], owner: object) -> tuple[list[Event], list[str]]:
     try:
         head, *middle, last = records(lines)
         if head["workbench"] != _FORM:
-            raise NotAWorkbench(f"the file is of another form: {head['workbench']}")
+            raise NotAWorkbench(f"the file is of another form: {cut(repr(head['workbench']))}")
         kit, kicked = frozenset(head["kit"]), list(last["kicked"])
         found = Records(owner)
         events = [found.event(record) for record in middle]
-    except (KeyError, TypeError, ValueError, IndexError) as error:
+        _check(lines, events, kit, kicked)
+    except _WRONG as error:
         if isinstance(error, NotAWorkbench):
             raise
         raise NotAWorkbench("the file was not saved by a workbench") from error
-    _check(lines, events, kit, kicked)
     return events, kicked
 
 
@@ -63,6 +67,7 @@ def _check(
     there = [(place, line) for place, line in enumerate(lines, 1) if line and line[0] != "#"]
     for (number, line), meant in zip(there, wanted):
         if line != meant:
-            raise NotAWorkbench(f"line {number} was changed: {line!r} stands for {meant!r}")
+            said = f"{cut(repr(line))} stands for {cut(repr(meant))}"
+            raise NotAWorkbench(f"line {number} was changed: {said}")
     if len(there) != len(wanted):
         raise NotAWorkbench(f"the file has {len(there)} lines where {len(wanted)} are meant")

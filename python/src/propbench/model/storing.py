@@ -5,6 +5,7 @@ begins with `#:` tells in the user's words what the lines below it are for.
 """
 
 import json
+import re
 from collections.abc import Iterable, Iterator, Mapping, Sequence
 from dataclasses import dataclass, field, fields
 from fractions import Fraction
@@ -29,6 +30,8 @@ from propbench.model.nodes import Declared, Node, Op, cell, constant, node
 # A comment begins so, and goes on so where a line is too short for it.
 BEGINS, GOES_ON = "#: ", "#+ "
 _LONGEST = 4000
+# A number that is saved, of so many digits at the most.
+_FRACTION = re.compile(r"-?[0-9]{1,2000}(/[0-9]{1,2000})?", re.ASCII)
 # What JSON gives may be anything: its parts are read by what stands there, and what has another form
 # than an event raises.
 Record = Mapping[str, Any]
@@ -91,13 +94,21 @@ def _reading_record(reading: Reading) -> list[str | None]:
 
 def _reading(parts: Sequence[str | None]) -> Reading:
     low, high, written, times = parts
-    exact = Fraction(str(low)), Fraction(str(high))
-    return Reading(*exact, str(written), None if times is None else Fraction(times))
+    exact = _fraction(low), _fraction(high)
+    return Reading(*exact, str(written), None if times is None else _fraction(times))
 
 
 def _measure(parts: Mapping[str, str]) -> Measure:
     unit, *numbers = (parts[name.name] for name in fields(Measure))
-    return Measure(unit, *map(Fraction, numbers))
+    return Measure(unit, *map(_fraction, numbers))
+
+
+def _fraction(text: object) -> Fraction:
+    """A number as it is saved, by two whole ones: so no short text stands for a number of a million
+    digits. Raises ValueError."""
+    if not isinstance(text, str) or not _FRACTION.fullmatch(text):
+        raise ValueError("a number is saved by its digits")
+    return Fraction(text)
 
 
 def _parts(each: Node) -> list[object]:

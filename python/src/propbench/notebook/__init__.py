@@ -17,13 +17,19 @@ it there, and the session goes on.
 
 draws what such a session has stated, and `film(session)` the steps of its run. Over propwide
 `how(session, "x")` tells what makes up a value.
+
+What was stated is kept in a journal: where the kernel is killed, `resume()` goes on with it.
 """
 
+import atexit
 from html import escape
 from typing import Any
 
 from IPython.display import display
 
+from propbench.finding import find_for
+from propbench.grammar import ASKING
+from propbench.journal import Journal, left
 from propbench.notebook.bar import Bar
 from propbench.overview import UNPROVED
 from propbench.pictures import Film, Picture, film_of, picture_of
@@ -31,12 +37,15 @@ from propbench.questions.clock import on_terminal, show_by
 from propbench.refusals import Refused
 from propbench.replies import Done, Reply, Silent
 from propbench.session import Session
-from propbench.showing import printable
+from propbench.showing import printable, shown
 from propbench.tables import table
 from propbench.watching import Claim
 from propbench.watching.of_session import SessionWatched
 
 _NEW = "--new"
+# By this name a session keeps its journal.
+_JOURNAL = "journal"
+_OFFERED = "`from propbench.notebook import resume; session = resume()` goes on with it."
 
 
 class Replies:
@@ -49,6 +58,11 @@ class Replies:
         self.done = 0
         self.wrong = ""
         self._notes = [] if proved else [UNPROVED]
+
+    def note(self, text: str) -> None:
+        """Has a note shown below, where there is one."""
+        if text:
+            self._notes.append(text)
 
     def take(self, line: str, reply: Reply) -> None:
         """Takes in the reply to a line."""
@@ -123,7 +137,38 @@ def carried_out(session: Session, text: str) -> Replies:
         raise
     finally:
         bar.end()
+        found.note(_kept(session))
     return found
+
+
+def _kept(session: Session) -> str:
+    """Has a session's journal hold what it has stated; gives what is to be told of that."""
+    journal = session.kept.get(_JOURNAL)
+    if not isinstance(journal, Journal):
+        journal = session.kept[_JOURNAL] = Journal("notebook")
+        atexit.register(journal.end)
+    return journal.keep([line for line in session.lines if line.split()[0] not in ASKING])
+
+
+def _end(session: Session) -> None:
+    """Ends a session, and its journal."""
+    journal = session.kept.get(_JOURNAL)
+    if isinstance(journal, Journal):
+        journal.end()
+    session.close()
+
+
+def resume() -> Session:
+    """A session that goes on with what a notebook's session had stated when its kernel was killed,
+    the last one. Raises ValueError where there is none, and the first refusal of its lines."""
+    cut_off = left("notebook")
+    if not cut_off:
+        raise ValueError("no session of a notebook was cut off")
+    session = Session(find_for(cut_off[0].lines).path)
+    session.send_all(cut_off[0].lines)
+    _kept(session)
+    cut_off[0].forget()
+    return session
 
 
 def picture(session: Session, cell: str | None = None) -> Picture:
@@ -154,13 +199,15 @@ def load_ipython_extension(shell: Any) -> None:
         is_new, name = _named(line)
         session = shell.user_ns.get(name)
         if is_new and isinstance(session, Session):
-            session.close()
+            _end(session)
         if is_new or not isinstance(session, Session):
             session = shell.user_ns[name] = Session()
         return carried_out(session, cell)
 
     shell.register_magic_function(propbench, "cell", "propbench")
     show_by(Bar().tell)
+    for each in left("notebook")[:1]:
+        print(f"{shown(str(each))} {_OFFERED}")
 
 
 def unload_ipython_extension(shell: Any) -> None:
@@ -176,5 +223,6 @@ __all__ = [
     "how",
     "load_ipython_extension",
     "picture",
+    "resume",
     "unload_ipython_extension",
 ]

@@ -8,6 +8,7 @@ import threading
 from contextlib import AbstractContextManager
 
 from propbench.closing import Closing
+from propbench.files import OpenedFile
 from propbench.page.asking import Asking
 from propbench.page.server import Server
 from propbench.watching import Watched
@@ -17,10 +18,18 @@ class Page(Closing):
     """A page that is served, in threads of its own, until it is closed."""
 
     def __init__(
-        self, watched: Watched, title: str, *, path: str | None = None, port: int = 0
+        self,
+        watched: Watched,
+        title: str,
+        *,
+        path: str | OpenedFile | None = None,
+        port: int = 0,
     ) -> None:
-        """Serves what is watched, which was read from the file at this path, if from any."""
-        self._asking = Asking(watched, title, path)
+        """Serves what is watched, which was read from this file, if from any; from one that is
+        `-` standard input, which is saved under a name that the page asks for. What is changed is
+        kept in the file's journal, where there is one, until it is saved."""
+        file = OpenedFile(path) if isinstance(path, str) else path
+        self._asking = Asking(watched, title, file)
         self._server = Server(self._asking, port)
         self._thread = threading.Thread(target=self._server.serve_forever, daemon=True)
         self._thread.start()
@@ -48,7 +57,12 @@ class Page(Closing):
 
 
 def serve(
-    watched: Watched, title: str, *, path: str | None = None, port: int = 0, wait: bool = True
+    watched: Watched,
+    title: str,
+    *,
+    path: str | OpenedFile | None = None,
+    port: int = 0,
+    wait: bool = True,
 ) -> Page:
     """Serves a page and prints its address; until Ctrl-C, where it is to `wait`."""
     page = Page(watched, title, path=path, port=port)
@@ -59,6 +73,9 @@ def serve(
             page.wait()
         except KeyboardInterrupt:
             page.close()
+            journal = path.journal if isinstance(path, OpenedFile) else None
+            if journal is not None and not journal.is_empty:
+                print("\nWhat was not saved is kept: --resume goes on with it.", flush=True)
     return page
 
 

@@ -4,16 +4,19 @@ Questions are carried out one after another. One that takes long can be stopped 
 the session goes on then.
 """
 
+import os
+import sys
 import threading
 from collections.abc import Callable, Iterator, Mapping
 from contextlib import contextmanager
 from dataclasses import asdict, replace
 
+from propbench.files import ChangedSince, OpenedFile
 from propbench.program import ProgramEnded
 from propbench.questions.asking import Interrupted
 from propbench.refusals import Refused
 from propbench.replies import Reply
-from propbench.showing import printable, said_of
+from propbench.showing import printable, quoted, said_of, shown
 from propbench.watching import (
     Frame,
     Network,
@@ -25,6 +28,10 @@ from propbench.watching import (
     bears,
 )
 
+# What changes what is stated.
+_CHANGING = frozenset(("believe", "wish", "apply", "line"))
+# How a file is called that has no name yet: what is read from standard input.
+UNNAMED = "-"
 # A page is told of so many steps at once at the most.
 _MOST_STEPS = 200
 # So many reasons are told of a cell that nobody looks at.
@@ -39,14 +46,17 @@ class Stopped(KeyboardInterrupt):
 
 
 class Asking:
-    """What is served: a session or a workbench, and the file that it came from, if any."""
+    """What is served: a session or a workbench, and the file that it came from, if any; one that
+    has no name yet is UNNAMED."""
 
-    def __init__(self, watched: Watched, title: str, path: str | None) -> None:
-        self._watched, self._title, self._path = watched, title, path
+    def __init__(self, watched: Watched, title: str, file: OpenedFile | None) -> None:
+        self._watched, self._title, self._file = watched, title, file
         self._lock = threading.RLock()
         self._stop = threading.Event()
         self._is_closed = False
         self._busy = ""
+        # Whether what is asked now changes what is stated.
+        self._changes = False
         # How often something may have changed; what was seen last, and the network as it was then.
         self._version = 1
         self._seen: Seen | None = None
@@ -111,7 +121,22 @@ class Asking:
         if what not in self._does:
             raise ValueError(f"there is no question {what!r}")
         with self._lock, self._watching(what):
+            self._changes = what in _CHANGING
             return self._does[what](asked)
+
+    def _keep(self) -> None:
+        """Has the journal hold what a change has made, before it is looked what follows."""
+        journal = None if self._file is None or not self._changes else self._file.journal
+        if journal is None or (journal.is_empty and self._is_saved()):
+            return
+        told = journal.keep(self._watched.saved())
+        if told:
+            print(shown(told), file=sys.stderr)
+
+    def _is_saved(self) -> bool:
+        """Whether the file has all that there is, as it was opened or saved last."""
+        content = self.saved().encode("utf-8", "surrogateescape")
+        return self._file is not None and self._file.had(content)
 
     # --- questions ---
 
@@ -207,11 +232,20 @@ class Asking:
         return {**told, "same": _same(before, self._look())}
 
     def _save(self, asked: Mapping[str, object]) -> dict[str, object]:
-        if self._path is None:
+        if self._file is None:
             raise ValueError("no file was opened: download the lines")
-        with open(self._path, "w", encoding="utf-8", errors="surrogateescape") as file:
-            file.write(self.saved())
-        return {"saved": printable(self._path)}
+        file = self._file
+        if "as" in asked:
+            file = _beside(file, _text(asked, "as"))
+        elif file.path == UNNAMED:
+            return {"saved": None, "says": "What shall the file be called?", "difference": []}
+        try:
+            is_meant = file is self._file and asked.get("overwrite") is True
+            file.save(self.saved().encode("utf-8", "surrogateescape"), is_meant)
+        except ChangedSince as changed:
+            return {"saved": None, "says": changed.said, "difference": changed.difference}
+        self._file = file
+        return {"saved": printable(file.path), "says": "", "difference": []}
 
     # --- what is told ---
 
@@ -235,7 +269,7 @@ class Asking:
         return {
             **told,
             "title": printable(self._title),
-            "file": None if self._path is None else printable(self._path),
+            "file": None if self._file is None else printable(self._file.path),
             "proved": watched.session.proved,
             "workbench": watched.is_workbench,
             "network": _network(watched.network()),
@@ -257,6 +291,7 @@ class Asking:
 
     def _changed_told(self) -> dict[str, object]:
         self._changed()
+        self._keep()
         return self._told()
 
     def _end_steps(self) -> None:
@@ -321,6 +356,19 @@ class Asking:
         self._busy = text
         if self._stop.is_set() or self._is_closed:
             raise Stopped
+
+
+def _beside(file: OpenedFile, name: str) -> OpenedFile:
+    """A new file beside this one; one without a name lies where the server was begun. Raises
+    ValueError for what is no name, and where something has it."""
+    if name in ("", ".", "..") or "/" in name or "\0" in name or name.startswith("."):
+        raise ValueError(f"a file is saved beside the other, by its name alone: {quoted(name)}")
+    path = os.path.join(os.path.dirname(file.path), name)
+    if os.path.lexists(path):
+        raise ValueError(f"there is something called {quoted(name)} already: take another name")
+    made = OpenedFile(path)
+    made.journal = file.journal
+    return made
 
 
 def _text(asked: Mapping[str, object], key: str) -> str:

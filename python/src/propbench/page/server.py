@@ -19,6 +19,7 @@ LOCAL = "127.0.0.1"
 _MOST_PORT = 65_535
 # A question has so many bytes at the most.
 _MOST_BYTES = 65_536
+_MOST_DIGITS = 20
 _POLICY = (
     "default-src 'none'; script-src 'self'; style-src 'self'; connect-src 'self'; img-src data:;"
     " base-uri 'none'; form-action 'none'; frame-ancestors 'none'"
@@ -38,6 +39,7 @@ _FILES = {
     "page.js": ("page.js", "text/javascript; charset=utf-8"),
     "drawing.js": ("drawing.js", "text/javascript; charset=utf-8"),
     "layout.js": ("layout.js", "text/javascript; charset=utf-8"),
+    "texts.js": ("texts.js", "text/javascript; charset=utf-8"),
 }
 _JSON, _TEXT = "application/json", "text/plain; charset=utf-8"
 
@@ -196,11 +198,12 @@ class Handler(BaseHTTPRequestHandler):
         if self.headers.get("Content-Type") != _JSON or self.headers.get("Transfer-Encoding"):
             raise Refusal(HTTPStatus.UNSUPPORTED_MEDIA_TYPE, "a question is JSON")
         length = self.headers.get("Content-Length", "")
-        if not (length.isascii() and length.isdigit()) or int(length) > _MOST_BYTES:
+        is_number = length.isascii() and length.isdigit()
+        if not is_number or len(length) > _MOST_DIGITS or int(length) > _MOST_BYTES:
             raise Refusal(HTTPStatus.REQUEST_ENTITY_TOO_LARGE, "a question is shorter")
         try:
             asked = json.loads(self.rfile.read(int(length)))
-        except ValueError:
+        except (ValueError, RecursionError):
             asked = None
         if not isinstance(asked, dict):
             raise Refusal(HTTPStatus.BAD_REQUEST, "a question is a JSON object")

@@ -5,6 +5,7 @@ premises, those that are out in grey.
 import os
 from dataclasses import replace
 
+from propbench.files import write_file
 from propbench.given import count_given, path_given
 from propbench.pictures.dot import Look, dot_of
 from propbench.pictures.film import Film
@@ -38,15 +39,15 @@ class Picture:
 
     def save(self, path: str | os.PathLike[str]) -> None:
         """Writes the picture to a file: as DOT where its name ends in `.dot`, else as SVG. Raises
-        ValueError for a name that ends as if it were something else, and NoGraphviz."""
+        ValueError for a name that ends as if it were something else, NoGraphviz, and OSError: a
+        picture that is there stays then."""
         ending = os.path.splitext(path_given(path))[1]
         if ending not in (".dot", ".svg", ""):
             raise ValueError(
                 f"a picture is written as .svg or .dot, and not as {printable(ending)}"
             )
         text = self.dot if ending == ".dot" else f"{self.svg}\n"
-        with open(path, "w", encoding="utf-8") as file:
-            file.write(text)
+        write_file(path, text.encode("utf-8", "backslashreplace"))
 
 
 def picture_of(watched: Watched, cell: str | None = None, parts: bool | None = None) -> Picture:

@@ -6,6 +6,7 @@ from dataclasses import dataclass
 from html import escape
 from typing import TYPE_CHECKING
 
+from propbench.files import write_file
 from propbench.given import path_given
 from propbench.questions.asking import tried
 from propbench.questions.bounding import LEAST, GREATEST, Bounding
@@ -37,13 +38,12 @@ class Chart:
         return self.svg
 
     def save(self, path: str | os.PathLike[str]) -> None:
-        """Writes the chart to a file, as SVG. Raises ValueError for a name that ends as if it were
-        something else."""
+        """Writes the chart to a file, as SVG, whole or not at all. Raises OSError, and ValueError
+        for a name that ends as if it were something else."""
         ending = os.path.splitext(path_given(path))[1]
         if ending.lower() not in (".svg", ""):
             raise ValueError(f"a chart is written as .svg, and not as {printable(ending)}")
-        with open(path, "w", encoding="utf-8") as file:
-            file.write(f"{self.svg}\n")
+        write_file(path_given(path), f"{self.svg}\n")
 
 
 def chart_of(

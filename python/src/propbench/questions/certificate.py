@@ -9,6 +9,7 @@ from dataclasses import dataclass, field
 from functools import partial
 
 from propbench.finding import find_wide
+from propbench.files import write_file
 from propbench.given import path_given
 from propbench.questions import checker
 from propbench.questions.checker import CertificateError
@@ -74,9 +75,7 @@ class Certificate:
     def save(self, path: str | os.PathLike[str]) -> None:
         """Writes the certificate into a file, for `propdesk check`. Raises OSError; and as
         `finished`, where nothing is written."""
-        lines = self.lines
-        with open(path_given(path), "w", encoding="utf-8", newline="\n") as file:
-            file.writelines(f"{line}\n" for line in lines)
+        write_file(path_given(path), "".join(f"{line}\n" for line in self.lines))
 
 
 def check_base(lines: Sequence[str], base: str | os.PathLike[str] | Sequence[str]) -> None:

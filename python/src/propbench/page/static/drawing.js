@@ -4,6 +4,7 @@
 // a thousand cells stay fluent. All that a session says is set as text, never as markup.
 
 import { CELL, USE, layout } from "./layout.js";
+import { printable } from "./texts.js";
 
 const SVG = "http://www.w3.org/2000/svg";
 // So many letters a box has room for; of a value some more, in small ones.
@@ -19,7 +20,7 @@ const MARKS = PATHS.filter((name) => name !== "wires" && name !== "cells");
 function made(tag, attributes, text = "") {
   const node = document.createElementNS(SVG, tag);
   for (const [name, value] of Object.entries(attributes)) node.setAttribute(name, value);
-  node.textContent = text;
+  node.textContent = printable(text);
   return node;
 }
 
@@ -224,7 +225,7 @@ export class Drawing {
     const cell = this.network.cells[at];
     if (!cell) return;
     const said = this.values.get(cell.name) ?? "";
-    const text = short(said, LETTERS.small);
+    const text = printable(short(said, LETTERS.small));
     if (texts[1].textContent === text) return;
     texts[1].textContent = text;
     texts[1].classList.toggle("small", said.length > LETTERS.value);
@@ -297,6 +298,7 @@ export class Drawing {
     let text = "";
     if (cell) text = value ? `${cell.text} = ${value}` : cell.text;
     else if (use) text = [use.text, ...(use.parts.length ? [use.parts.join(", ")] : [])].join(": ");
+    text = printable(text);
     if (this.under.textContent !== text) this.under.textContent = text;
     this.svg.classList.toggle("over", Boolean(cell));
   }

@@ -1,6 +1,7 @@
 // The page: asks the server, and shows what it answers. What a session says is always set as text.
 
 import { Drawing } from "./drawing.js";
+import { byName, joined, made, named, printable, tell } from "./texts.js";
 
 const at = (id) => document.getElementById(id);
 // So often, in milliseconds, it is looked whether something changed elsewhere.
@@ -13,18 +14,6 @@ const EMPTY = "There is nothing yet. Open “The plain lines” below, and send 
   + " makes a number x, “tell me x 3..5” says what you know of it, “why x” asks what follows.";
 const EMPTY_WORKBENCH = "There is nothing yet: make a cell in Python, as w.number(\"x\", 0, 9), and"
   + " load this page anew.";
-
-// A node with texts and nodes in it.
-function made(tag, attributes, ...inner) {
-  const node = document.createElement(tag);
-  for (const [name, value] of Object.entries(attributes)) {
-    if (name === "class") node.className = value;
-    else if (typeof value === "boolean") node.toggleAttribute(name, value);
-    else node.setAttribute(name, value);
-  }
-  node.append(...inner);
-  return node;
-}
 
 let state = null;
 let picked = null;
@@ -39,7 +28,7 @@ let drawn = "";
 const drawing = new Drawing(at("drawing"), at("sheet"), at("under"), pick);
 at("drawing").addEventListener("here", (event) => {
   const shown = values().get(event.detail);
-  say(`${textOf(event.detail)}${shown ? ` = ${shown.text}` : ""}`);
+  say([named(textOf(event.detail)), ...(shown ? [" = ", named(shown.text)] : [])]);
 });
 
 // --- asking ---
@@ -72,8 +61,9 @@ async function asked(body) {
   }
 }
 
-function say(text, wrong = false) {
-  at("status").textContent = text;
+// Says a text, or parts of one.
+function say(said, wrong = false) {
+  tell(at("status"), ...[said].flat());
   at("status").classList.toggle("wrong", wrong);
 }
 
@@ -85,11 +75,12 @@ async function load() {
 // Takes in what was answered: all of it, or what changed.
 function take(told) {
   const before = state?.byCell;
-  const plan = state?.seen.plan;
+  const plan = state?.plan;
   if (state && !told.network && told.shape !== state.shape) return load();
   const isNew = !state || told.shape !== state.shape;
   state = { ...(state ?? {}), ...told };
   state.byCell = new Map(state.seen.values.map((each) => [each.cell, each]));
+  state.plan = byName(state.seen.plan);
   if (isNew) build();
   frame = -1;
   frames = [];
@@ -97,19 +88,23 @@ function take(told) {
   const changed = new Set([...state.byCell].filter(differs).map(([name]) => name));
   show(changed);
   if (picked) look(picked);
-  if (before) tell(changed, plan);
+  if (before) sayWhatChanged(changed, plan);
 }
 
-function tell(changed, plan) {
+function sayWhatChanged(changed, plan) {
   if (state.seen.clash) return say("Conflict: what is believed can't all hold.", true);
-  const stands = state.seen.plan;
+  const stands = state.plan;
   const moved = state.network.choices.filter(
-    ({ name }) => plan?.[name] !== undefined && plan[name] !== stands[name]);
-  const parts = moved.map((each) => `${each.text}: ${each.sides[stands[each.name]] ?? "?"}`);
+    ({ name }) => plan?.has(name) && plan.get(name) !== stands.get(name));
+  const parts = moved.map(
+    (each) => [named(each.text), ": ", named(each.sides[stands.get(each.name)] ?? "?")]);
   const known = values();
-  const names = [...changed].slice(0, 3).map((name) => `${textOf(name)} = ${known.get(name).text}`);
-  if (changed.size > 3) names.push(`and ${changed.size - 3} more`);
-  say([...parts, ...names].join(", ") || "No value changed.");
+  for (const name of [...changed].slice(0, 3)) {
+    parts.push([named(textOf(name)), " = ", named(known.get(name).text)]);
+  }
+  if (changed.size > 3) parts.push([`and ${changed.size - 3} more`]);
+  say(parts.flatMap((part, place) => (place ? [", ", ...part] : part)));
+  if (!parts.length) say("No value changed.");
 }
 
 const textOf = (name) => state.texts.get(name) ?? name;
@@ -131,8 +126,8 @@ function values() {
 function build() {
   const { network } = state;
   state.texts = new Map(network.cells.map((each) => [each.name, each.text]));
-  at("title").textContent = state.title;
-  document.title = `${state.title} - propbench`;
+  tell(at("title"), named(state.title));
+  document.title = `${printable(state.title)} - propbench`;
   at("proved").textContent = state.proved ? "proved" : "not known to be proved";
   at("proved").classList.toggle("unproved", !state.proved);
   at("save").hidden = state.file === null;
@@ -156,15 +151,16 @@ function premise(each) {
     if (told) take(told);
     else await load();
   });
-  const says = each.says.map((said) => said.text).join("; ") || "(nothing)";
-  const label = made("label", { for: box.id }, each.text);
-  const item = made("li", { class: "premise" }, box, label, made("small", {}, says));
+  const texts = each.says.map((said) => said.text);
+  const says = texts.length ? joined(texts, "; ") : ["(nothing)"];
+  const label = made("label", { for: box.id }, named(each.text));
+  const item = made("li", { class: "premise" }, box, label, made("small", {}, ...says));
   item.dataset.premise = each.name;
   return item;
 }
 
 function choice(each) {
-  const sides = ["as it comes", ...each.sides].map((text, place) => {
+  const sides = ["as it comes", ...each.sides.map(named)].map((text, place) => {
     const id = `choice ${place} ${each.name}`;
     const button = made("input", { type: "radio", name: `choice ${each.name}`, id });
     button.addEventListener("change", async () => {
@@ -175,19 +171,19 @@ function choice(each) {
     });
     return made("div", { class: "side" }, button, made("label", { for: button.id }, text));
   });
-  const set = made("fieldset", { class: "choice" }, made("legend", {}, each.text), ...sides);
+  const set = made("fieldset", { class: "choice" }, made("legend", {}, named(each.text)), ...sides);
   set.dataset.choice = each.name;
   return set;
 }
 
 function row(each) {
-  const button = made("button", { type: "button" }, each.text);
+  const button = made("button", { type: "button" }, named(each.text));
   button.addEventListener("click", () => pick(each.name));
   const value = made("td", {});
   const because = made("td", {});
   const line = made("tr", {}, made("th", { scope: "row" }, button), value, because);
   line.dataset.cell = each.name;
-  return { row: line, button, value, because, said: "", reasons: "" };
+  return { row: line, button, value, because, said: "[]", reasons: "[]" };
 }
 
 // Makes the rows of the cells whose names have what is looked for: the first of them, where there
@@ -224,19 +220,26 @@ function showValues(changed) {
   const lit = new Set(bears?.cells);
   for (const [name, each] of rows) {
     const shown = known.get(name);
-    const said = shown ? `${shown.text}${shown.settled ? "" : " (not settled)"}` : "";
-    const reasons = shown ? reasonsOf(shown) : "";
-    if (each.said !== said) each.value.textContent = each.said = said;
-    if (each.reasons !== reasons) each.because.textContent = each.reasons = reasons;
+    const said = shown ? [named(shown.text), ...(shown.settled ? [] : [" (not settled)"])] : [];
+    each.said = retold(each.value, said, each.said);
+    each.reasons = retold(each.because, shown ? reasonsOf(shown) : [], each.reasons);
     each.row.classList.toggle("changed", changed.has(name));
     each.row.classList.toggle("lit", lit.has(name));
     each.row.classList.toggle("picked", name === picked);
   }
 }
 
+// Has a node say parts, where these are others than before; gives what it says then.
+function retold(node, parts, before) {
+  const text = JSON.stringify(parts.map((part) => part.textContent ?? part));
+  if (text !== before) tell(node, ...parts);
+  return text;
+}
+
 function reasonsOf(shown) {
-  const more = shown.more ? ` and ${shown.more} more` : "";
-  return `${shown.because.join(", ")}${more}` || "what always holds";
+  const parts = joined(shown.because, ", ");
+  if (shown.more) parts.push(` and ${shown.more} more`);
+  return parts.length ? parts : ["what always holds"];
 }
 
 function showSwitches() {
@@ -244,6 +247,7 @@ function showSwitches() {
   const clash = new Set(state.seen.clash?.premises);
   const lit = new Set(bears?.premises);
   const litChoices = new Set(bears?.choices);
+  const wishes = byName(state.wished);
   for (const item of at("premises").children) {
     const name = item.dataset.premise;
     item.querySelector("input").checked = believed.has(name);
@@ -253,8 +257,8 @@ function showSwitches() {
   }
   for (const set of at("choices").children) {
     const name = set.dataset.choice;
-    const stands = state.seen.plan[name];
-    const wished = state.wished[name];
+    const stands = state.plan.get(name);
+    const wished = wishes.get(name);
     set.classList.toggle("lit", litChoices.has(name));
     set.querySelectorAll(".side").forEach((side, place) => {
       side.querySelector("input").checked = place === (wished === undefined ? 0 : wished + 1);
@@ -266,7 +270,7 @@ function showSwitches() {
 
 function showLines() {
   if (!at("plain").open) return;
-  at("lines").textContent = (state.lines ?? []).join("\n");
+  tell(at("lines"), (state.lines ?? []).join("\n"));
 }
 
 // --- a cell ---
@@ -284,14 +288,14 @@ async function look(name) {
   }
   for (const [other, each] of rows) each.row.classList.toggle("picked", other === name);
   at("cell").hidden = false;
-  at("cell-name").textContent = textOf(name);
+  tell(at("cell-name"), named(textOf(name)));
   at("cell-core").textContent = "";
   at("best").replaceChildren();
   const known = values().get(name);
   const clashes = state.seen.clash && frame < 0;
   const nothing = clashes ? "no value while there is a conflict" : "nothing is known";
-  at("cell-value").textContent = known ? known.text : nothing;
-  at("cell-because").textContent = known ? `because of ${reasonsOf(known)}` : "";
+  tell(at("cell-value"), known ? named(known.text) : nothing);
+  tell(at("cell-because"), ...(known ? ["because of ", ...reasonsOf(known)] : []));
   bears = null;
   let how = "";
   if (frame < 0 && !state.seen.clash) {
@@ -299,10 +303,10 @@ async function look(name) {
     if (told === undefined || picked !== name) return;
     bears = told.bears;
     how = told.how;
-    if (told.shown) at("cell-because").textContent = `because of ${reasonsOf(told.shown)}`;
+    if (told.shown) tell(at("cell-because"), "because of ", ...reasonsOf(told.shown));
   }
   at("how").hidden = !how;
-  at("cell-how").textContent = how;
+  tell(at("cell-how"), how);
   const kind = state.network.cells.find((each) => each.name === name).kind;
   at("least").hidden = at("greatest").hidden = !["span", "a number"].includes(kind);
   drawing.light(bears);
@@ -327,10 +331,10 @@ async function core() {
   const told = await asked({ what: "core", cell: name });
   if (!told || picked !== name) return;
   const { shown } = told;
-  let text = "What is believed can't all hold.";
-  if (shown?.reduced) text = `None can be left out of: ${reasonsOf(shown)}`;
-  else if (shown) text = `So far: ${reasonsOf(shown)} (maybe too many)`;
-  at("cell-core").textContent = text;
+  let parts = ["What is believed can't all hold."];
+  if (shown?.reduced) parts = ["None can be left out of: ", ...reasonsOf(shown)];
+  else if (shown) parts = ["So far: ", ...reasonsOf(shown), " (maybe too many)"];
+  tell(at("cell-core"), ...parts);
 }
 
 async function best(sort) {
@@ -338,7 +342,7 @@ async function best(sort) {
   const told = await asked({ what: "best", cell: name, sort });
   if (!told || picked !== name) return;
   const lines = told.plan.map(([cell, value]) =>
-    made("tr", {}, made("th", { scope: "row" }, cell), made("td", {}, value)));
+    made("tr", {}, made("th", { scope: "row" }, named(cell)), made("td", {}, named(value))));
   const plan = made("table", {}, made("tbody", {}, ...lines));
   const says = lines.length ? [plan, made("p", {}, told.says)] : [];
   at("best").replaceChildren(made("p", {}, told.text), ...says);
@@ -352,7 +356,9 @@ async function showClash() {
   const clash = state.seen.clash;
   at("clash").hidden = !clash || frame >= 0;
   if (!clash) return;
-  const says = clash.premises.map((name) => made("li", {}, `${name}: ${clash.says[name] ?? ""}`));
+  const stated = byName(clash.says);
+  const says = clash.premises.map(
+    (name) => made("li", {}, named(name), ": ", named(stated.get(name) ?? "")));
   const text = clash.text ? [made("p", {}, clash.text)] : [];
   at("clash-says").replaceChildren(...text, made("ul", {}, ...says));
   if (mendedAt === state.version) return;
@@ -364,22 +370,23 @@ async function showClash() {
 
 function showMending(told) {
   const conflicts = told.conflicts.map(
-    (each) => made("li", {}, each.join(", ") || "what always holds"));
+    (each) => made("li", {}, ...(each.length ? joined(each, ", ") : ["what always holds"])));
   const repairs = told.repairs.map((premises) => {
     const tried = made("p", { class: "tried" });
     const attempt = made("button", { type: "button" }, "Try");
     attempt.addEventListener("click", async () => {
       const seen = (await asked({ what: "try", premises }))?.seen;
       if (!seen) return;
-      const some = seen.values.slice(0, 40).map((each) => `${textOf(each.cell)} = ${each.text}`);
-      tried.textContent = seen.clash ? "Still a conflict." : some.join(", ");
+      const some = seen.values.slice(0, 40).flatMap(
+        (each, place) => [place ? ", " : "", named(textOf(each.cell)), " = ", named(each.text)]);
+      tell(tried, ...(seen.clash ? ["Still a conflict."] : some));
     });
     const apply = made("button", { type: "button" }, "Apply");
     apply.addEventListener("click", async () => {
       const found = await asked({ what: "apply", premises });
       if (found) take(found);
     });
-    const name = made("span", {}, `give up ${premises.join(" and ")}`);
+    const name = made("span", {}, "give up ", ...joined(premises, " and "));
     return made("div", {}, made("div", { class: "repair" }, name, attempt, apply), tried);
   });
   const none = "Nothing that is believed can be given up to mend this.";
@@ -434,12 +441,13 @@ function showStep() {
   at("changes").hidden = !on;
   if (!on) return;
   const changes = shown.changes.map((each) => {
-    const before = frame && each.before ? `${each.before} \u2192 ` : "";
-    const reasons = each.because.length ? ` because of ${each.because.join(", ")}` : "";
-    return made("li", {}, `${textOf(each.cell)}: ${before}${each.after}${reasons}`);
+    const before = frame && each.before ? [named(each.before), " \u2192 "] : [];
+    const reasons = each.because.length ? [" because of ", ...joined(each.because, ", ")] : [];
+    return made(
+      "li", {}, named(textOf(each.cell)), ": ", ...before, named(each.after), ...reasons);
   });
   const nogoods = shown.nogoods.map(
-    (each) => made("li", { class: "wrong" }, `impossible together: ${each.join(", ")}`));
+    (each) => made("li", { class: "wrong" }, "impossible together: ", ...joined(each, ", ")));
   const what = changes.length || nogoods.length ? "changed" : "changed nothing";
   const head = frame === 0 ? "Before the first step" : `Step ${frame} ${what}`;
   const does = shown.does ? [made("p", { class: "does" }, shown.does)] : [];
@@ -467,9 +475,23 @@ press("go-on", async () => {
   const told = await asked({ what: "look" });
   if (told) take(told);
 });
-press("save", async () => {
-  const told = await asked({ what: "save" });
-  if (told) say(`Saved to ${told.saved}.`);
+// Saves, and shows why not: what somebody else has changed in the file, or that it has no name yet.
+async function save(how) {
+  const told = await asked({ what: "save", ...how });
+  if (!told) return;
+  at("save-form").hidden = told.saved !== null;
+  tell(at("save-says"), told.says);
+  at("difference").hidden = at("overwrite").hidden = !told.difference.length;
+  const head = "- is there now, + is what you have";
+  tell(at("difference"), [head, ...told.difference].join("\n"));
+  if (told.saved !== null) say(`Saved to ${told.saved}.`);
+  else say(told.says, true);
+}
+press("save", () => save({}));
+press("overwrite", () => save({ overwrite: true }));
+at("save-form").addEventListener("submit", (event) => {
+  event.preventDefault();
+  save({ as: at("save-as").value });
 });
 press("replay", async () => {
   const told = await asked({ what: "replay" });
@@ -490,7 +512,7 @@ at("line-form").addEventListener("submit", async (event) => {
   const told = await asked({ what: "line", line: at("line").value });
   if (!told) return;
   at("reply").hidden = false;
-  at("reply").textContent = told.reply;
+  tell(at("reply"), told.reply);
   at("reply").classList.toggle("wrong", told.refused);
   if (!told.refused) at("line").value = "";
   take(told);

@@ -1,0 +1,153 @@
+"""Whether a file of FlatZinc holds together, before anything is made of it.
+
+Each name is declared, and each constraint has the arguments that it takes. Else NotSupported says
+so, with the line.
+"""
+
+from collections.abc import Iterable, Sequence
+from math import prod
+
+from propbench.flatzinc.terms import (
+    BLAMED,
+    Array,
+    Constraint,
+    Flat,
+    Name,
+    NotSupported,
+    Numbers,
+    Term,
+    Text,
+)
+from propbench.showing import quoted
+
+# What constraints take: `v` a value, `V` an array of them, `c` a constant, `C` an array of them,
+# `S` a set, `s` a text.
+_TAKES = {
+    "array_bool_and": "Vv",
+    "array_bool_element": "vVv",
+    "array_bool_or": "Vv",
+    "array_bool_xor": "V",
+    "array_int_element": "vVv",
+    "array_int_maximum": "vV",
+    "array_int_minimum": "vV",
+    "array_var_bool_element": "vVv",
+    "array_var_int_element": "vVv",
+    "bool2int": "vv",
+    "bool_clause": "VV",
+    "bool_not": "vv",
+    "fzn_all_different_int": "V",
+    "int_abs": "vv",
+    "int_negate": "vv",
+    "propbench_count": "Vv",
+    "set_in": "vS",
+    BLAMED: "vs",
+}
+_TAKES |= {f"int_{each}": "vv" for each in ("eq", "ne", "le", "lt", "ge", "gt")}
+_TAKES |= {f"bool_{each}": "vv" for each in ("eq", "ne", "le", "lt")}
+_TAKES |= {f"int_lin_{each}": "CVc" for each in ("eq", "ne", "le")}
+_TAKES |= {f"bool_lin_{each}": "CVv" for each in ("eq", "ne", "le")}
+_TAKES |= {f"int_{each}": "vvv" for each in ("plus", "minus", "times", "div", "mod", "pow")}
+_TAKES |= {"int_pow_fixed": "vvv", "int_max": "vvv", "int_min": "vvv"}
+_TAKES |= {"bool_and": "vvv", "bool_or": "vvv", "bool_xor": "vvv"}
+_SORTS = {
+    "v": "a value",
+    "V": "an array",
+    "c": "a constant",
+    "C": "an array of constants",
+    "S": "a set of numbers",
+    "s": "a text",
+}
+# What a constraint is called that no file of a user's has by itself.
+_OWN = {BLAMED: "the mark of a constraint", "propbench_count": "a count"}
+
+
+def check(flat: Flat) -> None:
+    """Raises NotSupported where the model doesn't hold together."""
+    for array in flat.arrays.values():
+        _check_values(flat, array.elements, array.line)
+        _check_printed(array)
+    for variable in flat.variables.values():
+        if variable.value is not None:
+            _check_values(flat, [variable.value], variable.line)
+    for each in flat.constraints:
+        _check_constraint(flat, each)
+    if flat.goal.objective is not None:
+        _check_values(flat, [flat.goal.objective], flat.goal.line)
+
+
+def called(name: str) -> str:
+    """What a constraint is called in a message."""
+    return _OWN.get(name.removesuffix("_reif").removesuffix("_imp"), f"the constraint {name}")
+
+
+def _check_printed(array: Array) -> None:
+    if array.printed is None:
+        return
+    sizes = (sum(high - low + 1 for low, high in each.ranges) for each in array.printed)
+    if prod(sizes) != len(array.elements):
+        raise NotSupported(
+            array.line, f"the array {array.name} is printed over other places than it has"
+        )
+
+
+def _check_constraint(flat: Flat, constraint: Constraint) -> None:
+    takes, args = _takes(constraint), constraint.args
+    if len(args) != len(takes):
+        raise NotSupported(
+            constraint.line,
+            f"{called(constraint.name)} has {len(args)} arguments, and takes {len(takes)}",
+        )
+    for place, (sort, each) in enumerate(zip(takes, args), 1):
+        found = flat.resolved(each)
+        if sort in "vV":
+            _check_values(flat, [found] if sort == "v" else _elements(found), constraint.line)
+        if not _is_of(sort, found, flat):
+            raise NotSupported(
+                constraint.line,
+                f"argument {place} of {called(constraint.name)} has to be {_SORTS[sort]}",
+            )
+    if takes.startswith("CV") and len(_of_array(flat, args[0])) != len(_of_array(flat, args[1])):
+        raise NotSupported(
+            constraint.line, f"{called(constraint.name)} has as many factors as variables"
+        )
+
+
+def _takes(constraint: Constraint) -> str:
+    """What a constraint takes. Raises NotSupported for one that is not known."""
+    name = constraint.name
+    if name == "bool_xor" and len(constraint.args) == 2:
+        return "vv"
+    for ending in ("_reif", "_imp"):
+        if name.endswith(ending) and name.removesuffix(ending) in _TAKES:
+            return _TAKES[name.removesuffix(ending)] + "v"
+    if name not in _TAKES:
+        raise NotSupported(constraint.line, f"{called(name)} is not supported")
+    return _TAKES[name]
+
+
+def _is_of(sort: str, found: Term, flat: Flat) -> bool:
+    """Whether an argument is of a sort; names in it are looked at elsewhere."""
+    if sort == "v":
+        return isinstance(found, int | Name)
+    if sort in "VC":
+        constants = (isinstance(flat.resolved(each), int) for each in _elements(found))
+        return isinstance(found, tuple) and (sort == "V" or all(constants))
+    return isinstance(found, {"c": int, "S": Numbers, "s": Text}[sort])
+
+
+def _elements(found: Term) -> Sequence[Term]:
+    return found if isinstance(found, tuple) else ()
+
+
+def _of_array(flat: Flat, term: Term) -> Sequence[Term]:
+    return _elements(flat.resolved(term))
+
+
+def _check_values(flat: Flat, terms: Iterable[Term], line: int) -> None:
+    """Raises NotSupported where one of these is neither a constant nor a declared variable."""
+    for each in terms:
+        found = flat.resolved(each)
+        if isinstance(found, Name) and found.text not in flat.variables:
+            raise NotSupported(line, f"nothing is called {quoted(found.text)}")
+        if not isinstance(found, int | Name):
+            raise NotSupported(line, "a variable or a constant is wanted here")
