@@ -82,6 +82,9 @@ class LineModel(Questions):
     def cells(self) -> list[str]:
         return list(self.kinds)
 
+    def check_cell(self, cell: object) -> None:
+        pass
+
     def cell_name(self, cell: str) -> str:
         return cell
 
@@ -112,7 +115,7 @@ class LineModel(Questions):
     def is_measured(self, cell: str) -> bool:
         return False
 
-    def read(self, cell: str, value: object, high: object = None) -> str:
+    def telling(self, premise: str, cell: str, value: object, high: object = None) -> str:
         raise NotImplementedError
 
     def held(self, plan: Mapping[str, Point]) -> Sequence[str]:

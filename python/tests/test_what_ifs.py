@@ -103,6 +103,27 @@ def test_scenarios_are_what_ifs(w: Workbench) -> None:
         w.scenarios({"wrong": {"kik": ["ana"]}}, ["x"])
 
 
+def test_a_table_refuses_what_a_what_if_refuses(w: Workbench) -> None:
+    """In the same words, which are the user's."""
+    w.choose("plan", w.cell("x"), [5, 6])
+    wrong: dict[str, tuple[object, ...]] = {
+        "'plan' is a choice, and nothing is stated under a choice": ("plan", "x", 3),
+        "from 3 to 2 there is no number, for 'x'": ("guess", "x", 3, 2),
+        "10000000000000000000 lies beyond": ("guess", "x", 10**19),
+        "'3' is no whole number": ("guess", "x", "3"),
+        "'review' is one of no elements": ("guess", "review", []),
+        "True is no element of day": ("guess", "review", True),
+    }
+    before = state(w)
+    for says, told in wrong.items():
+        with pytest.raises((ValueError, TypeError), match=says):
+            w.scenarios({"row": {"tell": [told]}}, ["y"])
+        with pytest.raises((ValueError, TypeError), match=says):
+            with w.what_if(tell=[told]):
+                pass
+    assert state(w) == before
+
+
 def test_a_sweep_is_the_same_table(w: Workbench) -> None:
     wanted = w.scenarios(ROWS, ["x", "review"])
     assert w.sweep(ROWS, ["x", "review"]) == wanted

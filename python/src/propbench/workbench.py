@@ -29,7 +29,15 @@ from propbench.measuring import stating
 from propbench.measuring.terms import Law
 from propbench.model.answers import Answer, Conflict, NotSettled, ends_of
 from propbench.model.blaming import always, beyond
-from propbench.model.cells import Cell, ElementCell, NumberCell, SymbolCell, TruthCell, words_of
+from propbench.model.cells import (
+    Cell,
+    ElementCell,
+    NumberCell,
+    SymbolCell,
+    TruthCell,
+    gone,
+    words_of,
+)
 from propbench.model.choosing import MOST_ALTERNATIVES
 from propbench.model.events import (
     CellMade,
@@ -625,7 +633,7 @@ class Workbench(Measuring, Closing):
             if cell.owner is not self._owner:
                 raise ValueError(f"{cell.name!r} is a cell of another workbench")
             if known.get(cell.name) is not cell:
-                raise ValueError(f"{cell.name!r} was made in a what-if that is over: make it anew")
+                raise gone(cell.name)
 
     def _constraints(self, stated: Stated) -> tuple[Node, ...]:
         """The constraints of an alternative."""

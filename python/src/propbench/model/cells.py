@@ -98,6 +98,11 @@ class SymbolCell(Cell, Symbol):
     """A cell for a symbol."""
 
 
+def gone(name: str) -> ValueError:
+    """What is raised for a cell of this name that is not there any more."""
+    return ValueError(f"{name!r} was made in a what-if that is over: make it anew")
+
+
 def words_of(given: "str | Iterable[str]") -> tuple[str, ...]:
     """Names given as one text with spaces between them, or one by one. Raises TypeError for what
     is neither."""

@@ -10,7 +10,7 @@ from dataclasses import dataclass, field, replace
 from typing import TypeVar
 
 from propbench.model.either import Either
-from propbench.model.events import Event, Required
+from propbench.model.events import ConstraintChoice, Event, Required, ValueChoice
 from propbench.model.kinds import Domain
 from propbench.model.kit import offered, written
 from propbench.model.nodes import Declared, Node
@@ -60,6 +60,8 @@ class Network:
         self._is_fresh = True
         # Whether something is being stated, of which the index has more than the record.
         self._is_stating = False
+        # The names of premises that the session knows and nothing is stated under any more.
+        self._forgotten: set[str] = set()
         # What makes the network from nothing, while that is known.
         self._base: Script | None = None
         if program is None:
@@ -154,6 +156,7 @@ class Network:
         # (a premise that nothing names is believed, in case that it is named again)
         self._session.send_all([f"bring {name}", f"forget {name}"])
         self._script.forget(premise)
+        self._forgotten.add(premise)
         self._base = None
         self._index.forget(premise)
         self._stand(self._record.believing(premise, True))
@@ -189,6 +192,10 @@ class Network:
         events = self._index.events[self._record.count :]
         if not events:
             return
+        choices = (each for each in events if isinstance(each, (ValueChoice, ConstraintChoice)))
+        if any(choice.name in self._forgotten for choice in choices):
+            # (the program keeps the name of a premise, and gives it to no choice)
+            self._written = None
         self._leave()
         try:
             lines = [line for event in events for line in self._script.lines_of(event)]
@@ -241,6 +248,7 @@ class Network:
                 self._session.send_all(lines)
             else:
                 self._session.replay(lines)
+            self._forgotten.clear()
             self._told = self._record
 
     # --- copies ---

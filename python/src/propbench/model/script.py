@@ -106,14 +106,14 @@ class Script:
 
     def _tell(self, event: Told) -> None:
         cell = self.vocabulary.cells.line(event.cell.name)
-        value = self._written(event.cell, event.values)
+        value = values_line(self.vocabulary, event.cell, event.values)
         if event.premise is None:
             self.writer.line(f"fix {cell} {value}")
         else:
             self.writer.line(f"tell {self.vocabulary.premises.line(event.premise)} {cell} {value}")
 
     def _choose_value(self, event: ValueChoice) -> None:
-        values = [self._written(event.cell, each) for each in event.alternatives]
+        values = [values_line(self.vocabulary, event.cell, each) for each in event.alternatives]
         cell = self.vocabulary.cells.line(event.cell.name)
         if is_large(len(values)):
             for within, value in zip(self._choose(event.name, len(values)), values):
@@ -149,13 +149,14 @@ class Script:
     def _write_choice(self, name: str, cell: str, values: Sequence[str]) -> None:
         self.writer.line(f"choose {name} {cell} {' or '.join(values)}")
 
-    def _written(self, cell: Declared, values: Values) -> str:
-        """What is stated of a cell, as a line has it."""
-        if cell.kind is Plain.NUMBER:
-            low, high = values
-            return span_text(int(low), int(high))
-        if isinstance(cell.kind, Domain):
-            return self.vocabulary.some(tuple(map(str, values)), cell.kind)
-        if len(values) == 2:
-            return "{no yes}"
-        return self.vocabulary.literal(values[0], cell.kind)
+
+def values_line(vocabulary: Vocabulary, cell: Declared, values: Values) -> str:
+    """What is stated of a cell, as a line has it."""
+    if cell.kind is Plain.NUMBER:
+        low, high = values
+        return span_text(int(low), int(high))
+    if isinstance(cell.kind, Domain):
+        return vocabulary.some(tuple(map(str, values)), cell.kind)
+    if len(values) == 2:
+        return "{no yes}"
+    return vocabulary.literal(values[0], cell.kind)

@@ -5,13 +5,14 @@ This is all that `propbench.questions` uses of a workbench beside what a user do
 
 from collections.abc import Mapping, Sequence
 
+from propbench.model.cells import Cell, gone
 from propbench.model.events import CellMade, DomainMade, Event, Statement, premise_of
 from propbench.model.given import values_of
 from propbench.model.kinds import Domain, Plain, Point
 from propbench.model.meaning import Beyond, Plan
 from propbench.model.nodes import Declared
 from propbench.model.network import Network
-from propbench.model.writer import span_text
+from propbench.model.script import values_line
 from propbench.model.writing import text_of
 from propbench.questions.model import First
 from propbench.session import Session
@@ -63,6 +64,13 @@ class BenchModel:
     def cells(self) -> Sequence[str]:
         """The user's cells, in the order in which they were made."""
         return list(self._network.cells)
+
+    def check_cell(self, cell: object) -> None:
+        """Raises ValueError for a cell that is gone, where another that is there has its name."""
+        if isinstance(cell, Cell):
+            there = self._network.cells[cell.name]
+            if there is not cell.declared and there.owner is cell.declared.owner:
+                raise gone(cell.name)
 
     def cell_name(self, cell: str) -> str:
         """The name of a cell on a line."""
@@ -137,11 +145,12 @@ class BenchModel:
         """Whether the cell counts steps of a measured quantity."""
         return self._network.cells[cell].measure is not None
 
-    def read(self, cell: str, value: object, high: object = None) -> str:
-        """What a reading of a measured quantity, or the two ends of one, says of its cell, as it is
-        written on a line."""
-        low, most = values_of(self._network.cells[cell], value, high)
-        return span_text(int(low), int(most))
+    def telling(self, premise: str, cell: str, value: object, high: object = None) -> str:
+        """What is told of a cell under a premise, a value or the numbers up to another, or a
+        reading, as it is written on a line."""
+        self._network.premises.check(premise)
+        declared = self._network.cells[cell]
+        return values_line(self._network.vocabulary, declared, values_of(declared, value, high))
 
     def text(self, premise: str) -> str:
         """What the premise states, for people."""

@@ -66,11 +66,13 @@ def so_far(ask: Callable[[], Result], kind: type[Result]) -> Result:
 
 
 def cell_named(model: Model, cell: CellLike) -> str:
-    """The name of a cell of the model. Raises NoSuchName, and TypeError for what is no cell."""
+    """The name of a cell of the model. Raises NoSuchName, ValueError for a cell that is gone, and
+    TypeError for what is no cell."""
     name = cell if isinstance(cell, str) else getattr(cell, "name", None)
     if not isinstance(name, str):
         raise TypeError(f"{cell!r} is no cell, nor the name of one")
     _demand(name, model.cells(), "cell")
+    model.check_cell(cell)
     return name
 
 

@@ -87,7 +87,8 @@ def resolved(model: Model, change: Change) -> Resolved:
     told = []
     for premise, cell, *value in change.tell:
         name = cell_named(model, cell)  # type: ignore[arg-type]  # (looked at there)
-        told.append(Line(str(premise), model.cell_name(name), value_text(model, name, *value)))
+        text = value_text(model, str(premise), name, *value)
+        told.append(Line(str(premise), model.cell_name(name), text))
     out = set(kicked) - set(brought)
     names = dict.fromkeys([*model.believed(), *brought, *(line.premise for line in told)])
     believed = tuple(name for name in names if name not in out)
@@ -102,31 +103,18 @@ def resolved(model: Model, change: Change) -> Resolved:
     return Resolved(believed, tuple(told), tuple(lines))
 
 
-def value_text(model: Model, cell: str, value: object, high: object = None) -> str:
-    """A value, or the numbers up to another, as a line says it."""
-    if model.is_measured(cell):
-        return model.read(cell, value, high)
+def value_text(model: Model, premise: str, cell: str, value: object, high: object = None) -> str:
+    """What is told of a cell, a value or the numbers up to another, as a line says it. Raises
+    ValueError and TypeError for what can't be told."""
     value, high = _plain(value), _plain(high)
     candidates = model.candidates(cell)
-    is_number = candidates is None or isinstance(candidates, range)
-    if high is not None:
-        if not is_number or not isinstance(value, int) or not isinstance(high, int):
-            raise TypeError(f"from {value!r} to {high!r} there is nothing that {cell} can be")
-        return f"{value}..{high}" if value != high else str(value)
-    if isinstance(candidates, range) or candidates is None:
-        if isinstance(value, int | str):
-            return model.literal(cell, value)
-        raise TypeError(f"{value!r} is nothing that {cell} can be")
-    if isinstance(value, bool):
-        return model.literal(cell, value)
-    names = [value] if value in candidates else _several(value)
-    for name in names:
-        if name not in candidates:
-            near = near_names(str(name), candidates)
-            hint = f" Did you mean {near[0]}?" if near else ""
-            raise ValueError(f"{cell} can't be {quoted(str(name))}.{hint}")
-    written = " ".join(model.literal(cell, str(name)) for name in names)
-    return written if len(names) == 1 else f"{{{written}}}"
+    if not (candidates is None or isinstance(candidates, range) or isinstance(value, bool)):
+        for name in [value] if value in candidates else _several(value):
+            if name not in candidates:
+                near = near_names(str(name), candidates)
+                hint = f" Did you mean {near[0]}?" if near else ""
+                raise ValueError(f"{cell} can't be {quoted(str(name))}.{hint}")
+    return model.telling(premise, cell, value, high)
 
 
 def _plain(value: object) -> object:

@@ -57,6 +57,10 @@ class Model(Protocol):
         """The user's cells, by the names that the user gave."""
         ...
 
+    def check_cell(self, cell: object) -> None:
+        """Raises ValueError for a cell that is gone, where another that is there has its name."""
+        ...
+
     def cell_name(self, cell: str) -> str:
         """The cell's name on a line."""
         ...
@@ -92,9 +96,10 @@ class Model(Protocol):
         """Whether the cell counts steps of a measured quantity."""
         ...
 
-    def read(self, cell: str, value: object, high: object = None) -> str:
-        """What a reading of a measured quantity, or the two ends of one, says of its cell, as it is
-        written on a line."""
+    def telling(self, premise: str, cell: str, value: object, high: object = None) -> str:
+        """What is told of a cell under a premise, a value or the numbers up to another, or a
+        reading, as it is written on a line. Raises ValueError and TypeError for what can't be
+        told, and where nothing can be stated under the name, as under that of a choice."""
         ...
 
     def text(self, premise: str) -> str:

@@ -52,6 +52,9 @@ class SessionModel:
         """The cells."""
         return list(self._session.known.cells)
 
+    def check_cell(self, cell: object) -> None:
+        """What has the name of a cell is that cell."""
+
     def cell_name(self, cell: str) -> str:
         """The cell itself."""
         return cell
@@ -98,6 +101,6 @@ class SessionModel:
         """No cell of a session has a unit."""
         return False
 
-    def read(self, cell: str, value: object, high: object = None) -> str:
+    def telling(self, premise: str, cell: str, value: object, high: object = None) -> str:
         """What one value, or the two ends of a range, say of a cell."""
         return str(value) if high is None else f"{value}..{high}"
