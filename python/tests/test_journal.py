@@ -274,9 +274,11 @@ def test_a_closed_terminal_is_a_cut(state: Path, monkeypatch: pytest.MonkeyPatch
         os.execv(sys.executable, [sys.executable, "-m", "propbench", "shell"])
     heard = b""
     until = time.monotonic() + PATIENCE
-    while b"> " not in heard:
+    # (the cursor is shown once the prompt is drawn)
+    while b"\x1b[?25h" not in heard:
         assert time.monotonic() < until, heard
-        heard += os.read(master, 65_536)
+        if select.select([master], [], [], 0.05)[0]:
+            heard += os.read(master, 65_536)
     os.write(master, b"cell x span\r")
     while not state.exists() or not any(b"cell x" in each.read_bytes() for each in state.iterdir()):
         assert time.monotonic() < until, heard
