@@ -18,8 +18,8 @@ TOP = os.path.dirname(os.path.dirname(os.path.realpath(__file__)))
 
 # Each other place, and what stands before and behind the version there.
 PLACES = {
-    "crates/propbench/src/main.rt": r'^    version: "(\S+) \(',
-    "crates/propwide/src/main.rt": r'^    version: "(\S+) \(',
+    "crates/propbench/src/words.rt": r'^    version: "(\S+) \(',
+    "crates/propwide/src/words.rt": r'^    version: "(\S+) \(',
     "tools/start/texts/propbench.version": r"^propbench (\S+) \(",
     "tools/start/texts/propwide.version": r"^propwide (\S+) \(",
     "python/pyproject.toml": r'^version = "(.+)"$',

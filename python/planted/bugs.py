@@ -276,8 +276,8 @@ BUGS = [
     ),
     Bug(
         "model/shrinking.py",
-        "        while tried:\n",
-        "        while tried[1:]:\n",
+        "    while tried and not clock.is_over():\n",
+        "    while tried[1:] and not clock.is_over():\n",
         "cases::what_is_needless_is_left_out",
     ),
     Bug(
