@@ -155,7 +155,7 @@ def test_what_was_cut_is_replayed(program: str, bare: Bare) -> None:
     with Session(program) as session:
         session.send_all(ENDLESS)
         reply = session.send("why x", seconds=0)
-        assert str(reply) == "x = 100000..1000000000000000000 unsettled because start"
+        assert str(reply) == "x = 10000..1000000000000000000 unsettled because start"
         lines = session.lines
         assert str(session.replay()[-2]) == str(reply)
     assert str(reply) in bare(lines, []).split("\n")

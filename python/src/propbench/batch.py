@@ -5,9 +5,10 @@ from collections import deque
 from collections.abc import Iterable
 
 from propbench.conversation import Conversation
+from propbench.grammar import ASKING
 from propbench.program import ProgramEnded
 from propbench.refusals import Refused
-from propbench.replies import DONE, SEVERAL, SILENT, Reply, lines_behind, reply_of
+from propbench.replies import DONE, SEVERAL, SILENT, NotAReply, Reply, lines_behind, reply_of
 from propbench.words import as_line, encoded, is_silent
 
 # How many lines are written before replies are looked at.
@@ -39,11 +40,16 @@ def as_lines(lines: Iterable[str | bytes]) -> list[str]:
 class Batch:
     """Lines on their way, and what came of them so far."""
 
-    def __init__(self, conversation: Conversation, lines: list[str], sent: int) -> None:
-        """Lines before which so many were sent to the session."""
+    def __init__(
+        self, conversation: Conversation, lines: list[str], sent: int, until: float | None = None
+    ) -> None:
+        """Lines before which so many were sent to the session, and by when their replies have to
+        come, if they do."""
         self._talk = conversation
         self._lines = lines
         self._sent = sent
+        self._until = until
+        self._carried = conversation.carried
         self.replies: list[Reply | Refused] = [SILENT] * len(lines)
         self.first_refused: Refused | None = None
         # The places of the lines to which replies are still to come, and the lines of a reply whose
@@ -55,11 +61,24 @@ class Batch:
 
     def run(self) -> None:
         """Sends all lines and takes in all replies. Where that ends early, what was taken in by
-        then counts as carried out, and the conversation is out of step.
+        then counts as carried out, the conversation is out of step, and the program is ended.
 
         Garbage is looked for only while replies are waited for: of replies none comes, and a look
         goes through all that have come."""
         self._talk.in_step = False
+        is_done = False
+        try:
+            self._run()
+            is_done = True
+        finally:
+            # (once more, for what cuts short the end of `_run`)
+            if self._collects:
+                gc.enable()
+            if not is_done:
+                self._talk.program.kill()
+        self._talk.in_step = True
+
+    def _run(self) -> None:
         try:
             gc.disable()
             self._send()
@@ -69,10 +88,17 @@ class Batch:
         finally:
             if self._collects:
                 gc.enable()
-        self._talk.in_step = True
+
+    def look(self) -> list[str]:
+        """Sends questions, and takes in the replies, without a trace among what was carried out.
+        Gives those that were not refused."""
+        asked: list[str] = []
+        self._carried = lambda line, words: asked.append(line)
+        self.run()
+        return asked
 
     def _send(self) -> None:
-        program = self._talk.program
+        program, until = self._talk.program, self._until
         for first in range(0, len(self._lines), _BLOCK):
             block = self._lines[first : first + _BLOCK]
             self._places.extend(
@@ -80,7 +106,7 @@ class Batch:
                 for place, line in enumerate(block, first)
                 if line[:1] not in _MAY_BE_SILENT or not is_silent(line)
             )
-            program.put(_encoded(block))
+            program.put(_encoded(block), until)
             self._take_in(program.take(wait=False))
         while self._places:
             came = program.take(wait=False) or self._waited_for()
@@ -92,19 +118,21 @@ class Batch:
         """Lines that have not come yet."""
         if self._collects:
             gc.enable()
-        came = self._talk.program.take(wait=True)
+        came = self._talk.program.take(wait=True, until=self._until)
         gc.disable()
         return came
 
     def _take_in(self, lines: list[str]) -> None:
         """Takes in the lines of replies that came last."""
         given, replies, places = self._lines, self.replies, self._places
-        carried, kinds = self._talk.carried, self._talk.kinds
+        carried, kinds = self._carried, self._talk.kinds
         for text in lines:
+            if not places:
+                raise self._talk.wrong("no line", text)
             place = places[0]
             line = given[place]
             words = line.split()
-            if text == "ok":
+            if text == "ok" and words[0] not in ASKING:
                 replies[place] = DONE
                 carried(line, words)
             else:
@@ -115,7 +143,10 @@ class Batch:
                 if refused:
                     replies[place] = refused
                 else:
-                    replies[place] = reply_of(words, whole, kinds)
+                    try:
+                        replies[place] = reply_of(words, whole, kinds)
+                    except NotAReply:
+                        raise self._talk.wrong(line, whole) from None
                     carried(line, words)
             places.popleft()
 

@@ -1,27 +1,25 @@
 """The running program: lines in, reply lines out, never stuck however much is sent.
 
 What is to be written waits here while the program is not ready to read it, and replies are taken in
-meanwhile, so neither side waits for the other for good.
+meanwhile, so neither side waits for the other for good. What is waited for may have an end: a time
+of the monotonic clock, at which the program is ended where it has not answered.
 """
 
-import fcntl
 import os
 import select
 import signal
-import subprocess
-import tempfile
 import time
 from collections import deque
-from contextlib import suppress
 from dataclasses import dataclass
+from itertools import islice
 
+from propbench.process import Process
 from propbench.words import encoded
 
-# How much is read at once, of a single reply at first, and how large a pipe is asked for, in bytes.
-# (For so little Python has room at hand, and most replies have fewer.)
+# How much is read at once, and of a single reply at first, in bytes. (For so little Python has room
+# at hand, and most replies have fewer.)
 _PIECE = 1 << 16
 _REPLY = 400
-_PIPE = 1 << 20
 # How long replies are left to gather, and the program is given to end by itself, in seconds.
 _GATHER = 0.001
 _END = 5.0
@@ -45,6 +43,11 @@ class ProgramEnded(Exception):
     status: int | None
     errors: str
 
+    @property
+    def begins_anew(self) -> bool:
+        """Whether the next use of the session begins the program anew; else `replay` does."""
+        return False
+
     def __str__(self) -> str:
         said = f": {self.errors.strip()}" if self.errors.strip() else ""
         if self.status is None:
@@ -52,6 +55,18 @@ class ProgramEnded(Exception):
         if self.status < 0:
             return f"the program was ended by {_signal_name(-self.status)}{said}"
         return f"the program ended with status {self.status}{said}"
+
+
+class NoReply(ProgramEnded):
+    """The program gave no reply by the end of the `seconds` that it had, hung or stopped, and was
+    ended for that. The next use of the session begins it anew."""
+
+    @property
+    def begins_anew(self) -> bool:
+        return True
+
+    def __str__(self) -> str:
+        return "the program gave no reply in the seconds that it had, and was ended"
 
 
 def _signal_name(number: int) -> str:
@@ -62,39 +77,25 @@ def _signal_name(number: int) -> str:
 
 
 class Program:
-    """A process of the program. What it is sent are whole lines, in bytes."""
+    """A process of the program. What it is sent are whole lines, in bytes. Where `until` is given,
+    and its reply doesn't come by then, it is ended, and NoReply raised."""
 
     def __init__(self, command: list[str], show_errors: bool = False) -> None:
         """Starts the program. What it says on standard error is kept, or shown on that of this
         process. Raises ProgramEnded where it can't be started."""
-        self._errors = tempfile.TemporaryFile()
-        env = {**os.environ, _TOLD: "1"} if command[0] in _shown else None
+        told = {_TOLD: "1"} if command[0] in _shown else {}
         if show_errors:
             _shown.add(command[0])
         try:
-            # In a session of its own, so that Ctrl-C at a terminal doesn't end it.
-            self._process = subprocess.Popen(
-                command,
-                stdin=subprocess.PIPE,
-                stdout=subprocess.PIPE,
-                stderr=None if show_errors else self._errors,
-                bufsize=0,
-                start_new_session=True,
-                env=env,
-            )
+            self._process = Process(command, {**os.environ, **told}, show_errors)
         except OSError as error:
-            self._errors.close()
             raise ProgramEnded(None, str(error)) from None
-        assert self._process.stdin and self._process.stdout
-        self._in, self._out = self._process.stdin.fileno(), self._process.stdout.fileno()
-        os.set_blocking(self._in, False)
-        for pipe in (self._in, self._out):
-            with suppress(OSError):
-                fcntl.fcntl(pipe, fcntl.F_SETPIPE_SZ, _PIPE)
+        self._in, self._out = self._process.into, self._process.out
         self._waiting = b""
         self._part = b""
         self._lines: deque[str] = deque()
-        self._ended: ProgramEnded | None = None
+        # How it ended by itself, where that came to light.
+        self.ended: ProgramEnded | None = None
         self._come, self._room = select.poll(), select.poll()
         self._come.register(self._out, select.POLLIN)
         self._room.register(self._in, select.POLLOUT)
@@ -105,11 +106,11 @@ class Program:
         return self._process.pid
 
     @property
-    def ended(self) -> ProgramEnded | None:
-        """How the program ended, where that came to light."""
-        return self._ended
+    def is_open(self) -> bool:
+        """Whether it can be spoken to: it has not been ended here, nor found to have ended."""
+        return self._process.into >= 0
 
-    def put(self, data: bytes) -> None:
+    def put(self, data: bytes, until: float | None = None) -> None:
         """Sends whole lines, and takes in replies until they are all sent. Raises ProgramEnded."""
         self._waiting = data
         self._write()
@@ -119,8 +120,10 @@ class Program:
                 self._write()
             if self._is_readable(0):
                 self._read()
+            elif until is not None and time.monotonic() >= until:
+                self._give_up()
 
-    def tell(self, line: str) -> None:
+    def tell(self, line: str, until: float | None = None) -> None:
         """Sends a line, where no reply is under way. Raises ProgramEnded."""
         try:
             data = f"{line}\n".encode()
@@ -131,29 +134,36 @@ class Program:
         except (BlockingIOError, BrokenPipeError):
             written = 0
         if written != len(data):
-            self.put(data[written:])
+            self.put(data[written:], until)
 
     def hear(self) -> str:
-        """The first line of a reply, where no other is under way. Raises ProgramEnded."""
-        said = os.read(self._out, _REPLY)
-        first, _, more = said.partition(b"\n")
-        if more or self._part or self._lines or len(first) == len(said):
-            self._come_in(said)
+        """The first line of a reply, however long it takes. Raises ProgramEnded."""
+        if self._lines or self._part:
             return self.next_line()
-        return first.decode()
+        said = os.read(self._out, _REPLY)
+        if said and said.find(b"\n") == len(said) - 1:
+            return said[:-1].decode()
+        self._come_in(said)
+        return self.next_line()
 
-    def next_line(self) -> str:
+    def next_line(self, until: float | None = None) -> str:
         """The next reply line, without its line feed. Raises ProgramEnded."""
         while not self._lines:
-            self._read()
+            self._read(until)
         return self._lines.popleft()
 
-    def take(self, wait: bool) -> list[str]:
+    def first_lines(self, count: int, until: float | None = None) -> list[str]:
+        """The first lines of a reply, so many, as long as the reply is not taken."""
+        while len(self._lines) < count:
+            self._read(until)
+        return list(islice(self._lines, count))
+
+    def take(self, wait: bool, until: float | None = None) -> list[str]:
         """The reply lines that have come; at least one where it is to wait. Raises ProgramEnded."""
         if self._is_readable(0):
             self._read()
         while wait and not self._lines:
-            self._read()
+            self._read(until)
         return self.rest()
 
     def rest(self) -> list[str]:
@@ -166,29 +176,19 @@ class Program:
         """Leaves replies time to gather: taken in one by one, each would cost a wake-up."""
         time.sleep(_GATHER)
 
-    def has_reply(self, seconds: float) -> bool:
-        """Whether a reply line is there, or something of it comes within so many seconds."""
-        return bool(self._lines) or self._is_readable(seconds)
-
     def end(self) -> None:
         """Ends the program by the end of its input, or else by force. It is to be at rest."""
-        assert self._process.stdin
-        with suppress(OSError):
-            self._process.stdin.close()
-        with suppress(subprocess.TimeoutExpired):
-            self._process.wait(_END)
-        self.kill()
+        self._process.end_input()
+        self._process.ends_within(_END)
+        self._process.kill()
 
     def kill(self) -> None:
-        """Ends the program at once, with what it has started."""
-        if self._process.poll() is None:
-            with suppress(ProcessLookupError):
-                os.killpg(self._process.pid, signal.SIGKILL)
-        self._process.wait()
-        for stream in (self._process.stdin, self._process.stdout, self._errors):
-            if stream:
-                with suppress(OSError):
-                    stream.close()
+        """Ends the program at once, with what it has started, and closes what leads to it."""
+        self._process.kill()
+
+    def strike(self) -> None:
+        """Ends the program at once while another thread uses it, which finds it ended."""
+        self._process.strike()
 
     def _is_readable(self, seconds: float) -> bool:
         return bool(self._come.poll(max(0, seconds) * 1000))
@@ -203,23 +203,30 @@ class Program:
             # It has ended; the replies before that are still to be read.
             self._waiting = b""
 
-    def _read(self) -> None:
-        self._come_in(os.read(self._out, _PIECE))
+    def _read(self, until: float | None = None) -> None:
+        if until is not None and not self._is_readable(until - time.monotonic()):
+            self._give_up()
+        self._come_in(os.read(self._out, _PIECE), until)
 
-    def _come_in(self, data: bytes) -> None:
+    def _come_in(self, data: bytes, until: float | None = None) -> None:
         if not data:
-            self._ended = self._how_ended()
-            raise self._ended
+            left = _END if until is None else until - time.monotonic()
+            self.ended = self._how_ended(min(_END, left))
+            raise self.ended
         whole, feed, part = (self._part + data).rpartition(b"\n")
         self._part = part
         if feed:
             self._lines.extend(whole.decode().split("\n"))
 
-    def _how_ended(self) -> ProgramEnded:
-        with suppress(subprocess.TimeoutExpired):
-            self._process.wait(_END)
-        if self._process.poll() is None:
-            self._process.kill()
-        status = self._process.wait()
-        self._errors.seek(0)
-        return ProgramEnded(status, self._errors.read().decode(errors="replace"))
+    def _give_up(self) -> None:
+        """Ends the program, which has not answered in time."""
+        self._process.kill()
+        raise NoReply(self._process.status, "")
+
+    def _how_ended(self, seconds: float) -> ProgramEnded:
+        """How it ended, where its output has ended, and it does within so many seconds. All that
+        leads to it is closed."""
+        self._process.ends_within(seconds)
+        errors = self._process.errors()
+        self._process.kill()
+        return ProgramEnded(self._process.status, errors)

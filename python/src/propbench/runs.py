@@ -9,8 +9,11 @@ import time
 from collections.abc import Callable
 from dataclasses import dataclass, replace
 
-from propbench.conversation import Conversation
-from propbench.replies import Reply, Unsettled, Value, reply_of, unread
+from propbench.conversation import Conversation, WrongReply
+from propbench.program import NoReply
+from propbench.refusals import Refused
+from propbench.replies import Reply, Unsettled, Value, unread
+from propbench.words import MOST_STEPS
 
 # What is told of a run that goes on: the steps that it took, and what is known then.
 Progress = Callable[[int, Reply], None]
@@ -18,20 +21,27 @@ Progress = Callable[[int, Reply], None]
 # A slice has so many steps, and should take between these seconds.
 _FEWEST_STEPS, _STEPS, _MOST_STEPS = 10_000, 100_000, 100_000_000
 _SHORT, _LONG = 0.05, 0.5
-# How long, in seconds, a slice that was interrupted is waited for before the program is ended.
+# How long, in seconds, a slice that was interrupted is waited for before the program is ended, and
+# one that is at work when the time of its question is over.
 _GRACE = 2.0
+_LATE = 0.7
 
 
 @dataclass
 class Watch:
     """Who may end a run: it is cut after `until`, a time of the monotonic clock, and `progress` is
     told of it, which may raise. `stopped` is what ended it from outside, and `taken` the steps of
-    the slices that were used up."""
+    the slices that were used up. Where no reply comes by `latest`, the program is ended."""
 
     until: float | None = None
     progress: Progress | None = None
     stopped: BaseException | None = None
     taken: int = 0
+
+    @property
+    def latest(self) -> float | None:
+        """By when a reply has to come."""
+        return None if self.until is None else self.until + _LATE
 
     def is_over(self, reply: Reply) -> bool:
         """Tells of a run that isn't settled; whether it is to end here."""
@@ -40,8 +50,18 @@ class Watch:
                 self.progress(self.taken, reply)
             except BaseException as stopped:
                 self.stopped = stopped
-        is_late = self.until is not None and time.monotonic() >= self.until
-        return is_late or self.stopped is not None
+        return self.stopped is not None or self.is_late()
+
+    def is_late(self) -> bool:
+        """Whether the time is over."""
+        return self.until is not None and time.monotonic() >= self.until
+
+    def most_steps(self, seconds_a_step: float) -> int:
+        """How many steps are done in the time that is left, where each takes so long."""
+        if self.until is None:
+            return MOST_STEPS
+        left = max(0.0, self.until - time.monotonic())
+        return min(MOST_STEPS, int(left / seconds_a_step)) if seconds_a_step else _FEWEST_STEPS
 
 
 @dataclass(slots=True)
@@ -64,11 +84,13 @@ class Runner:
     def __init__(self, talk: Conversation) -> None:
         self.talk = talk
         self.steps = _STEPS
+        # What a step took in the slice that was used up last, in seconds; 0 as long as none was.
+        self._pace = 0.0
 
-    def tell(self, line: str) -> None:
+    def tell(self, line: str, until: float | None = None) -> None:
         """Sends a line, which runs one slice at the most; its reply is heard next."""
         talk = self.talk
-        talk.tell(line, self.steps if self.steps < talk.limit else talk.limit)
+        talk.tell(line, self.steps if self.steps < talk.limit else talk.limit, until)
 
     def ask(self, line: str, number: int) -> Reply:
         """The reply to an `ask` or a `why`, which is the one of so many lines that were sent, as
@@ -82,15 +104,16 @@ class Runner:
         program.tell(line)
         # What the line asks is looked at while the program is at work.
         words = line.split()
+        begins, kind = f"{words[-1]} = ", talk.kinds.get(words[-1])
         try:
             text = program.hear()
         except KeyboardInterrupt as stopped:
             return self._interrupted(Question(line, words, number), stopped)
-        if text[:6] == "error " or " = " not in text or "unsettled" in text:
+        if kind is None or not text.startswith(begins) or "unsettled" in text:
             return self._heard(line, words, number, text)
         talk.lines.append(line)
         talk.in_step = True
-        return unread(text, words[0], talk.kinds[words[1]])
+        return unread(text, words[0], kind)
 
     def hear(self, line: str, words: list[str], number: int) -> Reply:
         """The reply to a question that was told, which is no `core`, in as many slices as it needs;
@@ -118,34 +141,43 @@ class Runner:
 
     def watched(self, question: Question, watch: Watch) -> Reply:
         """The reply to a question that is not told yet, where somebody may end the run. Raises its
-        refusal, and what they raise."""
+        refusal, what they raise, and NoReply where the program hangs before anything is known."""
         words, talk = question.words, self.talk
         is_long_core = words[0] == "core" and self.steps < talk.limit
         if not is_long_core or len(words) != 2 or words[1] not in talk.known.cells:
             return self._gone_on(question, watch, self._first_slice(question, watch))
         reply = self._core(question, watch)
-        talk.in_step = True
-        if watch.stopped:
-            raise watch.stopped
-        return reply
+        return self._ended(watch, reply)
 
     def _gone_on(self, question: Question, watch: Watch, first: Reply) -> Reply:
         """The reply to a question, after a first slice that had this one."""
         reply = self._slices(question, watch, first)
         self._take_in(question, watch, reply)
-        self.talk.in_step = True
+        return self._ended(watch, reply)
+
+    def _ended(self, watch: Watch, reply: Reply) -> Reply:
+        """The reply to a question of which all is taken in. (Where the program hangs, which is
+        ended then, what was known before is.)"""
+        self.talk.in_step = self.talk.program.is_open
         if watch.stopped:
             raise watch.stopped
         return reply
 
     def _take_in(self, question: Question, watch: Watch, reply: Reply) -> None:
+        if not self.talk.program.is_open:
+            return
         if is_settled(reply) or watch.taken == self.talk.limit:
             self.talk.carried(question.line, question.words)
         else:
             self.talk.cut(question.line, watch.taken)
 
     def _first_slice(self, question: Question, watch: Watch) -> Reply:
-        return self._slice(question, watch, min(self.steps, self.talk.limit))
+        return self._slice(question, watch, self._fitting(watch, self.talk.limit))
+
+    def _fitting(self, watch: Watch, most: int) -> int:
+        """How many steps a slice has, of so many that there may be."""
+        in_time = max(_FEWEST_STEPS, watch.most_steps(self._pace))
+        return min(self.steps, most, in_time)
 
     def _slices(self, question: Question, watch: Watch, reply: Reply) -> Reply:
         """The reply to a question by slices that go on from one another, until it is settled, cut,
@@ -155,41 +187,49 @@ class Runner:
             watch.taken += talk.program_limit
             if watch.taken == talk.limit or watch.is_over(reply):
                 break
+            steps = self._fitting(watch, talk.limit - watch.taken)
             begun = time.monotonic()
-            reply = self._slice(question, watch, min(self.steps, talk.limit - watch.taken))
-            self._adapt(time.monotonic() - begun)
+            try:
+                reply = self._slice(question, watch, steps)
+            except NoReply:
+                break
+            self._adapt(time.monotonic() - begun, steps)
         return reply
 
     def _slice(self, question: Question, watch: Watch, steps: int) -> Reply:
         """The reply to a question under so many steps. Where the run was interrupted, and no reply
         came soon, the program is ended, and KeyboardInterrupt raised."""
-        self.talk.tell(question.line, steps)
+        self.talk.tell(question.line, steps, watch.latest)
         try:
-            text = self.talk.hear(question.words[0])
+            text = self.talk.hear(question.words[0], watch.latest)
         except KeyboardInterrupt as stopped:
             watch.stopped = stopped
             return self._late(question, watch)
         return self._reply(question, text)
 
     def _late(self, question: Question, watch: Watch) -> Reply:
-        """The reply to a question that was interrupted, where it comes soon."""
-        text = self.talk.late_reply(question.words[0], _GRACE)
-        if text is None:
-            self.talk.program.kill()
+        """The reply to a question that was interrupted, where it comes soon. Raises what interrupted
+        it where none does, or one of which a part was lost, and where it is refused."""
+        assert watch.stopped
+        try:
+            text = self.talk.hear(question.words[0], time.monotonic() + _GRACE)
+            return self._reply(question, text)
+        except Refused:
+            raise watch.stopped from None
+        except (NoReply, WrongReply):
             if watch.taken:
                 self.talk.cut(question.line, watch.taken)
-            assert watch.stopped
-            raise watch.stopped
-        return self._reply(question, text)
+            raise watch.stopped from None
 
     def _reply(self, question: Question, text: str) -> Reply:
         refused = self.talk.refused(question.line, text, question.number)
         if refused:
             self.talk.in_step = True
             raise refused
-        return reply_of(question.words, text, self.talk.kinds)
+        return self.talk.reply(question.line, question.words, text)
 
-    def _adapt(self, seconds: float) -> None:
+    def _adapt(self, seconds: float, steps: int) -> None:
+        self._pace = seconds / max(1, steps)
         if seconds < _SHORT:
             self.steps = min(self.steps * 2, _MOST_STEPS)
         elif seconds > _LONG:
@@ -211,25 +251,34 @@ class Runner:
         elif watch.stopped:
             self._take_in(why, watch, reply)
         else:
-            return self._tries(question, watch, why)
+            return self._tries(question, watch, why, reply)
         return reply
 
-    def _tries(self, question: Question, watch: Watch, why: Question) -> Reply:
-        """The reply to a `core` whose run came to rest, as that of this `why` did."""
+    def _tries(self, question: Question, watch: Watch, why: Question, reply: Value) -> Reply:
+        """The reply to a `core` whose run came to rest, with this reply to this `why`."""
         talk = self.talk
         most = talk.limit - watch.taken
         is_watched = watch.until is not None or watch.progress is not None
-        steps = min(self.steps, most) if is_watched else most
+        steps = self._fitting(watch, most) if is_watched else most
         watch.taken = 0
+        found: Reply = replace(reply, reduced=False)
         is_first = True
         while True:
-            reply = self._slice(question, watch, steps)
-            is_done = steps == most or not (isinstance(reply, Value) and reply.reduced is False)
+            begun = time.monotonic()
+            try:
+                found = self._slice(question, watch, steps)
+            except NoReply:
+                return found
+            is_done = steps == most or not (isinstance(found, Value) and found.reduced is False)
             if is_first and is_done:
                 talk.carried(question.line, question.words)
             else:
                 talk.cut(question.line, steps)
             watch.taken += steps
-            if is_done or watch.is_over(reply):
-                return reply
-            is_first, steps = False, min(steps * 2, most)
+            if is_done or watch.is_over(found):
+                return found
+            pace = (time.monotonic() - begun) / max(1, steps)
+            is_first, before, steps = False, steps, min(steps * 2, most, watch.most_steps(pace))
+            # (a try that has no more steps than the one before comes to no more)
+            if steps <= before:
+                return found

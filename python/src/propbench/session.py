@@ -1,13 +1,17 @@
 """A session: the program as an object, line by line or many lines at once.
 
 Every reply is the program's. A question is asked in slices of the limit, so that it can be stopped
-where it stands; what the user's own `limit` says is kept.
+where it stands; what the user's own `limit` says is kept. One call has the session at a time; what
+ends a call early, at whatever place, leaves what was carried out.
 """
 
 import os
+import sys
+import threading
 import time
 import weakref
 from collections.abc import Iterable
+from types import FrameType
 from typing import Literal, overload
 
 from propbench.batch import Batch, as_lines
@@ -15,10 +19,11 @@ from propbench.closing import Closing
 from propbench.conversation import Conversation
 from propbench.finding import find_program
 from propbench.given import seconds_given
-from propbench.grammar import FORMS, RUNNING
+from propbench.grammar import ASKING, FORMS, RUNNING
 from propbench.known import Known
+from propbench.program import ProgramEnded
 from propbench.refusals import Refused, UnknownCommand
-from propbench.replies import DONE, SILENT, How, Listing, Reply, Step, reply_of
+from propbench.replies import DONE, SILENT, How, Listing, Reply, Step
 from propbench.runs import Progress, Question, Runner, Watch, is_settled
 from propbench.words import MOST_STEPS, as_line, is_silent
 
@@ -33,8 +38,16 @@ Outcomes = list[Reply | Refused]
 _QUESTIONS = frozenset(("ask ", "why "))
 
 
+class SessionInUse(RuntimeError):
+    """A session was used while a call of it was running, by another thread or within that call; or
+    in a child that was forked, where it is the parent's. Nothing was sent, and the call that is
+    running goes on."""
+
+
 class Session(Closing):
-    """A session of the program. It is not to be used by two threads at once."""
+    """A session of the program, which any thread of this process may use, one call at a time: a call
+    while another is running raises SessionInUse. `close` alone may come at any time, and ends what
+    is running. A child that is forked can't use it."""
 
     def __init__(
         self,
@@ -64,9 +77,12 @@ class Session(Closing):
         self._sent = 0
         self._tells: tuple[str, ...] | None = None
         self._closed = False
+        self._turn = threading.Lock()
+        self._process = os.getpid()
         # What those who ask a session much keep of it, by their names; it goes with the session.
         self.kept: dict[str, object] = {}
-        self._begin()
+        self._use(self._begun())
+        _sessions.add(self)
 
     def fresh(self) -> "Session":
         """A session of its own, of the same program, that begins as this one did."""
@@ -94,14 +110,12 @@ class Session(Closing):
     @property
     def known(self) -> Known:
         """The names that the lines so far have declared."""
-        self._be_ready()
-        return self._talk.known
+        return self._ready().known
 
     @property
     def limit(self) -> int:
         """The most steps of a run, as given last."""
-        self._be_ready()
-        return self._talk.limit
+        return self._ready().limit
 
     @property
     def pid(self) -> int:
@@ -109,16 +123,22 @@ class Session(Closing):
         return self._talk.program.pid
 
     def close(self) -> None:
-        """Ends the program. Nothing can be sent after that."""
-        if self._closed:
-            return
+        """Ends the program, and a call that another thread has running: that raises ProgramEnded.
+        Nothing can be sent after that."""
         self._closed = True
-        self._finalizer.detach()
-        if self._talk.in_step:
-            self._talk.in_step = False
-            self._talk.program.end()
-        else:
-            self._talk.program.kill()
+        turn, program = self._turn, self._talk.program
+        is_free = turn.acquire(False)
+        if not is_free and turn is not _NOBODYS and self._calls():
+            program.strike()
+            return
+        try:
+            if self._talk.in_step and program.is_open and is_free:
+                self._talk.in_step = False
+                program.end()
+        finally:
+            program.kill()
+            if is_free:
+                turn.release()
 
     def send(
         self,
@@ -134,24 +154,36 @@ class Session(Closing):
         from there. `progress` is called after each slice that doesn't settle, with the steps so far
         and what is known. Where it raises, and at Ctrl-C, the run ends, and the session goes on.
 
-        Raises the Refused of the number that the program answers, ProgramEnded, and ValueError
-        where a line feed stands within the line.
+        A program that hangs is ended within a second after `seconds`: what was known before is the
+        answer then, or NoReply is raised where nothing was. The next use begins it anew.
+
+        Raises the Refused of the number that the program answers, ProgramEnded, SessionInUse, and
+        ValueError where a line feed stands within the line.
         """
         text = line if isinstance(line, str) and "\n" not in line else as_line(line)
-        limit = seconds_given(seconds)
-        if not self._talk.in_step:
-            self._be_ready()
-        self._sent += 1
-        if limit is None and progress is None and text[:4] in _QUESTIONS:
-            return self._runner.ask(text, self._sent)
-        if limit is not None or progress is not None or "core" in text:
-            return self._send_watched(text, limit, progress)
-        self._runner.tell(text)
-        # What the line asks is looked at while the program is at work.
-        words = text.split()
-        if words and words[0] in RUNNING:
-            return self._runner.hear(text, words, self._sent)
-        return self._heard(text, words)
+        watch = None
+        if seconds is not None or progress is not None:
+            limit = seconds_given(seconds)
+            watch = Watch(None if limit is None else time.monotonic() + limit, progress)
+        turn = self._turn
+        if not turn.acquire(False):
+            turn = self._see_whose_turn()
+        try:
+            if not self._talk.in_step:
+                self._be_ready(watch.latest if watch else None)
+            self._sent += 1
+            if watch is None and text[:4] in _QUESTIONS:
+                return self._runner.ask(text, self._sent)
+            if watch is not None or "core" in text:
+                return self._send_watched(text, watch or Watch())
+            self._runner.tell(text)
+            # What the line asks is looked at while the program is at work.
+            words = text.split()
+            if words and words[0] in RUNNING:
+                return self._runner.hear(text, words, self._sent)
+            return self._heard(text, words)
+        finally:
+            turn.release()
 
     @overload
     def send_all(self, lines: Iterable[str | bytes]) -> Replies:
@@ -175,16 +207,16 @@ class Session(Closing):
         ProgramEnded, and ValueError, before anything is sent, for a line feed within a line.
         """
         texts = as_lines(lines)
-        self._be_ready()
-        if self._talk.program_limit != self._talk.limit:
-            self._talk.set_limit(self._talk.limit)
-        batch = Batch(self._talk, texts, self._sent)
-        self._sent += len(texts)
+        turn = self._take_turn()
         try:
+            self._be_ready()
+            if self._talk.program_limit != self._talk.limit:
+                self._talk.set_limit(self._talk.limit)
+            batch = Batch(self._talk, texts, self._sent)
+            self._sent += len(texts)
             batch.run()
-        except KeyboardInterrupt:
-            self._talk.program.kill()
-            raise
+        finally:
+            turn.release()
         if batch.first_refused and not keep_refused:
             batch.first_refused.replies.extend(batch.replies)
             raise batch.first_refused
@@ -195,19 +227,19 @@ class Session(Closing):
 
         Where what is known is settled, they leave no trace in `lines`.
         """
-        self._be_ready()
-        talk = self._talk
         texts = as_lines(questions)
-        before = len(talk.lines)
-        talk.set_limit(0)
-        batch = Batch(talk, texts, self._sent)
-        batch.run()
-        if all(isinstance(reply, Refused) or is_settled(reply) for reply in batch.replies):
-            del talk.lines[before:]
-        elif texts:
-            talk.lines.insert(before, "limit 0")
-            talk.lines.append(f"limit {talk.limit}")
-        return batch.replies
+        turn = self._take_turn()
+        try:
+            self._be_ready()
+            talk = self._talk
+            talk.set_limit(0)
+            batch = Batch(talk, texts, self._sent)
+            asked = batch.look()
+            if not all(isinstance(reply, Refused) or is_settled(reply) for reply in batch.replies):
+                talk.lines += ["limit 0", *asked, f"limit {talk.limit}"]
+            return batch.replies
+        finally:
+            turn.release()
 
     def step(self) -> Step:
         """Takes one step of a run, and tells it, where the program is propwide.
@@ -249,60 +281,153 @@ class Session(Closing):
 
         Raises ProgramEnded where the program ends again; the lines are kept.
         """
-        if self._closed:
-            raise RuntimeError("the session is closed")
-        kept = self._talk.lines if lines is None else as_lines(lines)
-        self._finalizer.detach()
-        self._talk.program.kill()
-        self._begin()
-        batch = Batch(self._talk, kept, self._sent)
+        given = None if lines is None else as_lines(lines)
+        turn = self._take_turn()
         try:
-            batch.run()
-        except BaseException:
-            # What is not carried out yet is not lost: another replay begins with all of it.
-            self._talk.lines = kept
-            raise
-        return batch.replies
+            self._be_open()
+            return self._begin_anew(self._talk.lines if given is None else given)
+        finally:
+            turn.release()
 
     def drop_lines(self) -> None:
         """Lets go of the lines that were carried out, for a session that asks very much and is never
         begun anew: `lines` has those from now on, and a `replay` carries out no others."""
-        self._talk.lines.clear()
+        turn = self._take_turn()
+        try:
+            self._talk.lines.clear()
+        finally:
+            turn.release()
 
-    def _begin(self) -> None:
-        self._talk = Conversation(self._command, self._first_limit, self._found.builds)
-        self._runner = Runner(self._talk)
-        self._finalizer = weakref.finalize(self, self._talk.program.kill)
+    def _begun(self) -> Conversation:
+        """A conversation in which nothing is said as yet."""
+        return Conversation(self._command, self._first_limit, self._found.builds)
 
-    def _be_ready(self) -> None:
-        """Sees to it that the next reply is that to the next line."""
+    def _use(self, talk: Conversation) -> None:
+        """Goes on with a conversation, as soon as it is the session's."""
+        self._runner = Runner(talk)
+        self._talk = talk
+
+    def _begin_anew(self, kept: Texts, until: float | None = None) -> Outcomes:
+        """Begins the program anew with these lines, and gives their replies. Where that is cut
+        short, the next use begins it anew with them."""
+        talk = self._talk
+        talk.in_step = False
+        talk.program.ended = None
+        talk.lines = kept
+        talk.program.kill()
+        try:
+            begun = self._begun()
+            batch = Batch(begun, kept, self._sent, until)
+            batch.run()
+        except ProgramEnded as ended:
+            if not ended.begins_anew:
+                talk.program.ended = ended
+            raise
+        self._use(begun)
+        if self._closed:
+            begun.program.kill()
+            self._be_open()
+        return batch.replies
+
+    def _be_open(self) -> None:
         if self._closed:
             raise RuntimeError("the session is closed")
+
+    def _be_ready(self, until: float | None = None) -> None:
+        """Sees to it that the next reply is that to the next line, by `until` where that is given."""
+        self._be_open()
         if self._talk.program.ended:
             raise self._talk.program.ended
         if not self._talk.in_step:
-            self.replay()
+            self._begin_anew(self._talk.lines, until)
 
-    def _send_watched(self, line: str, seconds: float | None, progress: Progress | None) -> Reply:
+    def _ready(self) -> Conversation:
+        """The conversation, in step with the program."""
+        turn = self._take_turn()
+        try:
+            self._be_ready()
+            return self._talk
+        finally:
+            turn.release()
+
+    def _send_watched(self, line: str, watch: Watch) -> Reply:
         """The reply to a line that may be a question which is watched, or a `core`."""
         words = line.split()
         if words and words[0] in RUNNING:
-            until = None if seconds is None else time.monotonic() + seconds
-            return self._runner.watched(Question(line, words, self._sent), Watch(until, progress))
-        self._runner.tell(line)
-        return self._heard(line, words)
+            return self._runner.watched(Question(line, words, self._sent), watch)
+        self._runner.tell(line, watch.latest)
+        return self._heard(line, words, watch.latest)
 
-    def _heard(self, line: str, words: Texts) -> Reply:
+    def _heard(self, line: str, words: Texts, until: float | None = None) -> Reply:
         """The reply to a line that was told, and runs nothing."""
         talk = self._talk
         if (not words or words[0] not in FORMS) and is_silent(line):
             talk.in_step = True
             return SILENT
-        text = talk.hear(words[0] if words else "")
+        text = talk.hear(words[0] if words else "", until)
         refused = talk.refused(line, text, self._sent) if text != "ok" else None
-        if refused is None:
-            talk.carried(line, words)
-        talk.in_step = True
         if refused:
+            talk.in_step = True
             raise refused
-        return DONE if text == "ok" else reply_of(words, text, talk.kinds)
+        reply = DONE if text == "ok" and words[0] not in ASKING else talk.reply(line, words, text)
+        talk.carried(line, words)
+        talk.in_step = True
+        return reply
+
+    def _take_turn(self) -> threading.Lock:
+        """Has the session to itself, until the lock is released. Raises SessionInUse."""
+        turn = self._turn
+        return turn if turn.acquire(False) else self._see_whose_turn()
+
+    def _see_whose_turn(self) -> threading.Lock:
+        """Raises SessionInUse, but where a call that had its turn was cut short before it could give
+        it back: then it is the caller's."""
+        if self._turn is _NOBODYS:
+            raise SessionInUse(
+                f"the session belongs to the process {self._process}, which made it: a child that is"
+                " forked makes one of its own, by `fresh()`"
+            )
+        if self._calls() > 1:
+            raise SessionInUse(
+                "the session is in use: a call of it is running, in another thread or around this"
+                " one, and calls come one at a time; `fresh()` makes a session of one's own"
+            )
+        self._turn = threading.Lock()
+        self._turn.acquire()
+        return self._turn
+
+    def _calls(self) -> int:
+        """How many calls of this session are running, in all threads, the caller's among them."""
+        count = 0
+        for frame in sys._current_frames().values():
+            at: FrameType | None = frame
+            while at is not None:
+                count += at.f_code in _CALLS and at.f_locals.get("self") is self
+                at = at.f_back
+        return count
+
+
+# What has a session to itself while it runs.
+_CALLS = frozenset(
+    each.__code__
+    for each in (
+        Session.send,
+        Session.send_all,
+        Session.look,
+        Session.replay,
+        Session.drop_lines,
+        Session._ready,
+    )
+)
+# The turn of a session that is another process's: nobody here gets it.
+_NOBODYS = threading.Lock()
+_NOBODYS.acquire()
+_sessions: "weakref.WeakSet[Session]" = weakref.WeakSet()
+
+
+def _leave_all() -> None:
+    for session in list(_sessions):
+        session._turn = _NOBODYS
+
+
+os.register_at_fork(after_in_child=_leave_all)

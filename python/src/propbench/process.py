@@ -1,0 +1,213 @@
+"""A process of a program with its pipes, and what sees to it that it ends.
+
+It ends with this one, whatever ends that, in the midst of a run too: by a leash. That is a pipe
+whose writing end this process alone has, and on which nobody writes. The program has its other end,
+and the kernel is told (`F_SETOWN`, `F_SETSIG`) to send SIGKILL to the program's group once the
+leash changes: that is when its last writer is gone. A child that this process forks lets go of it.
+"""
+
+import fcntl
+import os
+import signal
+import sys
+import tempfile
+import threading
+import time
+import weakref
+from collections.abc import Iterator, Mapping
+from contextlib import ExitStack, contextmanager, suppress
+from types import FrameType
+from typing import IO
+
+# How large a pipe is asked for, in bytes.
+_PIPE = 1 << 20
+# The number that the leash has in the program, behind its three devices.
+_LEASH = 3
+# How often it is looked whether the process has ended, in seconds.
+_LOOK = 0.002
+# Signals that Python ignores for itself, which a program finds as they are by default.
+_OWN_SIGNALS = (signal.SIGPIPE, signal.SIGXFSZ)
+
+
+@contextmanager
+def held_back() -> Iterator[None]:
+    """Ctrl-C takes effect behind the block and not within it, for lines that must not be cut: those
+    that start a process or end it, and so for some milliseconds. (Python handles signals in the
+    main thread alone, whichever they were sent to.)"""
+    is_main = threading.current_thread() is threading.main_thread()
+    handler = signal.getsignal(signal.SIGINT) if is_main else None
+    if not callable(handler):
+        yield
+        return
+    came: list[FrameType | None] = []
+    try:
+        signal.signal(signal.SIGINT, lambda number, frame: came.append(frame))
+        yield
+    finally:
+        signal.signal(signal.SIGINT, handler)
+    if came:
+        handler(signal.SIGINT, came[0])
+
+
+class Process:
+    """A process of its own session, so that Ctrl-C at a terminal doesn't end it. `into` and `out`
+    are the numbers of the pipes to it and from it, -1 once they are closed; `into` never waits.
+    `status` is its exit status, -N where signal N ended it, None as long as that isn't known."""
+
+    _leash = -1
+
+    def __init__(
+        self, command: list[str], environment: Mapping[str, str], show_errors: bool
+    ) -> None:
+        """Starts it. What it says on standard error is kept, or shown on that of this process.
+        Raises OSError where it can't be started."""
+        self.pid = 0
+        self.status: int | None = None
+        self.into = self.out = -1
+        self._said: IO[bytes] | None = None
+        self._is_ours = True
+        is_started = False
+        try:
+            with held_back():
+                self._start(command, environment, show_errors)
+            is_started = True
+        finally:
+            if not is_started:
+                self.kill()
+
+    def __del__(self) -> None:
+        # (what isn't dropped before this process ends, ends by its leash)
+        if self._leash >= 0 and not sys.is_finalizing():
+            self.kill()
+
+    def _start(self, command: list[str], environment: Mapping[str, str], show_errors: bool) -> None:
+        with ExitStack() as theirs:
+            into, self.into = os.pipe()
+            theirs.callback(os.close, into)
+            self.out, out = os.pipe()
+            theirs.callback(os.close, out)
+            leash, self._leash = os.pipe()
+            theirs.callback(os.close, leash)
+            places = {0: into, 1: out, _LEASH: leash}
+            if not show_errors:
+                self._said = tempfile.TemporaryFile()
+                places[2] = self._said.fileno()
+            self.pid = os.posix_spawn(
+                command[0],
+                command,
+                environment,
+                file_actions=[
+                    (os.POSIX_SPAWN_DUP2, number, place) for place, number in sorted(places.items())
+                ],
+                setsid=True,
+                setsigmask=(),
+                setsigdef=_OWN_SIGNALS,
+            )
+            _processes.add(self)
+            _tie(leash, self.pid)
+        os.set_blocking(self.into, False)
+        for pipe in (self.into, self.out):
+            with suppress(OSError):
+                fcntl.fcntl(pipe, fcntl.F_SETPIPE_SZ, _PIPE)
+
+    def has_ended(self) -> bool:
+        """Whether it has ended by now."""
+        if self.status is None and self._is_ours:
+            with held_back():
+                self._take_in(os.WNOHANG)
+        return self.status is not None or not self._is_ours
+
+    def ends_within(self, seconds: float) -> bool:
+        """Whether it ends by itself within so many seconds, which are waited for."""
+        until = time.monotonic() + seconds
+        while not self.has_ended():
+            if time.monotonic() >= until:
+                return False
+            time.sleep(_LOOK)
+        return True
+
+    def strike(self) -> None:
+        """Ends it at once, with what it has started. Nothing is closed, so any thread may do this
+        to whoever uses it."""
+        if self.pid and self.status is None and self._is_ours:
+            # (as long as it is not taken in how it ended, no other process has its number)
+            with suppress(ProcessLookupError):
+                os.killpg(self.pid, signal.SIGKILL)
+
+    def kill(self) -> None:
+        """Ends it at once, with what it has started, and closes what there is of it here."""
+        with held_back():
+            self.strike()
+            if self.pid and self.status is None and self._is_ours:
+                self._take_in(0)
+            self._close()
+
+    def end_input(self) -> None:
+        """Ends its input."""
+        with held_back():
+            number, self.into = self.into, -1
+            _close(number)
+
+    def errors(self) -> str:
+        """What it has said on standard error, where that was kept, and nothing is closed yet."""
+        if self._said is None:
+            return ""
+        self._said.seek(0)
+        return self._said.read().decode(errors="replace")
+
+    def leave(self) -> None:
+        """Lets go of it in a child that was forked: it is the parent's. (The numbers of the pipes
+        stay taken, for whoever has them yet: they lead to nothing.)"""
+        self._is_ours = False
+        _close(self._leash)
+        self._leash = -1
+        with open(os.devnull, "r+b", buffering=0) as nothing:
+            for number in (self.into, self.out):
+                if number >= 0:
+                    os.dup2(nothing.fileno(), number, inheritable=False)
+
+    def _take_in(self, how: int) -> None:
+        """Takes in how it ended, where it did."""
+        try:
+            number, status = os.waitpid(self.pid, how)
+        except ChildProcessError:
+            # Somebody else has taken it in, and that can't be known any more.
+            number, status = self.pid, 0
+        if number:
+            self.status = os.waitstatus_to_exitcode(status)
+
+    def _close(self) -> None:
+        numbers = (self.into, self.out, self._leash)
+        self.into = self.out = self._leash = -1
+        for number in numbers:
+            _close(number)
+        if self._said:
+            self._said.close()
+            self._said = None
+
+
+def _close(number: int) -> None:
+    if number >= 0:
+        with suppress(OSError):
+            os.close(number)
+
+
+def _tie(leash: int, pid: int) -> None:
+    """Has the kernel kill a process, with all in its group, once the leash has no other end. (Where
+    a kernel can't, the process ends at the end of its input.)"""
+    with suppress(OSError):
+        fcntl.fcntl(leash, fcntl.F_SETOWN, -pid)
+        fcntl.fcntl(leash, fcntl.F_SETSIG, signal.SIGKILL)
+        fcntl.fcntl(leash, fcntl.F_SETFL, fcntl.fcntl(leash, fcntl.F_GETFL) | os.O_ASYNC)
+
+
+# Those that were started here: a child that is forked lets go of them.
+_processes: "weakref.WeakSet[Process]" = weakref.WeakSet()
+
+
+def _leave_all() -> None:
+    for process in list(_processes):
+        process.leave()
+
+
+os.register_at_fork(after_in_child=_leave_all)
