@@ -6,6 +6,7 @@ constraint, which word of a line is at fault, what to complete) is translated fr
 description, and nothing is concluded from it.
 """
 
+from propbench.conversation import WrongReply
 from propbench.finding import NoProgram, find_program, find_wide
 from propbench.measuring.bounds import NoBound
 from propbench.measuring.functions import maximum, mean, minimum, total
@@ -22,7 +23,7 @@ from propbench.model.expressions import (
     pairs,
 )
 from propbench.model.saving import NotAWorkbench
-from propbench.program import ProgramEnded
+from propbench.program import NoReply, ProgramEnded
 from propbench.questions import Certificate, CertificateError, Interrupted
 from propbench.refusals import (
     EmptyValue,
@@ -66,7 +67,7 @@ from propbench.replies import (
     Value,
     Worldview,
 )
-from propbench.session import Session
+from propbench.session import Session, SessionInUse
 from propbench.values import Elements, Impossible, Nothing, Span, Symbol
 from propbench.workbench import Workbench
 
@@ -94,6 +95,7 @@ __all__ = [
     "NoBound",
     "NoProgram",
     "NoReading",
+    "NoReply",
     "NoSuchCell",
     "NoSuchDomain",
     "NoSuchPremise",
@@ -112,6 +114,7 @@ __all__ = [
     "Refused",
     "Reply",
     "Session",
+    "SessionInUse",
     "Settled",
     "Silent",
     "Span",
@@ -130,6 +133,7 @@ __all__ = [
     "WrongForm",
     "WrongKind",
     "WrongParameter",
+    "WrongReply",
     "all_different",
     "count",
     "element",

@@ -167,14 +167,14 @@ class Process:
                     os.dup2(nothing.fileno(), number, inheritable=False)
 
     def _take_in(self, how: int) -> None:
-        """Takes in how it ended, where it did."""
+        """Takes in how it ended, where it did, and ends what it has started."""
         try:
-            number, status = os.waitpid(self.pid, how)
+            if os.waitid(os.P_PID, self.pid, os.WEXITED | os.WNOWAIT | how):
+                self.strike()
+                self.status = os.waitstatus_to_exitcode(os.waitpid(self.pid, 0)[1])
         except ChildProcessError:
             # Somebody else has taken it in, and that can't be known any more.
-            number, status = self.pid, 0
-        if number:
-            self.status = os.waitstatus_to_exitcode(status)
+            self.status = 0
 
     def _close(self) -> None:
         numbers = (self.into, self.out, self._leash)
