@@ -307,11 +307,8 @@ def test_a_program_that_hangs_as_it_begins_anew_has_its_time(tmp_path: Path) -> 
     )
     with Session(hangs) as session:
         session.send_all(["cell x span", "cell y span"])
-        os.kill(session.pid, signal.SIGKILL)
-        with pytest.raises(ProgramEnded, match="SIGKILL"):
-            session.send("cell z span", seconds=5)
-        session._talk.program.ended = None
-        for _ in range(2):
+        os.kill(session.pid, signal.SIGSTOP)
+        for _ in range(3):
             with within(0.2), pytest.raises(NoReply):
                 session.send("cell z span", seconds=0.2)
             assert session.lines == ["cell x span", "cell y span"]
@@ -320,16 +317,33 @@ def test_a_program_that_hangs_as_it_begins_anew_has_its_time(tmp_path: Path) -> 
         assert session.lines == ["cell x span", "cell y span", "cell z span"]
 
 
-def test_the_tries_of_a_core_have_their_time(program: str) -> None:
-    """Each try begins anew and takes twice as many steps as the one before, to no end here."""
-    lines = [line for line in ENDLESS if not line.startswith("tell")]
-    # Without the end of x a try goes on and on.
-    lines += ["tell a x 0..1000000000000000000", "tell b x 10..20", "tell c one 1", "cell y span"]
-    with Session(program) as session:
-        session.send_all(lines)
-        with within(1.5):
-            reply = session.send("core y", seconds=1.5)
-        assert "contradiction" in str(reply) or "unsettled" in str(reply) or "reduced" in str(reply)
+# A program whose `core` takes as many steps as there may be, 200,000 a second, and needs more.
+TRIES = """#!/usr/bin/python3 -u
+import sys, time
+limit = 0
+for line in sys.stdin:
+    word, *rest = line.split()
+    if word == "limit":
+        limit = int(rest[0])
+    if word == "core":
+        time.sleep(limit / 200_000)
+    said = {"why": "x = 3 because a b", "core": "x = 3 not reduced because a b"}
+    print(said.get(word, "ok"), flush=True)
+"""
+
+
+def test_the_tries_of_a_core_have_their_time(tmp_path: Path) -> None:
+    """Each try begins anew, and takes twice as many steps as the one before: the last that is begun
+    is one for which there is time."""
+    tries = tmp_path / "tries"
+    tries.write_text(TRIES)
+    tries.chmod(0o700)
+    with Session(tries) as session:
+        session.send("cell x span")
+        number = session.pid
+        with within(1.6):
+            reply = session.send("core x", seconds=1.6)
+        assert str(reply) == "x = 3 not reduced because a b" and session.pid == number
 
 
 # --- ends ---

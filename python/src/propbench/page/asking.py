@@ -1,7 +1,7 @@
 """What a page asks, and what comes of it: each question a method, each answer values for JSON.
 
-Questions are carried out one after another. One that takes long can be stopped from another thread;
-the session goes on then.
+Questions are carried out one after another. One that takes long can be stopped from another thread,
+and is when who asked is gone; the session goes on then.
 """
 
 import threading
@@ -12,6 +12,7 @@ from dataclasses import asdict, replace
 from propbench.program import ProgramEnded
 from propbench.refusals import Refused
 from propbench.replies import Reply
+from propbench.session import SessionInUse
 from propbench.showing import printable, said_of
 from propbench.watching import (
     Frame,
@@ -28,10 +29,17 @@ from propbench.watching import (
 _MOST_STEPS = 200
 # So many reasons are told of a cell that nobody looks at.
 _MOST_REASONS = 6
+# How long the end of what is run is waited for when the page is closed, in seconds.
+_END = 10.0
 
 
 class Stopped(KeyboardInterrupt):
     """The user stopped what was run."""
+
+
+def _nobody() -> bool:
+    """Says that who asks is not gone."""
+    return False
 
 
 class Asking:
@@ -41,6 +49,8 @@ class Asking:
         self._watched, self._title, self._path = watched, title, path
         self._lock = threading.RLock()
         self._stop = threading.Event()
+        self._is_gone: Callable[[], bool] = _nobody
+        self._closed = False
         self._busy = ""
         # How often something may have changed; what was seen last, and the network as it was then.
         self._version = 1
@@ -65,8 +75,14 @@ class Asking:
         }
 
     def close(self) -> None:
-        """Ends the sessions of its own."""
-        self._end_steps()
+        """Ends what is run, and the sessions of its own; behind it nothing uses the session."""
+        self._closed = True
+        is_free = self._lock.acquire(timeout=_END)
+        try:
+            self._end_steps()
+        finally:
+            if is_free:
+                self._lock.release()
 
     @contextmanager
     def held(self) -> Iterator[None]:
@@ -85,9 +101,9 @@ class Asking:
         """Ends what is run."""
         self._stop.set()
 
-    def state(self) -> dict[str, object]:
+    def state(self, is_gone: Callable[[], bool] = _nobody) -> dict[str, object]:
         """All that a page shows."""
-        with self._lock, self._watching("looking"):
+        with self._lock, self._watching("looking", is_gone):
             return self._with_network(self._told())
 
     def saved(self) -> str:
@@ -95,12 +111,14 @@ class Asking:
         with self._lock:
             return "".join(f"{line}\n" for line in self._watched.saved())
 
-    def do(self, asked: Mapping[str, object]) -> dict[str, object]:
+    def do(
+        self, asked: Mapping[str, object], is_gone: Callable[[], bool] = _nobody
+    ) -> dict[str, object]:
         """What comes of a question. Raises ValueError for one that can't be asked."""
         what = _text(asked, "what")
         if what not in self._does:
             raise ValueError(f"there is no question {what!r}")
-        with self._lock, self._watching(what):
+        with self._lock, self._watching(what, is_gone):
             return self._does[what](asked)
 
     # --- questions ---
@@ -276,11 +294,12 @@ class Asking:
     # --- runs ---
 
     @contextmanager
-    def _watching(self, what: str) -> Iterator[None]:
+    def _watching(self, what: str, is_gone: Callable[[], bool]) -> Iterator[None]:
         """Tells that something is done, and turns what goes wrong into ValueError."""
         self._stop.clear()
-        self._busy = what
+        self._is_gone = is_gone
         try:
+            self._telling(what)
             yield
         except Stopped:
             self._changed()
@@ -292,17 +311,22 @@ class Asking:
         except Refused as refused:
             self._changed()
             raise ValueError(refused.told()) from None
+        except SessionInUse as error:
+            raise ValueError(
+                f"{error} (beside a page it is used within `with page.held():`)"
+            ) from None
         except OSError as error:
             raise ValueError(said_of(error)) from None
         finally:
             self._busy = ""
+            self._is_gone = _nobody
 
     def _progress(self, steps: int, reply: Reply) -> None:
         self._telling(f"{steps:,} steps so far")
 
     def _telling(self, text: str) -> None:
         self._busy = text
-        if self._stop.is_set():
+        if self._stop.is_set() or self._closed or self._is_gone():
             raise Stopped
 
 
