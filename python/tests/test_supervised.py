@@ -17,7 +17,7 @@ from pathlib import Path
 import pytest
 from conftest import ENDLESS
 
-from propbench import NoReply, ProgramEnded, Reply, Session, SessionInUse, WrongReply
+from propbench import Done, NoReply, ProgramEnded, Reply, Session, SessionInUse, WrongReply
 
 SOURCES = str(Path(__file__).resolve().parents[1] / "src")
 # How long a call may take behind its `seconds`.
@@ -432,6 +432,26 @@ def test_a_dead_program_leaves_no_descriptor(program: str) -> None:
     kept.clear()
     del session
     assert descriptors() == opened
+
+
+def test_a_program_that_died_unnoticed_leaves_no_descriptor(program: str) -> None:
+    """It is noticed when others begin."""
+    with Session(program):
+        opened = descriptors()
+        kept = []
+        for _ in range(20):
+            session = Session(program)
+            session.send("cell x span")
+            os.kill(session.pid, signal.SIGKILL)
+            assert gone(session.pid)
+            kept.append(session)
+        with Session(program):
+            pass
+        assert descriptors() <= opened
+        for session in kept:
+            with pytest.raises(ProgramEnded, match="SIGKILL"):
+                session.send("cell y span")
+            assert session.lines == ["cell x span"] and session.replay() == [Done()]
 
 
 def test_a_session_that_nobody_has_leaves_no_descriptor(program: str, tmp_path: Path) -> None:

@@ -1,9 +1,10 @@
 """A process of a program with its pipes, and what sees to it that it ends.
 
-It ends with this one, whatever ends that, in the midst of a run too: by a leash. That is a pipe
-whose writing end this process alone has, and on which nobody writes. The program has its other end,
-and the kernel is told (`F_SETOWN`, `F_SETSIG`) to send SIGKILL to the program's group once the
-leash changes: that is when its last writer is gone. A child that this process forks lets go of it.
+It ends with this one, whatever ends that, in the midst of a run too: by the leash. That is a pipe
+whose writing end this process alone has, and on which nobody writes. Each program has a reading end
+of its own, and the kernel is told (`F_SETOWN`, `F_SETSIG`) to send SIGKILL to the program's group
+once something comes of it: that is when the last writer is gone. A child that this process forks
+lets go of the writing end.
 """
 
 import fcntl
@@ -45,8 +46,8 @@ def held_back() -> Iterator[None]:
         yield
     finally:
         signal.signal(signal.SIGINT, handler)
-    if came:
-        handler(signal.SIGINT, came[0])
+        if came:
+            handler(signal.SIGINT, came[0])
 
 
 class Process:
@@ -54,7 +55,7 @@ class Process:
     are the numbers of the pipes to it and from it, -1 once they are closed; `into` never waits.
     `status` is its exit status, -N where signal N ended it, None as long as that isn't known."""
 
-    _leash = -1
+    into = out = -1
 
     def __init__(
         self, command: list[str], environment: Mapping[str, str], show_errors: bool
@@ -63,7 +64,6 @@ class Process:
         Raises OSError where it can't be started."""
         self.pid = 0
         self.status: int | None = None
-        self.into = self.out = -1
         self._said: IO[bytes] | None = None
         self._is_ours = True
         is_started = False
@@ -77,7 +77,7 @@ class Process:
 
     def __del__(self) -> None:
         # (what isn't dropped before this process ends, ends by its leash)
-        if self._leash >= 0 and not sys.is_finalizing():
+        if self.out >= 0 and not sys.is_finalizing():
             self.kill()
 
     def _start(self, command: list[str], environment: Mapping[str, str], show_errors: bool) -> None:
@@ -86,7 +86,7 @@ class Process:
             theirs.callback(os.close, into)
             self.out, out = os.pipe()
             theirs.callback(os.close, out)
-            leash, self._leash = os.pipe()
+            leash = _leash_end()
             theirs.callback(os.close, leash)
             places = {0: into, 1: out, _LEASH: leash}
             if not show_errors:
@@ -126,6 +126,14 @@ class Process:
             time.sleep(_LOOK)
         return True
 
+    def is_over(self) -> bool:
+        """Whether it has ended, which is not taken in yet."""
+        try:
+            how = os.WEXITED | os.WNOWAIT | os.WNOHANG
+            return self._is_ours and bool(os.waitid(os.P_PID, self.pid, how))
+        except ChildProcessError:
+            return True
+
     def strike(self) -> None:
         """Ends it at once, with what it has started. Nothing is closed, so any thread may do this
         to whoever uses it."""
@@ -159,8 +167,6 @@ class Process:
         """Lets go of it in a child that was forked: it is the parent's. (The numbers of the pipes
         stay taken, for whoever has them yet: they lead to nothing.)"""
         self._is_ours = False
-        _close(self._leash)
-        self._leash = -1
         with open(os.devnull, "r+b", buffering=0) as nothing:
             for number in (self.into, self.out):
                 if number >= 0:
@@ -177,8 +183,8 @@ class Process:
             self.status = 0
 
     def _close(self) -> None:
-        numbers = (self.into, self.out, self._leash)
-        self.into = self.out = self._leash = -1
+        numbers = (self.into, self.out)
+        self.into = self.out = -1
         for number in numbers:
             _close(number)
         if self._said:
@@ -192,20 +198,37 @@ def _close(number: int) -> None:
             os.close(number)
 
 
+def _leash_end() -> int:
+    """A reading end of the leash, for one program."""
+    global _leash
+    with _making_leash:
+        if _leash < 0:
+            end, _leash = os.pipe()
+            os.close(end)
+        # (opened anew, since what the kernel is told holds of all that share what was opened)
+        return os.open(f"/proc/self/fd/{_leash}", os.O_RDONLY | os.O_CLOEXEC)
+
+
 def _tie(leash: int, pid: int) -> None:
-    """Has the kernel kill a process, with all in its group, once the leash has no other end. (Where
-    a kernel can't, the process ends at the end of its input.)"""
+    """Has the kernel kill a process, with all in its group, once the leash has no writer. (Where a
+    kernel can't, the process ends at the end of its input.)"""
     with suppress(OSError):
         fcntl.fcntl(leash, fcntl.F_SETOWN, -pid)
         fcntl.fcntl(leash, fcntl.F_SETSIG, signal.SIGKILL)
         fcntl.fcntl(leash, fcntl.F_SETFL, fcntl.fcntl(leash, fcntl.F_GETFL) | os.O_ASYNC)
 
 
-# Those that were started here: a child that is forked lets go of them.
+# The writing end of the leash, -1 as long as there is none.
+_leash = -1
+_making_leash = threading.Lock()
+# The processes that were started here: a child that is forked lets go of them.
 _processes: "weakref.WeakSet[Process]" = weakref.WeakSet()
 
 
 def _leave_all() -> None:
+    global _leash, _making_leash
+    _close(_leash)
+    _leash, _making_leash = -1, threading.Lock()
     for process in list(_processes):
         process.leave()
 

@@ -108,7 +108,14 @@ class Program:
     @property
     def is_open(self) -> bool:
         """Whether it can be spoken to: it has not been ended here, nor found to have ended."""
-        return self._process.into >= 0
+        return self._process.out >= 0
+
+    def notice(self) -> bool:
+        """Whether it has ended, found out where nobody asks it; all that leads to it is closed
+        then."""
+        if self.is_open and self._process.is_over():
+            self.ended = self._how_ended(0)
+        return self.ended is not None
 
     def put(self, data: bytes, until: float | None = None) -> None:
         """Sends whole lines, and takes in replies until they are all sent. Raises ProgramEnded."""

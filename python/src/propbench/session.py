@@ -11,6 +11,7 @@ import threading
 import time
 import weakref
 from collections.abc import Iterable
+from itertools import count
 from types import FrameType
 from typing import Literal, overload
 
@@ -81,6 +82,7 @@ class Session(Closing):
         self._process = os.getpid()
         # What those who ask a session much keep of it, by their names; it goes with the session.
         self.kept: dict[str, object] = {}
+        _notice_ends()
         self._use(self._begun())
         _sessions.add(self)
 
@@ -396,15 +398,25 @@ class Session(Closing):
         self._turn.acquire()
         return self._turn
 
+    def _notice_end(self) -> None:
+        """Lets go of a program that has ended, where no call is running."""
+        turn = self._turn
+        if turn.acquire(False):
+            try:
+                if self._talk.in_step and self._talk.program.notice():
+                    self._talk.in_step = False
+            finally:
+                turn.release()
+
     def _calls(self) -> int:
         """How many calls of this session are running, in all threads, the caller's among them."""
-        count = 0
+        calls = 0
         for frame in sys._current_frames().values():
             at: FrameType | None = frame
             while at is not None:
-                count += at.f_code in _CALLS and at.f_locals.get("self") is self
+                calls += at.f_code in _CALLS and at.f_locals.get("self") is self
                 at = at.f_back
-        return count
+        return calls
 
 
 # What has a session to itself while it runs.
@@ -417,12 +429,23 @@ _CALLS = frozenset(
         Session.replay,
         Session.drop_lines,
         Session._ready,
+        Session._notice_end,
     )
 )
 # The turn of a session that is another process's: nobody here gets it.
 _NOBODYS = threading.Lock()
 _NOBODYS.acquire()
 _sessions: "weakref.WeakSet[Session]" = weakref.WeakSet()
+# How many sessions are begun before it is looked which programs have ended.
+_FEW = 16
+_begun = count(1)
+
+
+def _notice_ends() -> None:
+    """Lets go of programs that have ended, unnoticed: now and then, by how many there are."""
+    if next(_begun) % max(1, len(_sessions) // _FEW) == 0:
+        for session in list(_sessions):
+            session._notice_end()
 
 
 def _leave_all() -> None:
