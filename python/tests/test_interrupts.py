@@ -129,9 +129,8 @@ def checked(session: Session, before: list[str], adds: list[str], where: str) ->
 
 @pytest.mark.parametrize("happens, moments", [(by_signal, 1000), (by_exception, 300)])
 def test_a_call_that_is_cut_short_loses_nothing(
-    program: str, happens: Callable[[], None], moments: int, monkeypatch: pytest.MonkeyPatch
+    program: str, happens: Callable[[], None], moments: int
 ) -> None:
-    monkeypatch.setattr(runs, "_GRACE", 0.1)
     chance = random.Random(happens.__name__)
     longest: dict[str, int] = {}
     with Session(program) as session:

@@ -456,11 +456,12 @@ def test_a_program_that_died_unnoticed_leaves_no_descriptor(program: str) -> Non
 
 def test_a_session_that_nobody_has_leaves_no_descriptor(program: str, tmp_path: Path) -> None:
     opened = descriptors()
-    for how in (lambda each: None, lambda each: os.kill(each.pid, signal.SIGKILL)):
+    for is_killed in (False, True):
         for _ in range(20):
             session = Session(program)
             session.send("cell x span")
-            how(session)
+            if is_killed:
+                os.kill(session.pid, signal.SIGKILL)
         del session
         assert descriptors() == opened
     broken = tmp_path / "broken"

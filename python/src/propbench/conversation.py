@@ -13,6 +13,8 @@ from propbench.refusals import CLASSES, Refused
 from propbench.replies import SEVERAL, NotAReply, Reply, lines_behind, refusal_in, reply_of
 from propbench.showing import printable
 
+# A line that changes nothing, and what is answered to it.
+_MARK, _MARKED = "mark", "error 3: unknown command"
 # So many characters are shown of a line and of a reply that don't belong together.
 _SHOWN = 80
 
@@ -62,6 +64,15 @@ class Conversation:
         [first] = program.first_lines(1, until)
         lines = program.first_lines(1 + lines_behind(command, first), until)
         program.rest()
+        return "\n".join(lines)
+
+    def late(self, until: float) -> str:
+        """What is there of the reply to a line that was told, "" where all of it was read and lost:
+        what comes before the reply to a mark behind it. Raises NoReply where that doesn't come."""
+        self.program.tell(_MARK, until)
+        lines: list[str] = []
+        while (line := self.program.next_line(until)) != _MARKED:
+            lines.append(line)
         return "\n".join(lines)
 
     def set_limit(self, steps: int, until: float | None = None) -> None:

@@ -209,10 +209,16 @@ class Runner:
 
     def _late(self, question: Question, watch: Watch) -> Reply:
         """The reply to a question that was interrupted, where it comes soon. Raises what interrupted
-        it where none does, or one of which a part was lost, and where it is refused."""
+        it where none does, or a part of it was lost, and where it is refused."""
         assert watch.stopped
+        talk, until = self.talk, time.monotonic() + _GRACE
         try:
-            text = self.talk.hear(question.words[0], time.monotonic() + _GRACE)
+            text = talk.late(until)
+            if not text:
+                # It was read and lost: what is known by now says as much.
+                watch.taken += talk.program_limit
+                talk.tell(question.line, 0, until)
+                text = talk.hear(question.words[0], until)
             return self._reply(question, text)
         except Refused:
             raise watch.stopped from None
