@@ -10,7 +10,6 @@ lets go of the writing end.
 import fcntl
 import os
 import signal
-import sys
 import tempfile
 import threading
 import time
@@ -74,11 +73,6 @@ class Process:
         finally:
             if not is_started:
                 self.kill()
-
-    def __del__(self) -> None:
-        # (what isn't dropped before this process ends, ends by its leash)
-        if self.out >= 0 and not sys.is_finalizing():
-            self.kill()
 
     def _start(self, command: list[str], environment: Mapping[str, str], show_errors: bool) -> None:
         with ExitStack() as theirs:

@@ -9,11 +9,12 @@ import os
 import select
 import signal
 import time
+import weakref
 from collections import deque
 from dataclasses import dataclass
 from itertools import islice
 
-from propbench.process import Process
+from propbench.process import Process, held_back
 from propbench.words import encoded
 
 # How much is read at once, and of a single reply at first, in bytes. (For so little Python has room
@@ -87,7 +88,10 @@ class Program:
         if show_errors:
             _shown.add(command[0])
         try:
-            self._process = Process(command, {**os.environ, **told}, show_errors)
+            with held_back():
+                self._process = Process(command, {**os.environ, **told}, show_errors)
+                # (a program that nobody has any more)
+                self._dropped = weakref.finalize(self, self._process.kill)
         except OSError as error:
             raise ProgramEnded(None, str(error)) from None
         self._in, self._out = self._process.into, self._process.out
@@ -187,11 +191,12 @@ class Program:
         """Ends the program by the end of its input, or else by force. It is to be at rest."""
         self._process.end_input()
         self._process.ends_within(_END)
-        self._process.kill()
+        self.kill()
 
     def kill(self) -> None:
         """Ends the program at once, with what it has started, and closes what leads to it."""
         self._process.kill()
+        self._dropped.detach()
 
     def strike(self) -> None:
         """Ends the program at once while another thread uses it, which finds it ended."""
@@ -227,7 +232,7 @@ class Program:
 
     def _give_up(self) -> None:
         """Ends the program, which has not answered in time."""
-        self._process.kill()
+        self.kill()
         raise NoReply(self._process.status, "")
 
     def _how_ended(self, seconds: float) -> ProgramEnded:
@@ -235,5 +240,5 @@ class Program:
         leads to it is closed."""
         self._process.ends_within(seconds)
         errors = self._process.errors()
-        self._process.kill()
+        self.kill()
         return ProgramEnded(self._process.status, errors)
