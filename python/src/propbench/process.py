@@ -192,15 +192,17 @@ def _close(number: int) -> None:
             os.close(number)
 
 
+def _new_leash() -> int:
+    """The writing end of a leash."""
+    end, leash = os.pipe()
+    os.close(end)
+    return leash
+
+
 def _leash_end() -> int:
-    """A reading end of the leash, for one program."""
-    global _leash
-    with _making_leash:
-        if _leash < 0:
-            end, _leash = os.pipe()
-            os.close(end)
-        # (opened anew, since what the kernel is told holds of all that share what was opened)
-        return os.open(f"/proc/self/fd/{_leash}", os.O_RDONLY | os.O_CLOEXEC)
+    """A reading end of the leash, for one program. (It is opened anew, since what the kernel is told
+    holds of all that share what was opened.)"""
+    return os.open(f"/proc/self/fd/{_leash}", os.O_RDONLY | os.O_CLOEXEC)
 
 
 def _tie(leash: int, pid: int) -> None:
@@ -212,17 +214,15 @@ def _tie(leash: int, pid: int) -> None:
         fcntl.fcntl(leash, fcntl.F_SETFL, fcntl.fcntl(leash, fcntl.F_GETFL) | os.O_ASYNC)
 
 
-# The writing end of the leash, -1 as long as there is none.
-_leash = -1
-_making_leash = threading.Lock()
+_leash = _new_leash()
 # The processes that were started here: a child that is forked lets go of them.
 _processes: "weakref.WeakSet[Process]" = weakref.WeakSet()
 
 
 def _leave_all() -> None:
-    global _leash, _making_leash
+    global _leash
     _close(_leash)
-    _leash, _making_leash = -1, threading.Lock()
+    _leash = _new_leash()
     for process in list(_processes):
         process.leave()
 
