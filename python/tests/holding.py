@@ -9,6 +9,7 @@ import pytest
 
 from modelling import DAYS, Recipe, built
 from propbench import Answer, Conflict, Elements, Nothing, Span, Workbench
+from propbench.model.measures import Interval
 from standing import Chosen, Made, Said, Standing, Values
 from trying import Tried
 
@@ -115,7 +116,7 @@ class Held:
     def ask(self, name: str) -> None:
         """What follows for a cell."""
         found, wanted = answer_of(self.w, name), answer_of(self.fresh, name)
-        assert said_of(found) == said_of(wanted)
+        assert are_alike(found, wanted)
         if isinstance(found, Conflict):
             assert not self.tried.fits
             assert set(found.premises) <= set(self.standing.believed)
@@ -225,9 +226,8 @@ class Held:
             return
         found, wanted = (w.scenarios(rows, columns)["row"] for w in (self.w, self.fresh))
         assert (found.conflict is None) is (wanted.conflict is None)
-        assert {it: said_of(found[it]) for it in found} == {
-            it: said_of(wanted[it]) for it in wanted
-        }
+        assert found.keys() == wanted.keys()
+        assert all(are_alike(found[it], wanted[it]) for it in found)
         tried = Tried(supposed, supposed.believed)
         assert found.conflict is None or not tried.fits
         if tried.fits and not self.standing.choices:
@@ -242,7 +242,7 @@ class Held:
             assert not self.tried.fits
             return
         wanted = self.fresh.shave(self.fresh.cell(name))  # type: ignore[arg-type]
-        assert said_of(found) == said_of(wanted)
+        assert are_alike(found, wanted)
         if self.tried.fits:
             assert all(has(found, at[name]) for at in self.tried.points(name, {}))
         assert list(self.w.outliers()) == list(self.fresh.outliers())
@@ -277,6 +277,18 @@ def said_of(found: Answer | Conflict) -> object:
     if isinstance(found, Conflict):
         return "conflict"
     return found.value, found.low, found.high, found.settled, dict(found.choices)
+
+
+def are_alike(found: Answer | Conflict, other: Answer | Conflict) -> bool:
+    """Whether two answers say the same; the premises behind them may be others. Of a quantity the
+    readings behind an answer cut off what its cell leaves beyond them, so there the ends may be
+    others too (`has` holds both to the points)."""
+    if isinstance(found, Conflict) or isinstance(other, Conflict):
+        return said_of(found) == said_of(other)
+    is_measured = isinstance(found.value, Interval) and isinstance(other.value, Interval)
+    if is_measured and set(found.because) != set(other.because):
+        return (found.settled, found.choices) == (other.settled, other.choices)
+    return said_of(found) == said_of(other)
 
 
 def has(found: Answer, point: Any) -> bool:
