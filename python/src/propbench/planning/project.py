@@ -156,9 +156,7 @@ class Project:
     def returns(self) -> tuple[tuple[str, int], ...]:
         """Who comes back on which day, by premises that are believed."""
         believed = set(self.workbench.believed)
-        return tuple(
-            (away.person, away.last) for away in self._aways() if away.premise in believed
-        )
+        return tuple((away.person, away.last) for away in self._aways() if away.premise in believed)
 
     def done_by(
         self, day: int | date | str, under: str | None = None, task: Task | None = None
