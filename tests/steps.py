@@ -60,6 +60,14 @@ class Machine:
         self.waiting.append(len(self.attached))
         self.attached.append((name, inputs, output))
 
+    def next(self):
+        """Which is called next, and waits no longer: in its place comes the last, unless it is the first."""
+        place = self.pick(len(self.waiting))
+        if place == 0:
+            return self.waiting.pop(0)
+        self.waiting[place], self.waiting[-1] = self.waiting[-1], self.waiting[place]
+        return self.waiting.pop()
+
     def run(self, limit):
         """How a run ends that takes at most so many steps."""
         for step in range(min(limit, MOST_STEPS) + 1):
@@ -68,7 +76,7 @@ class Machine:
             if not self.waiting:
                 return "settled"
             if step < limit:
-                name, inputs, output = self.attached[self.waiting.pop(self.pick(len(self.waiting)))]
+                name, inputs, output = self.attached[self.next()]
                 self.state(output, plain.answered(name, [self.values[it] for it in inputs]))
         if limit > MOST_STEPS:
             raise Unending

@@ -185,7 +185,7 @@ class Told(steps.Told):
             end = "contradiction" if CLASH in machine.values.values() else "settled"
             self.say("step", Stepped(plainly, [], end=end))
             return
-        called = machine.waiting.pop(machine.pick(len(machine.waiting)))
+        called = machine.next()
         name, inputs, output = machine.attached[called]
         machine.state(output, plain.answered(name, [machine.values[it] for it in inputs]))
         value = machine.values[output]

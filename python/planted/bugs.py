@@ -614,4 +614,38 @@ BUGS = [
         "if text.isprintable():",
         "texts::a_terminal_gets_no_orders",
     ),
+    # Sessions that are supervised.
+    Bug(
+        "process.py",
+        "                _tie(leash, self.pid)\n",
+        "                pass\n",
+        "supervised::a_program_ends_with_its_parent",
+    ),
+    Bug(
+        "process.py",
+        """        signal.pthread_sigmask(signal.SIG_BLOCK, handlers)
+        for number in handlers:
+            signal.signal(number, lambda number, frame: came.append((number, frame)))
+""",
+        "",
+        "interrupts::ctrl_c_is_held_back_while_a_program_is_started_or_ended",
+    ),
+    Bug(
+        "session.py",
+        "            session._turn = _NOBODYS\n",
+        "            pass\n",
+        "supervised::a_forked_child_is_told_whose_session_it_is",
+    ),
+    Bug(
+        "replies.py",
+        'text.startswith(f"{name} = ") and name in kinds',
+        '" = " in text and name in kinds',
+        "supervised::a_reply_to_another_question_is_found_out",
+    ),
+    Bug(
+        "page/asking.py",
+        "self._is_closed or self._is_gone():",
+        "self._is_closed:",
+        "page_server::what_a_page_asked_ends_with_it",
+    ),
 ]

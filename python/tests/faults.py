@@ -95,5 +95,6 @@ class Interrupting:
         self.count += event == "line"
         if event == "line" and self.count == self._at:
             sys.settrace(None)
-            raise KeyboardInterrupt
+            # (which comes later where signals are held back)
+            signal.raise_signal(signal.SIGINT)
         return self._trace

@@ -129,7 +129,8 @@ refuted plan=1 because morning plan=1""",
 @pytest.mark.parametrize("text, wanted", [*HOW, LISTED, ("list 0", Listing((), (), (), (), ()))])
 def test_what_is_told_is_read(text: str, wanted: How | Listing) -> None:
     command = text.partition(" ")[0]
-    assert reply_of([command, "z"], text, KINDS) == wanted and str(wanted) == text
+    line = [command, wanted.cell] if isinstance(wanted, How) else [command]
+    assert reply_of(line, text, KINDS) == wanted and str(wanted) == text
     assert lines_behind(command, text.partition("\n")[0]) == text.count("\n")
 
 

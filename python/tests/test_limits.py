@@ -14,7 +14,7 @@ from pathlib import Path
 import pytest
 from drawn_plans import drawn_plan
 
-from propbench import Conflict, Workbench
+from propbench import Conflict, OutOfTime, Workbench
 from propbench.measuring.quantities import Quantity
 from propbench.model.answers import NotSettled
 from propbench.model.cells import Cell
@@ -117,7 +117,8 @@ MORE: dict[str, Ask] = {
     "best of a session": lambda b, s: _watched(b).best("t0_end_", "least", seconds=s),
     "a line": lambda b, s: b.w.session.send("settle", seconds=s),
 }
-MAY_RAISE = (NothingFits, NotSettled, Conflict)
+# (where not even the first slice of a run has come to its end by then, the program is ended)
+MAY_RAISE = (NothingFits, NotSettled, Conflict, OutOfTime)
 
 
 def _watched(bench: Bench) -> SessionWatched:

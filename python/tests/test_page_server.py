@@ -10,7 +10,7 @@ import subprocess
 import sys
 import threading
 import time
-from collections.abc import Iterator
+from collections.abc import Callable, Iterator
 from pathlib import Path
 from typing import Any
 
@@ -18,7 +18,7 @@ import pytest
 from conftest import ENDLESS, REPOSITORY
 
 import propbench.page
-from propbench import Session, Workbench
+from propbench import Session, SessionInUse, Workbench
 from propbench.page import Page
 from propbench.watching.of_session import SessionWatched
 from propbench.watching.of_workbench import WorkbenchWatched
@@ -430,3 +430,62 @@ def test_ctrl_c_while_the_desk_is_asked(program: str, tmp_path: Path) -> None:
         served.wait()
         served.stdout.close()
         served.stderr.close()
+
+
+@pytest.mark.parametrize("at_once", [False, True])
+def test_what_a_page_asked_ends_with_it(program: str, at_once: bool) -> None:
+    """Browsers drop their connections while a run for one of them goes on and on: it is ended, and
+    for the others none is begun."""
+    lines = [*ENDLESS, "cell y span", "tell a y 1", "tell b y 2"]
+    asked = json.dumps({"what": "try", "premises": ["a"]}).encode()
+    with Session(program) as session:
+        session.send_all(lines)
+        with Page(SessionWatched(session), "endless") as page:
+            address = ("127.0.0.1", place(page)[1])
+            gone = [socket.create_connection(address, timeout=90) for _ in range(3)]
+            for link in gone:
+                link.sendall(sent_whole(page, "/TOKEN/do", asked))
+            waited(lambda: "so far" in busy(page))
+            for link in gone:
+                if at_once:
+                    link.setsockopt(socket.SOL_SOCKET, socket.SO_LINGER, struct.pack("ii", 1, 0))
+                link.close()
+            waited(lambda: busy(page) == "")
+            assert request(page, "GET", "/TOKEN/state").json["lines"] == lines
+
+
+def test_a_change_is_made_also_where_its_page_is_gone(page: Page) -> None:
+    """Only what runs for the page is ended."""
+    asked = json.dumps({"what": "believe", "premise": "morning", "believed": False}).encode()
+    with socket.create_connection(("127.0.0.1", place(page)[1]), timeout=90) as link:
+        link.sendall(sent_whole(page, "/TOKEN/do", asked))
+    waited(lambda: "kick morning" in request(page, "GET", "/TOKEN/state").json["lines"])
+
+
+def test_a_page_is_closed_in_the_midst_of_a_run(program: str) -> None:
+    """Behind that the session is free, and one that is in use is told so."""
+    with Session(program) as session:
+        session.send_all([*ENDLESS, "cell y span", "tell a y 1", "tell b y 2"])
+        page = Page(SessionWatched(session), "endless")
+        asking = threading.Thread(target=lambda: do(page, what="apply", premises=["a"]))
+        asking.start()
+        waited(lambda: "so far" in busy(page))
+        with pytest.raises(SessionInUse):
+            session.send("settle")
+        page.close()
+        assert "unsettled" in str(session.send("ask x", seconds=0))
+        asking.join(60)
+        assert not asking.is_alive()
+
+
+def busy(page: Page) -> str:
+    """What the page is at."""
+    return str(request(page, "GET", "/TOKEN/version").json["busy"])
+
+
+def waited(condition: Callable[[], bool]) -> None:
+    """Waits until a condition holds."""
+    end = time.monotonic() + 60
+    while not condition():
+        assert time.monotonic() < end
+        time.sleep(0.05)

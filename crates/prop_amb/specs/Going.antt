@@ -13,10 +13,6 @@ use Rattle.prop_amb.specs.Moving.{advanced, reasons_advanced, deepened, passed_o
 use Rattle.prop_amb.specs.Resolving.{MayAdvance}
 use Rattle.prop_amb.specs.Culprits.{MayMove, AreCulprits}
 
--- each of so many instances waits
-abbrev pub AllWait : ℕ → List ℕ → Type 0
-AllWait n line = (j : ℕ) → j < n → Contains line j
-
 -- the search, the cells, the instances that wait, and the order in which they are called
 pub record Work (O : Type 0) : Type 0 where
   pub search : Stand

@@ -1,6 +1,6 @@
 //! The reduction of an explanation: premises are left out, one after the other, as long as what is
 //! left entails the value.
-ghost use Rattle.std.specs.Prelude.{◌≡◌, ◌≢◌, ◌<◌, ◌≤◌, ◌*◌, true, false, ℕ, List, Contains};
+ghost use Rattle.std.specs.Prelude.{◌≡◌, ◌≢◌, ◌<◌, ◌≤◌, ◌*◌, true, false, ℕ, List};
 ghost use Rattle.std.specs.Prelude.{length, IfOk};
 ghost use Rattle.prop_lattice.specs.Order.{Below};
 ghost use Rattle.std.specs.List.Sorted.{IsStrictlyIncreasing};
@@ -15,6 +15,7 @@ ghost use Rattle.prop_explain.specs.Trying.{Tries, TriesOf};
 ghost use Rattle.prop_cells.specs.Data.{beliefs};
 ghost use Rattle.prop_scheduler.specs.Live.{cells_of, line_of, library_of, problem_in};
 ghost use Rattle.prop_scheduler.specs.Live.{IsLiveIn, IsReady, OnlyRan};
+ghost use Rattle.prop_scheduler.specs.Agendas.{all_alerted, numbers_below};
 ghost use Rattle.prop_scheduler.specs.Turns.{IsSettled, Turns};
 ghost use Rattle.prop_scheduler.specs.Potential.{most_steps};
 
@@ -65,7 +66,8 @@ enum Tried {
 /// are enough. For a try those wait that read or write a cell of which something else is believed
 /// than in the try before. Each call of an instance is a step.
 ///
-/// Afterwards every instance waits and every cell is watched, after want of memory too.
+/// Afterwards every instance waits and every cell is watched, after want of memory too: first those
+/// that wait after the last try, and then the others, by number.
 pub fn reduce<R: Rule + Drop, O: Order>(
     live: &mut Live<R>,
     order: &mut O,
@@ -81,8 +83,6 @@ pub fn reduce<R: Rule + Drop, O: Order>(
         (cells_of live.old) }
     ensures ran { OnlyRan live.old live.new }
     ensures alive { (s : Premises) → IsLiveIn R.value_of s live.new }
-    ensures all { (j : ℕ) → j < length (cells_of live.new).instances
-        → Contains (line_of live.new) j }
     ensures explains { IfOk result (λ r. OfCore r.end (λ v s.
         (v ≡ beliefs (set_of worldview.now) (cells_of live.old).contents cell)
         × Explains (problem_in R.value_of live.old) (set_of worldview.now) cell v (set_of s))) }
@@ -95,7 +95,9 @@ pub fn reduce<R: Rule + Drop, O: Order>(
     // each premise of some explanation may take.
     ensures tries { IfOk result (λ r. (line : List ℕ)
         × Tries O.picks (library_of R.value_of live.old) (set_of worldview.now) (cells_of live.old)
-        (line_of live.old) order.old r.steps (cells_of live.new) line order.new) }
+        (line_of live.old) order.old r.steps (cells_of live.new) line order.new
+        × (line_of live.new
+        ≡ all_alerted line (numbers_below (length (cells_of live.new).instances)))) }
     ensures earned { IfOk result (λ r.
         IfNotReduced r.end (λ v s. (ps : List ℕ) × IsStrictlyIncreasing ps
         × Explains (problem_in R.value_of live.old) (set_of worldview.now) cell v (set_of ps)

@@ -1,7 +1,6 @@
-pub mod SelectedLemmas
-pub mod ExcludeLemmas
-pub mod WideLemmas
 pub mod CountLemmas
+pub mod GainLemmas
+pub mod ExtensionLemmas
 pub mod HallLemmas
 pub mod SetLemmas
 pub mod RunLemmas

@@ -1,2 +1,1 @@
-pub mod Selected
-pub mod Idle
+pub mod Extensions

@@ -1,52 +1,23 @@
 -- Parts of a set, and sets that it is part of, found in some of the groups alone.
-use Rattle.std.proofs.Common.{◌≡◌, ◌∙◌, ◌<◌, ◌≤◌, ◌-◌, ℕ, suc, Bool, true, false, nat_eq, nat_lt, Option, None, Some}
+use Rattle.std.proofs.Common.{◌≡◌, ◌∙◌, ◌<◌, ◌≤◌, ◌-◌, ℕ, suc, Bool, true, false, ◌||◌, nat_lt, Option, None, Some}
 use Rattle.std.proofs.Common.{List, [], ◌∷◌, length, get_or, get_or-drop, length-drop, drop, refl, sym, ap, subst}
 use Rattle.std.proofs.Common.{arith, inl, inr, All}
-use Rattle.std.specs.Option.{option_eq}
+use Rattle.std.specs.List.{list_any}
 use Rattle.std.proofs.lemmas.Bool.{leb-true}
-use Rattle.std.proofs.lemmas.Bool.Decides.{eqb_tells, leb_tells}
+use Rattle.std.proofs.lemmas.Bool.Decides.{leb_tells}
 use Rattle.std.proofs.lemmas.List.Elements.{All-append}
 use Rattle.std.proofs.lemmas.List.Folds.{list_any-append}
 use Rattle.prop_numbers.specs.Sets.{Members, set_of, is_within}
 use Rattle.prop_numbers.proofs.WithinLemmas.{within_has}
 use Rattle.prop_nogoods.specs.Stores.{has_part}
 use Rattle.prop_nogoods.specs.inner.Stores.{HaveSame, IsPartOfNone}
-use Rattle.prop_nogoods.specs.inner.Endings.{Group, EndsSo, EndTogether, AreInOrder, NoPartEnds, end_of, sets_of}
-use Rattle.prop_nogoods.proofs.EndingLemmas.{group_contains, none_without_last}
+use Rattle.prop_nogoods.specs.inner.Endings.{Group, EndsSo, EndTogether, AreInOrder, end_of, sets_of}
+use Rattle.prop_nogoods.proofs.EndingLemmas.{group_contains}
 use Rattle.prop_nogoods.proofs.OrderLemmas.{IsPlaceFor, behind_contains}
 use Rattle.prop_nogoods.proofs.StoreLaws.{part-listed, has_part-from}
 use Rattle.prop_nogoods.proofs.StoreLemmas.{never, no_part-same}
 
--- a last premise is found to be itself
-pub option_eq-itself : (o : Option ℕ) → option_eq nat_eq o o ≡ true
-option_eq-itself None = refl
-option_eq-itself (Some p) = elim (eqb_tells p p) [ inl e ↦ e.0 | inr e ↦ absurd (e.1 refl) ]
-
 -- ---- parts of a set
-
--- the group with a last premise stands at its place
-at_place : (last : Option ℕ) (gs : List Group) (i : ℕ) → IsPlaceFor last gs i → AreInOrder gs → (k : ℕ) (d : Group)
-    → k < length gs
-    → (get_or gs k d).last ≡ last → i ≡ k
-at_place last gs i place order k d l same = elim (leb_tells (suc k) i) [
-  | inl e ↦ let before = place.0 k d (omega arith) e.1 in absurd (omega (arith, before, ap end_of same))
-  | inr e ↦ elim (eqb_tells i k) [
-    | inl f ↦ f.1
-    | inr f ↦
-        let here = place.1 i d (omega arith) (omega (arith, e.1, l)) in
-        let next = order.rise i k d (omega (arith, e.1, f.1)) l in
-        absurd (omega (arith, here, next, ap end_of same))
-  ]
-]
-
--- where the group at the place has no part, or ends otherwise, none is found that ends so
-pub no_part_at : (last : Option ℕ) (gs : List Group) (i : ℕ) (w : Members) → IsPlaceFor last gs i → AreInOrder gs
-    → ((d : Group) → i < length gs → (get_or gs i d).last ≡ last → has_part (get_or gs i d).sets w ≡ false)
-    → NoPartEnds gs w last
-no_part_at last gs i w place order none k d l same =
-    let here = at_place last gs i place order k d l same in
-    subst (λ j. has_part (get_or gs j d).sets w ≡ false) here
-    (none d (omega (arith, here, l)) (subst (λ j. (get_or gs j d).last ≡ last) (sym here) same))
 
 -- a part in a group is one in all
 pub part_of_all : (gs : List Group) (i : ℕ) (d : Group) (w : Members) → i < length gs
@@ -55,38 +26,11 @@ part_of_all gs i d w l h =
     let its = part-listed (get_or gs i d).sets w h in
     has_part-from (sets_of gs) w its.line (group_contains gs i d its.line l its.listed_in) its.is_part
 
-no_part_of_groups : (gs : List Group) (w : Members) → All (λ g. has_part g.sets w ≡ false) gs
-    → has_part (sets_of gs) w ≡ false
-no_part_of_groups [] w all = refl
-no_part_of_groups (g ∷ gs) w all =
-    list_any-append (λ line. is_within w line) g.sets (sets_of gs)
-    ∙ rw (all 0 g (omega arith)) (no_part_of_groups gs w (λ k d l. all (suc k) d (omega (arith, l))))
-
--- where no group has a part that ends with a premise of the set or has none, there is no part
-pub no_part_anywhere : (gs : List Group) (w : Members) → AreInOrder gs → NoPartEnds gs w None
-    → ((p : ℕ) → w p ≡ true → NoPartEnds gs w (Some p))
-    → has_part (sets_of gs) w ≡ false
-no_part_anywhere gs w order none each = no_part_of_groups gs w (λ k d l. of k d l (get_or gs k d).last refl)
-  where
-    of : (k : ℕ) (d : Group) → k < length gs → (last : Option ℕ) → (get_or gs k d).last ≡ last
-        → has_part (get_or gs k d).sets w ≡ false
-    of k d l None same = none k d l same
-    of k d l (Some p) same = by (w p) refl
-      where
-        ends : All (EndsSo (Some p)) (get_or gs k d).sets
-        ends = subst (λ last. All (EndsSo last) (get_or gs k d).sets) same (order.together k d l)
-
-        by : (b : Bool) → w p ≡ b → has_part (get_or gs k d).sets w ≡ false
-        by true has = each p has k d l same
-        by false lacks = none_without_last w p (get_or gs k d).sets lacks (λ j e m. (ends j e m).0)
-
--- what holds of each number of a list holds of each that is in its set
-pub in_set : (P : ℕ → Type 0) (ps : List ℕ) → All P ps → (p : ℕ) → set_of ps p ≡ true → P p
-in_set P [] all p h = cc
-in_set P (q ∷ ps) all p h = elim (eqb_tells q p) [
-  | inl e ↦ subst P e.1 (all 0 q (omega arith))
-  | inr e ↦ in_set P ps (λ k d l. all (suc k) d (omega (arith, l))) p (rw e.0 at h)
-]
+-- a part is found where some group has one
+pub has_part-groups : (gs : List Group) (w : Members) → list_any (λ g. has_part g.sets w) gs ≡ has_part (sets_of gs) w
+has_part-groups [] w = refl
+has_part-groups (g ∷ gs) w = ap (λ b. has_part g.sets w || b) (has_part-groups gs w)
+    ∙ sym (list_any-append (λ line. is_within w line) g.sets (sets_of gs))
 
 -- two lists of the same sets have the same parts
 pub has_part-same : (a b : List (List ℕ)) (w : Members) → HaveSame a b → has_part b w ≡ has_part a w

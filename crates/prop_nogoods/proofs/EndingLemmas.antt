@@ -13,15 +13,15 @@ use Rattle.std.proofs.lemmas.List.Edits.{insert-append_left, insert-append_right
 use Rattle.std.proofs.lemmas.List.Elements.{All-append, All-contains, Contains-append_left, Contains-append_right}
 use Rattle.std.proofs.lemmas.List.Elements.{Contains-get_or, filter-append}
 use Rattle.std.proofs.lemmas.List.Filters.{length-filter_both}
-use Rattle.std.proofs.lemmas.List.Folds.{flat_map-map, list_any_none}
+use Rattle.std.proofs.lemmas.List.Folds.{flat_map-map}
 use Rattle.prop_numbers.proofs.MergeLemmas.{Rising, rising_from_increasing}
 use Rattle.prop_numbers.proofs.WithinLemmas.{within_has, within_from}
 use Rattle.prop_numbers.specs.Sets.{Members, set_of, is_within, is_below}
 use Rattle.prop_nogoods.specs.Stores.{has_part, staying, lacking, PartsEndBelow}
-use Rattle.prop_nogoods.specs.inner.Endings.{Group, EndsSo, HasOneMore, HasRoom, end_of, sets_of, left_of, lacking_of}
+use Rattle.prop_nogoods.specs.inner.Endings.{Group, EndsSo, HasOneMore, HasRoomFor, end_of, sets_of, left_of, lacking_of}
 use Rattle.prop_nogoods.proofs.StoreLaws.{has_part-from}
 use Rattle.prop_nogoods.specs.inner.Stores.{IsPartOfNone}
-use Rattle.prop_nogoods.proofs.StoreLemmas.{is_kept, is_without, never, staying_all}
+use Rattle.prop_nogoods.proofs.StoreLemmas.{is_kept, is_without, staying_all}
 
 -- a group that keeps its nogoods
 pub sets_of-set_same : (gs : List Group) (i : ℕ) (y d : Group) → y.sets ≡ (get_or gs i d).sets
@@ -118,13 +118,11 @@ left_at n (g ∷ gs) (suc i) x l is = left_at n gs i x (omega (arith, l)) is
 
 -- there is as much room as before
 pub left_room : (n : List ℕ) (gs : List Group) (i : ℕ) (x : Group) → i < length gs → x ≡ get_or (map (left_of n) gs) i x
-    → HasRoom (get_or gs i x) → HasRoom x
-left_room n gs i x l is room =
-    let left = left_at n gs i x l is in
+    → HasRoomFor n (get_or gs i x) → HasRoomFor n x
+left_room n gs i x l is had =
     let fewer = length-filter_both (is_kept n) (λ line. not (is_kept n line)) (λ line. refl) (get_or gs i x).sets in
-    let sets = ap (λ (g : Group). length g.sets) left in
-    let capacity = ap (λ (g : Group). g.capacity) left in
-    omega (arith, room, fewer, sets, capacity)
+    rw (left_at n gs i x l is)
+    (record { room = omega (arith, had.room, fewer); has = had.has; no_larger = had.no_larger })
 
 -- a set joins the groups: one of them has it, and what it is part of is gone
 pub sets_of-joined : (old : List (List ℕ)) (gs : List Group) (n : List ℕ) (i : ℕ) (x y : Group) → sets_of gs ≡ old
@@ -201,12 +199,3 @@ passed_below all xs ys x up so_far =
     by : (zs : List ℕ) → Rising (zs ++ x ∷ ys) → is_below (x + 1) (zs ++ x ∷ []) ≡ true
     by [] h = rw (nat_lt_true x (x + 1) (omega arith)) refl
     by (y ∷ zs) h = let l = above y zs h.0 in rw (nat_lt_true y (x + 1) (omega (arith, l))) (by zs h.1)
-
--- where the last premise is not in the set, no nogood that ends so is
-pub none_without_last : (w : Members) (last : ℕ) (listed : List (List ℕ)) → w last ≡ false
-    → All (λ line. set_of line last ≡ true) listed
-    → has_part listed w ≡ false
-none_without_last w last listed lacks all =
-    list_any_none (λ line. is_within w line) listed (λ k d l.
-    let line = get_or listed k d in
-    never (is_within w line) (λ t. let has = within_has w line last t (all k d l) in cc (has, lacks)))

@@ -1,5 +1,6 @@
 pub mod AmongLemmas
 pub mod BelievedLemmas
+pub mod CommonLemmas
 pub mod EndingLemmas
 pub mod OrderLemmas
 pub mod PlaceLemmas

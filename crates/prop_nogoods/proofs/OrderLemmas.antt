@@ -1,5 +1,5 @@
 -- Groups in order of their last premises, once a group changes or comes in between.
-use Rattle.std.proofs.Common.{◌≡◌, ◌∙◌, ◌<◌, ◌≤◌, ◌-◌, ℕ, zero, suc, true, false, nat_lt, Option, None, Some, List, []}
+use Rattle.std.proofs.Common.{◌≡◌, ◌∙◌, ◌<◌, ◌≤◌, ◌-◌, ℕ, zero, suc, true, false, nat_lt, Option, Some, List, []}
 use Rattle.std.proofs.Common.{◌∷◌, ◌++◌, length, get_or, take, drop, set, insert, map, refl, sym, ap, subst, arith, inl}
 use Rattle.std.proofs.Common.{inr, All, AllPairs, Contains, length-drop, length-set}
 use Rattle.std.specs.List.Sorted.{IsNonDecreasingBy, IsPartitionPoint}
@@ -19,7 +19,7 @@ use Rattle.prop_nogoods.proofs.PlaceLemmas.{pairs_insert}
 use Rattle.prop_nogoods.proofs.StoreLemmas.{is_kept, is_without}
 
 abbrev Rises : Group → Group → Type 0
-Rises g h = end_of g.last < end_of h.last
+Rises g h = end_of g.last ≤ end_of h.last
 
 -- where a group stands whose last premise is this one: behind those that end earlier
 abbrev pub IsPlaceFor : Option ℕ → List Group → ℕ → Type 0
@@ -131,38 +131,16 @@ groups_lacking p gs mid len e l order =
     subst AreInOrder (sym (take_at mid (drop (length mid) gs) len same ∙ e))
     (in_order_map (lacking_of p) (λ g. refl) (λ g t. All-filter (is_without p) (EndsSo g.last) g.sets t) gs order)
 
-end_of_same : (a b : Option ℕ) → end_of a ≡ end_of b → a ≡ b
-end_of_same None None e = refl
-end_of_same None (Some q) e = absurd (omega (arith, e))
-end_of_same (Some p) None e = absurd (omega (arith, e))
-end_of_same (Some p) (Some q) e = let same : p ≡ q = omega (arith, e) in ap Some same
-
--- a group comes in that no other ends like
+-- a group comes in before those that end like it
 pub in_order_insert : (gs : List Group) (i : ℕ) (y : Group) (last : Option ℕ) → i ≤ length gs → y.last ≡ last
-    → y.sets ≡ [] → IsPlaceFor last gs i
-    → ((d : Group) → i < length gs → ¬ ((get_or gs i d).last ≡ last)) → AreInOrder gs → AreInOrder (insert gs i y)
-in_order_insert gs i y last inside is empty place new order = record {
+    → y.sets ≡ [] → IsPlaceFor last gs i → AreInOrder gs → AreInOrder (insert gs i y)
+in_order_insert gs i y last inside is empty place order = record {
   together = All-append EndTogether (take i gs) (y ∷ drop i gs) (All-take EndTogether i gs order.together)
       (All-cons EndTogether y (drop i gs) (together_none y empty) (All-drop EndTogether i gs order.together));
   rise = pairs_insert gs i y inside Rises order.rise
       (λ k d l. let before = place.0 k d (omega arith) l in omega (arith, before, ap end_of is))
-      (λ k d l m. let after = behind k d l m in omega (arith, after, ap end_of is));
+      (λ k d l m. let after = place.1 k d l m in omega (arith, after, ap end_of is));
 }
-  where
-    here : (d : Group) → i < length gs → end_of last < end_of (get_or gs i d).last
-    here d l = elim (eqb_tells (end_of last) (end_of (get_or gs i d).last)) [
-      | inl e ↦ absurd (new d l (sym (end_of_same last (get_or gs i d).last e.1)))
-      | inr e ↦ let from = place.1 i d (omega arith) l in omega (arith, from, e.1)
-    ]
-
-    behind : (k : ℕ) (d : Group) → i ≤ k → k < length gs → end_of last < end_of (get_or gs k d).last
-    behind k d l m = elim (eqb_tells i k) [
-      | inl e ↦ subst (λ j. end_of last < end_of (get_or gs j d).last) e.1 (here d (omega (arith, e.1, m)))
-      | inr e ↦
-          let first = here d (omega (arith, l, m)) in
-          let next = order.rise i k d (omega (arith, l, e.1)) m in
-          omega (arith, first, next)
-    ]
 
 -- no nogood of the groups before the place of n lies elsewhere than below it
 passed : (w : Members) (n i : ℕ) (gs : List Group) → i ≤ length gs → IsPlaceFor (Some n) gs i → AreInOrder gs

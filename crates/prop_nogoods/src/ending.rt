@@ -1,14 +1,14 @@
-//! Nogoods that end with the same premise.
-ghost use Rattle.std.specs.Prelude.{◌≡◌, ◌<◌, ◌≤◌, ◌++◌, ◌∷◌, ℕ, [], length, get_or, insert, map};
+//! Nogoods that end with the same premise, some of them together.
+ghost use Rattle.std.specs.Prelude.{◌≡◌, ◌↔◌, ◌<◌, ◌≤◌, ◌++◌, ◌∷◌, ℕ, [], length, get_or, insert};
 ghost use Rattle.std.specs.Prelude.{nat_lt, vec_capacity, false, All, None, Contains, IsTrue, IfOk};
-ghost use Rattle.std.specs.Prelude.{IfSome, OnOk, OnErr};
+ghost use Rattle.std.specs.Prelude.{IfSome, OnOk, OnErr, map};
 ghost use Rattle.std.specs.List.Sorted.{IsPartitionPoint, IsStrictlyIncreasing};
 ghost use Rattle.prop_numbers.specs.Sets.{set_of, is_within};
 ghost use Rattle.prop_numbers.specs.Signatures.{remainders, AreRemainders};
 ghost use Rattle.prop_nogoods.specs.Stores.{has_part, staying, AreBySize, PartsEndBelow};
 ghost use Rattle.prop_nogoods.specs.inner.Endings.{Group, EndsSo, AreInOrder, end_of, sets_of};
-ghost use Rattle.prop_nogoods.specs.inner.Endings.{HasOneMore, HasRoom, NoPartEnds, left_of};
-ghost use Rattle.prop_nogoods.specs.inner.Endings.{lacking_of};
+ghost use Rattle.prop_nogoods.specs.inner.Endings.{HasOneMore, HasRoomFor, HaveAll, AreNoLarger};
+ghost use Rattle.prop_nogoods.specs.inner.Endings.{left_of, lacking_of};
 ghost use Rattle.prop_nogoods.specs.inner.Stores.{IsPartOfNone};
 
 use crate::listed::{Listed, drop_holding, drop_larger, first_believed, has_larger, place_of};
@@ -16,11 +16,19 @@ use prop_premises::{Premise, PremiseSet, Signature, Worldview};
 use std::alloc::{AllocError, Global};
 use std::marker::Model;
 
-/// Nogoods that end with the same premise: where it isn't believed, none of them is.
+/// As many nogoods as one ending takes.
+const MOST: usize = 1_024;
+
+/// Some of the nogoods that end with the same premise: where it, or another premise that each of
+/// them has, isn't believed, none of them is.
 #[derive(Drop)]
 pub(crate) struct Ending {
     /// None where the only nogood is the set of no premises.
     last: Option<Premise>,
+    /// Premises that each of the nogoods has.
+    common: Listed,
+    /// No nogood has more premises than these.
+    largest: usize,
     /// The smallest come first.
     nogoods: Vec<Listed>,
 }
@@ -30,22 +38,35 @@ impl Model for Ending {
 
     ghost view = { λ e. record {
       last = e.last;
+      common = e.common;
+      largest = e.largest;
       sets = e.nogoods.items;
       capacity = vec_capacity e.nogoods;
     } };
 
-    ghost invariant = { λ e. All (EndsSo e.last) e.nogoods.items × AreBySize e.nogoods.items };
+    ghost invariant = { λ e. All (EndsSo e.last) e.nogoods.items × AreBySize e.nogoods.items
+        × HaveAll e.common e.nogoods.items × AreNoLarger e.largest e.nogoods.items };
 }
 
 impl Ending {
-    /// No nogoods, with room for one.
-    fn with_room(alloc: Global, last: Option<Premise>) -> Result<Ending, AllocError>
+    /// No nogoods, with room for this one.
+    fn with_room(
+        alloc: Global,
+        last: Option<Premise>,
+        nogood: &Listed,
+    ) -> Result<Ending, AllocError>
         ensures last { IfOk result (λ e. e.last ≡ last) }
         ensures empty { IfOk result (λ e. e.sets ≡ []) }
-        ensures room { IfOk result HasRoom }
+        ensures room { IfOk result (HasRoomFor nogood.now) }
     {
+        let common = nogood.copy(alloc)?;
         let nogoods = Vec::with_capacity(alloc, 1)?;
-        Ok(Ending { last, nogoods })
+        Ok(Ending {
+            last,
+            common,
+            largest: nogood.size(),
+            nogoods,
+        })
     }
 
     /// The premise that each of its nogoods has.
@@ -64,19 +85,32 @@ impl Ending {
         self.last < last
     }
 
-    /// Makes room for one nogood more.
-    fn make_room(&mut self) -> Result<(), AllocError>
+    /// Whether it has as many nogoods as it takes.
+    #[inline]
+    fn is_full(&self) -> bool
+        ensures { IsTrue result ↔ (MOST ≤ length self.now.sets) }
+    {
+        self.nogoods.len() >= MOST
+    }
+
+    /// Makes room for this nogood.
+    fn make_room(&mut self, nogood: &Listed) -> Result<(), AllocError>
         ensures last { self.new.last ≡ self.old.last }
         ensures same { self.new.sets ≡ self.old.sets }
-        ensures room { OnOk result (HasRoom self.new) }
+        ensures room { OnOk result (HasRoomFor nogood.now self.new) }
     {
-        self.nogoods.reserve(1)
+        self.nogoods.reserve(1)?;
+        self.largest = self.largest.max(nogood.size());
+        if !self.common.is_part_of(nogood) {
+            self.common = self.common.shared(*self.nogoods.allocator(), nogood)?;
+        }
+        Ok(())
     }
 
     /// Adds a nogood that ends so, behind those that are no larger.
     fn add(&mut self, nogood: Listed)
         requires ends_so { EndsSo self.old.last nogood }
-        requires room { HasRoom self.old }
+        requires room { HasRoomFor nogood self.old }
         ensures last { self.new.last ≡ self.old.last }
         ensures sets { HasOneMore self.old.sets self.new.sets nogood }
     {
@@ -102,7 +136,7 @@ impl Ending {
     fn has_part(&self, set: &PremiseSet) -> bool
         ensures { result ≡ has_part self.now.sets (set_of set.now) }
     {
-        self.nogoods.iter().any(|part| part.is_subset(set))
+        self.common.is_subset(set) && self.nogoods.iter().any(|part| part.is_subset(set))
     }
 
     /// Whether this set is part of one of its nogoods, where none of them is part of it. It looks
@@ -112,12 +146,12 @@ impl Ending {
         requires no_part { has_part self.now.sets (set_of nogood.now) ≡ false }
         ensures { result ≡ false → IsPartOfNone self.now.sets nogood.now }
     {
-        has_larger(&self.nogoods, nogood)
+        nogood.size() < self.largest && has_larger(&self.nogoods, nogood)
     }
 
     /// The first nogood of which every premise is believed in the worldview, which has this
-    /// signature. Where the last premise isn't, or has a number below this one, it looks at no
-    /// nogood.
+    /// signature. Where one that all of them have isn't, or the last premise has a number below
+    /// this one, it looks at no nogood.
     #[inline]
     fn first_believed(
         &self,
@@ -131,7 +165,7 @@ impl Ending {
         ensures none { result ≡ None → PartsEndBelow self.now.sets (set_of worldview.now) from }
     {
         let last = self.last?;
-        if last < from || !worldview.has(last) {
+        if last < from || !self.common.is_believed(worldview, signature) {
             return None;
         }
         first_believed(&self.nogoods, worldview, signature)
@@ -149,31 +183,12 @@ fn place_for(endings: &[Ending], last: Option<Premise>) -> usize
     endings.partition_point(|ending| ending.is_before(last))
 }
 
-/// Whether one of the nogoods that end with this premise is part of the set.
-fn has_part_ending(endings: &[Ending], last: Option<Premise>, set: &PremiseSet) -> bool
-    requires { AreInOrder endings.now }
-    ensures found { IsTrue result → IsTrue (has_part (sets_of endings.now) (set_of set.now)) }
-    ensures none { result ≡ false → NoPartEnds endings.now (set_of set.now) last }
-{
-    let place = place_for(endings, last);
-    place < endings.len() && endings[place].last() == last && endings[place].has_part(set)
-}
-
-/// Whether one of the nogoods is part of the set. It looks at those alone that end with a premise
-/// of the set, and at the set of no premises.
+/// Whether one of the nogoods is part of the set. It looks at those endings alone of which what the
+/// nogoods have in common is.
 pub(crate) fn has_part_among(endings: &[Ending], set: &PremiseSet) -> bool
-    requires { AreInOrder endings.now }
     ensures { result ≡ has_part (sets_of endings.now) (set_of set.now) }
 {
-    if has_part_ending(endings, None, set) {
-        return true;
-    }
-    for premise in set.iter() {
-        if has_part_ending(endings, Some(premise), set) {
-            return true;
-        }
-    }
-    false
+    endings.iter().any(|ending| ending.has_part(set))
 }
 
 /// Whether the set is part of one of the nogoods, where none of them is part of it. It looks at
@@ -194,21 +209,26 @@ pub(crate) fn has_larger_among(endings: &[Ending], nogood: &Listed) -> bool
     false
 }
 
-/// The place of the ending with this last premise, with room for one nogood more. One that is
-/// missing is added, behind those whose last premise comes earlier.
-fn room_for(endings: &mut Vec<Ending>, last: Option<Premise>) -> Result<usize, AllocError>
+/// The place of an ending with this last premise, with room for the nogood. Where there is none, or
+/// the one added last is full, one is added, in front of those with this last premise.
+fn room_for(
+    endings: &mut Vec<Ending>,
+    last: Option<Premise>,
+    nogood: &Listed,
+) -> Result<usize, AllocError>
     requires { AreInOrder endings.old.items }
     ensures in_order { AreInOrder endings.new.items }
     ensures same { sets_of endings.new.items ≡ sets_of endings.old.items }
     ensures place { IfOk result (λ at. at < length endings.new.items) }
     ensures last { IfOk result (λ at. (d : Group) → (get_or endings.new.items at d).last ≡ last) }
-    ensures room { IfOk result (λ at. (d : Group) → HasRoom (get_or endings.new.items at d)) }
+    ensures room { IfOk result (λ at. (d : Group)
+        → HasRoomFor nogood.now (get_or endings.new.items at d)) }
 {
     let place = place_for(endings, last);
-    if place < endings.len() && endings[place].last() == last {
-        endings[place].make_room()?;
+    if place < endings.len() && endings[place].last() == last && !endings[place].is_full() {
+        endings[place].make_room(nogood)?;
     } else {
-        let ending = Ending::with_room(*endings.allocator(), last)?;
+        let ending = Ending::with_room(*endings.allocator(), last, nogood)?;
         endings.insert(place, ending)?;
     }
     Ok(place)
@@ -258,7 +278,7 @@ pub(crate) fn join(
         nogood)) }
     ensures err { OnErr result (sets_of endings.new.items ≡ sets_of endings.old.items) }
 {
-    let place = room_for(endings, nogood.last())?;
+    let place = room_for(endings, nogood.last(), &nogood)?;
     drop_any_larger_everywhere(endings, &nogood, has_larger);
     endings[place].add(nogood);
     Ok(())

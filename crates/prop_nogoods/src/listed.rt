@@ -1,6 +1,6 @@
 //! A nogood beside what is looked at first of it.
-ghost use Rattle.std.specs.Prelude.{◌≡◌, ◌<◌, ◌≤◌, List, ℕ, length, false, All, None, Contains};
-ghost use Rattle.std.specs.Prelude.{IsTrue, IfOk, IfSome, vec_capacity, vec_len};
+ghost use Rattle.std.specs.Prelude.{◌≡◌, ◌<◌, ◌≤◌, ◌&&◌, List, ℕ, length, false, All, None};
+ghost use Rattle.std.specs.Prelude.{Contains, IsTrue, IfOk, IfSome, vec_capacity, vec_len};
 ghost use Rattle.std.specs.List.Sorted.{IsPartitionPoint, IsStrictlyIncreasing};
 ghost use Rattle.prop_numbers.specs.Sets.{set_of, is_within};
 ghost use Rattle.prop_numbers.specs.Signatures.{remainders, AreRemainders};
@@ -38,6 +38,28 @@ impl Listed {
         let signature = premises.signature();
         let counted = Counted::new(alloc, premises)?;
         Ok(Listed { signature, counted })
+    }
+
+    /// The same set once more.
+    pub(crate) fn copy(&self, alloc: Global) -> Result<Listed, AllocError>
+        ensures { IfOk result (λ l. l ≡ self.now) }
+    {
+        let premises = self.premises().copy()?;
+        Listed::new(alloc, premises)
+    }
+
+    /// The premises that are in both sets.
+    pub(crate) fn shared(&self, alloc: Global, other: &Listed) -> Result<Listed, AllocError>
+        ensures { IfOk result (λ l. (p : ℕ) → set_of l p
+            ≡ (set_of self.now p && set_of other.now p)) }
+    {
+        let mut shared = self.premises().copy()?;
+        for premise in self.premises().iter() {
+            if !other.holds(premise) {
+                shared = shared.without(premise)?;
+            }
+        }
+        Listed::new(alloc, shared)
     }
 
     /// How many premises the set has.

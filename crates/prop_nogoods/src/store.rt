@@ -24,8 +24,8 @@ use std::marker::Model;
 #[derive(Drop)]
 pub struct Store {
     nogoods: Vec<Counted>,
-    /// The same nogoods, each with those that end with the same premise; those come first whose
-    /// last premise comes early.
+    /// The same nogoods, each with some that end with the same premise; those come first whose last
+    /// premise comes early, and of one last premise those that were added late.
     by_last: Vec<Ending>,
 }
 

@@ -2,18 +2,17 @@
 use Rattle.std.proofs.Common.{◌≡◌, ◌∙◌, ℕ, suc, ◌+◌, ◌-◌, ◌<◌, ◌≤◌, ◌==◌, Bool, true, false, cond, List, [], ◌∷◌, ◌++◌}
 use Rattle.std.proofs.Common.{length, get_or, count_by, refl, sym, ap, arith, Contains, inl, inr, get_or-set_other}
 use Rattle.std.proofs.Common.{get_or-set_same}
-use Rattle.std.specs.List.{remove}
 use Rattle.std.proofs.Math.ListN.{set, replicate, length-set}
 use Rattle.std.proofs.lemmas.Bool.{cases_lt, eq-eqb}
 use Rattle.std.proofs.lemmas.Bool.Decides.{eqb_tells}
 use Rattle.std.proofs.lemmas.List.{length-append, length-replicate, get_or_append_left, get_or-append_right}
 use Rattle.std.proofs.lemmas.List.{get_or-replicate, get_or_past, get_or_default}
-use Rattle.std.proofs.lemmas.List.Sums.{sum_by-cons, sum_by-set, sum_by-remove, sum_by_push, sum_by-append}
+use Rattle.std.proofs.lemmas.List.Sums.{sum_by-cons, sum_by-set, sum_by_push, sum_by-append}
 use Rattle.std.proofs.lemmas.List.Sums.{count_by-le-length, get_or-le-sum_by}
 use Rattle.std.proofs.lemmas.List.Folds.{sum_by-replicate}
-use Rattle.std.proofs.lemmas.List.Edits.{length-remove}
 use Rattle.prop_scheduler.specs.inner.Agendas.{IsFlagged}
-use Rattle.prop_scheduler.specs.Agendas.{IsLine}
+use Rattle.prop_scheduler.specs.Agendas.{IsLine, without}
+use Rattle.prop_scheduler.proofs.Leaving.{length-without, sum_by-without}
 
 -- how often a number stands in a line
 abbrev pub times : List ℕ → ℕ → ℕ
@@ -63,34 +62,33 @@ module _ (line : List ℕ) (flags : List Bool) (capacity place j : ℕ) (a : IsF
   in_flags : j < length flags
   in_flags = flag_within flags j on
 
-  taken_at : (k : ℕ) → times (remove line place) k + cond (j == k) 1 0 ≡ times line k
-  taken_at k = ap (λ x. times (remove line place) k + cond (x == k) 1 0) e
-      ∙ sum_by-remove (λ x. cond (x == k) 1 0) line place j l
+  taken_at : (k : ℕ) → times (without line place) k + cond (j == k) 1 0 ≡ times line k
+  taken_at k = sum_by-without line place j l e (λ x. cond (x == k) 1 0)
 
-  taken_flag : (k : ℕ) → times (remove line place) k ≡ cond (get_or (set flags j false) k false) 1 0
+  taken_flag : (k : ℕ) → times (without line place) k ≡ cond (get_or (set flags j false) k false) 1 0
   taken_flag k =
-      elim (eqb_tells j k) as (λ _. times (remove line place) k ≡ cond (get_or (set flags j false) k false) 1 0) [
+      elim (eqb_tells j k) as (λ _. times (without line place) k ≡ cond (get_or (set flags j false) k false) 1 0) [
         | inl same ↦
             (let was : times line k ≡ 1 = flag_is line flags capacity k true a (rw (← same.1) on) in
             let one : one_for (j == k) ≡ 1 = ap (λ b. cond b 1 0) same.0 in
             let here = taken_at k in
-            let gone : times (remove line place) k ≡ 0 = omega (arith, was, one, here) in
+            let gone : times (without line place) k ≡ 0 = omega (arith, was, one, here) in
             let off : get_or (set flags j false) k false ≡ false =
             rw (← same.1) (get_or-set_same flags j false false in_flags) in
             gone ∙ sym (ap (λ b. cond b 1 0) off))
         | inr other ↦
             (let none : one_for (j == k) ≡ 0 = ap (λ b. cond b 1 0) other.0 in
             let here = taken_at k in
-            let kept : times (remove line place) k ≡ times line k = omega (arith, none, here) in
+            let kept : times (without line place) k ≡ times line k = omega (arith, none, here) in
             kept ∙ a.flagged k ∙ sym (ap (λ b. cond b 1 0)
             (get_or-set_other flags j k false false (λ h. other.1 (sym h)))))
       ]
 
-  pub taken : IsFlagged (remove line place) (set flags j false) capacity
+  pub taken : IsFlagged (without line place) (set flags j false) capacity
   taken = record {
     flagged = taken_flag;
     counted = (
-        let n = length-remove line place l in
+        let n = length-without line place j l e in
         let c = a.counted in
         let s = sum_by-set (λ b. cond b 1 0) flags j false false in_flags in
         let was : one_for (get_or flags j false) ≡ 1 = ap (λ b. cond b 1 0) on in

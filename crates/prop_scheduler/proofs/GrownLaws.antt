@@ -1,9 +1,9 @@
 -- What is kept as the readers of cells of which more is believed are alerted, and that no potential rises.
-use Rattle.std.proofs.Common.{◌≡◌, ◌≢◌, ◌∙◌, ◌<◌, ◌≤◌, ◌⊎◌, ℕ, ◌+◌, if◌then◌else◌, List, Some, All, Contains, length}
+use Rattle.std.proofs.Common.{◌≡◌, ◌≢◌, ◌∙◌, ◌<◌, ◌≤◌, ℕ, ◌+◌, if◌then◌else◌, List, Some, All, Contains, length}
 use Rattle.std.proofs.Common.{slice_get, sym, ap, subst, arith, inl, inr}
 use Rattle.std.specs.Prelude.{nat_le}
-use Rattle.std.proofs.lemmas.Bool.Decides.{eqb_tells, leb_tells}
-use Rattle.std.proofs.lemmas.List.Elements.{All-contains, All-weaker}
+use Rattle.std.proofs.lemmas.Bool.Decides.{leb_tells}
+use Rattle.std.proofs.lemmas.List.Elements.{All-contains}
 use Rattle.prop_lattice.specs.declared.info.Info.{Info}
 use Rattle.prop_lattice.specs.Order.{Below, merge_of}
 use Rattle.prop_lattice.specs.laws.OrderLaws.{info_laws}
@@ -21,68 +21,31 @@ use Rattle.prop_cells.proofs.Reading.{readers_are, few_readers}
 use Rattle.prop_scheduler.specs.Agendas.{AllAlerted, all_alerted}
 use Rattle.prop_scheduler.specs.Turns.{IsUnderWay}
 use Rattle.prop_scheduler.specs.Potential.{input_places, potential}
-use Rattle.prop_scheduler.specs.Shifts.{ReadsShifted, AreGrown}
-use Rattle.prop_scheduler.proofs.Behind.{behind_none, behind_then, behind_all, behind_kept, behind_only}
+use Rattle.prop_scheduler.specs.Shifts.{AreGrown}
+use Rattle.prop_scheduler.specs.Shifts.Stirs.{stirred}
+use Rattle.prop_scheduler.proofs.Stirring.{stirs_kept, stirs_waits, stirs_only}
 use Rattle.prop_scheduler.proofs.Falls.{ranks_fall, ranks_same}
 use Rattle.prop_scheduler.proofs.Steps.{from_map}
 use Rattle.prop_scheduler.proofs.WatchLaws.{beyond}
 
 -- ---- who waits
 
-pub grown_none : (s t : Premises) (d : Data) (line : List ℕ) → AreGrown s t d 0 line line
-grown_none s t d line = record {
-  behind = behind_none (ReadsShifted s t d) line;
-  waits = λ cell l. absurd (omega (arith, l));
-}
-
--- further cells are believed as before
-pub grown_on : (s t : Premises) (d : Data) (n m : ℕ) (old new : List ℕ) → AreGrown s t d n old new
-    → ((cell : ℕ) → n ≤ cell → cell < m → beliefs s d.contents cell ≡ beliefs t d.contents cell)
-    → AreGrown s t d m old new
-grown_on s t d n m old new h same = record {
-  behind = h.behind;
-  waits = λ cell l.
-      elim (leb_tells n cell) as (λ _. (beliefs s d.contents cell ≡ beliefs t d.contents cell)
-      ⊎ All (Contains new) (readers_of d.instances cell)) [
-        | inl past ↦ inl (same cell past.1 l)
-        | inr below ↦ h.waits cell below.1
-      ];
-}
-
 -- the readers of the next cell wait too
 pub grown_more : (s t : Premises) (d : Data) (n : ℕ) (old new after : List ℕ) → AreGrown s t d n old new
-    → beliefs s d.contents n ≢ beliefs t d.contents n → AllAlerted new after (readers_of d.instances n) →
-    after ≡ all_alerted new (readers_of d.instances n) → AreGrown s t d (n + 1) old after
-grown_more s t d n old new after h shifted read read_line =
-    let reads = ReadsShifted s t d in
-    record {
-      behind = behind_then reads old new after h.behind
-          (rw read_line (behind_all reads new (readers_of d.instances n)
-          (All-from_contains reads (readers_of d.instances n)
-          (λ j is. record { cell = n; shifted = shifted; reads = is }))));
-      waits = λ cell l.
-          elim (eqb_tells cell n) as (λ _. (beliefs s d.contents cell ≡ beliefs t d.contents cell)
-          ⊎ All (Contains after) (readers_of d.instances cell)) [
-            | inl e ↦ inr (rw e.1 read.alerted)
-            | inr e ↦ elim (h.waits cell (let ne = e.1 in omega (arith, l, ne))) as (λ _.
-                (beliefs s d.contents cell ≡ beliefs t d.contents cell)
-                ⊎ All (Contains after) (readers_of d.instances cell)) [
-                  | inl same ↦ inl same
-                  | inr all ↦ inr (All-weaker (Contains new) (Contains after) read.kept
-                      (readers_of d.instances cell) all)
-                ]
-          ];
-    }
+    → beliefs s d.contents n ≢ beliefs t d.contents n → after ≡ all_alerted new (readers_of d.instances n)
+    → AreGrown s t d (n + 1) old after
+grown_more s t d n old new after h other read =
+    subst (λ line. AreGrown s t d (n + 1) old line) (sym read) (stirred n new h other)
 
 -- the waiting instances stay instances
 grown_below : (s t : Premises) (d : Data) (n : ℕ) (old new : List ℕ) → AreGrown s t d n old new
     → All (λ j. j < length d.instances) old → All (λ j. j < length d.instances) new
 grown_below s t d n old new h below =
     All-from_contains (λ j. j < length d.instances) new
-    (λ j w. elim (behind_only (ReadsShifted s t d) old new h.behind j w) as (λ _. j < length d.instances) [
+    (λ j w. elim (stirs_only (readers_of d.instances) s t d d old n new h j w) as (λ _. j < length d.instances) [
       | inl was ↦ All-contains (λ i. i < length d.instances) old j below was
-      | inr more ↦ All-contains (λ i. i < length d.instances) (readers_of d.instances more.cell) j
-          (readers_are d.instances more.cell).below more.reads
+      | inr woken ↦ All-contains (λ i. i < length d.instances) (readers_of d.instances woken.0) j
+          (readers_are d.instances woken.0).below woken.1
     ])
 
 -- ---- what is met
@@ -100,7 +63,8 @@ module _ (library : List Stored) (s t : Premises) (d : Data) (old new : List ℕ
       → Contains x.inputs cell → beliefs s d.contents cell ≡ beliefs t d.contents cell
   read_same j x at idle cell reads =
       let w = All-at (IsWithin (length d.kinds)) d.instances j x within at in
-      elim (h.waits cell (All-contains (λ k. k < length d.kinds) x.inputs cell w.inputs reads)) as (λ _.
+      elim (stirs_waits (readers_of d.instances) s t d d old (length d.kinds) new h cell
+      (All-contains (λ k. k < length d.kinds) x.inputs cell w.inputs reads)) as (λ _.
       beliefs s d.contents cell ≡ beliefs t d.contents cell) [
         | inl same ↦ same
         | inr all ↦ absurd (idle (All-contains (Contains new) (readers_of d.instances cell) j all
@@ -128,7 +92,7 @@ module _ (library : List Stored) (s t : Premises) (d : Data) (old new : List ℕ
           let same : c ≡ constraint_of library x.0 = x.2 in
           let was : Meets (beliefs s d.contents) (constraint_of library x.0) =
           subst (λ (q : Constraint). Meets (beliefs s d.contents) q) same
-          (u.met.met j c at (λ w. idle (behind_kept (ReadsShifted s t d) old new h.behind j w))) in
+          (u.met.met j c at (λ w. idle (stirs_kept (readers_of d.instances) s t d d old (length d.kinds) new h j w))) in
           subst (λ (q : Constraint). Meets (beliefs t d.contents) q) (sym same) (met_still j x.0 x.1 idle was);
     };
   }

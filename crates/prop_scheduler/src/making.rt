@@ -15,7 +15,8 @@ ghost use Rattle.prop_cells.specs.Refusing.{cell_refusal};
 ghost use Rattle.prop_scheduler.specs.Making.{room_refusal, made_of, with_fresh_cells, with_flat};
 ghost use Rattle.prop_scheduler.specs.Making.{MayBeMade, MayMake};
 ghost use Rattle.prop_scheduler.specs.inner.Making.{param_number};
-ghost use Rattle.prop_scheduler.specs.Shifts.{IsBehind, AreStirred};
+ghost use Rattle.prop_scheduler.specs.Agendas.{all_alerted, numbers_below};
+ghost use Rattle.prop_scheduler.specs.Shifts.{AreMade};
 ghost use Rattle.prop_scheduler.specs.Live.{cells_of, line_of, library_of, IsLiveIn};
 
 use crate::agenda::Agenda;
@@ -294,8 +295,9 @@ fn make_all<R: Rule + Drop>(
 
 /// Makes the instances with these numbers wait.
 fn alert_between(agenda: &mut Agenda, first: usize, end: usize)
-    requires { end ≤ agenda.old.room }
-    ensures behind { IsBehind (λ i. first ≤ i) agenda.old.line agenda.new.line }
+    requires order { first ≤ end }
+    requires room { end ≤ agenda.old.room }
+    ensures line { agenda.new.line ≡ all_alerted agenda.old.line (drop first (numbers_below end)) }
     ensures before { (i : ℕ) → Contains agenda.old.line i → Contains agenda.new.line i }
     ensures alerted { (i : ℕ) → first ≤ i → i < end → Contains agenda.new.line i }
     ensures below { (n : ℕ) → end ≤ n → All (λ i. i < n) agenda.old.line
@@ -367,8 +369,8 @@ pub fn make<R: Rule + Drop>(live: &mut Live<R>, cells: &[usize], flat: Flat) -> 
         (length (cells_of live.old).instances + length flat.instances.items) ≡ Some e)
         ⊎ (e ≡ Refusal.Memory)) }
     ensures err_same { OnErr result (cells_of live.new ≡ cells_of live.old) }
-    ensures stirred { OnOk result ((s t : Premises) → AreStirred s t (cells_of live.old)
-        (cells_of live.new) (line_of live.old) (line_of live.new)) }
+    ensures made { OnOk result (AreMade (cells_of live.old) (cells_of live.new)
+        (line_of live.old) (line_of live.new)) }
     ensures err_line { OnErr result (line_of live.new ≡ line_of live.old) }
 {
     if let Err(refusal) = make_room(&live.network, &mut live.agenda, &mut live.seen.known, &flat) {

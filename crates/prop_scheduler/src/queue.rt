@@ -1,11 +1,10 @@
 //! Numbers in a queue, each at most once.
 ghost use Rattle.std.specs.Prelude.{◌≡◌, ◌↔◌, ℕ, ◌<◌, ◌≤◌, max, List, [], length, OnOk, OnErr};
-ghost use Rattle.std.specs.Prelude.{OnSome, IfSome, IsSome, All, slice_get, slice_index_or, remove};
-ghost use Rattle.std.specs.Prelude.{Some};
+ghost use Rattle.std.specs.Prelude.{OnSome, IfSome, IsSome, All, slice_get, slice_index_or, Some};
 ghost use Rattle.std.specs.VecDeque.{deque_capacity};
 ghost use Rattle.prop_scheduler.specs.inner.Agendas.{Queued, IsFlagged};
 ghost use Rattle.prop_scheduler.specs.Agendas.{Alerted, AllAlerted, FirstAlerted, all_alerted};
-ghost use Rattle.prop_scheduler.specs.Agendas.{numbers_below, IsLine};
+ghost use Rattle.prop_scheduler.specs.Agendas.{numbers_below, without, IsLine};
 
 use std::alloc::{AllocError, Global};
 use std::collections::VecDeque;
@@ -26,19 +25,19 @@ impl Model for Queue {
     ghost invariant = { λ a. IsFlagged a.line.items a.flags.items (deque_capacity a.line) };
 }
 
-/// The number at a place leaves the line. The first one, which leaves most often, is taken off its
-/// front.
+/// The number at a place leaves the line: the first one off its front, and in the place of another
+/// comes the last.
 #[inline]
 fn leave(line: &mut VecDeque<usize>, place: usize) -> Option<usize>
     ensures value { IfSome result (λ n. n ≡ slice_index_or line.old.items place n) }
-    ensures items { OnSome result (line.new.items ≡ remove line.old.items place) }
+    ensures items { OnSome result (line.new.items ≡ without line.old.items place) }
     ensures variant { IsSome result ↔ (place < length line.old.items) }
     ensures capacity { deque_capacity line.new ≡ deque_capacity line.old }
 {
     if place == 0 {
         line.pop_front()
     } else {
-        line.remove(place)
+        line.swap_remove_back(place)
     }
 }
 
@@ -69,10 +68,10 @@ impl Queue {
         self.line[place]
     }
 
-    /// The number at a place goes.
+    /// The number at a place goes. In the place of any but the first comes the last.
     pub(crate) fn take(&mut self, place: usize)
         requires { place < length self.old.line }
-        ensures { self.new ≡ record self.old { line = remove self.old.line place } }
+        ensures { self.new ≡ record self.old { line = without self.old.line place } }
     {
         if let Some(number) = leave(&mut self.line, place) {
             self.flags[number] = false;

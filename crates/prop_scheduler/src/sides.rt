@@ -5,7 +5,7 @@ ghost use Rattle.prop_numbers.specs.Sets.{set_of};
 ghost use Rattle.prop_procedures.specs.Fitting.{kind_at};
 ghost use Rattle.prop_cells.specs.Refusing.{sides_refusal, may_be_stated};
 ghost use Rattle.prop_cells.specs.Sides.{sides_at, StatesAll, AreUnderBelow};
-ghost use Rattle.prop_scheduler.specs.Shifts.{AreStirred};
+ghost use Rattle.prop_scheduler.specs.Shifts.{touching, Stirs};
 ghost use Rattle.prop_scheduler.specs.Live.{cells_of, line_of, IsLiveIn};
 
 use crate::live::Live;
@@ -46,8 +46,9 @@ pub fn state_sides<R: Rule + Drop>(
         ⊎ (e ≡ Refusal.Memory)) }
     ensures err_same { OnErr result (cells_of live.new ≡ cells_of live.old) }
     ensures stirred { OnOk result
-        (AreStirred (set_of worldview.now) (set_of worldview.now) (cells_of live.old)
-        (cells_of live.new) (line_of live.old) (line_of live.new)) }
+        (Stirs (touching (cells_of live.new).instances) (set_of worldview.now)
+        (set_of worldview.now) (cells_of live.old) (cells_of live.new) (line_of live.old)
+        (length (cells_of live.new).kinds) (line_of live.new)) }
     ensures err_line { OnErr result (live.new.agenda ≡ live.old.agenda) }
 {
     let before = live.network.belief(cell, worldview);

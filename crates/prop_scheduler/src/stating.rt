@@ -5,7 +5,8 @@ ghost use Rattle.prop_lattice.specs.Order.{Below};
 ghost use Rattle.prop_numbers.specs.Sets.{set_of, is_within};
 ghost use Rattle.prop_cells.specs.Data.{States, support_of};
 ghost use Rattle.prop_cells.specs.Refusing.{state_refusal};
-ghost use Rattle.prop_scheduler.specs.Shifts.{AreStirred};
+ghost use Rattle.prop_cells.specs.Instances.{readers_of};
+ghost use Rattle.prop_scheduler.specs.Shifts.{Stirs};
 ghost use Rattle.prop_scheduler.specs.Live.{cells_of, line_of, IsLiveIn};
 
 use crate::live::Live;
@@ -49,8 +50,9 @@ pub fn state<R: Rule + Drop>(
         ⊎ (e ≡ Refusal.Memory)) }
     ensures err_same { OnErr result (cells_of live.new ≡ cells_of live.old) }
     ensures stirred { OnOk result
-        (AreStirred (set_of worldview.now) (set_of worldview.now) (cells_of live.old)
-        (cells_of live.new) (line_of live.old) (line_of live.new)) }
+        (Stirs (readers_of (cells_of live.new).instances) (set_of worldview.now)
+        (set_of worldview.now) (cells_of live.old) (cells_of live.new) (line_of live.old)
+        (length (cells_of live.new).kinds) (line_of live.new)) }
     ensures err_line { OnErr result (live.new.agenda ≡ live.old.agenda) }
 {
     live.seen.look(&live.network, worldview)?;

@@ -1,10 +1,11 @@
 //! Another worldview for a network under way.
-ghost use Rattle.std.specs.Prelude.{◌≡◌, ◌<◌, ◌≤◌, ℕ, Contains, length};
+ghost use Rattle.std.specs.Prelude.{◌≡◌, ◌≤◌, length};
 ghost use Rattle.prop_numbers.specs.Sets.{set_of, IsPart};
 ghost use Rattle.prop_procedures.specs.Kept.{stored_of};
 ghost use Rattle.prop_cells.specs.inner.Problems.{Premises};
 ghost use Rattle.prop_cells.specs.Forgetting.{forgotten};
 ghost use Rattle.prop_cells.specs.Knowing.{AreBeliefs};
+ghost use Rattle.prop_scheduler.specs.Agendas.{all_alerted, numbers_below};
 ghost use Rattle.prop_scheduler.specs.Turns.{IsUnderWay};
 ghost use Rattle.prop_scheduler.specs.Watching.{IsWatched};
 ghost use Rattle.prop_scheduler.specs.Shifts.{AreShifted, AreGrown};
@@ -25,8 +26,8 @@ pub fn wake_all<R: Rule + Drop>(live: &mut Live<R>)
         live.old.agenda }
     ensures network { live.new.network ≡ live.old.network }
     ensures alive { (s : Premises) → IsLiveIn R.value_of s live.new }
-    ensures all { (j : ℕ) → j < length (cells_of live.old).instances
-        → Contains (line_of live.new) j }
+    ensures line { line_of live.new
+        ≡ all_alerted (line_of live.old) (numbers_below (length (cells_of live.new).instances)) }
 {
     live.agenda.alert_first(live.network.instances());
     live.agenda.watch_first(live.network.cells());
@@ -40,8 +41,8 @@ pub fn purge<R: Rule + Drop>(live: &mut Live<R>, premise: Premise)
     ensures same { live.new.network.library ≡ live.old.network.library }
     ensures forgotten { cells_of live.new ≡ forgotten premise (cells_of live.old) }
     ensures alive { (s : Premises) → IsLiveIn R.value_of s live.new }
-    ensures all { (j : ℕ) → j < length (cells_of live.new).instances
-        → Contains (line_of live.new) j }
+    ensures line { line_of live.new
+        ≡ all_alerted (line_of live.old) (numbers_below (length (cells_of live.new).instances)) }
 {
     live.network.purge(premise);
     live.seen.known.clear();

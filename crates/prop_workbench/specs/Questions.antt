@@ -8,7 +8,8 @@ use Rattle.prop_amb.specs.declared.outcome.Outcome.TheVariants.{Settled, Contrad
 use Rattle.prop_numbers.specs.Sets.{set_of}
 use Rattle.prop_amb.specs.Culprits.{IsBlamed}
 use Rattle.prop_amb.specs.Settling.{IfContradiction}
-use Rattle.prop_amb.specs.Going.{Work, MayGoOn, Goes, AllWait}
+use Rattle.prop_scheduler.specs.Agendas.{all_alerted, numbers_below}
+use Rattle.prop_amb.specs.Going.{Work, MayGoOn, Goes}
 use Rattle.prop_explain.specs.Trying.{Tries}
 use Rattle.prop_language.specs.Commands as commands
 use Rattle.prop_language.specs.Commands.{Command}
@@ -60,15 +61,15 @@ pub record IsEarned {O : Type 0} (picks : Picks O) (library : List Stored) (s : 
   pub blamed : IfContradiction end (λ ps. IsBlamed new.search (set_of ps))
   pub replies : Replies library s command (outcome_of new.search.list end) steps text
 
--- from the one to the other believed premises were tried in exactly so many steps, and then every
--- instance waits
+-- from the one to the other believed premises were tried in exactly so many steps; then the
+-- instances that don't wait yet wait too, by number
 pub record HasTried {O : Type 0} (picks : Picks O) (library : List Stored) (s : State)
     (old new : Work O) (steps : ℕ) : Type 0 where
   pub search : new.search ≡ old.search
   pub line : List ℕ
   pub tries : Tries picks library (worldview_at s old.search.list) old.cells old.line old.order
       steps new.cells line new.order
-  pub all_wait : AllWait (length new.cells.instances) new.line
+  pub woken : new.line ≡ all_alerted line (numbers_below (length new.cells.instances))
 
 -- The text replies with a core as a run ended that went from the one to a middle in so many steps,
 -- and, where it settled, as premises were tried from there to the other, in so many more.

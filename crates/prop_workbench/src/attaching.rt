@@ -95,7 +95,7 @@ impl<R: Rule + Drop, O: Order + Drop> Session<R, O> {
     ghost use Rattle.prop_workbench.specs.inner.Effects.{with_use};
     ghost use Rattle.prop_workbench.specs.Sessions.{state_of, library_of, IsInOrder};
     ghost use Rattle.prop_workbench.specs.inner.Sessions.{Keeps};
-    ghost use Rattle.prop_workbench.specs.inner.Carrying.{IsDone, HasLeft, HasStirred};
+    ghost use Rattle.prop_workbench.specs.inner.Carrying.{IsDone, HasLeft, HasAdded};
 
     /// Puts a procedure or a definition between cells.
     pub(crate) fn attach(&mut self, name: &str, cells: &[&str], by: By) -> Result<(), Refusal>
@@ -132,7 +132,7 @@ impl<R: Rule + Drop, O: Order + Drop> Session<R, O> {
             (use_refusal (library_of R.value_of self.old) (state_of self.old) name.now cells.now
             (by_of by.entry) ≡ Some e) ⊎ (e ≡ Memory)) }
         ensures err_same { OnErr result (state_of self.new ≡ state_of self.old) }
-        ensures stirred { HasStirred self.old self.old.search.list result self.new }
+        ensures added { HasAdded self.old result self.new }
     {
         match self.expanded(name, cells, by) {
             Ok(flat) => make(&mut self.live, cells, flat),

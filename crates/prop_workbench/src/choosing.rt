@@ -132,7 +132,7 @@ impl<R: Rule + Drop, O: Order + Drop> Session<R, O> {
     ghost use Rattle.prop_workbench.specs.inner.Refusing.{choosing_limit, choosing_limit_of};
     ghost use Rattle.prop_workbench.specs.Sessions.{state_of, IsInOrder};
     ghost use Rattle.prop_workbench.specs.inner.Sessions.{Keeps};
-    ghost use Rattle.prop_workbench.specs.inner.Carrying.{IsDone, HasLeft, HasStirred};
+    ghost use Rattle.prop_workbench.specs.inner.Carrying.{IsDone, HasLeft, HasChosen};
 
     /// A choice with a new name between what the values say at a cell.
     pub(crate) fn choose(
@@ -196,7 +196,7 @@ impl<R: Rule + Drop, O: Order + Drop> Session<R, O> {
             (choosing_limit_of (state_of self.old) (map meant_of meants.now) ≡ Some e)
             ⊎ (e ≡ Memory)) }
         ensures err_same { OnErr result (state_of self.new ≡ state_of self.old) }
-        ensures stirred { HasStirred self.old (self.old.search.list ++ 1 ∷ []) result self.new }
+        ensures chosen { HasChosen self.old result self.new }
     {
         match self.choosing_limit(meants.len()) {
             Some(refusal) => return Err(refusal),
@@ -258,7 +258,7 @@ impl<R: Rule + Drop, O: Order + Drop> Session<R, O> {
             }) }
         ensures err { IfErr result (λ e. e ≡ Memory) }
         ensures err_same { OnErr result (state_of self.new ≡ state_of self.old) }
-        ensures stirred { HasStirred self.old (self.old.search.list ++ 1 ∷ []) result self.new }
+        ensures chosen { HasChosen self.old result self.new }
     {
         let choice = match self.search.declare(choice, infos.len() as u8) {
             Ok(choice) => choice,

@@ -66,7 +66,7 @@ impl<R: Rule + Drop, O: Order + Drop> Session<R, O> {
     ghost use Rattle.prop_workbench.specs.inner.Refusing.{is_choice_told};
     ghost use Rattle.prop_workbench.specs.Sessions.{state_of, IsInOrder};
     ghost use Rattle.prop_workbench.specs.inner.Sessions.{Keeps};
-    ghost use Rattle.prop_workbench.specs.inner.Carrying.{IsDone, HasLeft, HasStirred};
+    ghost use Rattle.prop_workbench.specs.inner.Carrying.{IsDone, HasLeft, HasTold};
 
     /// States what a value says at a cell, under the premise with a name or under none.
     pub(crate) fn say(
@@ -134,7 +134,7 @@ impl<R: Rule + Drop, O: Order + Drop> Session<R, O> {
             (stating_limit (state_of self.old) (name_under under.entry) (meant_of meant.entry)
             ≡ Some e) ⊎ (e ≡ Memory)) }
         ensures err_same { OnErr result (state_of self.new ≡ state_of self.old) }
-        ensures stirred { HasStirred self.old self.old.search.list result self.new }
+        ensures told { HasTold self.old result self.new }
     {
         match self.statement_limit(under) {
             Some(refusal) => return Err(refusal),
@@ -163,7 +163,7 @@ impl<R: Rule + Drop, O: Order + Drop> Session<R, O> {
             (stating_limit (state_of self.old) (name_under under.entry) (Name symbol.now) ≡ Some e)
             ⊎ (e ≡ Memory)) }
         ensures err_same { OnErr result (state_of self.new ≡ state_of self.old) }
-        ensures stirred { HasStirred self.old self.old.search.list result self.new }
+        ensures told { HasTold self.old result self.new }
     {
         let count = self.words.symbol_count();
         let number = match self.words.add_symbol(symbol) {
@@ -209,7 +209,7 @@ impl<R: Rule + Drop, O: Order + Drop> Session<R, O> {
             (name_under under.entry) cell self.old.words info) }
         ensures err { IfErr result (λ e. e ≡ Memory) }
         ensures err_same { OnErr result (state_of self.new ≡ state_of self.old) }
-        ensures stirred { HasStirred self.old self.old.search.list result self.new }
+        ensures told { HasTold self.old result self.new }
     {
         match under {
             Under::Nothing => self.state(None, cell, info),
@@ -235,7 +235,7 @@ impl<R: Rule + Drop, O: Order + Drop> Session<R, O> {
         ensures err { IfErr result (λ e.
             (state_refusal self.old.live.network.cells cell info ≡ Some e) ⊎ (e ≡ Memory)) }
         ensures err_same { OnErr result (state_of self.new ≡ state_of self.old) }
-        ensures stirred { HasStirred self.old self.old.search.list result self.new }
+        ensures told { HasTold self.old result self.new }
     {
         state(&mut self.live, self.search.worldview(), premise, cell, info)?;
         Ok(())
@@ -264,7 +264,7 @@ impl<R: Rule + Drop, O: Order + Drop> Session<R, O> {
             }) }
         ensures err { IfErr result (λ e. e ≡ Memory) }
         ensures err_same { OnErr result (state_of self.new ≡ state_of self.old) }
-        ensures stirred { HasStirred self.old self.old.search.list result self.new }
+        ensures told { HasTold self.old result self.new }
     {
         let premise = match self.search.intern(name) {
             Ok(premise) => premise,

@@ -6,6 +6,7 @@ constraint, which word of a line is at fault and what to complete; and that a pl
 where each constraint holds on it, as it evaluates them (`violated` in model/seam.py).
 """
 
+from propbench.conversation import WrongReply
 from propbench.finding import NoProgram, find_program, find_wide
 from propbench.measuring.amounts import NoReading
 from propbench.measuring.bounds import NoBound
@@ -22,7 +23,7 @@ from propbench.model.expressions import (
     pairs,
 )
 from propbench.model.saving import NotAWorkbench
-from propbench.program import ProgramEnded
+from propbench.program import OutOfTime, ProgramEnded
 from propbench.questions import Certificate, CertificateError, Interrupted
 from propbench.refusals import (
     EmptyValue,
@@ -66,7 +67,7 @@ from propbench.replies import (
     Value,
     Worldview,
 )
-from propbench.session import Session
+from propbench.session import Session, SessionInUse
 from propbench.values import Elements, Impossible, Nothing, Span, Symbol
 from propbench.workbench import Workbench
 
@@ -108,10 +109,12 @@ __all__ = [
     "NotUtf8",
     "Nothing",
     "OutOfMemory",
+    "OutOfTime",
     "ProgramEnded",
     "Refused",
     "Reply",
     "Session",
+    "SessionInUse",
     "Settled",
     "Silent",
     "Span",
@@ -130,6 +133,7 @@ __all__ = [
     "WrongForm",
     "WrongKind",
     "WrongParameter",
+    "WrongReply",
     "all_different",
     "count",
     "element",

@@ -5,9 +5,10 @@ from collections import deque
 from collections.abc import Iterable
 
 from propbench.conversation import Conversation
+from propbench.grammar import ASKING
 from propbench.program import ProgramEnded
 from propbench.refusals import Refused
-from propbench.replies import DONE, SEVERAL, SILENT, Reply, lines_behind, reply_of
+from propbench.replies import DONE, SEVERAL, SILENT, NotAReply, Reply, lines_behind, reply_of
 from propbench.words import as_line, encoded, is_silent
 
 # How many lines are written before replies are looked at.
@@ -44,6 +45,7 @@ class Batch:
         self._talk = conversation
         self._lines = lines
         self._sent = sent
+        self._carried = conversation.carried
         self.replies: list[Reply | Refused] = [SILENT] * len(lines)
         self.first_refused: Refused | None = None
         # The places of the lines to which replies are still to come, and the lines of a reply whose
@@ -55,11 +57,39 @@ class Batch:
 
     def run(self) -> None:
         """Sends all lines and takes in all replies. Where that ends early, what was taken in by
-        then counts as carried out, and the conversation is out of step.
+        then counts as carried out, the conversation is out of step, and the program is ended.
 
         Garbage is looked for only while replies are waited for: of replies none comes, and a look
         goes through all that have come."""
+        self._run()
+        self._talk.in_step = True
+
+    def look(self) -> list[str]:
+        """Sends questions, and takes in the replies, without a trace among what was carried out.
+        Gives those that were not refused; what becomes of these is to be taken in before the
+        conversation is in step."""
+        asked: list[str] = []
+        self._carried = lambda line, words: asked.append(line)
+        self._run()
+        return asked
+
+    def _run(self) -> None:
+        """Sends all lines and takes in all replies, or ends the program."""
         self._talk.in_step = False
+        is_done = False
+        try:
+            self._send_with_care()
+            is_done = True
+        finally:
+            # (once more, for what cuts short the end of what was tried)
+            if self._collects:
+                gc.enable()
+            if not is_done:
+                self._talk.program.kill()
+
+    def _send_with_care(self) -> None:
+        """Sends all lines, without looks for garbage; of a program that ends all that came before
+        is taken in."""
         try:
             gc.disable()
             self._send()
@@ -69,7 +99,6 @@ class Batch:
         finally:
             if self._collects:
                 gc.enable()
-        self._talk.in_step = True
 
     def _send(self) -> None:
         program = self._talk.program
@@ -99,12 +128,14 @@ class Batch:
     def _take_in(self, lines: list[str]) -> None:
         """Takes in the lines of replies that came last."""
         given, replies, places = self._lines, self.replies, self._places
-        carried, kinds = self._talk.carried, self._talk.kinds
+        carried, kinds = self._carried, self._talk.kinds
         for text in lines:
+            if not places:
+                raise self._talk.wrong("no line", text)
             place = places[0]
             line = given[place]
             words = line.split()
-            if text == "ok":
+            if text == "ok" and words[0] not in ASKING:
                 replies[place] = DONE
                 carried(line, words)
             else:
@@ -115,7 +146,10 @@ class Batch:
                 if refused:
                     replies[place] = refused
                 else:
-                    replies[place] = reply_of(words, whole, kinds)
+                    try:
+                        replies[place] = reply_of(words, whole, kinds)
+                    except NotAReply:
+                        raise self._talk.wrong(line, whole) from None
                     carried(line, words)
             places.popleft()
 

@@ -1,14 +1,30 @@
 """A conversation: a program, the lines that it carried out, and the names that these declared.
 
 What was carried out and what the program has done are in step, but where an exception came between
-the two; then the program is begun anew with the lines that are known to be carried out.
+the two; then the program is begun anew with the lines that are known to be carried out. So `in_step`
+is False from before a line is sent until all that came of it is taken in, and an exception may cut
+that short at any place.
 """
 
 from propbench.blame import blame_for
 from propbench.known import Known
-from propbench.program import Program
+from propbench.program import Program, ProgramEnded
 from propbench.refusals import CLASSES, Refused
-from propbench.replies import SEVERAL, lines_behind, refusal_in
+from propbench.replies import SEVERAL, NotAReply, Reply, lines_behind, refusal_in, reply_of
+from propbench.showing import printable
+
+# A line that changes nothing, and what is answered to it.
+_MARK, _MARKED = "mark", "error 3: unknown command"
+# So many characters are shown of a line and of a reply that don't belong together.
+_SHOWN = 80
+
+
+class WrongReply(ProgramEnded):
+    """The program answered something that is no reply to its line, and was ended for that. The next
+    use of the session begins it anew. `errors` says which."""
+
+    def __str__(self) -> str:
+        return f"{self.errors}, and was ended"
 
 
 class Conversation:
@@ -24,7 +40,7 @@ class Conversation:
         # The limit that the user gave, and the one that the program was told last.
         self.limit = limit
         self.program_limit = limit
-        self._learns = {**self.known.learns, "limit": self._learn_limit}
+        self._learns = self.known.learns
         self.in_step = True
 
     def tell(self, line: str, steps: int) -> None:
@@ -37,24 +53,35 @@ class Conversation:
 
     def hear(self, command: str) -> str:
         """The whole reply to a line with this command."""
-        first = self.program.hear()
-        return self._whole(command, first) if command in SEVERAL else first
+        program = self.program
+        if command not in SEVERAL:
+            return program.hear()
+        [first] = program.first_lines(1)
+        lines = program.first_lines(1 + lines_behind(command, first))
+        program.rest()
+        return "\n".join(lines)
 
-    def late_reply(self, command: str, seconds: float) -> str | None:
-        """The same where it comes within so many seconds."""
-        return self.hear(command) if self.program.has_reply(seconds) else None
+    def late(self) -> str:
+        """What is there of the reply to a line that was told, "" where all of it was read and lost:
+        what comes before the reply to a mark behind it."""
+        self.program.tell(_MARK)
+        lines: list[str] = []
+        while (line := self.program.next_line()) != _MARKED:
+            lines.append(line)
+        return "\n".join(lines)
 
     def set_limit(self, steps: int) -> None:
-        """Gives the program a limit, which is not the user's."""
+        """Gives the program a limit, which is not the user's. (Between the slices of a question the
+        conversation stays out of step: what they did is not taken in yet.)"""
+        was_in_step = self.in_step
         self.in_step = False
-        self.program.tell(f"limit {steps}")
-        self.program.hear()
+        line = f"limit {steps}"
+        self.program.tell(line)
+        said = self.hear("limit")
+        if said != "ok":
+            raise self.wrong(line, said)
         self.program_limit = steps
-        self.in_step = True
-
-    def _whole(self, command: str, first: str) -> str:
-        behind = [self.program.next_line() for _ in range(lines_behind(command, first))]
-        return "\n".join([first, *behind])
+        self.in_step = was_in_step
 
     def carried(self, line: str, words: list[str]) -> None:
         """Takes in that a line was carried out."""
@@ -62,13 +89,12 @@ class Conversation:
         learn = self._learns.get(words[0])
         if learn:
             learn(words, line)
+        elif words[0] == "limit":
+            self.limit = self.program_limit = int(words[1])
 
     def cut(self, line: str, steps: int) -> None:
         """Takes in that a question was run for so many steps."""
         self.lines += [f"limit {steps}", line, f"limit {self.limit}"]
-
-    def _learn_limit(self, words: list[str], line: str) -> None:
-        self.limit = self.program_limit = int(words[1])
 
     def refused(self, line: str, text: str, line_number: int) -> Refused | None:
         """The refusal that a text is, where it is one."""
@@ -78,3 +104,22 @@ class Conversation:
         number, said = refusal
         blame = blame_for(line, number, said, self.known)
         return CLASSES.get(number, Refused)(number, said, line, line_number, blame)
+
+    def reply(self, line: str, words: list[str], text: str) -> Reply:
+        """The reply that a text is to a line of these words, which is not refused. Raises
+        WrongReply where it is none."""
+        try:
+            return reply_of(words, text, self.kinds)
+        except NotAReply:
+            raise self.wrong(line, text) from None
+
+    def wrong(self, line: str, text: str) -> WrongReply:
+        """What is raised where a text is no reply to a line: the program is ended."""
+        self.in_step = False
+        self.program.kill()
+        return WrongReply(None, f"the program answered {_brief(text)} to {_brief(line)}")
+
+
+def _brief(text: str) -> str:
+    shown = printable(text.partition("\n")[0])
+    return f"`{shown if len(shown) <= _SHOWN else shown[:_SHOWN] + '..'}`"

@@ -12,7 +12,7 @@ from propbench.files import OpenedFile
 from propbench.finding import NoProgram
 from propbench.journal import Journal, left
 from propbench.pictures import NoGraphviz, picture_of
-from propbench.program import ProgramEnded
+from propbench.program import OutOfTime, ProgramEnded
 from propbench.refusals import Refused
 from propbench.reports import NoReport
 from propbench.running import Way, lines_of, run_as_json, run_file, told_of
@@ -169,7 +169,7 @@ def main(words: Sequence[str] | None = None) -> int:
     except Refused as refused:
         print(told_of(refused, printable(options.file)), file=sys.stderr)
         return 1
-    except (NoProgram, NoReport, NoGraphviz, ProgramEnded, OSError) as error:
+    except (NoProgram, NoReport, NoGraphviz, ProgramEnded, OutOfTime, OSError) as error:
         print(f"propdesk: {said_of(error)}", file=sys.stderr)
         return 3
 

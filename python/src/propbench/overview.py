@@ -80,11 +80,14 @@ def overview(
     session: Session, seconds: float | None = None, progress: Progress | None = None
 ) -> Overview:
     """All that follows now, found by a run that is cut after so many seconds."""
+    before = len(session.lines)
     end = session.send("settle", seconds=seconds, progress=progress)
     lines = session.lines
     told = told_by(lines)
-    # (a run that was cut stands between its steps and the limit that was in force)
-    steps = int(lines[-3].split()[1]) if lines[-1] != "settle" else None
+    # (A run that was cut stands between its steps and the limit that was in force. Of one in which
+    # the program hung there is nothing.)
+    ran = lines[before:] or ["limit 0"]
+    steps = int(ran[0].split()[1]) if ran != ["settle"] else None
     if isinstance(end, Contradiction):
         return Overview(True, end.premises, (), (), told, session.proved)
     replies = session.look([*(f"why {cell}" for cell in session.known.cells), "worldview"])

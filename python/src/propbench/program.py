@@ -1,32 +1,33 @@
 """The running program: lines in, reply lines out, never stuck however much is sent.
 
 What is to be written waits here while the program is not ready to read it, and replies are taken in
-meanwhile, so neither side waits for the other for good.
+meanwhile, so neither side waits for the other for good. What is waited for may have an end: a time
+of the monotonic clock, at which the program is ended where it has not answered.
 """
 
-import fcntl
 import os
 import select
 import signal
-import subprocess
-import tempfile
 import time
+import weakref
 from collections import deque
-from contextlib import suppress
 from dataclasses import dataclass
+from itertools import islice
 
+from propbench.process import Process, held_back
 from propbench.words import encoded
 
-# How much is read at once, of a single reply at first, and how large a pipe is asked for, in bytes.
-# (For so little Python has room at hand, and most replies have fewer.)
+# How much is read at once, and of a single reply at first, in bytes. (For so little Python has room
+# at hand, and most replies have fewer.)
 _PIECE = 1 << 16
 _REPLY = 400
-_PIPE = 1 << 20
 # How long replies are left to gather, and the program is given to end by itself, in seconds.
 _GATHER = 0.001
 _END = 5.0
-# How often replies are looked at while the program takes no line, in thousandths of a second.
+# How often replies are looked at while the program takes no line, in thousandths of a second, and
+# whether it is at work, in seconds.
 _LOOK = 1
+_AGAIN = 0.05
 # The variable by which a repository's scripts don't say once more that they run unproved.
 _TOLD = "PROPBENCH_TOLD"
 # The commands of which what they say was shown already.
@@ -55,7 +56,8 @@ class ProgramEnded(Exception):
 
 
 class OutOfTime(Exception):
-    """A reply did not come in the time that there was for it, and the program was ended."""
+    """A reply did not come in the time that there was for it, and the program was ended. The next
+    use of the session begins it anew."""
 
 
 def _signal_name(number: int) -> str:
@@ -66,41 +68,32 @@ def _signal_name(number: int) -> str:
 
 
 class Program:
-    """A process of the program. What it is sent are whole lines, in bytes."""
+    """A process of the program. What it is sent are whole lines, in bytes. Where a reply doesn't come
+    by `until`, it is ended, and OutOfTime raised by whoever waits."""
 
     def __init__(self, command: list[str], show_errors: bool = False) -> None:
         """Starts the program. What it says on standard error is kept, or shown on that of this
         process. Raises ProgramEnded where it can't be started."""
-        self._errors = tempfile.TemporaryFile()
-        env = {**os.environ, _TOLD: "1"} if command[0] in _shown else None
+        told = {_TOLD: "1"} if command[0] in _shown else {}
         if show_errors:
             _shown.add(command[0])
         try:
-            # In a session of its own, so that Ctrl-C at a terminal doesn't end it.
-            self._process = subprocess.Popen(
-                command,
-                stdin=subprocess.PIPE,
-                stdout=subprocess.PIPE,
-                stderr=None if show_errors else self._errors,
-                bufsize=0,
-                start_new_session=True,
-                env=env,
-            )
+            with held_back():
+                self._process = Process(command, {**os.environ, **told}, show_errors)
+                # (a program that nobody has any more)
+                self._dropped = weakref.finalize(self, self._process.kill)
         except OSError as error:
-            self._errors.close()
             raise ProgramEnded(None, str(error)) from None
-        assert self._process.stdin and self._process.stdout
-        self._in, self._out = self._process.stdin.fileno(), self._process.stdout.fileno()
-        os.set_blocking(self._in, False)
-        for pipe in (self._in, self._out):
-            with suppress(OSError):
-                fcntl.fcntl(pipe, fcntl.F_SETPIPE_SZ, _PIPE)
+        self._in, self._out = self._process.into, self._process.out
         self._waiting = b""
         self._part = b""
         self._lines: deque[str] = deque()
-        self._ended: ProgramEnded | None = None
-        # Until when replies are waited for, by the monotonic clock; None where that has no end.
+        # How it ended by itself, where that came to light.
+        self.ended: ProgramEnded | None = None
+        # Until when replies are waited for, by the monotonic clock; None where that has no end. One
+        # that is at work then has so many seconds more.
         self.until: float | None = None
+        self.patience = 0.0
         self._come, self._room = select.poll(), select.poll()
         self._come.register(self._out, select.POLLIN)
         self._room.register(self._in, select.POLLOUT)
@@ -111,9 +104,16 @@ class Program:
         return self._process.pid
 
     @property
-    def ended(self) -> ProgramEnded | None:
-        """How the program ended, where that came to light."""
-        return self._ended
+    def is_open(self) -> bool:
+        """Whether it can be spoken to: it has not been ended here, nor found to have ended."""
+        return self._process.out >= 0
+
+    def notice(self) -> bool:
+        """Whether it has ended, found out where nobody asks it; all that leads to it is closed
+        then."""
+        if self.is_open and self._process.is_over():
+            self.ended = self._how_ended(0)
+        return self.ended is not None
 
     def put(self, data: bytes) -> None:
         """Sends whole lines, and takes in replies until they are all sent. Raises ProgramEnded, and
@@ -121,7 +121,7 @@ class Program:
         self._waiting = data
         self._write()
         while self._waiting:
-            if self._left() == 0:
+            if self._left() == 0 and not self._has_more_time():
                 self._end_late()
             # Replies are looked at now and then: one by one each would cost a wake-up.
             if self._room.poll(_LOOK):
@@ -149,17 +149,22 @@ class Program:
         if self.until is not None:
             self._wait()
         said = os.read(self._out, _REPLY)
-        first, _, more = said.partition(b"\n")
-        if more or self._part or self._lines or len(first) == len(said):
-            self._come_in(said)
-            return self.next_line()
-        return first.decode()
+        if said and said.find(b"\n") == len(said) - 1:
+            return said[:-1].decode()
+        self._come_in(said)
+        return self.next_line()
 
     def next_line(self) -> str:
         """The next reply line, without its line feed. Raises ProgramEnded."""
         while not self._lines:
             self._read()
         return self._lines.popleft()
+
+    def first_lines(self, count: int) -> list[str]:
+        """The first lines of a reply, so many, as long as the reply is not taken."""
+        while len(self._lines) < count:
+            self._read()
+        return list(islice(self._lines, count))
 
     def take(self, wait: bool) -> list[str]:
         """The reply lines that have come; at least one where it is to wait. Raises ProgramEnded."""
@@ -179,29 +184,20 @@ class Program:
         """Leaves replies time to gather: taken in one by one, each would cost a wake-up."""
         time.sleep(_GATHER)
 
-    def has_reply(self, seconds: float) -> bool:
-        """Whether a reply line is there, or something of it comes within so many seconds."""
-        return bool(self._lines) or self._is_readable(seconds)
-
     def end(self) -> None:
         """Ends the program by the end of its input, or else by force. It is to be at rest."""
-        assert self._process.stdin
-        with suppress(OSError):
-            self._process.stdin.close()
-        with suppress(subprocess.TimeoutExpired):
-            self._process.wait(_END)
+        self._process.end_input()
+        self._process.ends_within(_END)
         self.kill()
 
     def kill(self) -> None:
-        """Ends the program at once, with what it has started."""
-        if self._process.poll() is None:
-            with suppress(ProcessLookupError):
-                os.killpg(self._process.pid, signal.SIGKILL)
-        self._process.wait()
-        for stream in (self._process.stdin, self._process.stdout, self._errors):
-            if stream:
-                with suppress(OSError):
-                    stream.close()
+        """Ends the program at once, with what it has started, and closes what leads to it."""
+        self._process.kill()
+        self._dropped.detach()
+
+    def strike(self) -> None:
+        """Ends the program at once while another thread uses it, which finds it ended."""
+        self._process.strike()
 
     def _is_readable(self, seconds: float) -> bool:
         return bool(self._come.poll(max(0, seconds) * 1000))
@@ -223,13 +219,23 @@ class Program:
     def _wait(self) -> None:
         """Waits for something of a reply, as long as there is time."""
         left = self._left()
-        if left is not None and (left == 0 or not self._is_readable(left)):
-            self._end_late()
+        if left is None or (left > 0 and self._is_readable(left)):
+            return
+        while self._has_more_time():
+            if self._is_readable(_AGAIN):
+                return
+        self._end_late()
+
+    def _has_more_time(self) -> bool:
+        """Whether it is given more time: it is at work yet, or what it says has come."""
+        if self.until is None or time.monotonic() >= self.until + self.patience:
+            return False
+        return self._process.is_at_work() or self._is_readable(0)
 
     def _end_late(self) -> None:
         """Ends the program, since the time is over."""
         self.kill()
-        raise OutOfTime("the program did not answer in time")
+        raise OutOfTime("the program did not answer in time, and was ended")
 
     def _read(self) -> None:
         if self.until is not None:
@@ -238,18 +244,18 @@ class Program:
 
     def _come_in(self, data: bytes) -> None:
         if not data:
-            self._ended = self._how_ended()
-            raise self._ended
+            left = self._left()
+            self.ended = self._how_ended(_END if left is None else min(_END, left))
+            raise self.ended
         whole, feed, part = (self._part + data).rpartition(b"\n")
         self._part = part
         if feed:
             self._lines.extend(whole.decode().split("\n"))
 
-    def _how_ended(self) -> ProgramEnded:
-        with suppress(subprocess.TimeoutExpired):
-            self._process.wait(_END)
-        if self._process.poll() is None:
-            self._process.kill()
-        status = self._process.wait()
-        self._errors.seek(0)
-        return ProgramEnded(status, self._errors.read().decode(errors="replace"))
+    def _how_ended(self, seconds: float) -> ProgramEnded:
+        """How it ended, where its output has ended, and it does within so many seconds. All that
+        leads to it is closed."""
+        self._process.ends_within(seconds)
+        errors = self._process.errors()
+        self.kill()
+        return ProgramEnded(self._process.status, errors)

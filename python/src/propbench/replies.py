@@ -343,9 +343,16 @@ NO_PREMISE = "no premise"
 SEVERAL = frozenset(("worldview", "nogoods", "step", "how", "list"))
 # Those of them whose first line is the command and how many lines follow.
 _COUNTED = ("nogoods", "step", "how", "list")
-_WORDS: tuple[Reply, ...] = (DONE, SETTLED, UNSETTLED)
-_PLAIN = {str(reply): reply for reply in _WORDS}
+_WORDS: dict[str, Reply] = {"ok": DONE, "settled": SETTLED, "unsettled": UNSETTLED}
+# Which of the replies that are a word alone a command has; any other has `ok`.
+_OK: tuple[str, ...] = ("ok",)
+_PLAIN: dict[str, tuple[str, ...]] = {
+    **dict.fromkeys(("ask", "why", "core", *_COUNTED), ()),
+    "settle": ("settled", "unsettled"),
+    "worldview": ("unsettled",),
+}
 _VALUED = frozenset(("ask", "why", "core"))
+_RUNS = _VALUED | {"settle", "worldview"}
 _new, _put = object.__new__, object.__setattr__
 
 
@@ -374,30 +381,39 @@ def lines_behind(command: str, first: str) -> int:
     if command == "worldview" and first.startswith("in:"):
         return 1
     word, _, count = first.partition(" ")
-    return int(count) if word == command and command in _COUNTED else 0
+    return int(count) if word == command and command in _COUNTED and count.isdecimal() else 0
+
+
+class NotAReply(Exception):
+    """A text is no reply to the line that it was taken for."""
 
 
 def reply_of(words: list[str], text: str, kinds: Mapping[str, str]) -> Reply:
     """The reply that a text is to a line of these words, which is neither silent nor refused;
-    `kinds` are those of the cells."""
-    command = words[0]
-    if command == "step":
-        return _step(text.split("\n")[1:], kinds)
-    if command == "how":
-        return _how(text.split("\n")[1:], kinds)
-    if command == "list":
-        return _listing(text.split("\n")[1:])
+    `kinds` are those of the cells. Raises NotAReply where it is the reply to another line."""
+    command, name = words[0], words[-1]
     # (no name has the mark `=`)
-    if command in _VALUED and " = " in text:
-        return unread(text, command, kinds[words[1]])
-    if text.startswith("contradiction:"):
+    if command in _VALUED and text.startswith(f"{name} = ") and name in kinds:
+        return unread(text, command, kinds[name])
+    if command in _RUNS and text.startswith("contradiction:"):
         return Contradiction(_names(text[15:]))
-    if command == "worldview" and text != "unsettled":
-        inside, outside = text.split("\n")
-        return Worldview(tuple(inside.split(" ")[1:]), tuple(outside.split(" ")[1:]))
+    if text in _PLAIN.get(command, _OK):
+        return _WORDS[text]
+    lines = text.split("\n")
+    begins = [line.partition(" ")[0] for line in lines]
+    if command == "worldview" and begins == ["in:", "out:"]:
+        return Worldview(tuple(lines[0].split(" ")[1:]), tuple(lines[1].split(" ")[1:]))
+    if command not in _COUNTED or lines[0] != f"{command} {len(lines) - 1}":
+        raise NotAReply
     if command == "nogoods":
-        return Nogoods(tuple(_names(line[8:]) for line in text.split("\n")[1:]))
-    return _PLAIN[text]
+        return Nogoods(tuple(_names(line[8:]) for line in lines[1:]))
+    if command == "step":
+        return _step(lines[1:], kinds)
+    if command == "list":
+        return _listing(lines[1:])
+    if len(lines) < 3 or not lines[2].startswith(f"{name} = "):
+        raise NotAReply
+    return _how(lines[1:], kinds)
 
 
 def unread(text: str, command: str, kind: str) -> Value:

@@ -10,7 +10,9 @@ from collections.abc import Callable
 from dataclasses import dataclass, replace
 
 from propbench.conversation import Conversation
-from propbench.replies import Reply, Unsettled, Value, reply_of, unread
+from propbench.program import OutOfTime, ProgramEnded
+from propbench.refusals import Refused
+from propbench.replies import Reply, Unsettled, Value, unread
 
 # What is told of a run that goes on: the steps that it took, and what is known then.
 Progress = Callable[[int, Reply], None]
@@ -22,15 +24,19 @@ _SHORT, _LONG = 0.05, 0.5
 # seconds, so that the end is not missed by much where steps take long.
 _FIRST_OF_TIMED, _FEWEST_OF_TIMED = 2_000, 100
 _BRIEF, _TIMED = 0.05, 0.2
-# How long, in seconds, a slice that was interrupted is waited for before the program is ended.
+# How long, in seconds, a slice that was interrupted is waited for before the program is ended, and
+# one that is not done when the time of its question is over; and how long the second is waited for
+# beyond that as long as the program is at work.
 _GRACE = 2.0
+_LATE = 1.8
+PATIENCE = 20.0
 
 
 @dataclass
 class Watch:
     """Who may end a run: it is cut after `until`, a time of the monotonic clock, and `progress` is
     told of it, which may raise. `stopped` is what ended it from outside, and `taken` the steps of
-    the slices that were used up."""
+    the slices that were used up. Where no reply comes by `latest`, the program is ended."""
 
     until: float | None = None
     progress: Progress | None = None
@@ -50,6 +56,11 @@ class Watch:
         most."""
         left = None if self.until is None else self.until - time.monotonic()
         return 2.0 if left is None else min(2.0, left / max(seconds, 1e-6))
+
+    @property
+    def latest(self) -> float | None:
+        """By when a reply has to come."""
+        return None if self.until is None else self.until + _LATE
 
     def is_over(self, reply: Reply) -> bool:
         """Tells of a run that isn't settled; whether it is to end here."""
@@ -100,15 +111,16 @@ class Runner:
         program.tell(line)
         # What the line asks is looked at while the program is at work.
         words = line.split()
+        begins, kind = f"{words[-1]} = ", talk.kinds.get(words[-1])
         try:
             text = program.hear()
         except KeyboardInterrupt as stopped:
             return self._interrupted(Question(line, words, number), stopped)
-        if text[:6] == "error " or " = " not in text or "unsettled" in text:
+        if kind is None or not text.startswith(begins) or "unsettled" in text:
             return self._heard(line, words, number, text)
         talk.lines.append(line)
         talk.in_step = True
-        return unread(text, words[0], talk.kinds[words[1]])
+        return unread(text, words[0], kind)
 
     def hear(self, line: str, words: list[str], number: int) -> Reply:
         """The reply to a question that was told, which is no `core`, in as many slices as it needs;
@@ -136,27 +148,31 @@ class Runner:
 
     def watched(self, question: Question, watch: Watch) -> Reply:
         """The reply to a question that is not told yet, where somebody may end the run. Raises its
-        refusal, and what they raise."""
+        refusal, what they raise, and OutOfTime where the program hangs before anything is known."""
         words, talk = question.words, self.talk
         is_long_core = words[0] == "core" and self.steps < talk.limit
         if not is_long_core or len(words) != 2 or words[1] not in talk.known.cells:
             return self._gone_on(question, watch, self._first_slice(question, watch))
         reply = self._core(question, watch)
-        talk.in_step = True
-        if watch.stopped:
-            raise watch.stopped
-        return reply
+        return self._ended(watch, reply)
 
     def _gone_on(self, question: Question, watch: Watch, first: Reply) -> Reply:
         """The reply to a question, after a first slice that had this one."""
         reply = self._slices(question, watch, first)
         self._take_in(question, watch, reply)
-        self.talk.in_step = True
+        return self._ended(watch, reply)
+
+    def _ended(self, watch: Watch, reply: Reply) -> Reply:
+        """The reply to a question of which all is taken in. (Where the program hangs, which is
+        ended then, what was known before is.)"""
+        self.talk.in_step = self.talk.program.is_open
         if watch.stopped:
             raise watch.stopped
         return reply
 
     def _take_in(self, question: Question, watch: Watch, reply: Reply) -> None:
+        if not self.talk.program.is_open:
+            return
         if is_settled(reply) or watch.taken == self.talk.limit:
             self.talk.carried(question.line, question.words)
         else:
@@ -178,7 +194,14 @@ class Runner:
             if watch.taken == talk.limit or watch.is_over(reply):
                 break
             begun = time.monotonic()
-            reply = self._slice(question, watch, min(self._size(watch), talk.limit - watch.taken))
+            try:
+                reply = self._slice(
+                    question, watch, min(self._size(watch), talk.limit - watch.taken)
+                )
+            except OutOfTime:
+                if watch.until is None:
+                    raise
+                break
             self._adapt(watch, time.monotonic() - begun)
         return reply
 
@@ -194,22 +217,32 @@ class Runner:
         return self._reply(question, text)
 
     def _late(self, question: Question, watch: Watch) -> Reply:
-        """The reply to a question that was interrupted, where it comes soon."""
-        text = self.talk.late_reply(question.words[0], _GRACE)
-        if text is None:
-            self.talk.program.kill()
+        """The reply to a question that was interrupted, where it comes soon. Raises what interrupted
+        it where none does, or a part of it was lost, and where it is refused."""
+        assert watch.stopped
+        talk = self.talk
+        talk.program.until, talk.program.patience = time.monotonic() + _GRACE, 0.0
+        try:
+            text = talk.late()
+            if not text:
+                # It was read and lost: what is known by now says as much.
+                watch.taken += talk.program_limit
+                talk.tell(question.line, 0)
+                text = talk.hear(question.words[0])
+            return self._reply(question, text)
+        except Refused:
+            raise watch.stopped from None
+        except (OutOfTime, ProgramEnded):
             if watch.taken:
                 self.talk.cut(question.line, watch.taken)
-            assert watch.stopped
-            raise watch.stopped
-        return self._reply(question, text)
+            raise watch.stopped from None
 
     def _reply(self, question: Question, text: str) -> Reply:
         refused = self.talk.refused(question.line, text, question.number)
         if refused:
             self.talk.in_step = True
             raise refused
-        return reply_of(question.words, text, self.talk.kinds)
+        return self.talk.reply(question.line, question.words, text)
 
     def _adapt(self, watch: Watch, seconds: float) -> None:
         if watch.until is not None:
@@ -235,27 +268,33 @@ class Runner:
         elif watch.stopped:
             self._take_in(why, watch, reply)
         else:
-            return self._tries(question, watch, why)
+            return self._tries(question, watch, why, reply)
         return reply
 
-    def _tries(self, question: Question, watch: Watch, why: Question) -> Reply:
-        """The reply to a `core` whose run came to rest, as that of this `why` did."""
+    def _tries(self, question: Question, watch: Watch, why: Question, reply: Value) -> Reply:
+        """The reply to a `core` whose run came to rest, with this reply to this `why`."""
         talk = self.talk
         most = talk.limit - watch.taken
         is_watched = watch.until is not None or watch.progress is not None
         steps = min(self._size(watch), most) if is_watched else most
         watch.taken = 0
+        found: Reply = replace(reply, reduced=False)
         is_first = True
         while True:
             begun = time.monotonic()
-            reply = self._slice(question, watch, steps)
-            is_done = steps == most or not (isinstance(reply, Value) and reply.reduced is False)
+            try:
+                found = self._slice(question, watch, steps)
+            except OutOfTime:
+                if watch.until is None:
+                    raise
+                return found
+            is_done = steps == most or not (isinstance(found, Value) and found.reduced is False)
             if is_first and is_done:
                 talk.carried(question.line, question.words)
             else:
                 talk.cut(question.line, steps)
             watch.taken += steps
             more = watch.growth(time.monotonic() - begun)
-            if is_done or watch.is_over(reply) or more < 1:
-                return reply
+            if is_done or watch.is_over(found) or more < 1:
+                return found
             is_first, steps = False, min(int(steps * more) + 1, most)

@@ -1,26 +1,31 @@
 """A session: the program as an object, line by line or many lines at once.
 
 Every reply is the program's. A question is asked in slices of the limit, so that it can be stopped
-where it stands; what the user's own `limit` says is kept.
+where it stands; what the user's own `limit` says is kept. One call has the session at a time; what
+ends a call early, at whatever place, leaves what was carried out.
 """
 
 import os
+import sys
+import threading
 import time
 import weakref
 from collections.abc import Iterable
+from itertools import count
+from types import FrameType
 from typing import Literal, overload
 
 from propbench.batch import Batch, as_lines
 from propbench.closing import Closing
-from propbench.conversation import Conversation
+from propbench.conversation import Conversation, WrongReply
 from propbench.finding import find_program
 from propbench.given import seconds_given
-from propbench.grammar import FORMS, RUNNING
+from propbench.grammar import ASKING, FORMS, RUNNING
 from propbench.known import Known
-from propbench.program import OutOfTime
+from propbench.program import Program, ProgramEnded
 from propbench.refusals import Refused, UnknownCommand
-from propbench.replies import DONE, SILENT, How, Listing, Reply, Step, reply_of
-from propbench.runs import Progress, Question, Runner, Watch, is_settled
+from propbench.replies import DONE, SILENT, How, Listing, Reply, Step
+from propbench.runs import PATIENCE, Progress, Question, Runner, Watch, is_settled
 from propbench.words import MOST_STEPS, as_line, is_silent
 
 STEPS = 1_000_000_000
@@ -34,8 +39,16 @@ Outcomes = list[Reply | Refused]
 _QUESTIONS = frozenset(("ask ", "why "))
 
 
+class SessionInUse(RuntimeError):
+    """A session was used while a call of it was running, by another thread or within that call; or
+    in a child that was forked, where it is the parent's. Nothing was sent, and the call that is
+    running goes on."""
+
+
 class Session(Closing):
-    """A session of the program. It is not to be used by two threads at once."""
+    """A session of the program, which any thread of this process may use, one call at a time: a call
+    while another is running raises SessionInUse. `close` alone may come at any time, and ends what
+    is running. A child that is forked can't use it."""
 
     def __init__(
         self,
@@ -66,9 +79,15 @@ class Session(Closing):
         self._tells: tuple[str, ...] | None = None
         self._closed = False
         self._until: float | None = None
+        self._turn = Turn()
+        self._process = os.getpid()
+        # The program that is being begun anew, if one is.
+        self._coming: Program | None = None
         # What those who ask a session much keep of it, by their names; it goes with the session.
         self.kept: dict[str, object] = {}
-        self._begin()
+        _notice_ends()
+        self._use(self._begun(None))
+        _sessions.add(weakref.ref(self, _sessions.discard))
 
     def fresh(self) -> "Session":
         """A session of its own, of the same program, that begins as this one did."""
@@ -96,14 +115,12 @@ class Session(Closing):
     @property
     def known(self) -> Known:
         """The names that the lines so far have declared."""
-        self._be_ready()
-        return self._talk.known
+        return self._ready().known
 
     @property
     def limit(self) -> int:
         """The most steps of a run, as given last."""
-        self._be_ready()
-        return self._talk.limit
+        return self._ready().limit
 
     @property
     def pid(self) -> int:
@@ -111,16 +128,24 @@ class Session(Closing):
         return self._talk.program.pid
 
     def close(self) -> None:
-        """Ends the program. Nothing can be sent after that."""
-        if self._closed:
-            return
+        """Ends the program, and a call that another thread has running: that raises ProgramEnded.
+        Nothing can be sent after that."""
         self._closed = True
-        self._finalizer.detach()
-        if self._talk.in_step:
-            self._talk.in_step = False
-            self._talk.program.end()
-        else:
-            self._talk.program.kill()
+        turn, program = self._turn, self._talk.program
+        is_free = turn.lock.acquire(False)
+        if not is_free and turn is not _NOBODYS and self._users():
+            program.strike()
+            if self._coming:
+                self._coming.strike()
+            return
+        try:
+            if self._talk.in_step and program.is_open and is_free:
+                self._talk.in_step = False
+                program.end()
+        finally:
+            program.kill()
+            if is_free:
+                turn.lock.release()
 
     def end_by(self, until: float | None) -> None:
         """Has the session last until then, a time of the monotonic clock, or without an end: who
@@ -142,24 +167,42 @@ class Session(Closing):
         from there. `progress` is called after each slice that doesn't settle, with the steps so far
         and what is known. Where it raises, and at Ctrl-C, the run ends, and the session goes on.
 
-        Raises the Refused of the number that the program answers, ProgramEnded, and ValueError
-        where a line feed stands within the line.
+        A program that hangs is ended within two seconds after `seconds`: what was known before is
+        the answer then, or OutOfTime is raised where nothing was. The next use begins it anew. One
+        that is at work on steps that take long has 20 seconds more.
+
+        Raises the Refused of the number that the program answers, ProgramEnded, SessionInUse, and
+        ValueError where a line feed stands within the line.
         """
         text = line if isinstance(line, str) and "\n" not in line else as_line(line)
-        limit = seconds_given(seconds)
-        if not self._talk.in_step:
-            self._be_ready()
-        self._sent += 1
-        if limit is None and progress is None and text[:4] in _QUESTIONS:
-            return self._runner.ask(text, self._sent)
-        if limit is not None or progress is not None or "core" in text:
-            return self._send_watched(text, limit, progress)
-        self._runner.tell(text)
-        # What the line asks is looked at while the program is at work.
-        words = text.split()
-        if words and words[0] in RUNNING:
-            return self._runner.hear(text, words, self._sent)
-        return self._heard(text, words)
+        watch, until, patience = None, self._until, 0.0
+        if seconds is not None or progress is not None:
+            limit = seconds_given(seconds)
+            watch = Watch(None if limit is None else time.monotonic() + limit, progress)
+            until = _earlier(until, watch.latest)
+            patience = PATIENCE if until == watch.latest else 0.0
+        turn = self._turn
+        if not turn.lock.acquire(False) or turn is not self._turn:
+            turn = self._see_whose_turn()
+        try:
+            talk = self._talk
+            if talk.in_step:
+                talk.program.until, talk.program.patience = until, patience
+            else:
+                self._be_ready(until, patience)
+            self._sent += 1
+            if watch is None and text[:4] in _QUESTIONS:
+                return self._runner.ask(text, self._sent)
+            if watch is not None or "core" in text:
+                return self._send_watched(text, watch or Watch())
+            self._runner.tell(text)
+            # What the line asks is looked at while the program is at work.
+            words = text.split()
+            if words and words[0] in RUNNING:
+                return self._runner.hear(text, words, self._sent)
+            return self._heard(text, words)
+        finally:
+            turn.lock.release()
 
     @overload
     def send_all(self, lines: Iterable[str | bytes]) -> Replies:
@@ -183,16 +226,16 @@ class Session(Closing):
         ProgramEnded, and ValueError, before anything is sent, for a line feed within a line.
         """
         texts = as_lines(lines)
-        self._be_ready()
-        if self._talk.program_limit != self._talk.limit:
-            self._talk.set_limit(self._talk.limit)
-        batch = Batch(self._talk, texts, self._sent)
-        self._sent += len(texts)
+        turn = self._take_turn()
         try:
+            self._be_ready(self._until)
+            if self._talk.program_limit != self._talk.limit:
+                self._talk.set_limit(self._talk.limit)
+            batch = Batch(self._talk, texts, self._sent)
+            self._sent += len(texts)
             batch.run()
-        except (KeyboardInterrupt, OutOfTime):
-            self._talk.program.kill()
-            raise
+        finally:
+            turn.lock.release()
         if batch.first_refused and not keep_refused:
             batch.first_refused.replies.extend(batch.replies)
             raise batch.first_refused
@@ -203,19 +246,20 @@ class Session(Closing):
 
         Where what is known is settled, they leave no trace in `lines`.
         """
-        self._be_ready()
-        talk = self._talk
         texts = as_lines(questions)
-        before = len(talk.lines)
-        talk.set_limit(0)
-        batch = Batch(talk, texts, self._sent)
-        batch.run()
-        if all(isinstance(reply, Refused) or is_settled(reply) for reply in batch.replies):
-            del talk.lines[before:]
-        elif texts:
-            talk.lines.insert(before, "limit 0")
-            talk.lines.append(f"limit {talk.limit}")
-        return batch.replies
+        turn = self._take_turn()
+        try:
+            self._be_ready(self._until)
+            talk = self._talk
+            talk.set_limit(0)
+            batch = Batch(talk, texts, self._sent)
+            asked = batch.look()
+            if not all(isinstance(reply, Refused) or is_settled(reply) for reply in batch.replies):
+                talk.lines += ["limit 0", *asked, f"limit {talk.limit}"]
+            talk.in_step = True
+            return batch.replies
+        finally:
+            turn.lock.release()
 
     def step(self) -> Step:
         """Takes one step of a run, and tells it, where the program is propwide.
@@ -257,47 +301,86 @@ class Session(Closing):
 
         Raises ProgramEnded where the program ends again; the lines are kept.
         """
-        if self._closed:
-            raise RuntimeError("the session is closed")
-        kept = self._talk.lines if lines is None else as_lines(lines)
-        self._finalizer.detach()
-        self._talk.program.kill()
-        self._begin()
-        batch = Batch(self._talk, kept, self._sent)
+        given = None if lines is None else as_lines(lines)
+        turn = self._take_turn()
         try:
-            batch.run()
-        except BaseException:
-            # What is not carried out yet is not lost: another replay begins with all of it.
-            self._talk.lines = kept
-            raise
-        return batch.replies
+            self._be_open()
+            return self._begin_anew(self._talk.lines if given is None else given, self._until)
+        finally:
+            turn.lock.release()
 
     def drop_lines(self) -> None:
         """Lets go of the lines that were carried out, for a session that asks very much and is never
         begun anew: `lines` has those from now on, and a `replay` carries out no others."""
-        self._talk.lines.clear()
+        turn = self._take_turn()
+        try:
+            self._talk.lines.clear()
+        finally:
+            turn.lock.release()
 
-    def _begin(self) -> None:
-        self._talk = Conversation(self._command, self._first_limit, self._found.builds)
-        self._talk.program.until = self._until
-        self._runner = Runner(self._talk)
-        self._finalizer = weakref.finalize(self, self._talk.program.kill)
+    def _begun(self, until: float | None, patience: float = 0.0) -> Conversation:
+        """A conversation in which nothing is said as yet, whose replies come by then."""
+        talk = Conversation(self._command, self._first_limit, self._found.builds)
+        talk.program.until, talk.program.patience = until, patience
+        return talk
 
-    def _be_ready(self) -> None:
-        """Sees to it that the next reply is that to the next line."""
+    def _use(self, talk: Conversation) -> None:
+        """Goes on with a conversation, as soon as it is the session's."""
+        self._runner = Runner(talk)
+        self._talk = talk
+
+    def _begin_anew(self, kept: Texts, until: float | None, patience: float = 0.0) -> Outcomes:
+        """Begins the program anew with these lines, and gives their replies, which come by then.
+        Where that is cut short, the next use begins it anew with them."""
+        talk = self._talk
+        talk.in_step = False
+        talk.program.ended = None
+        talk.lines = kept
+        talk.program.kill()
+        try:
+            begun = self._begun(until, patience)
+            self._coming = begun.program
+            batch = Batch(begun, kept, self._sent)
+            batch.run()
+        except WrongReply:
+            raise
+        except ProgramEnded as ended:
+            talk.program.ended = ended
+            raise
+        self._use(begun)
+        self._coming = None
+        if self._closed:
+            begun.program.kill()
+            self._be_open()
+        return batch.replies
+
+    def _be_open(self) -> None:
         if self._closed:
             raise RuntimeError("the session is closed")
+
+    def _be_ready(self, until: float | None, patience: float = 0.0) -> None:
+        """Sees to it that the next reply is that to the next line, and that replies come by then."""
+        self._be_open()
         if self._talk.program.ended:
             raise self._talk.program.ended
         if not self._talk.in_step:
-            self.replay()
+            self._begin_anew(self._talk.lines, until, patience)
+        self._talk.program.until, self._talk.program.patience = until, patience
 
-    def _send_watched(self, line: str, seconds: float | None, progress: Progress | None) -> Reply:
+    def _ready(self) -> Conversation:
+        """The conversation, in step with the program."""
+        turn = self._take_turn()
+        try:
+            self._be_ready(self._until)
+            return self._talk
+        finally:
+            turn.lock.release()
+
+    def _send_watched(self, line: str, watch: Watch) -> Reply:
         """The reply to a line that may be a question which is watched, or a `core`."""
         words = line.split()
         if words and words[0] in RUNNING:
-            until = None if seconds is None else time.monotonic() + seconds
-            return self._runner.watched(Question(line, words, self._sent), Watch(until, progress))
+            return self._runner.watched(Question(line, words, self._sent), watch)
         self._runner.tell(line)
         return self._heard(line, words)
 
@@ -309,9 +392,137 @@ class Session(Closing):
             return SILENT
         text = talk.hear(words[0] if words else "")
         refused = talk.refused(line, text, self._sent) if text != "ok" else None
-        if refused is None:
-            talk.carried(line, words)
-        talk.in_step = True
         if refused:
+            talk.in_step = True
             raise refused
-        return DONE if text == "ok" else reply_of(words, text, talk.kinds)
+        reply = DONE if text == "ok" and words[0] not in ASKING else talk.reply(line, words, text)
+        talk.carried(line, words)
+        talk.in_step = True
+        return reply
+
+    def _take_turn(self) -> "Turn":
+        """Has the session to itself, until the turn is released. Raises SessionInUse."""
+        turn = self._turn
+        is_mine = turn.lock.acquire(False) and turn is self._turn
+        return turn if is_mine else self._see_whose_turn()
+
+    def _see_whose_turn(self) -> "Turn":
+        """Raises SessionInUse, but where a call that had its turn was cut short before it could give
+        it back: then it is the caller's."""
+        if self._turn is _NOBODYS:
+            raise SessionInUse(
+                f"the session belongs to the process {self._process}, which made it: a child that is"
+                " forked makes one of its own, by `fresh()`"
+            )
+        mine = Turn()
+        mine.lock.acquire()
+        while True:
+            turn = self._turn
+            self._see_nobody_uses_it()
+            turn.behind.append(mine)
+            # (who gets the turn before from now on sees that it isn't the session's any more)
+            self._turn = turn.behind[0]
+            if self._turn is mine:
+                break
+        if len(self._users()) > 1:
+            raise SessionInUse(_IN_USE)
+        return mine
+
+    def _see_nobody_uses_it(self) -> None:
+        """Raises SessionInUse where a call of this session is running, but for those that look as
+        well. Who lets go of a program that has ended is waited for, which is no time."""
+        for _ in range(_MOST_LOOKS):
+            users = self._users()
+            if "_notice_end" not in users:
+                break
+            time.sleep(_LOOK)
+        if users:
+            raise SessionInUse(_IN_USE)
+
+    def _notice_end(self) -> None:
+        """Lets go of a program that has ended, where no call is running."""
+        turn = self._turn
+        if turn.lock.acquire(False):
+            try:
+                is_at_rest = turn is self._turn and self._talk.in_step
+                if is_at_rest and self._talk.program.notice():
+                    self._talk.in_step = False
+            finally:
+                turn.lock.release()
+
+    def _users(self) -> Texts:
+        """The calls of this session that are running in all threads, but for those that look whether
+        any is."""
+        users = []
+        for frame in sys._current_frames().values():
+            within: FrameType | None = frame
+            looks = False
+            while within is not None:
+                code = within.f_code
+                if code in _CALLS and within.f_locals.get("self") is self:
+                    if not looks and code is not _LOOKING:
+                        users.append(code.co_name)
+                    looks = code is _LOOKING
+                within = within.f_back
+        return users
+
+
+class Turn:
+    """The turn to use a session, which has who gets the lock; and those behind it that want it where
+    it was not given back, of whom the first has it."""
+
+    def __init__(self) -> None:
+        self.lock = threading.Lock()
+        self.behind: list[Turn] = []
+
+
+def _earlier(one: float | None, other: float | None) -> float | None:
+    """The earlier of two times, None where neither has an end."""
+    return one if other is None else other if one is None else min(one, other)
+
+
+# What has a session to itself while it runs, and what looks whether any of these does.
+_LOOKING = Session._see_nobody_uses_it.__code__
+_CALLS = {_LOOKING} | {
+    each.__code__
+    for each in (
+        Session.send,
+        Session.send_all,
+        Session.look,
+        Session.replay,
+        Session.drop_lines,
+        Session._ready,
+        Session._notice_end,
+    )
+}
+_IN_USE = (
+    "the session is in use: a call of it is running, in another thread or around this one, and calls"
+    " come one at a time; `fresh()` makes a session of one's own"
+)
+# The turn of a session that is another process's: nobody here gets it.
+_NOBODYS = Turn()
+_NOBODYS.lock.acquire()
+# How often it is looked whose turn it is at the most, and after how many seconds each.
+_MOST_LOOKS, _LOOK = 1000, 0.001
+# All sessions. (They are looked through while other threads begin some: so it is no `WeakSet`.)
+_sessions: "set[weakref.ref[Session]]" = set()
+# How many sessions are begun before it is looked which programs have ended.
+_FEW = 16
+_beginnings = count(1)
+
+
+def _notice_ends() -> None:
+    """Lets go of programs that have ended, unnoticed: now and then, by how many there are."""
+    if next(_beginnings) % max(1, len(_sessions) // _FEW) == 0:
+        for session in [each() for each in list(_sessions)]:
+            if session:
+                session._notice_end()
+
+
+def _leave_all() -> None:
+    for session in [each() for each in list(_sessions)]:
+        if session:
+            session._turn = _NOBODYS
+
+
+os.register_at_fork(after_in_child=_leave_all)

@@ -17,7 +17,7 @@ from propbench.journal import Journal, Left, left
 from propbench.listing import Told, told_by
 from propbench.overview import UNPROVED, overview
 from propbench.pictures import NoGraphviz, picture_of
-from propbench.program import ProgramEnded
+from propbench.program import OutOfTime, ProgramEnded
 from propbench.refusals import Refused, UnknownCommand
 from propbench.replies import (
     Called,
@@ -127,7 +127,7 @@ class Shell:
             self._write(refused.told())
         except KeyboardInterrupt:
             self._write("Stopped. The next question goes on from there.")
-        except ProgramEnded as ended:
+        except (ProgramEnded, OutOfTime) as ended:
             self._write(f"{ended}; it is begun anew with what was carried out.")
             self.session.replay()
         except (NoGraphviz, OSError, ValueError) as error:

@@ -326,7 +326,7 @@ class Workbench(Measuring, Closing):
     def settle(self, *, seconds: float | None = None) -> bool:
         """Whether all that follows was found, and nothing speaks against it: False at a conflict.
 
-        Raises NotSettled where the run is cut first.
+        Raises NotSettled where the run is cut first, and OutOfTime where the program hangs.
         """
         reply = self.session.send("settle", seconds=seconds)
         if isinstance(reply, (Settled, Contradiction)):

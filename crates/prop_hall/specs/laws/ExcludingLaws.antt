@@ -77,7 +77,7 @@ last_is y h = by (is_between h y.hi) (between-Decides h y.hi)
     by true d = inl ((d.0 refl).0, (d.0 refl).1, refl)
     by false d = inr (λ i. never (d.1 i), refl)
 
-first_later : (y h : spans.Span) → y.lo ≤ℤ first_without y h
+pub first_later : (y h : spans.Span) → y.lo ≤ℤ first_without y h
 first_later y h = by (first_is y h)
   where
     by : ((h.lo ≤ℤ y.lo) × (y.lo ≤ℤ h.hi) × (first_without y h ≡ h.hi +ℤ pos 1))
@@ -86,7 +86,7 @@ first_later y h = by (first_is y h)
     by (inl i) = omega (arith, ints, i.1, i.2)
     by (inr o) = omega (arith, ints, o.1)
 
-last_earlier : (y h : spans.Span) → last_without y h ≤ℤ y.hi
+pub last_earlier : (y h : spans.Span) → last_without y h ≤ℤ y.hi
 last_earlier y h = by (last_is y h)
   where
     by : ((h.lo ≤ℤ y.hi) × (y.hi ≤ℤ h.hi) × (last_without y h ≡ h.lo -ℤ pos 1))
@@ -147,10 +147,10 @@ last_holds y h v p n = elim (last_is y h) [
 abbrev pub others : ℕ → ℕ → ℕ
 others y h = bit_and y (bit_not w64 h)
 
-others_part : (y h : ℕ) → HasBitsOf y (others y h)
+pub others_part : (y h : ℕ) → HasBitsOf y (others y h)
 others_part = λ y h. part_left y (bit_not w64 h)
 
-others_has : (y h : sets.Elements) (i : ℕ) → bit_at y.bits i ≡ 1 → ¬ (bit_at h.bits i ≡ 1)
+pub others_has : (y h : sets.Elements) (i : ℕ) → bit_at y.bits i ≡ 1 → ¬ (bit_at h.bits i ≡ 1)
     → bit_at (others y.bits h.bits) i ≡ 1
 others_has y h i p n = by (cases_lt i 64)
   where
@@ -177,7 +177,7 @@ others_lacks y h i p q = by (cases_lt i 64)
     )
     by (inr high) = omega (arith, q, bit_at_above h.bits 64 i h.fits high)
 
-others_fit : (y h : sets.Elements) → others y.bits h.bits < 2 ^ 64
+pub others_fit : (y h : sets.Elements) → others y.bits h.bits < 2 ^ 64
 others_fit y h = omega (arith, y.fits, and_le_l y.bits (bit_not w64 h.bits))
 
 others_monotone : (y y' h : sets.Elements) → HasBitsOf y.bits y'.bits
@@ -188,7 +188,7 @@ others_monotone y y' h p i k =
 -- ---- an information without the points of another
 
 -- it says no less
-without_more : (y h : Info) → Below y (without_of y h)
+pub without_more : (y h : Info) → Below y (without_of y h)
 without_more (Span y) (Span h) =
     above_span _ _ y (first_later y h) (last_earlier y h)
 without_more (Set y) (Set h) = above_set _ y (others_part y.bits h.bits)

@@ -1,13 +1,16 @@
 -- Groups of nogoods that end with the same premise.
-use Rattle.std.specs.Prelude.{◌≡◌, ◌<◌, ◌≤◌, false, ◌+◌, ℕ, List, insert, length, Option, Some}
+use Rattle.std.specs.Prelude.{◌≡◌, ◌<◌, ◌≤◌, ◌+◌, ℕ, List, insert, length, Option, Some}
 use Rattle.std.specs.Prelude.{None, IfSome, IsTrue, All, AllPairs}
 use Rattle.std.specs.List.{flat_map}
-use Rattle.prop_numbers.specs.Sets.{Members, set_of, is_below}
-use Rattle.prop_nogoods.specs.Stores.{has_part, staying, lacking}
+use Rattle.prop_numbers.specs.Sets.{set_of, is_within, is_below}
+use Rattle.prop_nogoods.specs.Stores.{staying, lacking}
 
--- nogoods, the premise that each of them has, and how many there is memory for
+-- nogoods, the last premise of each of them, premises that each of them has, how many one has at
+-- most, and how many there is memory for
 pub record Group : Type 0 where
   pub last : Option ℕ
+  pub common : List ℕ
+  pub largest : ℕ
   pub sets : List (List ℕ)
   pub capacity : ℕ
 
@@ -20,9 +23,19 @@ end_of (Some p) = p + 1
 abbrev pub EndsSo : Option ℕ → List ℕ → Type 0
 EndsSo last n = IfSome last (λ p. IsTrue (set_of n p)) × IsTrue (is_below (end_of last) n)
 
--- there is room for one nogood more
-abbrev pub HasRoom : Group → Type 0
-HasRoom g = length g.sets < g.capacity
+-- each set has all of these premises
+abbrev pub HaveAll : List ℕ → List (List ℕ) → Type 0
+HaveAll common sets = All (λ line. IsTrue (is_within (set_of line) common)) sets
+
+-- no set has more premises than so many
+abbrev pub AreNoLarger : ℕ → List (List ℕ) → Type 0
+AreNoLarger largest sets = All (λ line. length line ≤ largest) sets
+
+-- there is memory for this nogood, which has what all have, and is no larger than any may be
+pub record HasRoomFor (n : List ℕ) (g : Group) : Type 0 where
+  pub room : length g.sets < g.capacity
+  pub has : IsTrue (is_within (set_of n) g.common)
+  pub no_larger : length n ≤ g.largest
 
 -- one nogood more is listed, and the others are as before
 pub record HasOneMore (old new : List (List ℕ)) (n : List ℕ) : Type 0 where
@@ -46,12 +59,8 @@ lacking_of p g = record g { sets = lacking g.sets p }
 abbrev pub EndTogether : Group → Type 0
 EndTogether g = All (EndsSo g.last) g.sets
 
--- the nogoods of each group end together, and its last premise comes before those of the groups
--- behind it
+-- the nogoods of each group end together, and its last premise is that of the groups behind it or
+-- comes before it
 pub record AreInOrder (groups : List Group) : Type 0 where
   pub together : All EndTogether groups
-  pub rise : AllPairs (λ g h. end_of g.last < end_of h.last) groups
-
--- no nogood that ends with this premise is part of the set
-abbrev pub NoPartEnds : List Group → Members → Option ℕ → Type 0
-NoPartEnds groups n last = All (λ g. g.last ≡ last → has_part g.sets n ≡ false) groups
+  pub rise : AllPairs (λ g h. end_of g.last ≤ end_of h.last) groups

@@ -19,7 +19,7 @@ use Rattle.prop_workbench.specs.Reasons.{IsLeanAnswer}
 use Rattle.prop_workbench.specs.Sessions.{state_of, shown_of, work_of, library_of}
 use Rattle.prop_workbench.specs.inner.Sessions.{Keeps, Stays}
 use Rattle.prop_workbench.specs.inner.Steps.{Obeys}
-use Rattle.prop_workbench.specs.Waking.{IsStirred, Wakes}
+use Rattle.prop_workbench.specs.Waking.{IsTold, IsChosen, IsAdded, Wakes}
 use Rattle.prop_workbench.specs.inner.Steps.{IsObeyed, IsFollowed}
 
 -- the command changed the session as the machine says, or was refused; it took no step
@@ -36,13 +36,30 @@ HasLeft old command result new =
     Wakes (state_of old) (state_of new) (work_of old) (work_of new) (Ok (Some command))
     (answer_done result)
 
--- the choices stand on the sides of the list, as many of them believed as before, and no more was
--- woken than has to, or all is as it was where it was refused
-abbrev pub HasStirred : {R O : Type 0} {X : Type 0} {F : X → Type 0} {g : _} → Session R O X F g
-    → List ℕ → Result ⊤ Refusal → Session R O X F g → Type 0
-HasStirred old list (Ok done) new =
-    IsStirred (state_of old) (state_of new) list old.search.level (work_of old) (work_of new)
-HasStirred old list (Err refusal) new = work_of new ≡ work_of old
+-- the first holds where it was done, and the second where it was refused
+abbrev pub IfDone : Result ⊤ Refusal → Type 0 → Type 0 → Type 0
+IfDone (Ok done) does refuses = does
+IfDone (Err refusal) does refuses = refuses
+
+-- a statement was made, or all is as it was
+abbrev pub HasTold : {R O : Type 0} {X : Type 0} {F : X → Type 0} {g : _} → Session R O X F g
+    → Result ⊤ Refusal → Session R O X F g → Type 0
+HasTold old result new =
+    IfDone result (IsTold (state_of old) (state_of new) (work_of old) (work_of new))
+    (work_of new ≡ work_of old)
+
+-- a choice was made, or all is as it was
+abbrev pub HasChosen : {R O : Type 0} {X : Type 0} {F : X → Type 0} {g : _} → Session R O X F g
+    → Result ⊤ Refusal → Session R O X F g → Type 0
+HasChosen old result new =
+    IfDone result (IsChosen (state_of old) (state_of new) (work_of old) (work_of new))
+    (work_of new ≡ work_of old)
+
+-- instances were added, or all is as it was
+abbrev pub HasAdded : {R O : Type 0} {X : Type 0} {F : X → Type 0} {g : _} → Session R O X F g
+    → Result ⊤ Refusal → Session R O X F g → Type 0
+HasAdded old result new =
+    IfDone result (IsAdded (work_of old) (work_of new)) (work_of new ≡ work_of old)
 
 -- the command is answered so, after so many steps: as the machine may, as the run earned it, and
 -- the session keeps what it has to

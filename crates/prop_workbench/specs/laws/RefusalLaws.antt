@@ -2,6 +2,7 @@
 use Rattle.std.proofs.Common.{refl}
 use Rattle.std.specs.Prelude.{ℕ, List, Option, Some, None, Result, Ok, Err}
 use Rattle.prop_refusals.specs.declared.refusal.Refusal.{Refusal}
+use Rattle.prop_refusals.specs.declared.refusal.Refusal.TheVariants.{Memory}
 use Rattle.prop_numbers.specs.Sets.{Members}
 use Rattle.prop_procedures.specs.Stored.{Stored}
 use Rattle.prop_cells.specs.Data.{Data}
@@ -12,7 +13,7 @@ use Rattle.prop_engine.specs.Answers.{Refused}
 use Rattle.prop_workbench.specs.Machine.{State}
 use Rattle.prop_workbench.specs.Questions.{Picks, Earns}
 use Rattle.prop_workbench.specs.Reasons.{IsLeanAnswer}
-use Rattle.prop_workbench.specs.Waking.{Wakes}
+use Rattle.prop_workbench.specs.Waking.{StaysUnlessRun, Wakes}
 
 -- it explains nothing
 pub lean_refused : (believed : Members) (d : Data) (s : State)
@@ -37,14 +38,19 @@ earns_refused picks library s old new (Ok (Some commands.Command.Worldview)) ref
 earns_refused picks library s old new (Ok (Some command)) refusal steps = tt
 
 -- it leaves all as it was
+stays_refused : {O : Type 0} (work : Work O) (refusal : Refusal)
+    → StaysUnlessRun work work (Refused refusal)
+stays_refused work Memory = tt
+stays_refused work refusal = refl
+
 pub wakes_refused : {O : Type 0} (s t : State) (work : Work O)
     (read : Result (Option Command) Refusal) (refusal : Refusal)
     → Wakes s t work work read (Refused refusal)
 wakes_refused s t work (Err e) refusal = refl
 wakes_refused s t work (Ok None) refusal = refl
-wakes_refused s t work (Ok (Some commands.Command.Settle)) refusal = tt
-wakes_refused s t work (Ok (Some (commands.Command.Ask x))) refusal = tt
-wakes_refused s t work (Ok (Some (commands.Command.Why x))) refusal = tt
-wakes_refused s t work (Ok (Some (commands.Command.Core x))) refusal = tt
-wakes_refused s t work (Ok (Some commands.Command.Worldview)) refusal = tt
+wakes_refused s t work (Ok (Some commands.Command.Settle)) refusal = stays_refused work refusal
+wakes_refused s t work (Ok (Some (commands.Command.Ask x))) refusal = stays_refused work refusal
+wakes_refused s t work (Ok (Some (commands.Command.Why x))) refusal = stays_refused work refusal
+wakes_refused s t work (Ok (Some (commands.Command.Core x))) refusal = stays_refused work refusal
+wakes_refused s t work (Ok (Some commands.Command.Worldview)) refusal = stays_refused work refusal
 wakes_refused s t work (Ok (Some command)) refusal = refl

@@ -11,7 +11,7 @@ from propbench.flatzinc.grammar import read
 from propbench.flatzinc.solving import ALL, solve
 from propbench.flatzinc.terms import NotSupported
 from propbench.flatzinc.writing import statistics, written
-from propbench.program import ProgramEnded
+from propbench.program import OutOfTime, ProgramEnded
 from propbench.showing import said_of
 from propbench.workbench import Workbench
 
@@ -40,7 +40,7 @@ def main(words: Sequence[str] | None = None) -> int:
     options = parser().parse_args(words)
     try:
         return _solved(options)
-    except (ValueError, NoProgram, ProgramEnded, OSError) as error:
+    except (ValueError, NoProgram, ProgramEnded, OutOfTime, OSError) as error:
         place = f"{options.file}, " if isinstance(error, NotSupported) else ""
         print(f"fzn-propbench: {place}{said_of(error)}", file=sys.stderr)
         return 1

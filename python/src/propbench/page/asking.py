@@ -1,7 +1,7 @@
 """What a page asks, and what comes of it: each question a method, each answer values for JSON.
 
-Questions are carried out one after another. One that takes long can be stopped from another thread;
-the session goes on then.
+Questions are carried out one after another. One that takes long can be stopped from another thread,
+and is when who asked is gone; the session goes on then.
 """
 
 import os
@@ -12,10 +12,11 @@ from contextlib import contextmanager
 from dataclasses import asdict, replace
 
 from propbench.files import ChangedSince, OpenedFile
-from propbench.program import ProgramEnded
+from propbench.program import OutOfTime, ProgramEnded
 from propbench.questions.asking import Interrupted
 from propbench.refusals import Refused
 from propbench.replies import Reply
+from propbench.session import SessionInUse
 from propbench.showing import printable, quoted, said_of, shown
 from propbench.watching import (
     Frame,
@@ -45,6 +46,11 @@ class Stopped(KeyboardInterrupt):
     """The user stopped what was run."""
 
 
+def _nobody() -> bool:
+    """Says that who asks is not gone."""
+    return False
+
+
 class Asking:
     """What is served: a session or a workbench, and the file that it came from, if any; one that
     has no name yet is UNNAMED."""
@@ -54,6 +60,8 @@ class Asking:
         self._lock = threading.RLock()
         self._stop = threading.Event()
         self._is_closed = False
+        # Whether who asks is gone.
+        self._is_gone: Callable[[], bool] = _nobody
         self._busy = ""
         # Whether what is asked now changes what is stated.
         self._changes = False
@@ -105,9 +113,9 @@ class Asking:
         """Ends what is run."""
         self._stop.set()
 
-    def state(self) -> dict[str, object]:
+    def state(self, is_gone: Callable[[], bool] = _nobody) -> dict[str, object]:
         """All that a page shows."""
-        with self._lock, self._watching("looking"):
+        with self._lock, self._watching("looking", is_gone):
             return self._with_network(self._told())
 
     def saved(self) -> str:
@@ -115,12 +123,14 @@ class Asking:
         with self._lock:
             return "".join(f"{line}\n" for line in self._watched.saved())
 
-    def do(self, asked: Mapping[str, object]) -> dict[str, object]:
+    def do(
+        self, asked: Mapping[str, object], is_gone: Callable[[], bool] = _nobody
+    ) -> dict[str, object]:
         """What comes of a question. Raises ValueError for one that can't be asked."""
         what = _text(asked, "what")
         if what not in self._does:
             raise ValueError(f"there is no question {what!r}")
-        with self._lock, self._watching(what):
+        with self._lock, self._watching(what, is_gone):
             self._changes = what in _CHANGING
             return self._does[what](asked)
 
@@ -321,19 +331,27 @@ class Asking:
     # --- runs ---
 
     @contextmanager
-    def _watching(self, what: str) -> Iterator[None]:
+    def _watching(self, what: str, is_gone: Callable[[], bool]) -> Iterator[None]:
         """Tells that something is done, and turns what goes wrong into ValueError."""
         if self._is_closed:
             raise ValueError(_CLOSED)
         self._stop.clear()
+        self._is_gone = is_gone
         self._busy = what
         try:
+            # (a change is carried out also where its page was closed at once)
+            if what not in _CHANGING:
+                self._telling(what)
             yield
         except (Stopped, Interrupted):
             self._changed()
             raise ValueError("stopped; the next question goes on from there") from None
-        except (ProgramEnded, RuntimeError) as ended:
-            # (a session that is closed meanwhile raises either)
+        except SessionInUse as error:
+            raise ValueError(
+                f"{error} (beside a page it is used within `with page.held():`)"
+            ) from None
+        except (ProgramEnded, OutOfTime, RuntimeError) as ended:
+            # (a session that is closed meanwhile raises one or the other)
             if self._is_closed:
                 raise ValueError(_CLOSED) from None
             if isinstance(ended, RuntimeError):
@@ -348,13 +366,14 @@ class Asking:
             raise ValueError(said_of(error)) from None
         finally:
             self._busy = ""
+            self._is_gone = _nobody
 
     def _progress(self, steps: int, reply: Reply) -> None:
         self._telling(f"{steps:,} steps so far")
 
     def _telling(self, text: str) -> None:
         self._busy = text
-        if self._stop.is_set() or self._is_closed:
+        if self._stop.is_set() or self._is_closed or self._is_gone():
             raise Stopped
 
 

@@ -7,6 +7,7 @@ alone; and no address, and so no token, goes into a Referer.
 
 import json
 import secrets
+import select
 import socketserver
 from collections.abc import Callable, Mapping
 from contextlib import suppress
@@ -44,10 +45,14 @@ _FILES = {
 _JSON, _TEXT = "application/json", "text/plain; charset=utf-8"
 
 
-class Asked(Protocol):
-    """Who answers what a page asks."""
+# Whether who asked is gone.
+Gone = Callable[[], bool]
 
-    def state(self) -> dict[str, object]:
+
+class Asked(Protocol):
+    """Who answers what a page asks: what is run for one that is gone is ended."""
+
+    def state(self, is_gone: Gone) -> dict[str, object]:
         """All that the page shows."""
         ...
 
@@ -63,7 +68,7 @@ class Asked(Protocol):
         """The file that the page is saved as."""
         ...
 
-    def do(self, asked: Mapping[str, object]) -> dict[str, object]:
+    def do(self, asked: Mapping[str, object], is_gone: Gone) -> dict[str, object]:
         """What comes of a question. Raises ValueError for one that can't be asked."""
         ...
 
@@ -167,7 +172,7 @@ class Handler(BaseHTTPRequestHandler):
                 HTTPStatus.OK, kind, (files("propbench.page") / "static" / name).read_bytes()
             )
         elif path == "state":
-            self._told(self.server.asked.state)
+            self._told(lambda: self.server.asked.state(self._is_gone))
         elif path == "version":
             self._send_json(self.server.asked.version())
         elif path == "network.prop":
@@ -183,9 +188,15 @@ class Handler(BaseHTTPRequestHandler):
             self.server.asked.stop()
             self._send_json({})
         elif path == "do":
-            self._told(lambda: self.server.asked.do(asked))
+            self._told(lambda: self.server.asked.do(asked, self._is_gone))
         else:
             raise Refusal(HTTPStatus.NOT_FOUND, "there is nothing here")
+
+    def _is_gone(self) -> bool:
+        """Whether the browser has dropped the connection, as it does when the page is closed."""
+        drops = select.poll()
+        drops.register(self.connection, select.POLLRDHUP)
+        return bool(drops.poll(0))
 
     def _told(self, ask: Callable[[], dict[str, object]]) -> None:
         """Sends an answer, or why there is none."""

@@ -1,11 +1,11 @@
-use Rattle.std.proofs.Common.{◌≡◌, ◌<◌, ◌≤◌, ◌⊎◌, ◌++◌, map, length, ap, arith, inl}
+use Rattle.std.proofs.Common.{◌≡◌, ◌<◌, ◌≤◌, ◌∙◌, ◌++◌, map, length, ap, sym, arith}
 use Rattle.std.proofs.lemmas.List.{length-append}
 use Rattle.std.proofs.lemmas.List.Elements.{All-weaker}
 use Rattle.prop_numbers.specs.Sets.{set_of}
 use Rattle.prop_procedures.specs.Kept.{stored_of}
 use Rattle.prop_scheduler.specs.Making.{made_of}
-use Rattle.prop_scheduler.specs.Shifts.{IsTouched}
-use Rattle.prop_scheduler.proofs.Behind.{behind_weaker}
+use Rattle.std.specs.Prelude.{drop}
+use Rattle.prop_scheduler.specs.Agendas.{all_alerted, numbers_below}
 use Rattle.prop_scheduler.proofs.KnownLaws.{as_known, fresh_known}
 use Rattle.prop_scheduler.proofs.UnderWay.{under_way_made}
 use Rattle.prop_scheduler.proofs.WatchLaws.{watched_fresh}
@@ -48,14 +48,25 @@ returns-clause-alive g c = λ s was. record {
       was.watched));
 }
 
-pub returns-clause-stirred : goal.returns-clause-stirred
-returns-clause-stirred g c = λ s t.
-    let old = c.args.live.now.network.cells in
-    let new = c.make_all.new.network.cells in
+pub alert_between-requires-clause-order : goal.alert_between-requires-clause-order
+alert_between-requires-clause-order g c =
+    let d = c.args.live.now.network.cells in
+    let flat = c.args.flat in
+    let library = stored_of g.R.Rule.value_of c.args.live.now.network.library in
+    let made = map (made_of library flat.params.items c.args.cells.now (length d.kinds)) flat.instances.items in
+    let all : length c.make_all.new.network.cells.instances ≡ length (d.instances ++ made) =
+    ap (λ x. length x.instances) c.in_ok-make_all.ensures.ok in
+    let more = length-append d.instances made in
+    let count = c.instances.ensures.count in
     let first = c.instances-first.ensures.count in
-    behind_weaker (λ i. c.instances-first.result ≤ i) (λ j. (length old.instances ≤ j) ⊎ IsTouched s t old new j)
-    c.args.live.now.agenda.line c.alert_between.new.agenda.line (λ j l. inl (omega (arith, l, first)))
-    (rw c.in_default.ensures.line at c.alert_between.ensures.behind)
+    omega (arith, all, more, count, first)
+
+pub returns-clause-made : goal.returns-clause-made
+returns-clause-made g c =
+    rw (sym c.instances-first.ensures.count, sym c.instances.ensures.count)
+    (c.alert_between.ensures.line
+    ∙ ap (λ line. all_alerted line (drop c.instances-first.result (numbers_below c.instances.result)))
+    c.in_default.ensures.line)
 
 pub invariant_of-live : goal.invariant_of-live
 invariant_of-live g c =

@@ -1,4 +1,4 @@
-use Rattle.std.proofs.Common.{◌≡◌, ◌≢◌, ◌∙◌, ◌<◌, Contains, length, ap, subst, arith, inl, inr}
+use Rattle.std.proofs.Common.{◌≡◌, ◌≢◌, ◌∙◌, ◌<◌, Contains, length, sym, ap, subst, arith, inl, inr}
 use Rattle.std.proofs.lemmas.List.Elements.{All-weaker}
 use Rattle.prop_lattice.specs.declared.info.Info.{Info}
 use Rattle.prop_lattice.specs.Order.{Below}
@@ -7,9 +7,10 @@ use Rattle.prop_procedures.specs.Kept.{stored_of}
 use Rattle.prop_cells.specs.Instances.{readers_of, writers_of}
 use Rattle.prop_cells.specs.Data.{IsKept, beliefs}
 use Rattle.prop_cells.proofs.Reading.{readers_are, writers_below}
-use Rattle.prop_scheduler.specs.Agendas.{AllAlerted, all_alerted}
-use Rattle.prop_scheduler.specs.Shifts.{IsTouched}
-use Rattle.prop_scheduler.proofs.Behind.{behind_none, behind_then, readers_behind, writers_behind, touched_stirred}
+use Rattle.std.proofs.lemmas.List.Sums.{fold-append}
+use Rattle.prop_scheduler.specs.Agendas.{AllAlerted, alerted, all_alerted}
+use Rattle.prop_scheduler.specs.Shifts.{touching}
+use Rattle.prop_scheduler.proofs.Stirring.{stirs_none, stirs_one}
 use Rattle.prop_scheduler.proofs.Steps.{all_after_alerts}
 use Rattle.prop_lattice.specs.laws.OrderLaws.{info_laws}
 use Rattle.prop_scheduler.proofs.KnownLaws.{forgotten_known}
@@ -109,26 +110,38 @@ returns-then-not-implies-clause-stirred g c =
     let old = c.args.live.now.network.cells in
     let new = c.state_sides.new.self.cells in
     let line = c.args.live.now.agenda.line in
-    let mid = c.alert_all.new.self.line in
-    let after = c.watch.new.self.line in
-    let read : mid ≡ all_alerted line (readers_of new.instances c.args.cell) =
-    rw c.readers.ensures at c.alert_all.ensures.line in
-    let written : c.alert_all-then-not-implies.new.self.line ≡ all_alerted mid (writers_of new.instances
-    c.args.cell) =
-    rw c.writers.ensures at c.alert_all-then-not-implies.ensures.line in
+    let within : c.args.cell < length new.kinds =
+    let kinds = ap (λ d. length d.kinds) c.in_ok-state_sides.ensures.rest in let cell = c.requires.cell in
+    omega (arith, kinds, cell) in
     let more : beliefs s old.contents c.args.cell ≢ beliefs s new.contents c.args.cell = λ same.
     let below : Below (beliefs s new.contents c.args.cell) (beliefs s old.contents c.args.cell) =
     subst (λ (v : Info). Below v (beliefs s old.contents c.args.cell)) same
     (info_laws.reflexive (beliefs s old.contents c.args.cell)) in
     let all = c.implies.ensures.1 (rw (c.belief-after.ensures, c.belief-before.ensures) below) in
     cc (all, c.if-not-implies.true) in
-    touched_stirred s s old new line after
-    (behind_then (IsTouched s s old new) line mid after (readers_behind s s old new c.args.cell line mid more read)
-    (writers_behind s s old new c.args.cell mid after more (c.watch.ensures.line ∙ written)))
+    let both : c.watch.new.self.line ≡ all_alerted line (touching new.instances c.args.cell) =
+    c.watch.ensures.line ∙ (rw c.writers.ensures at c.alert_all-then-not-implies.ensures.line)
+    ∙ ap (λ mid. all_alerted mid (writers_of new.instances c.args.cell))
+    (rw c.readers.ensures at c.alert_all.ensures.line)
+    ∙ sym (fold-append alerted line (readers_of new.instances c.args.cell) (writers_of new.instances c.args.cell)) in
+    rw both (stirs_one (touching new.instances) s s old new line (length new.kinds) c.args.cell within more
+    (λ k other. sym ((grown_sides s old new c.args.first c.args.cell c.args.infos.now
+    c.in_ok-state_sides.ensures.ok).others k other)))
 
 pub returns-else-not-implies-clause-stirred : goal.returns-else-not-implies-clause-stirred
 returns-else-not-implies-clause-stirred g c =
-    behind_none _ c.args.live.now.agenda.line
+    let s = set_of c.args.worldview.now in
+    let old = c.args.live.now.network.cells in
+    let new = c.state_sides.new.self.cells in
+    let grown = grown_sides s old new c.args.first c.args.cell c.args.infos.now
+    c.in_ok-state_sides.ensures.ok in
+    let less : Below (beliefs s new.contents c.args.cell) (beliefs s old.contents c.args.cell) =
+    rw (c.belief-after.ensures, c.belief-before.ensures) at (c.implies.ensures.0 c.if-not-implies.false) in
+    let here = info_laws.antisymmetric (beliefs s new.contents c.args.cell) (beliefs s old.contents
+    c.args.cell) less
+    (grown.grown c.args.cell) in
+    stirs_none (touching new.instances) s s old new c.args.live.now.agenda.line (length new.kinds)
+    (λ k. sym (same_but s old new c.args.cell here grown.others k))
 
 pub invariant_of-live-then-not-implies-clause-beliefs : goal.invariant_of-live-then-not-implies-clause-beliefs
 invariant_of-live-then-not-implies-clause-beliefs g c =

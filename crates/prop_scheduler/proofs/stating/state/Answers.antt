@@ -8,7 +8,7 @@ use Rattle.prop_cells.specs.Data.{IsKept, beliefs}
 use Rattle.prop_cells.proofs.Reading.{readers_are}
 use Rattle.prop_cells.proofs.KnowingLaws.{known_merged}
 use Rattle.prop_scheduler.specs.Agendas.{all_alerted}
-use Rattle.prop_scheduler.proofs.Behind.{behind_none, readers_behind, touched_stirred, states_more}
+use Rattle.prop_scheduler.proofs.Stirring.{stirs_none, stirs_one, states_more}
 use Rattle.prop_scheduler.proofs.KnownLaws.{same_known, kept_known}
 use Rattle.prop_scheduler.proofs.UnderWay.{under_way_same, under_way_grown, states_merge, states_same, states_clear}
 use Rattle.prop_scheduler.proofs.UnderWay.{states_believed}
@@ -96,33 +96,45 @@ returns-then-is_contradiction-clause-stirred g c =
     let s = set_of c.args.worldview.now in
     let old = c.args.live.now.network.cells in
     let new = c.state_under.new.self.cells in
+    let states = c.in_ok-state_under.ensures.ok in
+    let within : c.args.cell < length new.kinds =
+    let kinds = ap (λ d. length d.kinds) states.rest in let cell = c.requires.cell in omega (arith, kinds, cell) in
+    let said = c.says_more.ensures.more c.if-says_more.true in
+    let more = states_more s old new (record { premise = c.args.premise; cell = c.args.cell; info = c.args.info })
+    states said.0 (rw c.known_belief-before.ensures.value at said.1) in
     let line : c.alert_all.new.self.line ≡ all_alerted c.args.live.now.agenda.line (readers_of new.instances
     c.args.cell) =
     rw c.readers.ensures at c.alert_all.ensures.line in
-    let said = c.says_more.ensures.more c.if-says_more.true in
-    let more = states_more s old new (record { premise = c.args.premise; cell = c.args.cell; info = c.args.info })
-    c.in_ok-state_under.ensures.ok said.0 (rw c.known_belief-before.ensures.value at said.1) in
-    touched_stirred s s old new c.args.live.now.agenda.line c.watch.new.self.line
-    (readers_behind s s old new c.args.cell c.args.live.now.agenda.line c.watch.new.self.line more
-    (c.watch.ensures.line ∙ line))
+    rw (c.watch.ensures.line, line) (stirs_one (readers_of new.instances) s s old new c.args.live.now.agenda.line (length new.kinds)
+    c.args.cell within more (λ k other. sym ((states_merge s old new _ states).1.others k other)))
 
 pub returns-else-is_contradiction-clause-stirred : goal.returns-else-is_contradiction-clause-stirred
 returns-else-is_contradiction-clause-stirred g c =
     let s = set_of c.args.worldview.now in
     let old = c.args.live.now.network.cells in
     let new = c.state_under.new.self.cells in
+    let states = c.in_ok-state_under.ensures.ok in
+    let within : c.args.cell < length new.kinds =
+    let kinds = ap (λ d. length d.kinds) states.rest in let cell = c.requires.cell in omega (arith, kinds, cell) in
+    let said = c.says_more.ensures.more c.if-says_more.true in
+    let more = states_more s old new (record { premise = c.args.premise; cell = c.args.cell; info = c.args.info })
+    states said.0 (rw c.known_belief-before.ensures.value at said.1) in
     let line : c.alert_all.new.self.line ≡ all_alerted c.args.live.now.agenda.line (readers_of new.instances
     c.args.cell) =
     rw c.readers.ensures at c.alert_all.ensures.line in
-    let said = c.says_more.ensures.more c.if-says_more.true in
-    let more = states_more s old new (record { premise = c.args.premise; cell = c.args.cell; info = c.args.info })
-    c.in_ok-state_under.ensures.ok said.0 (rw c.known_belief-before.ensures.value at said.1) in
-    touched_stirred s s old new c.args.live.now.agenda.line c.alert_all.new.self.line
-    (readers_behind s s old new c.args.cell c.args.live.now.agenda.line c.alert_all.new.self.line more line)
+    rw (line) (stirs_one (readers_of new.instances) s s old new c.args.live.now.agenda.line (length new.kinds)
+    c.args.cell within more (λ k other. sym ((states_merge s old new _ states).1.others k other)))
 
 pub returns-else-says_more-clause-stirred : goal.returns-else-says_more-clause-stirred
 returns-else-says_more-clause-stirred g c =
-    behind_none _ c.args.live.now.agenda.line
+    let s = set_of c.args.worldview.now in
+    let old = c.args.live.now.network.cells in
+    let new = c.state_under.new.self.cells in
+    let states = c.in_ok-state_under.ensures.ok in
+    let here = states_same s old new _ states
+    (rw c.known_belief-before.ensures.value at (c.says_more.ensures.less c.if-says_more.false)) in
+    stirs_none (readers_of new.instances) s s old new c.args.live.now.agenda.line (length new.kinds)
+    (λ k. sym (same_but s old new c.args.cell here (states_merge s old new _ states).1.others k))
 
 -- ---- what is known
 

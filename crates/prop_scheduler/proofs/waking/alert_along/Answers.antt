@@ -6,10 +6,11 @@ use Rattle.prop_cells.specs.inner.Problems.{Premises}
 use Rattle.prop_cells.specs.Data.{Data}
 use Rattle.prop_cells.specs.Instances.{readers_of, writers_of}
 use Rattle.prop_cells.proofs.Reading.{readers_are, writers_below}
-use Rattle.prop_scheduler.specs.Agendas.{AllAlerted}
-use Rattle.prop_scheduler.specs.Shifts.{AreShifted}
+use Rattle.prop_scheduler.specs.Shifts.{touching, AreShifted}
+use Rattle.prop_scheduler.specs.Shifts.Stirs.{none}
 use Rattle.prop_scheduler.proofs.KnownLaws.{all_passed}
-use Rattle.prop_scheduler.proofs.ShiftLaws.{shifted_none, shifted_on, shifted_more, under_way_shifted}
+use Rattle.prop_scheduler.proofs.ShiftLaws.{shifted_more, under_way_shifted}
+use Rattle.prop_scheduler.proofs.Stirring.{stirs_on}
 use Rattle.prop_scheduler.proofs.WatchLaws.{AreLooked, looked_none, looked_on, looked_more, watched_shifted}
 use Rattle.prop_scheduler.proofs.waking.alert_along.Goals as goal
 
@@ -22,8 +23,8 @@ loop-cell-init g c =
     record {
       within = next.range.1;
       here = next.shifted;
-      shifted = shifted_on s t d 0 c.next_shifted-cell.result c.args.agenda.now.line c.args.agenda.now.line
-          (shifted_none s t d c.args.agenda.now.line) next.passed;
+      shifted = stirs_on (touching d.instances) s t d d c.args.agenda.now.line 0 c.next_shifted-cell.result
+          c.args.agenda.now.line none next.range.0 next.passed;
       room = refl;
       cells = refl;
       looked = looked_on s t d 0 c.next_shifted-cell.result c.args.agenda.now.watched
@@ -70,19 +71,15 @@ loop-cell-preserved g c =
     let to = c.next_shifted-cell-in-loop-cell.result in
     let within : c.loop-cell.cell < length d.kinds = let count = c.cells-count.ensures.count in let below =
     c.loop-cell-test.true in omega (arith, count, below) in
-    let read : AllAlerted c.loop-cell.agenda.line c.alert_all.new.self.line
-    (readers_of d.instances c.loop-cell.cell) = rw c.readers.ensures at c.alert_all.ensures.alerted in
-    let written : AllAlerted c.alert_all.new.self.line c.alert_all-in-loop-cell.new.self.line
-    (writers_of d.instances c.loop-cell.cell) = rw c.writers.ensures at c.alert_all-in-loop-cell.ensures.alerted in
     record {
       within = next.range.1;
       here = next.shifted;
-      shifted = rw c.watch.ensures.line (shifted_on s t d (c.loop-cell.cell + 1) to
-          c.args.agenda.now.line c.alert_all-in-loop-cell.new.self.line
+      shifted = rw c.watch.ensures.line (stirs_on (touching d.instances) s t d d c.args.agenda.now.line
+          (c.loop-cell.cell + 1) to c.alert_all-in-loop-cell.new.self.line
           (shifted_more s t d c.loop-cell.cell c.args.agenda.now.line c.loop-cell.agenda.line
-          c.alert_all.new.self.line c.alert_all-in-loop-cell.new.self.line h.shifted (h.here within) read written
+          c.alert_all.new.self.line c.alert_all-in-loop-cell.new.self.line h.shifted (h.here within)
           (rw c.readers.ensures at c.alert_all.ensures.line)
-          (rw c.writers.ensures at c.alert_all-in-loop-cell.ensures.line)) next.passed);
+          (rw c.writers.ensures at c.alert_all-in-loop-cell.ensures.line)) next.range.0 next.passed);
       room = c.watch.ensures.room ∙ c.alert_all-in-loop-cell.ensures.room ∙ c.alert_all.ensures.room ∙ h.room;
       cells = c.watch.ensures.cells ∙ c.alert_all-in-loop-cell.ensures.cells ∙ c.alert_all.ensures.cells ∙ h.cells;
       looked = looked_on s t d (c.loop-cell.cell + 1) to c.args.agenda.now.watched

@@ -8,8 +8,10 @@ use Rattle.prop_cells.specs.Instances.{readers_of}
 use Rattle.prop_cells.proofs.Reading.{readers_are}
 use Rattle.prop_scheduler.specs.Agendas.{AllAlerted}
 use Rattle.prop_scheduler.specs.Shifts.{AreGrown}
+use Rattle.prop_scheduler.specs.Shifts.Stirs.{none}
 use Rattle.prop_scheduler.proofs.KnownLaws.{all_passed}
-use Rattle.prop_scheduler.proofs.GrownLaws.{grown_none, grown_on, grown_more, under_way_grown, potential_at_first}
+use Rattle.prop_scheduler.proofs.Stirring.{stirs_on}
+use Rattle.prop_scheduler.proofs.GrownLaws.{grown_more, under_way_grown, potential_at_first}
 use Rattle.prop_scheduler.proofs.GrownLaws.{potential_on, potential_falls, potential_at_last}
 use Rattle.prop_scheduler.proofs.WatchLaws.{AreLooked, looked_none, looked_on, looked_more, watched_shifted}
 use Rattle.prop_scheduler.proofs.waking.alert_grown_along.Goals as goal
@@ -29,7 +31,8 @@ loop-cell-init g c =
     record {
       within = next.range.1;
       here = next.shifted;
-      grown = grown_on s t d 0 c.next_shifted-cell.result line line (grown_none s t d line) next.passed;
+      grown = stirs_on (readers_of d.instances) s t d d line 0 c.next_shifted-cell.result line none next.range.0
+          next.passed;
       falls = omega (arith, first, on);
       room = refl;
       cells = refl;
@@ -79,10 +82,10 @@ loop-cell-preserved g c =
     record {
       within = next.range.1;
       here = next.shifted;
-      grown = rw c.watch.ensures.line (grown_on s t d (c.loop-cell.cell + 1) to
-          c.args.agenda.now.line line
+      grown = rw c.watch.ensures.line (stirs_on (readers_of d.instances) s t d d c.args.agenda.now.line
+          (c.loop-cell.cell + 1) to line
           (grown_more s t d c.loop-cell.cell c.args.agenda.now.line c.loop-cell.agenda.line line h.grown
-          (h.here within) read (rw c.readers.ensures at c.alert_all.ensures.line)) next.passed);
+          (h.here within) (rw c.readers.ensures at c.alert_all.ensures.line)) next.range.0 next.passed);
       falls = rw c.watch.ensures.line (omega (arith, less, on, so_far));
       room = c.watch.ensures.room ∙ c.alert_all.ensures.room ∙ h.room;
       cells = c.watch.ensures.cells ∙ c.alert_all.ensures.cells ∙ h.cells;

@@ -1,4 +1,4 @@
-use Rattle.std.proofs.Common.{◌<◌, ℕ, Contains, length, arith, inl, inr}
+use Rattle.std.proofs.Common.{◌<◌, ℕ, Contains, length, sym, arith, inl, inr}
 use Rattle.std.proofs.lemmas.List.Elements.{All-contains}
 use Rattle.prop_procedures.specs.Kept.{stored_of}
 use Rattle.prop_cells.proofs.Fixpoint.{All-from_contains}
@@ -28,7 +28,5 @@ returns-clause-alive g c =
           (rw c.alert_first.ensures.watched at c.watch_first.ensures.watched);
     }
 
-pub returns-clause-all : goal.returns-clause-all
-returns-clause-all g c =
-    let count = c.instances.ensures.count in
-    λ j l. rw c.watch_first.ensures.line (c.alert_first.ensures.alerted.alerted j (omega (arith, l, count)))
+pub returns-clause-line : goal.returns-clause-line
+returns-clause-line g c = rw (c.watch_first.ensures.line, sym c.instances.ensures.count) c.alert_first.ensures.line

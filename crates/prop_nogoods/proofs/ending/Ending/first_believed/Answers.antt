@@ -2,10 +2,11 @@ use Rattle.std.proofs.Common.{rules, ◌≡◌, None, Some, All, arith}
 use Rattle.std.proofs.lemmas.Bool.Decides.{nat_tests}
 use Rattle.prop_numbers.specs.Sets.{set_of}
 use Rattle.prop_nogoods.specs.inner.Endings.{EndsSo}
-use Rattle.prop_nogoods.proofs.EndingLemmas.{ends_below, none_without_last, end_below_where_none}
+use Rattle.prop_nogoods.proofs.EndingLemmas.{ends_below, end_below_where_none}
+use Rattle.prop_nogoods.proofs.CommonLemmas.{none_without_common}
 use Rattle.prop_nogoods.proofs.ending.Ending.first_believed.Goals as goal
 use Rattle.prop_nogoods.proofs.ending.Ending.first_believed.Goals.{then-last-from-via-then-last-from}
-use Rattle.prop_nogoods.proofs.ending.Ending.first_believed.Goals.{then-last-from-via-else-last-from+then-not-has}
+use Rattle.prop_nogoods.proofs.ending.Ending.first_believed.Goals.{then-last-from-via-else-last-from+then-not-is_believed}
 
 pub returns-in_err-last-clause-none : goal.returns-in_err-last-clause-none
 returns-in_err-last-clause-none c none =
@@ -23,10 +24,10 @@ returns-then-last-from-clause-none c none =
       | then-last-from-via-then-last-from v ↦
           let early = v.if-last-from.true in
           ends_below w (Some c.in_ok-last.last) c.args.from sets (grind (arith, nat_tests)) ends
-      | then-last-from-via-else-last-from+then-not-has v ↦
+      | then-last-from-via-else-last-from+then-not-is_believed v ↦
           end_below_where_none w c.args.from sets
-          (none_without_last w c.in_ok-last.last sets (cc (v.has.ensures, v.if-not-has.true))
-          (λ k d l. (ends k d l).0))
+          (none_without_common w c.self.inside.common sets (cc (v.is_believed.ensures, v.if-not-is_believed.true))
+          c.self.invariant.2)
     ])
 
 pub returns-clause-listed : goal.returns-clause-listed

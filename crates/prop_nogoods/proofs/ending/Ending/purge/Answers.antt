@@ -1,6 +1,7 @@
-use Rattle.std.proofs.Common.{length}
+use Rattle.std.proofs.Common.{◌≤◌, IsTrue, length}
 use Rattle.std.proofs.lemmas.List.Elements.{All-filter}
 use Rattle.std.proofs.lemmas.List.Kept.{IsNonDecreasingBy-filter}
+use Rattle.prop_numbers.specs.Sets.{set_of, is_within}
 use Rattle.prop_nogoods.specs.inner.Endings.{EndsSo}
 use Rattle.prop_nogoods.proofs.StoreLemmas.{is_without}
 use Rattle.prop_nogoods.proofs.ending.Ending.purge.Goals as goal
@@ -12,4 +13,6 @@ invariant_of-self c =
     rw c.drop_holding.ensures.left (
       All-filter kept (EndsSo c.self.inside.last) sets c.self.invariant.0,
       IsNonDecreasingBy-filter length kept sets c.self.invariant.1,
+      All-filter kept (λ line. IsTrue (is_within (set_of line) c.self.inside.common)) sets c.self.invariant.2,
+      All-filter kept (λ line. length line ≤ c.self.inside.largest) sets c.self.invariant.3,
     )

@@ -9,7 +9,7 @@ use Rattle.prop_workbench.specs.Sessions.{state_of, shown_of, work_of}
 use Rattle.prop_workbench.proofs.AskLemmas.{carries, free}
 use Rattle.prop_workbench.proofs.AnsweredLemmas.{memory_answered}
 use Rattle.prop_workbench.proofs.EarnedLemmas.{earns}
-use Rattle.prop_workbench.proofs.WakingLemmas.{wakes_asked}
+use Rattle.prop_workbench.proofs.WakingLemmas.{stays_said, wakes_asked}
 use Rattle.prop_workbench.proofs.RunLemmas.{covered_end, run_obeyed}
 use Rattle.prop_workbench.proofs.session.Session.answered.Goals as goal
 
@@ -49,7 +49,8 @@ returns-in-Ok g c =
             c.in-Ok.ensures.gone c.in-Ok.ensures.left (rw state at c.reply_to.ensures.believed) c.in-Ok.ensures.blamed
             (rw (kept.library, state) at c.reply_to.ensures.says);
         wakes = wakes_asked (state_of s) (state_of t) (work_of s) (work_of t) c.args.question
-            (answer_of c.reply_to.result);
+            (answer_of c.reply_to.result)
+            (stays_said _ _ _ _ _ (answer_of c.reply_to.result) (work_of s) (work_of t) c.reply_to.ensures.says);
       };
     }
 
@@ -57,4 +58,4 @@ pub returns-in-Err : goal.returns-in-Err
 returns-in-Err g c = memory_answered g.O.Order.picks g.R.Rule.value_of c.args.self.now c.run_network.new.self
     (command_of c.args.question) c.run_network.ensures.keeps c.run_network.ensures.state
     (wakes_asked (state_of c.args.self.now) (state_of c.run_network.new.self) (work_of c.args.self.now)
-    (work_of c.run_network.new.self) c.args.question _)
+    (work_of c.run_network.new.self) c.args.question _ tt)

@@ -11,7 +11,7 @@ use Rattle.prop_workbench.proofs.StepLemmas.{obeys}
 use Rattle.prop_workbench.proofs.AnsweredLemmas.{answered_carried, done_carried}
 use Rattle.prop_workbench.proofs.CoveringLemmas.{still_obeyed, refused_followed}
 use Rattle.prop_workbench.proofs.SoundLemmas.{stays, unchanged}
-use Rattle.prop_workbench.proofs.WakingLemmas.{still_stirred}
+use Rattle.prop_workbench.proofs.WakingLemmas.{still_added}
 use Rattle.prop_workbench.proofs.WordLemmas.{some_elements}
 use Rattle.prop_workbench.proofs.session.Session.carry_out.Goals as goal
 
@@ -141,7 +141,7 @@ returns-in-Limit g c =
           (obeys (stored_of g.R.Rule.value_of s.live.network.library) (state_of s) limited.state
           (commands.Command.Limit (Some c.in-Limit.steps)) Done 0 (as_many [] (state_of s))
           (record { answer_is = refl; new_is = refl; no_steps = refl }));
-      rests = record { lean = tt; earned = tt; wakes = still_stirred (state_of s) limited.state (work_of s) };
+      rests = record { lean = tt; earned = tt; wakes = still_added (work_of s) };
     })
 
 pub choose-requires-clause-some : goal.choose-requires-clause-some

@@ -14,7 +14,7 @@ use Rattle.prop_workbench.specs.inner.Choosing.{values_refusal, meanings_of, IsM
 use Rattle.prop_workbench.proofs.StepLemmas.{refuses, refuses_or_lacks}
 use Rattle.prop_workbench.proofs.ChoiceLemmas.{choice_taken, choice_nowhere, choice_stops, values_mean, chosen_or_not}
 use Rattle.prop_workbench.proofs.ChoiceLemmas.{free_name, is_nobodys, meanings_mean, meants_count, some_values}
-use Rattle.prop_workbench.proofs.WakingLemmas.{left_stirred}
+use Rattle.prop_workbench.proofs.WakingLemmas.{left_where}
 use Rattle.prop_workbench.proofs.session.Session.choose.Goals as goal
 
 pub returns-in-None-clause-step : goal.returns-in-None-clause-step
@@ -129,6 +129,6 @@ returns-in-Ok-clause-step g c =
 pub returns-in-Ok-clause-wakes : goal.returns-in-Ok-clause-wakes
 returns-in-Ok-clause-wakes g c =
     let s = c.args.self.now in
-    left_stirred s c.choose_meant.new.self
-    (commands.Command.Choose c.args.choice.now c.args.name.now (map value_of c.args.values.now))
-    (s.search.list ++ 1 ∷ []) c.choose_meant.result c.choose_meant.ensures.stirred (λ h. h) (λ e h. h)
+    left_where s c.choose_meant.new.self
+    (commands.Command.Choose c.args.choice.now c.args.name.now (map value_of c.args.values.now)) _
+    c.choose_meant.result c.choose_meant.ensures.chosen (λ h. h) (λ e h. h)

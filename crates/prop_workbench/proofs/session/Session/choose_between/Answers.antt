@@ -6,10 +6,13 @@ use Rattle.prop_workbench.proofs.ChosenLemmas.{room_for_sides, declared_under_wa
 use Rattle.prop_workbench.proofs.ChosenLemmas.{chosen_at_work, chosen_covers}
 use Rattle.prop_workbench.proofs.StandingLemmas.{back_keeps, same_keeps}
 use Rattle.prop_numbers.specs.Sets.{set_of}
-use Rattle.prop_amb.specs.Search.{Stand}
 use Rattle.prop_workbench.specs.Sessions.{work_of}
+use Rattle.prop_workbench.specs.Waking.{one_more}
 use Rattle.prop_workbench.proofs.AskLemmas.{believes_same}
-use Rattle.prop_workbench.proofs.WakingLemmas.{stirred_from, declared_beliefs}
+use Rattle.prop_cells.specs.Sides.{sides_at}
+use Rattle.prop_scheduler.specs.Shifts.{touching}
+use Rattle.prop_scheduler.proofs.Stirring.{stirs_from}
+use Rattle.prop_workbench.proofs.WakingLemmas.{declared_beliefs, stands_by}
 use Rattle.prop_workbench.proofs.session.Session.choose_between.Goals as goal
 
 -- ---- the choice has room
@@ -80,11 +83,11 @@ returns-in-Err-state_sides-clause-keeps g c =
 
 -- ---- what waits then
 
-pub returns-in-Err-clause-stirred : goal.returns-in-Err-clause-stirred
-returns-in-Err-clause-stirred g c = λ i. record (work_of c.args.self.now) { search = c.in-Err.ensures.err i }
+pub returns-in-Err-clause-chosen : goal.returns-in-Err-clause-chosen
+returns-in-Err-clause-chosen g c = λ i. record (work_of c.args.self.now) { search = c.in-Err.ensures.err i }
 
-pub returns-in-Ok-state_sides-clause-stirred : goal.returns-in-Ok-state_sides-clause-stirred
-returns-in-Ok-state_sides-clause-stirred g c =
+pub returns-in-Ok-state_sides-clause-chosen : goal.returns-in-Ok-state_sides-clause-chosen
+returns-in-Ok-state_sides-clause-chosen g c =
     let s = c.args.self.now in
     let new = c.declare.new.self in
     let d = s.live.network.cells in
@@ -92,18 +95,23 @@ returns-in-Ok-state_sides-clause-stirred g c =
     let made : new ≡ declared s.search c.args.choice.now (length c.args.infos.now) = c.in-Ok.ensures.ok in
     let same = declared_beliefs (stored_of g.R.Rule.value_of s.live.network.library) s.search new c.args.choice.now
     (length c.args.infos.now) d work.under_way.kept work.known made in
-    let line = stirred_from (set_of s.search.worldview) (set_of new.worldview) (set_of new.worldview) d
-    c.state_sides.new.live.network.cells s.live.agenda.line c.state_sides.new.live.agenda.line same
+    let after = c.state_sides.new.live.network.cells in
+    let line = stirs_from (touching after.instances) (set_of s.search.worldview) (set_of new.worldview)
+    (set_of new.worldview) d after s.live.agenda.line (length after.kinds) c.state_sides.new.live.agenda.line same
     (rw c.worldview.ensures.same at c.in-Ok-state_sides.ensures.stirred) in
     record {
-      list_is = ap (λ (t : Stand). t.list) made;
-      level_is = ap (λ (t : Stand). t.level) made;
+      search = stands_by (one_more s.search) new
+          (declared s.search c.args.choice.now (length c.args.infos.now)) made;
       order = refl;
+      holds = (
+        sides_at c.in-Ok.choice.first c.args.cell c.args.infos.now,
+        c.in-Ok-state_sides.ensures.ok,
+      );
       line = rw (believes_same s.search work.well_made, believes_same new c.worldview.ensures.stand) at line;
     }
 
-pub returns-in-Err-state_sides-clause-stirred : goal.returns-in-Err-state_sides-clause-stirred
-returns-in-Err-state_sides-clause-stirred g c =
+pub returns-in-Err-state_sides-clause-chosen : goal.returns-in-Err-state_sides-clause-chosen
+returns-in-Err-state_sides-clause-chosen g c =
     let s = c.args.self.now in
     let undone = c.undeclare.ensures.undoes s.search c.args.choice.now c.requires.sound.at_work.well_made
     (c.in-Ok.ensures.ok ∙ (λ i. declared s.search c.args.choice.now (sym c.in-Ok.ensures.choice.1 i))) in

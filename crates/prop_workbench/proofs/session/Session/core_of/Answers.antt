@@ -11,6 +11,7 @@ use Rattle.prop_workbench.proofs.AskLemmas.{free_core}
 use Rattle.prop_workbench.proofs.AnsweredLemmas.{memory_answered}
 use Rattle.prop_workbench.proofs.EarnedLemmas.{earns_core}
 use Rattle.prop_workbench.proofs.RunLemmas.{covered_end, covered_still, keeps_then, run_obeyed}
+use Rattle.prop_workbench.proofs.WakingLemmas.{stays_said}
 use Rattle.prop_workbench.proofs.session.Session.core_of.Goals as goal
 
 pub core_reply-requires-clause-means : goal.core_reply-requires-clause-means
@@ -52,7 +53,9 @@ returns-in-Ok g c =
           (rw (ap (λ (v : State). v.limit) state) at c.core_reply.ensures.within);
       rests = record {
         lean = tt;
-        wakes = tt;
+        wakes = stays_said library (state_of s) (commands.Command.Core name) outcome c.core_reply.result.1
+            (answer_of c.core_reply.result.0) (work_of s) (work_of u)
+            (rw (kept.library, state) at c.core_reply.ensures.says);
         earned = earns_core g.O.Order.picks library (state_of s) (work_of s) (work_of t) (work_of u) name
             c.in-Ok.field-0.end
             c.in-Ok.field-0.steps c.core_reply.result.1 _ c.in-Ok.ensures.gone c.in-Ok.ensures.left

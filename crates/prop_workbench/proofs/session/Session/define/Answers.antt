@@ -10,7 +10,7 @@ use Rattle.prop_workbench.specs.Sessions.{state_of, state_from, work_of}
 use Rattle.prop_workbench.proofs.DefinedLemmas.{defined_numbered, defined_compounds, defined_allowed, defined_why}
 use Rattle.prop_workbench.proofs.DeclareLemmas.{define_refused}
 use Rattle.prop_workbench.proofs.StepLemmas.{obeys_done, reason_is}
-use Rattle.prop_workbench.proofs.WakingLemmas.{left_by, still_stirred}
+use Rattle.prop_workbench.proofs.WakingLemmas.{left_by, still_added}
 use Rattle.prop_workbench.proofs.session.Session.define.Goals as goal
 
 pub returns-clause-keeps : goal.returns-clause-keeps
@@ -69,4 +69,4 @@ returns-clause-wakes g c =
     let s = c.args.self.now in
     let new = record s { definitions = c.define.new.self } in
     left_by s new (commands.Command.Define c.args.name.now (words c.args.params.now) (map step_of c.args.steps.now))
-    c.define.result (still_stirred (state_of s) (state_of new) (work_of s)) (λ e. refl)
+    c.define.result (still_added (work_of s)) (λ e. refl)

@@ -11,7 +11,7 @@ use Rattle.prop_workbench.proofs.DeclareLemmas.{domain_refused}
 use Rattle.prop_workbench.proofs.StepLemmas.{obeys_done, reason_is}
 use Rattle.prop_workbench.proofs.WordLemmas.{sized_more}
 use Rattle.prop_workbench.proofs.DefinedLemmas.{numbered_domain}
-use Rattle.prop_workbench.proofs.WakingLemmas.{left_by, still_stirred}
+use Rattle.prop_workbench.proofs.WakingLemmas.{left_by, still_added}
 use Rattle.prop_workbench.proofs.session.Session.domain.Goals as goal
 
 pub returns-clause-keeps : goal.returns-clause-keeps
@@ -63,4 +63,4 @@ returns-clause-wakes g c =
     let s = c.args.self.now in
     let new = record s { words = c.declare_domain.new.self } in
     left_by s new (commands.Command.Domain c.args.name.now (words c.args.elements.now)) c.declare_domain.result
-    (still_stirred (state_of s) (state_of new) (work_of s)) (λ e. refl)
+    (still_added (work_of s)) (λ e. refl)

@@ -13,6 +13,7 @@ use Rattle.prop_workbench.specs.Sessions.{state_of, state_from, shown_of}
 use Rattle.prop_workbench.proofs.BeliefLemmas.{found_free}
 use Rattle.prop_workbench.proofs.StandingLemmas.{forgotten_at_work}
 use Rattle.prop_workbench.proofs.ForgettingLemmas.{forget_obeyed, forget_refused, missing_from}
+use Rattle.prop_workbench.proofs.WakingLemmas.{stands_by}
 use Rattle.prop_workbench.proofs.session.Session.forget.Goals as goal
 
 -- ---- it is forgotten
@@ -101,11 +102,18 @@ pub returns-clause-wakes : goal.returns-clause-wakes
 returns-clause-wakes g c =
     let s = c.args.self.now in
     let new = c.forget.new.self in
-    let made : new ≡ record (restarted s.search) {
-      listed = lacking s.search.listed c.in_ok-premise.premise;
-      worldview = new.worldview;
-    } = c.forget.ensures.only in
-    (ap (λ (t : Stand). t.list) made, ap (λ (t : Stand). t.level) made, refl)
+    let p = c.in_ok-premise.premise in
+    let made : new ≡ record (restarted s.search) { listed = lacking s.search.listed p; worldview = new.worldview } =
+    c.forget.ensures.only in
+    let found : premise_number s.search.premises c.args.name.now ≡ Some p =
+    rw c.premises.ensures at c.in_ok-premise.ensures.found in
+    rw found record {
+      search = stands_by (record (restarted s.search) { listed = lacking s.search.listed p }) new
+          (record new { premises = s.search.premises }) made;
+      order = refl;
+      holds = c.purge.ensures.forgotten;
+      line = c.purge.ensures.line;
+    }
 
 pub returns-in_err-premise-clause-wakes : goal.returns-in_err-premise-clause-wakes
 returns-in_err-premise-clause-wakes g c =

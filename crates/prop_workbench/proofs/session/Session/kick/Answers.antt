@@ -10,10 +10,9 @@ use Rattle.prop_workbench.proofs.ForgettingLemmas.{missing_from}
 use Rattle.prop_workbench.proofs.StandingLemmas.{believing_keeps, same_keeps, same_done}
 use Rattle.std.proofs.lemmas.Result.{err_from_is_err_and}
 use Rattle.prop_numbers.specs.Sets.{set_of}
-use Rattle.prop_scheduler.proofs.Behind.{touched_stirred}
 use Rattle.prop_workbench.specs.Sessions.{state_of, state_from, work_of}
 use Rattle.prop_workbench.proofs.AskLemmas.{believes_same}
-use Rattle.prop_workbench.proofs.WakingLemmas.{still_stirred}
+use Rattle.prop_workbench.proofs.WakingLemmas.{stands_by, still_shifted}
 use Rattle.prop_workbench.proofs.session.Session.kick.Goals as goal
 
 -- ---- the premise was believed
@@ -76,18 +75,17 @@ returns-clause-wakes g c =
     let found : premise_number s.search.premises c.args.name.now ≡ Some p =
     rw c.premises.ensures at c.in_ok-premise.ensures.found in
     let before : c.in-Some.before ≡ s.search.worldview = rw c.in-Some.is at c.in_ok-before.ensures.before in
-    let stirred = touched_stirred (set_of c.in-Some.before) (set_of c.worldview.result.now) d d s.live.agenda.line
-    c.alert_shifted.new.live.agenda.line c.alert_shifted.ensures.shifted.behind in
     let line = rw (
       before,
       c.worldview.ensures.same,
       believes_same s.search c.requires.sound.at_work.well_made,
       believes_same new c.worldview.ensures.stand,
-    ) at stirred in
+    ) at c.alert_shifted.ensures.shifted in
+    let like : Stand = record new { premises = with_belief_at s.search.premises p false } in
     rw (c.alert_shifted.ensures.network, found, was) record {
-      list_is = ap (λ (t : Stand). t.list) made;
-      level_is = ap (λ (t : Stand). t.level) made;
+      search = stands_by (restarted s.search) new like made;
       order = refl;
+      holds = λ cell. refl;
       line = line;
     }
 
@@ -98,7 +96,7 @@ returns-in_default-clause-wakes g c =
     let was : users_of s.search p ≡ false = sym c.in_ok-before.ensures.was ∙ ap is_some c.in_default.is in
     let found : premise_number s.search.premises c.args.name.now ≡ Some p =
     rw c.premises.ensures at c.in_ok-premise.ensures.found in
-    rw (found, was, (c.kick.ensures.out was).1) (still_stirred (state_of s) (state_of s) (work_of s))
+    rw (found, was, (c.kick.ensures.out was).1) (still_shifted (state_of s) (work_of s))
 
 pub returns-in_err-before-clause-wakes : goal.returns-in_err-before-clause-wakes
 returns-in_err-before-clause-wakes g c =

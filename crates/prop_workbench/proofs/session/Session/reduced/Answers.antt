@@ -95,7 +95,7 @@ returns-in-Ok-clause-tried g c =
         search = refl;
         line = e.tries.0;
         tries = tries;
-        all_wait = c.reduce-ended.ensures.all;
+        woken = e.tries.2;
       },
     )
 

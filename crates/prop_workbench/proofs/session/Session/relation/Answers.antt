@@ -11,7 +11,7 @@ use Rattle.prop_workbench.proofs.DeclareLemmas.{relation_refused}
 use Rattle.prop_workbench.proofs.StepLemmas.{obeys_done, reason_is}
 use Rattle.prop_workbench.proofs.WordLemmas.{sized_same}
 use Rattle.prop_workbench.proofs.DefinedLemmas.{numbered_relation, compounds_still}
-use Rattle.prop_workbench.proofs.WakingLemmas.{left_by, still_stirred}
+use Rattle.prop_workbench.proofs.WakingLemmas.{left_by, still_added}
 use Rattle.prop_workbench.proofs.session.Session.relation.Goals as goal
 
 pub returns-clause-keeps : goal.returns-clause-keeps
@@ -73,4 +73,4 @@ returns-clause-wakes g c =
     let s = c.args.self.now in
     let new = record s { words = c.declare_relation.new.self } in
     left_by s new (commands.Command.Relation c.args.name.now c.args.from.now c.args.to.now (pairs_of c.args.pairs.now))
-    c.declare_relation.result (still_stirred (state_of s) (state_of new) (work_of s)) (λ e. refl)
+    c.declare_relation.result (still_added (work_of s)) (λ e. refl)

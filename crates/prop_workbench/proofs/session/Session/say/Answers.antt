@@ -80,7 +80,7 @@ pub returns-in-Ok-under-clause-wakes : goal.returns-in-Ok-under-clause-wakes
 returns-in-Ok-under-clause-wakes g c =
     let s = c.args.self.now in
     left_stating s c.state_meant.new.self (name_of c.args.premise) c.args.name.now (value_of c.args.value.now)
-    c.state_meant.result c.state_meant.ensures.stirred
+    c.state_meant.result c.state_meant.ensures.told
 
 pub returns-in-Ok-under-clause-step : goal.returns-in-Ok-under-clause-step
 returns-in-Ok-under-clause-step g c =

@@ -5,6 +5,7 @@ use Rattle.prop_cells.specs.declared.instance.Statement.{Statement}
 use Rattle.prop_workbench.proofs.StandingLemmas.{stated_at_work, stated_kinds, stated_instances}
 use Rattle.prop_workbench.proofs.AskLemmas.{believes_same}
 use Rattle.prop_workbench.specs.Sessions.{work_of}
+use Rattle.prop_workbench.proofs.WakingLemmas.{stated_one}
 use Rattle.prop_workbench.proofs.session.Session.state.Goals as goal
 
 pub state-requires-clause-alive : goal.state-requires-clause-alive
@@ -61,19 +62,21 @@ returns-in_err-state-clause-keeps g c =
       covers = λ m h. h;
     }
 
-pub returns-clause-stirred : goal.returns-clause-stirred
-returns-clause-stirred g c =
+pub returns-clause-told : goal.returns-clause-told
+returns-clause-told g c =
     let s = c.args.self.now in
+    let new = c.state.new.live.network.cells in
     record {
-      list_is = refl;
-      level_is = refl;
+      search = refl;
       order = refl;
+      holds = stated_one s.live.network.cells new
+          (record { premise = c.args.premise; cell = c.args.cell; info = c.args.info }) c.in_ok-state.ensures.ok;
       line = rw (c.worldview.ensures.same, believes_same s.search c.requires.sound.at_work.well_made)
           at c.in_ok-state.ensures.stirred;
     }
 
-pub returns-in_err-state-clause-stirred : goal.returns-in_err-state-clause-stirred
-returns-in_err-state-clause-stirred g c =
+pub returns-in_err-state-clause-told : goal.returns-in_err-state-clause-told
+returns-in_err-state-clause-told g c =
     let s = c.args.self.now in
     let told = err_from_is_err_and c.from_residual.result c.from_residual.ensures.1 in
     rw (told.1 ∙ ap Err told.2) (λ i. record (work_of s) {

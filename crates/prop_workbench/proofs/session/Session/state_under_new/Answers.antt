@@ -1,16 +1,17 @@
-use Rattle.std.proofs.Common.{◌≡◌, ◌∙◌, Some, refl, ap}
+use Rattle.std.proofs.Common.{◌≡◌, Some, length, refl}
 use Rattle.prop_numbers.specs.Sets.{set_of}
 use Rattle.prop_procedures.specs.Kept.{stored_of}
 use Rattle.prop_cells.specs.declared.instance.Statement.{Statement}
+use Rattle.prop_cells.specs.Instances.{readers_of}
 use Rattle.prop_cells.specs.Data.{problem_of}
 use Rattle.prop_amb.specs.Moving.{interned}
-use Rattle.prop_workbench.proofs.StandingLemmas.{named_at_work, named_covers, new_number, new_stand, stated_at_work}
+use Rattle.prop_workbench.proofs.StandingLemmas.{named_at_work, named_covers, new_number, stated_at_work}
 use Rattle.prop_workbench.proofs.StandingLemmas.{stated_kinds, stated_instances, back_keeps, same_keeps}
-use Rattle.prop_amb.specs.Search.{Stand}
 use Rattle.prop_workbench.specs.Sessions.{work_of, state_of}
 use Rattle.prop_workbench.proofs.ChosenLemmas.{room_for_name}
 use Rattle.prop_workbench.proofs.AskLemmas.{believes_same}
-use Rattle.prop_workbench.proofs.WakingLemmas.{stirred_from, named_beliefs}
+use Rattle.prop_scheduler.proofs.Stirring.{stirs_from}
+use Rattle.prop_workbench.proofs.WakingLemmas.{named_beliefs, stands_by, stated_one}
 use Rattle.prop_workbench.proofs.session.Session.state_under_new.Goals as goal
 
 -- ---- the name has room
@@ -84,11 +85,11 @@ returns-in-Err-state-clause-keeps g c =
 
 -- ---- what waits then
 
-pub returns-in-Err-clause-stirred : goal.returns-in-Err-clause-stirred
-returns-in-Err-clause-stirred g c = λ i. record (work_of c.args.self.now) { search = c.in-Err.ensures.err i }
+pub returns-in-Err-clause-told : goal.returns-in-Err-clause-told
+returns-in-Err-clause-told g c = λ i. record (work_of c.args.self.now) { search = c.in-Err.ensures.err i }
 
-pub returns-in-Ok-state-clause-stirred : goal.returns-in-Ok-state-clause-stirred
-returns-in-Ok-state-clause-stirred g c =
+pub returns-in-Ok-state-clause-told : goal.returns-in-Ok-state-clause-told
+returns-in-Ok-state-clause-told g c =
     let s = c.args.self.now in
     let new = c.intern.new.self in
     let d = s.live.network.cells in
@@ -96,18 +97,21 @@ returns-in-Ok-state-clause-stirred g c =
     let made : new ≡ interned s.search c.args.name.now = c.in-Ok.ensures.ok in
     let same = named_beliefs (stored_of g.R.Rule.value_of s.live.network.library) s.search new c.args.name.now d
     work.under_way.kept work.known c.requires.new made in
-    let line = stirred_from (set_of s.search.worldview) (set_of new.worldview) (set_of new.worldview) d
-    c.state.new.live.network.cells s.live.agenda.line c.state.new.live.agenda.line same
+    let after = c.state.new.live.network.cells in
+    let line = stirs_from (readers_of after.instances) (set_of s.search.worldview) (set_of new.worldview)
+    (set_of new.worldview) d after s.live.agenda.line (length after.kinds) c.state.new.live.agenda.line same
     (rw c.worldview.ensures.same at c.in-Ok-state.ensures.stirred) in
     record {
-      list_is = ap (λ (t : Stand). t.list) (made ∙ new_stand s.search c.args.name.now c.requires.new);
-      level_is = ap (λ (t : Stand). t.level) (made ∙ new_stand s.search c.args.name.now c.requires.new);
+      search = stands_by s.search new (interned s.search c.args.name.now) made;
       order = refl;
+      holds = stated_one d after
+          (record { premise = Some c.in-Ok.premise; cell = c.args.cell; info = c.args.info })
+          c.in-Ok-state.ensures.ok;
       line = rw (believes_same s.search work.well_made, believes_same new c.worldview.ensures.stand) at line;
     }
 
-pub returns-in-Err-state-clause-stirred : goal.returns-in-Err-state-clause-stirred
-returns-in-Err-state-clause-stirred g c =
+pub returns-in-Err-state-clause-told : goal.returns-in-Err-state-clause-told
+returns-in-Err-state-clause-told g c =
     let s = c.args.self.now in
     let undone = c.take_back.ensures.undoes s.search c.args.name.now c.requires.sound.at_work.well_made c.requires.new
     c.in-Ok.ensures.ok in

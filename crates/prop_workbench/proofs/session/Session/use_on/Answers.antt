@@ -1,8 +1,8 @@
-use Rattle.std.proofs.Common.{◌≡◌, ◌∙◌, ◌<◌, All, length, refl, sym}
+use Rattle.std.proofs.Common.{◌≡◌, ◌∙◌, ◌<◌, All, length, refl, sym, ap}
 use Rattle.std.proofs.lemmas.Result.{on_ok_weaker, on_err_weaker, IfErr-weaker}
 use Rattle.prop_numbers.specs.Sets.{set_of}
 use Rattle.prop_procedures.specs.Kept.{stored_of}
-use Rattle.prop_cells.specs.Data.{Data, problem_of}
+use Rattle.prop_cells.specs.Data.{Data, content_of, problem_of}
 use Rattle.prop_amb.specs.Search.{IsSearch}
 use Rattle.prop_language.specs.Said.{by_of}
 use Rattle.prop_scheduler.specs.Making.{with_flat}
@@ -14,11 +14,10 @@ use Rattle.prop_workbench.proofs.NamesLemmas.{used_is}
 use Rattle.prop_workbench.proofs.AdditionLemmas.{search_added}
 use Rattle.prop_workbench.proofs.SoundLemmas.{made_or_not, unchanged}
 use Rattle.prop_workbench.proofs.RefusedLemmas.{unexpanded, no_room, with_room}
-use Rattle.prop_cells.specs.inner.Problems.{Premises}
-use Rattle.prop_scheduler.specs.Shifts.{AreStirred}
-use Rattle.prop_workbench.specs.Waking.{IsStirred, believed_at}
+use Rattle.prop_scheduler.specs.Shifts.{AreMade}
+use Rattle.prop_workbench.specs.Waking.{IsAdded}
 use Rattle.prop_workbench.specs.Sessions.{work_of}
-use Rattle.prop_workbench.proofs.WakingLemmas.{stirred_or_not, on_err_both}
+use Rattle.prop_workbench.proofs.WakingLemmas.{fresh_hold, done_or_not, on_ok_both, on_err_both}
 use Rattle.prop_workbench.proofs.session.Session.use_on.Goals as goal
 
 -- ---- where it is expanded
@@ -139,20 +138,23 @@ returns-in-Err-clause-err g c =
 
 -- ---- what waits then
 
-pub returns-in-Ok-clause-stirred : goal.returns-in-Ok-clause-stirred
-returns-in-Ok-clause-stirred g c =
+pub returns-in-Ok-clause-added : goal.returns-in-Ok-clause-added
+returns-in-Ok-clause-added g c =
     let s = c.args.self.now in
     let new = record s { live = c.make.new.live } in
-    let stirs : ((a b : Premises) → AreStirred a b s.live.network.cells new.live.network.cells s.live.agenda.line
-    new.live.agenda.line)
-    → IsStirred (state_of s) (state_of new) s.search.list s.search.level (work_of s) (work_of new) =
-    λ h. record {
-      list_is = refl;
-      level_is = refl;
+    let d = s.live.network.cells in
+    let library = stored_of g.R.Rule.value_of s.live.network.library in
+    let flat = c.in-Ok.flat in
+    let adds : new.live.network.cells ≡ with_flat library d c.args.cells.now flat
+    → AreMade d new.live.network.cells s.live.agenda.line new.live.agenda.line
+    → IsAdded (work_of s) (work_of new) =
+    λ cells line. record {
+      search = refl;
       order = refl;
-      line = h (believed_at (state_of s) s.search) (believed_at (state_of new) s.search);
+      holds = λ cell. ap (λ x. content_of x.contents cell) cells ∙ fresh_hold d.contents flat.fresh.items cell;
+      line = line;
     } in
-    let same : new.live.network.cells ≡ s.live.network.cells → new.live.agenda.line ≡ s.live.agenda.line
-    → work_of new ≡ work_of s = λ cells line i. record (work_of s) { cells = cells i; line = line i } in
-    stirred_or_not s new s.search.list c.make.result (on_ok_weaker c.make.result stirs c.make.ensures.stirred)
+    let same : new.live.network.cells ≡ d → new.live.agenda.line ≡ s.live.agenda.line → work_of new ≡ work_of s =
+    λ cells line i. record (work_of s) { cells = cells i; line = line i } in
+    done_or_not c.make.result _ _ (on_ok_both c.make.result adds c.make.ensures.ok c.make.ensures.made)
     (on_err_both c.make.result same c.make.ensures.err_same c.make.ensures.err_line)
