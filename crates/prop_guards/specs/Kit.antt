@@ -49,7 +49,7 @@ is_inside (Span x) (Span y) =
 is_inside (Sym x) (Sym y) = not (x == y)
 is_inside x y = false
 
--- y is another than x, which takes no end of it
+-- y is another than x, and keeps its ends
 abbrev pub is_repeated : kits.Kit → List Info → Bool
 is_repeated Apart (t ∷ x ∷ y ∷ []) = is_just no_bits t && is_inside x y
 is_repeated rule args = false

@@ -27,8 +27,9 @@ pub trait Guarded: Rule {
     fn says_nothing(&self, param: &Param, args: &[Info]) -> bool
         ensures { result ≡ is_silent self.now param.now args.now };
 
-    /// Whether it is seen at a glance that such a call answers just the argument at the rule's own
-    /// place, and so nothing new where the cell of that input is the output's.
+    /// Whether it is seen at a glance that a call with this parameter and these arguments answers
+    /// just the argument at the rule's own place, and so nothing new where the cell of that input is
+    /// the output's.
     fn repeats(&self, param: &Param, args: &[Info]) -> bool
         ensures { result ≡ is_repeated self.now param.now args.now };
 
