@@ -17,7 +17,7 @@ import pytest
 from conftest import ENDLESS, TIMES
 from moments import at, by_exception, by_signal
 
-from propbench import OutOfTime, Reply, Session, runs
+from propbench import OutOfTime, ProgramEnded, Refused, Reply, Session, runs
 from propbench import session as sessions
 from propbench.overview import overview
 from propbench.program import StillAtWork
@@ -200,9 +200,7 @@ def test_a_core_whose_run_is_left_at_work(held: Holding, program: str) -> None:
 
 
 @pytest.mark.parametrize("is_first", [True, False])
-def test_the_tries_of_a_core_are_left_at_work(
-    held: Holding, program: str, is_first: bool
-) -> None:
+def test_the_tries_of_a_core_are_left_at_work(held: Holding, program: str, is_first: bool) -> None:
     """What was done before is among the lines."""
     session = held.session
     session.send_all(CHAIN[: 3 + 2 * 30] + CHAIN[-3:])
@@ -323,6 +321,28 @@ def test_a_program_that_dies_over_it_is_begun_anew(held: Holding, use: str) -> N
     assert low_of(asked.look(["ask x"])[0]) == 2000 * 2
 
 
+def test_many_lines_have_their_time(held: Holding) -> None:
+    """Nothing is sent where it is over, or the program at work yet."""
+    asked = owing(held)
+    before = asked.lines
+    for late in (-1.0, 0.2):
+        for use in (asked.look, asked.send_all):
+            with within(0.2), pytest.raises(OutOfTime):
+                use(["ask x"], until=time.monotonic() + late)
+    assert asked.lines == before and held.is_same
+    held.let_go()
+    assert str(asked.send_all([SAID], until=time.monotonic() + 60)[0]) == "ok"
+    with pytest.raises(OutOfTime, match="no time"):
+        asked.send_all([SAID], until=time.monotonic())
+    assert held.is_same
+    held.hold("cell")
+    with within(0.2), pytest.raises(OutOfTime, match="was ended"):
+        asked.send_all([SAID, "cell y span"], until=time.monotonic() + 0.2)
+    held.let_go()
+    assert "cell y span" not in asked.lines
+    assert isinstance(asked.look(["ask y"], until=time.monotonic() + 60)[0], Refused)
+
+
 def test_closing_does_not_wait(held: Holding) -> None:
     asked = owing(held)
     with within(0):
@@ -331,6 +351,15 @@ def test_closing_does_not_wait(held: Holding) -> None:
         asked.send("ask x")
     with pytest.raises(RuntimeError, match="closed"):
         asked.limit
+
+
+def test_closing_ends_a_call_that_waits_for_it(held: Holding) -> None:
+    asked = owing(held)
+    closing = threading.Timer(0.3, asked.close)
+    closing.start()
+    with within(0.3), pytest.raises(ProgramEnded):
+        asked.send("ask x")
+    closing.join()
 
 
 def test_beginning_anew_does_not_wait(held: Holding) -> None:

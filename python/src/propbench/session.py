@@ -171,8 +171,8 @@ class Session(Closing):
         The call comes back within a second after `seconds`. Where a slice takes longer the answer
         is what was known before, or OutOfTime is raised where nothing was. A program that is at work
         goes on with the slice, and the next use of the session waits for it first: within its own
-        `seconds`, or for 20 seconds. One that hangs, and one that hasn't carried out another line
-        than a question, is ended, and the next use begins it anew.
+        `seconds`, or for 20 seconds. One that hangs is ended, and the next use begins it anew; so is
+        one that has not carried out a statement by then.
 
         Raises the Refused of the number that the program answers, ProgramEnded, SessionInUse, and
         ValueError where a line feed stands within the line.
@@ -208,15 +208,25 @@ class Session(Closing):
             turn.lock.release()
 
     @overload
-    def send_all(self, lines: Iterable[str | bytes]) -> Replies:
+    def send_all(self, lines: Iterable[str | bytes], *, until: float | None = None) -> Replies:
         ...
 
     @overload
-    def send_all(self, lines: Iterable[str | bytes], *, keep_refused: Literal[True]) -> Outcomes:
+    def send_all(
+        self,
+        lines: Iterable[str | bytes],
+        *,
+        keep_refused: Literal[True],
+        until: float | None = None,
+    ) -> Outcomes:
         ...
 
     def send_all(
-        self, lines: Iterable[str | bytes], *, keep_refused: bool = False
+        self,
+        lines: Iterable[str | bytes],
+        *,
+        keep_refused: bool = False,
+        until: float | None = None,
     ) -> Replies | Outcomes:
         """Sends lines without waiting for the replies in between, and gives the reply to each.
 
@@ -224,14 +234,16 @@ class Session(Closing):
         end, with the replies and refusals to all lines in its `replies`; with `keep_refused` none
         is raised, and each stands in its line's place.
 
-        A question is one run here. At Ctrl-C the lines whose replies have come count as carried
+        A question is one run here. `until` is a time of the monotonic clock: OutOfTime is raised
+        then. Where the time is over before, or the program at work yet, nothing is sent; else the
+        program is ended. At that, and at Ctrl-C, the lines whose replies have come count as carried
         out, and no others; the next use of the session begins the program anew with these. Raises
         ProgramEnded, and ValueError, before anything is sent, for a line feed within a line.
         """
         texts = as_lines(lines)
         turn = self._take_turn()
         try:
-            self._be_ready(self._until)
+            self._be_ready_in_time(until)
             if self._talk.program_limit != self._talk.limit:
                 self._talk.set_limit(self._talk.limit)
             batch = Batch(self._talk, texts, self._sent)
@@ -244,15 +256,16 @@ class Session(Closing):
             raise batch.first_refused
         return batch.replies
 
-    def look(self, questions: Iterable[str]) -> Outcomes:
+    def look(self, questions: Iterable[str], *, until: float | None = None) -> Outcomes:
         """What is known now: the replies to questions that are asked without a step being taken.
 
-        Where what is known is settled, they leave no trace in `lines`.
+        Where what is known is settled, they leave no trace in `lines`. `until` is as that of
+        `send_all`.
         """
         texts = as_lines(questions)
         turn = self._take_turn()
         try:
-            self._be_ready(self._until)
+            self._be_ready_in_time(until)
             talk = self._talk
             talk.set_limit(0)
             batch = Batch(talk, texts, self._sent)
@@ -373,6 +386,14 @@ class Session(Closing):
             self._begin_anew(self._talk.lines, until)
         self._talk.program.until, self._talk.program.is_kept = until, is_kept
 
+    def _be_ready_in_time(self, until: float | None) -> None:
+        """The same for several lines, which have until then. Raises OutOfTime where that is over."""
+        latest = _earlier(self._until, until)
+        if until is not None and time.monotonic() >= until:
+            self._be_open()
+            raise OutOfTime("there was no time for what was to be asked")
+        self._be_ready(latest)
+
     def _take_in(self, until: float | None) -> None:
         """Waits for what the program owes, and takes it in. Where it doesn't come, as long as the
         program is at work, the conversation is out of step. Raises OutOfTime where there is an end,
@@ -387,7 +408,9 @@ class Session(Closing):
             if until is not None:
                 raise
         except ProgramEnded:
-            talk.program.ended = None
+            if self._closed:
+                raise
+            program.ended = None
         program.patience = 0.0
 
     def _ready(self) -> Conversation:
