@@ -1,6 +1,8 @@
 -- When a fact follows from an information, and when it is barred by it.
-use Rattle.std.proofs.Common.{◌≡◌, ◌≢◌, ℕ, ℤ, ◌≤◌, ◌<◌, ◌^◌, ◌-◌, ◌*◌, ◌%◌, ◌≤ℤ◌, ◌<ℤ◌, ◌+ℤ◌, ◌-ℤ◌, pos, if◌then◌else◌, neg_ℤ, Bool, true, false, ◌⊎◌, Option, Some, None, IfNone}
-use Rattle.std.proofs.Common.{inl, inr, refl, ◌∙◌, arith, rules, ap, subst, sym, IsTrue, ◌↔◌, w64, bit_and, ◌==◌, eq-eqb}
+use Rattle.std.proofs.Common.{◌≡◌, ◌≢◌, ℕ, ℤ, ◌≤◌, ◌<◌, ◌^◌, ◌-◌, ◌*◌, ◌%◌, ◌≤ℤ◌, ◌<ℤ◌, ◌+ℤ◌, ◌-ℤ◌, pos, if◌then◌else◌}
+use Rattle.std.proofs.Common.{neg_ℤ, Bool, true, false, ◌⊎◌, Option, Some, None, IfNone}
+use Rattle.std.proofs.Common.{inl, inr, refl, ◌∙◌, arith, rules, ap, subst, sym, IsTrue, ◌↔◌, w64, bit_and, ◌==◌}
+use Rattle.std.proofs.Common.{eq-eqb}
 use Rattle.std.specs.Int.{bit_at, bit_not, trailing_zeros, int_max, int_min}
 use Rattle.std.proofs.lemmas.Int.{ints, clamps, by_lt_z}
 use Rattle.std.proofs.lemmas.Bool.{cases_eq, cases_lt}
@@ -88,7 +90,8 @@ same_follows t a b h = (λ y. by (h.0 y), λ f. h.1 (f (Symbol b) refl))
     by l p k = k
 
 -- elements and symbols aren't told by a span
-pub foreign_to_span : (fact : Fact) (s : spans.Span) → ((n : ℤ) → fact ≡ AtLeast n → ⊥) → ((n : ℤ) → fact ≡ AtMost n → ⊥)
+pub foreign_to_span : (fact : Fact) (s : spans.Span) → ((n : ℤ) → fact ≡ AtLeast n → ⊥)
+    → ((n : ℤ) → fact ≡ AtMost n → ⊥)
     → ((n : ℤ) → fact ≡ Is n → ⊥) → ((n : ℤ) → fact ≡ Other n → ⊥) → Follows false fact (Span s)
 foreign_to_span (AtLeast n) s a b c d = absurd (a n refl)
 foreign_to_span (AtMost n) s a b c d = absurd (b n refl)
@@ -202,7 +205,8 @@ other_barred t n s h = (
     end v f = by_lt_z v n (λ l. absurd (f (λ e. omega (arith, ints, l, e))))
         (λ a. by_lt_z n v (λ l. absurd (f (λ e. omega (arith, ints, l, e)))) (λ b. omega (arith, ints, a, b)))
 
-pub among_barred : (t : Bool) (e s : sets.Elements) → (IsTrue t ↔ (bit_and s.bits e.bits ≡ 0)) → Bars t (Among e) (Set s)
+pub among_barred : (t : Bool) (e s : sets.Elements) → (IsTrue t ↔ (bit_and s.bits e.bits ≡ 0))
+    → Bars t (Among e) (Set s)
 among_barred t e s h = (λ y. by (h.0 y), λ f. h.1 (none f))
   where
     by : bit_and s.bits e.bits ≡ 0 → (p : Point) → Holds (Set s) p → IsSo (Among e) p → ⊥

@@ -6,7 +6,8 @@ ghost use Rattle.prop_lattice.specs.Points.{Point, Holds, IsPointOf};
 ghost use Rattle.prop_lattice.specs.Rank.{IsOf};
 ghost use Rattle.prop_lattice.specs.declared.info.Info.TheVariants.{Nothing, Contradiction};
 ghost use Rattle.prop_lattice.specs.declared.info.Kind.{Kind as KindOf};
-ghost use Rattle.prop_facts.specs.Facts.{AreSo, IsHole, IsInRange, IsOfKind, IsSo, IsSymbol, parts_of};
+ghost use Rattle.prop_facts.specs.Facts.{AreSo, IsHole, IsInRange, IsOfKind, IsSo, IsSymbol};
+ghost use Rattle.prop_facts.specs.Facts.{parts_of};
 
 use prop_lattice::span::B;
 use prop_lattice::{Elements, Info, Kind, Partial, Span};
@@ -112,8 +113,8 @@ impl Fact {
         }
     }
 
-    /// What is left of an information where this is so. Of a span it takes an end at the most that is
-    /// the number which the value isn't.
+    /// What is left of an information where this is so. Of a span it takes an end at the most that
+    /// is the number which the value isn't.
     pub fn narrow(self, info: Info) -> Info
         ensures left { (p : Point) → IsInRange p → IsSo self p → Holds info p → Holds result p }
         ensures within { (p : Point) → Holds result p → Holds info p }
@@ -166,8 +167,8 @@ impl Fact {
     /// that every number keeps, none does; nor does any say nothing or a contradiction.)
     pub fn parts(info: Info) -> Parts
         ensures parts { result ≡ parts_of info }
-        ensures so { info ≢ Contradiction → (kind : KindOf) (size : ℕ) (p : Point) → IsOf kind size info
-            → IsPointOf kind size p → (AreSo result p ↔ Holds info p) }
+        ensures so { info ≢ Contradiction → (kind : KindOf) (size : ℕ) (p : Point)
+            → IsOf kind size info → IsPointOf kind size p → (AreSo result p ↔ Holds info p) }
     {
         match info {
             Info::Span(span) => Parts {

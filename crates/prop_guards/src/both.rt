@@ -59,7 +59,8 @@ impl<A: Guarded, B: Guarded> Guarded for Both<A, B> {
         }
     }
 
-    ghost silent = { either_silent A.value_of B.value_of A.is_silent B.is_silent A.silent B.silent };
+    ghost silent = { either_silent A.value_of B.value_of A.is_silent B.is_silent A.silent
+        B.silent };
 
     ghost repeated = { either_repeated A.value_of B.value_of A.own_of B.own_of A.is_repeated
         B.is_repeated A.repeated B.repeated };

@@ -28,8 +28,8 @@ pub trait Guarded: Rule {
         ensures { result ≡ is_silent self.now param.now args.now };
 
     /// Whether it is seen at a glance that a call with this parameter and these arguments answers
-    /// just the argument at the rule's own place, and so nothing new where the cell of that input is
-    /// the output's.
+    /// just the argument at the rule's own place, and so nothing new where the cell of that input
+    /// is the output's.
     fn repeats(&self, param: &Param, args: &[Info]) -> bool
         ensures { result ≡ is_repeated self.now param.now args.now };
 

@@ -1,6 +1,7 @@
 //! The rules of the kit, guarded.
 ghost use Rattle.std.specs.Prelude.{◌≡◌, ◌||◌};
-ghost use Rattle.prop_guards.specs.Kit.{is_inside, is_repeated, is_silent, is_silent_of_two, own_of};
+ghost use Rattle.prop_guards.specs.Kit.{is_inside, is_repeated, is_silent, is_silent_of_two};
+ghost use Rattle.prop_guards.specs.Kit.{own_of};
 ghost use Rattle.prop_guards.specs.Kit.{is_silent_of_three, ruled_out};
 ghost use Rattle.prop_guards.specs.laws.KitLaws.{kit_silent, kit_repeated, kit_own, kit_barred};
 ghost use Rattle.prop_sets.specs.Truth.{is_nothing, leaves};

@@ -1,7 +1,8 @@
 //! The rules beside the kit's, guarded.
 ghost use Rattle.std.specs.Prelude.{◌≡◌, false, None};
 ghost use Rattle.prop_guards.specs.Wide.{is_silent, is_silent_of_two, is_silent_of_three, own_of};
-ghost use Rattle.prop_guards.specs.laws.WideLaws.{wide_barred, wide_own, wide_repeated, wide_silent};
+ghost use Rattle.prop_guards.specs.laws.WideLaws.{wide_barred, wide_own, wide_repeated};
+ghost use Rattle.prop_guards.specs.laws.WideLaws.{wide_silent};
 ghost use Rattle.prop_wide.specs.declared.wide.Wide.TheVariants.{Choose};
 
 use crate::guarded::Guarded;

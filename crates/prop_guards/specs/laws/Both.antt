@@ -10,7 +10,8 @@ use Rattle.prop_guards.specs.Guards.{AreSilent, AreRepeated, AreRuledOut, IsOwn}
 
 module _ {A B : Type 0} (value_a : A → Param → List Info → Info)
     (value_b : B → Param → List Info → Info) where
-  pub either_silent : (test_a : A → Param → List Info → Bool) (test_b : B → Param → List Info → Bool)
+  pub either_silent : (test_a : A → Param → List Info → Bool)
+      (test_b : B → Param → List Info → Bool)
       → ((rule : A) → AreSilent (value_a rule) (test_a rule))
       → ((rule : B) → AreSilent (value_b rule) (test_b rule)) → (rule : Both A B)
       → AreSilent (either_of value_a value_b rule) (either_of test_a test_b rule)

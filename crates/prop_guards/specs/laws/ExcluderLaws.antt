@@ -62,7 +62,8 @@ all_roomy : (n : ℕ) (others : List Info) → list_all (λ a. nat_lt n (points_
     → Each (IsRoomy n) (selections others)
 all_roomy n [] e = (inl refl, tt)
 all_roomy n (x ∷ others) e =
-    let parts = and_parts (nat_lt n (points_in x)) (list_all (λ a. nat_lt n (points_in a)) others) e in
+    let parts = and_parts (nat_lt n (points_in x)) (list_all (λ a. nat_lt n (points_in a)) others)
+    e in
     let rest = all_roomy n others parts.1 in
     each_append (IsRoomy n) (selections others) (map (λ s. x ∷ s) (selections others)) rest
     (each_map (IsRoomy n) (λ s. x ∷ s) (selections others)
@@ -91,7 +92,8 @@ roomy_says_y y others e =
     (each_map (λ a. Below a y) (told_by y) (selections others)
     (each_weaker (λ s. (length s ≤ length others) × IsRoomy (length others) s)
     (λ s. Below (told_by y s) y)
-    (λ s p. subst (λ a. Below a y) (sym (says_y (length others) y s p.0 p.1)) (info_laws.reflexive y))
+    (λ s p. subst (λ a. Below a y) (sym (says_y (length others) y s p.0 p.1))
+    (info_laws.reflexive y))
     (selections others)
     (each_both (λ s. length s ≤ length others) (IsRoomy (length others)) (selections others)
     (few_selected others) (all_roomy (length others) others e))))))
@@ -103,11 +105,13 @@ record Says (many : ℕ) (others : List Info) : Type 0 where
 
 roomy_says : (many : ℕ) (others : List Info) → are_roomy many others ≡ true → Says many others
 roomy_says many others e =
-    let parts = and_parts (length others == many) (list_all (λ a. nat_lt many (points_in a)) others) e in
+    let parts = and_parts (length others == many)
+    (list_all (λ a. nat_lt many (points_in a)) others) e in
     let same : length others ≡ many = eqb-true (length others) many parts.0 in
     record {
       count = parts.0;
-      same = λ y. roomy_says_y y others (subst (λ n. list_all (λ a. nat_lt n (points_in a)) others ≡ true)
+      same = λ y. roomy_says_y y others
+          (subst (λ n. list_all (λ a. nat_lt n (points_in a)) others ≡ true)
           (sym same) parts.1);
     }
 
@@ -133,7 +137,11 @@ all_is_nothing size some fits =
     let least : 2 ^ 1 ≤ 2 ^ size = pow-le-pow_right (omega arith) some in
     let most : 2 ^ size ≤ 2 ^ 64 = pow-le-pow_right (omega arith) fits in
     rw (elements_from-bits (all_bits size)
-    (record { bits = all_bits size; some = omega (arith, least); fits = omega (arith, least, most) })
+    (record {
+      bits = all_bits size;
+      some = omega (arith, least);
+      fits = omega (arith, least, most);
+    })
     refl) (rw (eq-eqb (all_bits size) (all_bits size) refl) refl)
 
 eight_silent : (m : Relation) (args : List Info) → (nat_lt 0 m.from.size && are_roomy 8 args) ≡ true
@@ -210,7 +218,8 @@ excluded_is : (a : spans.Span) (others : List Info) (k : ℕ) → a.lo ≡ a.hi
     → slice_get others k ≡ Some (Span a) → excluded_of (Span a) others ≡ Contradiction
 excluded_is a others k e at =
     let told_all = map (told_by (Span a)) (selections others) in
-    let above = single_selected (λ s. Below (told_by (Span a) s) (excluded_of (Span a) others)) others
+    let above = single_selected (λ s. Below (told_by (Span a) s) (excluded_of (Span a) others))
+    others
     k (Span a) at
     (each_unmap (λ b. Below b (excluded_of (Span a) others)) (told_by (Span a)) (selections others)
     (all_above_each (Span a) told_all)) in

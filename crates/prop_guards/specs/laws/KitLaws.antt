@@ -259,7 +259,8 @@ one_open related x y e p q = truth_silent related x y e (by (is_nothing x) refl 
 
     by : (s : Bool) → is_nothing x ≡ s → (s || is_nothing y) ≡ true
         → (outputs_of related (leaves x) (leaves y) == 3) ≡ true
-    by true u h = tells_both related x y true true (leaves y 0) (leaves y 1) (both x u 0) (both x u 1)
+    by true u h = tells_both related x y true true (leaves y 0) (leaves y 1) (both x u 0)
+        (both x u 1)
         refl refl p
     by false u h = tells_both related x y (leaves x 0) (leaves x 1) true true refl refl (both y h 0)
         (both y h 1) q
@@ -280,14 +281,16 @@ or_silent x y e =
 
 and_back_silent : (z y : Info) → leaves_open z y 1 ≡ true → and_back_of z y ≡ Nothing
 and_back_silent z y e =
-    let parts = and_parts (is_nothing z || is_nothing y) (leaves z 1 && (leaves y 0 || leaves y 1)) e in
+    let parts = and_parts (is_nothing z || is_nothing y) (leaves z 1 && (leaves y 0 || leaves y 1))
+    e in
     let left = and_parts (leaves z 1) (leaves y 0 || leaves y 1) parts.1 in
     one_open (λ z y x. is_and x y z) z y parts.0 (and_back_table (leaves y 0) (leaves y 1) left.1)
     (rw left.0 (and_back_unknown (leaves z 0)))
 
 or_back_silent : (z y : Info) → leaves_open z y 0 ≡ true → or_back_of z y ≡ Nothing
 or_back_silent z y e =
-    let parts = and_parts (is_nothing z || is_nothing y) (leaves z 0 && (leaves y 0 || leaves y 1)) e in
+    let parts = and_parts (is_nothing z || is_nothing y) (leaves z 0 && (leaves y 0 || leaves y 1))
+    e in
     let left = and_parts (leaves z 0) (leaves y 0 || leaves y 1) parts.1 in
     one_open (λ z y x. is_or x y z) z y parts.0 (or_back_table (leaves y 0) (leaves y 1) left.1)
     (rw left.0 (or_back_unknown (leaves z 1)))
@@ -304,21 +307,26 @@ kit_silent Add param args c e =
     sym (value_is Add param args) ∙ two_silent (on_spans sum_of) (λ a. is_silent Add a ≡ true)
     (spans_silent sum_of) args e
 kit_silent Sub param args c e =
-    sym (value_is Sub param args) ∙ two_silent (on_spans difference_of) (λ a. is_silent Sub a ≡ true)
+    sym (value_is Sub param args) ∙ two_silent (on_spans difference_of)
+    (λ a. is_silent Sub a ≡ true)
     (spans_silent difference_of) args e
 kit_silent Mul param args c e =
-    sym (value_is Mul param args) ∙ scale_silent (λ k. on_spans (λ x y. product_of x y k)) param args
+    sym (value_is Mul param args) ∙ scale_silent (λ k. on_spans (λ x y. product_of x y k)) param
+    args
     (λ k. two_silent (on_spans (λ x y. product_of x y k)) (λ a. is_silent Mul a ≡ true)
     (spans_silent (λ x y. product_of x y k)) args e)
 kit_silent Div param args c e =
-    sym (value_is Div param args) ∙ scale_silent (λ k. on_spans (λ z y. quotient_of z y k)) param args
+    sym (value_is Div param args) ∙ scale_silent (λ k. on_spans (λ z y. quotient_of z y k)) param
+    args
     (λ k. two_silent (on_spans (λ z y. quotient_of z y k)) (λ a. is_silent Div a ≡ true)
     (spans_silent (λ z y. quotient_of z y k)) args e)
 kit_silent Square param args c e =
-    sym (value_is Square param args) ∙ one_silent (on_span square_of) (λ a. is_silent Square a ≡ true)
+    sym (value_is Square param args) ∙ one_silent (on_span square_of)
+    (λ a. is_silent Square a ≡ true)
     (span_silent square_of) args e
 kit_silent Root param args c e =
-    sym (value_is Root param args) ∙ two_silent rooter_of (λ a. is_silent Root a ≡ true) root_silent args e
+    sym (value_is Root param args) ∙ two_silent rooter_of (λ a. is_silent Root a ≡ true)
+    root_silent args e
 kit_silent Less param args c e =
     sym (value_is Less param args) ∙ two_silent (on_spans less_of) (λ a. is_silent Less a ≡ true)
     (spans_silent less_of) args e
@@ -336,10 +344,12 @@ kit_silent Alike param args c e =
     ∙ two_silent comparer_of (λ a. AreClear a × (is_silent Alike a ≡ true))
     (λ x y p. comparer_silent x y p.0.0 p.0.1.0 p.1) args (c, e)
 kit_silent Apart param args c e =
-    sym (value_is Apart param args) ∙ three_silent parter_of (λ a. is_silent Apart a ≡ true) parter_silent
+    sym (value_is Apart param args) ∙ three_silent parter_of (λ a. is_silent Apart a ≡ true)
+    parter_silent
     args e
 kit_silent Switch param args c e =
-    sym (value_is Switch param args) ∙ two_silent passer_of (λ a. is_silent Switch a ≡ true) passer_silent
+    sym (value_is Switch param args) ∙ two_silent passer_of (λ a. is_silent Switch a ≡ true)
+    passer_silent
     args e
 kit_silent Image param args c e =
     sym (value_is Image param args) ∙ rows_silent (λ m. on_set (image_of m)) param args
@@ -350,9 +360,11 @@ kit_silent Coimage param args c e =
     (λ m. one_silent (on_set (coimage_of m)) (λ a. is_silent Coimage a ≡ true)
     (set_silent (coimage_of m)) args e)
 kit_silent Not param args c e =
-    sym (value_is Not param args) ∙ one_silent not_of (λ a. is_silent Not a ≡ true) not_silent args e
+    sym (value_is Not param args) ∙ one_silent not_of (λ a. is_silent Not a ≡ true) not_silent args
+    e
 kit_silent And param args c e =
-    sym (value_is And param args) ∙ two_silent and_of (λ a. is_silent And a ≡ true) and_silent args e
+    sym (value_is And param args) ∙ two_silent and_of (λ a. is_silent And a ≡ true) and_silent args
+    e
 kit_silent AndBack param args c e =
     sym (value_is AndBack param args) ∙ two_silent and_back_of (λ a. is_silent AndBack a ≡ true)
     and_back_silent args e

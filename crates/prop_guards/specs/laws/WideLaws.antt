@@ -106,8 +106,11 @@ agrees x y e = rw e refl
 decide_silent : (a b o : Info) → a ≢ Contradiction → b ≢ Contradiction → o ≢ Contradiction
     → is_silent_of_three Decide a b o ≡ true → decide_of a b o ≡ Nothing
 decide_silent a b o n m k e =
-    let first = agrees a o (comparer_silent a o n k (one (is_nothing a) (is_nothing b) (is_nothing o) e)) in
-    let second = agrees b o (comparer_silent b o m k (other (is_nothing a) (is_nothing b) (is_nothing o) e)) in rw (first, second) refl
+    let first = agrees a o
+    (comparer_silent a o n k (one (is_nothing a) (is_nothing b) (is_nothing o) e)) in
+    let second = agrees b o
+    (comparer_silent b o m k (other (is_nothing a) (is_nothing b) (is_nothing o) e)) in
+    rw (first, second) refl
   where
     -- of o nothing is known, or of both
     one : (p q r : Bool) → (r || (p && q)) ≡ true → (p || r) ≡ true
