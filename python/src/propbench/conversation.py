@@ -132,6 +132,26 @@ class Conversation:
         elif words[0] == "limit":
             self.limit = self.program_limit = int(words[1])
 
+    def read_known(self) -> Known:
+        """The names that the lines have declared. (What was taken in last may have been cut short,
+        where the conversation is out of step: then they are read anew.)"""
+        if self.in_step or self.owed:
+            return self.known
+        known = Known()
+        for line in self.lines:
+            words = line.split()
+            learn = known.learns.get(words[0])
+            if learn:
+                learn(words, line)
+        return known
+
+    def read_limit(self, first: int) -> int:
+        """The limit that the user gave, by the lines: the first one where none of them gives it."""
+        if self.in_step or self.owed:
+            return self.limit
+        words = (line.split() for line in reversed(self.lines))
+        return next((int(each[1]) for each in words if each[0] == "limit"), first)
+
     def cut(self, line: str, steps: int) -> None:
         """Takes in that a question was run for so many steps."""
         self.lines += [f"limit {steps}", line, f"limit {self.limit}"]

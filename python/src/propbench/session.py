@@ -116,12 +116,12 @@ class Session(Closing):
     @property
     def known(self) -> Known:
         """The names that the lines so far have declared."""
-        return self._ready().known
+        return self._seen().read_known()
 
     @property
     def limit(self) -> int:
         """The most steps of a run, as given last."""
-        return self._ready().limit
+        return self._seen().read_limit(self._first_limit)
 
     @property
     def pid(self) -> int:
@@ -413,13 +413,13 @@ class Session(Closing):
             program.ended = None
         program.patience = 0.0
 
-    def _ready(self) -> Conversation:
-        """The conversation, in step with the program but for what that owes, which changes neither
-        names nor the limit."""
+    def _seen(self) -> Conversation:
+        """The conversation, for what its lines say: the program isn't asked, nor begun anew."""
         turn = self._take_turn()
         try:
-            if self._closed or not self._talk.owed:
-                self._be_ready(self._until)
+            self._be_open()
+            if self._talk.program.ended:
+                raise self._talk.program.ended
             return self._talk
         finally:
             turn.lock.release()
@@ -545,7 +545,7 @@ _CALLS = {_LOOKING} | {
         Session.look,
         Session.replay,
         Session.drop_lines,
-        Session._ready,
+        Session._seen,
         Session._notice_end,
     )
 }
