@@ -1,13 +1,12 @@
 -- Of lawful procedures single points are held where the answer holds the point.
 use Rattle.std.specs.Prelude.{◌≡◌, ℕ, List, [], ◌∷◌, Some, All, slice_get}
-use Rattle.std.specs.List.{AllZip, AllByRecursion}
-use Rattle.std.proofs.Common.{arith, refl, rules, sym, subst, ◌∙◌}
+use Rattle.std.proofs.Common.{arith, rules, sym, subst, ◌∙◌}
 use Rattle.std.proofs.lemmas.Int.{ints}
 use Rattle.prop_lattice.specs.Order.{Below}
 use Rattle.prop_lattice.specs.Points.{Point, Number, Element, Symbol, Holds, IsPointOf}
 use Rattle.prop_lattice.specs.Rank.{IsOf}
 use Rattle.prop_lattice.specs.declared.info.Info.{Info}
-use Rattle.prop_lattice.specs.declared.info.Info.TheVariants.{Nothing, Span, Set, Sym, Contradiction}
+use Rattle.prop_lattice.specs.declared.info.Info.TheVariants.{Nothing, Span, Set, Sym}
 use Rattle.prop_lattice.specs.declared.info.Kind.{Kind}
 use Rattle.prop_lattice.specs.declared.info.Kind.TheVariants as kinds
 use Rattle.prop_hall.specs.laws.HullLaws.{below_holds}

@@ -1,5 +1,6 @@
 -- Plans: a value for each cell of a network, which leaves a single point.
-use Rattle.std.specs.Prelude.{◌≡◌, ◌<◌, ◌≤◌, ℕ, List, All, length, take, slice_index_or}
+use Rattle.std.specs.Prelude.{◌≡◌, ◌<◌, ◌≤◌, ℕ, Bool, IsTrue, List, All, length, take}
+use Rattle.std.specs.Prelude.{slice_index_or}
 use Rattle.prop_lattice.specs.Points.{Point}
 use Rattle.prop_lattice.specs.Rank.{IsOf}
 use Rattle.prop_lattice.specs.declared.info.Info.{Info}
@@ -50,9 +51,11 @@ Satisfy library d s values = (points : ℕ → Point)
 
 -- ---- how far a check has come
 
--- the values of a plan, and how many instances were looked at
+-- the values of a plan, whether they are known to fit the cells, and how many instances are known
+-- to be met
 pub record Checked : Type 0 where
   pub values : List Info
+  pub fitting : Bool
   pub met : ℕ
 
 -- each of the first n instances answers on its inputs' values what its output's value implies
@@ -60,7 +63,8 @@ abbrev pub AreMet : List Stored → Data → List Info → ℕ → Type 0
 AreMet library d values n =
     All (λ x. Meets (value_in values) (constraint_of library x)) (take n d.instances)
 
--- those that were looked at are met
+-- what is known is so
 pub record IsUnderWay (library : List Stored) (d : Data) (c : Checked) : Type 0 where
+  pub fitting : IsTrue c.fitting → AreValues d.kinds c.values
   pub within : c.met ≤ length d.instances
   pub met : AreMet library d c.values c.met

@@ -1,15 +1,15 @@
 //! Checks a plan, so many calls at a time.
-ghost use Rattle.std.specs.Prelude.{◌≡◌, ◌≢◌, ◌+◌, ◌<◌, ◌≤◌, length};
+ghost use Rattle.std.specs.Prelude.{◌≡◌, ◌↔◌, ◌<◌, ◌≤◌, All, IsTrue, List, length};
 ghost use Rattle.prop_numbers.specs.Sets.{set_of};
 ghost use Rattle.prop_procedures.specs.Kept.{AllMean, stored_of};
 ghost use Rattle.prop_procedures.specs.Stored.{Stored};
 ghost use Rattle.prop_cells.specs.Data.{Data, IsKept};
-ghost use Rattle.std.specs.Prelude.{List};
-ghost use Rattle.prop_plans.specs.Plans.{IsPlan, IsUnderWay, Satisfy};
-ghost use Rattle.prop_plans.specs.Verdicts.{IfCut, IfYes, Judges, UnlessNo};
+ghost use Rattle.prop_cells.specs.inner.Problems.{Satisfies};
+ghost use Rattle.prop_plans.specs.Plans.{AreValues, IsPlan, IsUnderWay, Satisfy, value_in};
+ghost use Rattle.prop_plans.specs.Verdicts.{AreCalls, IfCut, IfYes, Judges};
 
-use crate::looking::{first_unmet, may_be};
-use prop_cells::Network;
+use crate::looking::{are_implied, are_values, first_unmet};
+use prop_cells::{Cells, Network};
 use prop_lattice::Info;
 use prop_premises::Worldview;
 use prop_procedures::Rule;
@@ -35,11 +35,12 @@ pub struct Progress {
     pub calls: u64,
 }
 
-/// The check of a plan: a value for each cell of a network, and how many of its instances were
-/// looked at and are met.
+/// The check of a plan: a value for each cell of a network, whether these are known to fit the
+/// cells, and how many instances are known to be met.
 #[derive(Drop)]
 pub struct Check {
     values: Vec<Info>,
+    fitting: bool,
     met: usize,
 }
 
@@ -48,7 +49,11 @@ impl Model for Check {
 
     ghost Value = { Checked };
 
-    ghost view = { λ c. record { values = c.values.items; met = c.met } };
+    ghost view = { λ c. record {
+      values = c.values.items;
+      fitting = c.fitting;
+      met = c.met;
+    } };
 }
 
 impl Check {
@@ -59,7 +64,11 @@ impl Check {
         ensures met { result.met ≡ 0 }
         ensures under_way { (library : List Stored) (d : Data) → IsUnderWay library d result }
     {
-        Check { values, met: 0 }
+        Check {
+            values,
+            fitting: false,
+            met: 0,
+        }
     }
 
     /// The values that are checked, one for each cell.
@@ -69,12 +78,43 @@ impl Check {
         &self.values
     }
 
-    /// Looks at each value and at each statement, and calls up to so many instances as the steps
-    /// tell, from the first one on that was not looked at yet.
+    /// Whether there is a value of its kind for each cell, and no other. Where there is, that is
+    /// known from then on.
+    fn has_values(&mut self, cells: &Cells) -> bool
+        requires { IsTrue self.old.fitting → AreValues cells.now.kinds self.old.values }
+        ensures known { self.new ≡ record self.old { fitting = result } }
+        ensures values { IsTrue result ↔ AreValues cells.now.kinds self.old.values }
+    {
+        if self.fitting {
+            return true;
+        }
+        let fitting = are_values(&self.values, cells);
+        self.fitting = fitting;
+        fitting
+    }
+
+    /// Whether there is a value of its kind for each cell, and no other, and it implies what is
+    /// believed of the cell.
+    fn may_be(&mut self, cells: &Cells, view: &Worldview) -> bool
+        requires cells { All (λ x. x.cell < length cells.now.kinds) cells.now.statements }
+        requires fitting { IsTrue self.old.fitting → AreValues cells.now.kinds self.old.values }
+        ensures values { self.new.values ≡ self.old.values }
+        ensures met { self.new.met ≡ self.old.met }
+        ensures fitting { IsTrue self.new.fitting → AreValues cells.now.kinds self.old.values }
+        ensures may_be { IsTrue result ↔ (AreValues cells.now.kinds self.old.values
+            × All (Satisfies (set_of view.now) (value_in self.old.values))
+            cells.now.statements) }
+    {
+        self.has_values(cells) && are_implied(cells.statements(), &self.values, view)
+    }
+
+    /// Looks at each statement, and at the values where they aren't known to fit the cells. Then it
+    /// calls up to so many instances as the steps tell, from the first one on that is not known to
+    /// be met.
     ///
-    /// It says yes just where the values are a plan by what is believed, once all instances are
-    /// met. Then the points that the values leave satisfy everything. It says no just where they
-    /// are none. Where the steps were used up before, the next run goes on. It takes no memory.
+    /// It says yes only where the values are a plan by what is believed: then the points that they
+    /// leave satisfy everything. It says no only where they are none. Where the steps are used up
+    /// before, the next run goes on. It takes no memory.
     pub fn go_on<R: Rule + Drop>(
         &mut self,
         network: &Network<R>,
@@ -96,10 +136,12 @@ impl Check {
             self.old.values) }
         ensures few { result.calls ≤ steps }
         ensures used { IfCut result.verdict (result.calls ≡ steps) }
-        ensures ahead { UnlessNo result.verdict (self.new.met ≡ self.old.met + result.calls) }
+        ensures left { IfCut result.verdict
+            (self.new.met < length network.now.cells.instances) }
+        ensures calls { AreCalls result.verdict self.old.met self.new.met result.calls }
     {
         let cells = network.data();
-        if !may_be(&self.values, cells, view) {
+        if !self.may_be(cells, view) {
             return Progress {
                 verdict: Verdict::No,
                 calls: 0,

@@ -1,6 +1,6 @@
 //! Looks at the values of a plan: at each by itself, at what is stated, and at each instance.
-ghost use Rattle.std.specs.Prelude.{◌≡◌, ◌↔◌, ◌<◌, ◌≤◌, ℕ, All, IsTrue, List, Some, false, length};
-ghost use Rattle.std.specs.Prelude.{map, slice_get};
+ghost use Rattle.std.specs.Prelude.{◌≡◌, ◌↔◌, ◌<◌, ◌≤◌, All, IsTrue, Some, length, map};
+ghost use Rattle.std.specs.Prelude.{slice_get};
 ghost use Rattle.prop_arith.specs.Comparing.{is_single};
 ghost use Rattle.prop_numbers.specs.Sets.{set_of};
 ghost use Rattle.prop_procedures.specs.Kept.{AllMean, stored_of};
@@ -38,7 +38,7 @@ fn is_value_of(info: Info, kind: Kinded) -> bool
 }
 
 /// Whether there is a value of its kind for each cell, and no other.
-fn are_values(values: &[Info], cells: &Cells) -> bool
+pub(crate) fn are_values(values: &[Info], cells: &Cells) -> bool
     ensures { IsTrue result ↔ AreValues cells.now.kinds values.now }
 {
     if values.len() != cells.len() {
@@ -71,7 +71,7 @@ fn is_implied(statement: &Statement, values: &[Info], view: &Worldview) -> bool
 }
 
 /// Whether each statement that is believed is implied by its cell's value.
-fn are_implied(statements: &[Statement], values: &[Info], view: &Worldview) -> bool
+pub(crate) fn are_implied(statements: &[Statement], values: &[Info], view: &Worldview) -> bool
     requires { All (λ x. x.cell < length values.now) statements.now }
     ensures { IsTrue result ↔ All (Satisfies (set_of view.now) (value_in values.now))
         statements.now }
@@ -82,16 +82,6 @@ fn are_implied(statements: &[Statement], values: &[Info], view: &Worldview) -> b
         }
     }
     true
-}
-
-/// Whether there is a value of its kind for each cell, and no other, which implies what is believed
-/// of it.
-pub(crate) fn may_be(values: &[Info], cells: &Cells, view: &Worldview) -> bool
-    requires { All (λ x. x.cell < length cells.now.kinds) cells.now.statements }
-    ensures { IsTrue result ↔ (AreValues cells.now.kinds values.now
-        × All (Satisfies (set_of view.now) (value_in values.now)) cells.now.statements) }
-{
-    are_values(values, cells) && are_implied(cells.statements(), values, view)
 }
 
 /// Writes the values of these cells into as many places.

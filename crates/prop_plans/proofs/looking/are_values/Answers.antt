@@ -1,4 +1,4 @@
-use Rattle.std.proofs.Common.{◌<◌, ◌≡◌, ℕ, arith, below_more, length, subst, sym}
+use Rattle.std.proofs.Common.{◌<◌, ◌≡◌, ℕ, arith, below_more, length, subst}
 use Rattle.prop_lattice.specs.declared.info.Info.{Info}
 use Rattle.prop_lattice.specs.declared.info.Info.TheVariants.{Nothing}
 use Rattle.prop_procedures.specs.declared.shape.Kinded.{Kinded}

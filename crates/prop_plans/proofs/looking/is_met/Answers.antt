@@ -1,4 +1,4 @@
-use Rattle.std.proofs.Common.{◌<◌, ◌≡◌, ◌≤◌, ◌∙◌, List, ℕ, [], ◌∷◌, Some, ap, length, map, refl, slice_get, sym, subst, IsTrue}
+use Rattle.std.proofs.Common.{◌<◌, ◌≡◌, ◌≤◌, ◌∙◌, List, ℕ, Some, ap, length, map, slice_get, sym, subst, IsTrue}
 use Rattle.std.proofs.lemmas.Option.{same_Some, slice_get_within}
 use Rattle.prop_lattice.specs.declared.info.Info.TheVariants.{Nothing}
 use Rattle.prop_procedures.specs.Kept.{stored_of}
