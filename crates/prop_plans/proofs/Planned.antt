@@ -110,7 +110,8 @@ pub few_at : {R : Type 0} {X : Type 0} {F : X → Type 0} {g : _} → (value : R
     (library : Library R X F g) (d : Data) (n : ℕ) (x : Instance) → IsKept (stored_of value library) d
     → slice_get d.instances n ≡ Some x → length x.inputs ≤ 8
 few_at value library d n x kept at =
-    few_inputs value library d.kinds x (All-at (IsFitting (stored_of value library) d.kinds) d.instances n x kept.fits at)
+    few_inputs value library d.kinds x
+    (All-at (IsFitting (stored_of value library) d.kinds) d.instances n x kept.fits at)
 
 -- one more is met
 pub one_more : (library : List Stored) (d : Data) (values : List Info) (n : ℕ) → n < length d.instances

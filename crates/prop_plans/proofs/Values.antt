@@ -52,7 +52,8 @@ pub values_of_kinds : (kinds : List Kinded) (values : List Info) → AreValues k
     → AreOfKinds kinds (value_in values)
 values_of_kinds kinds values v = record {
   of_kind = λ cell k at.
-      subst (λ (q : Kinded). IsOf q.kind q.size (value_in values cell)) (get_or_from_slice_get kinds cell k span_kind at)
+      subst (λ (q : Kinded). IsOf q.kind q.size (value_in values cell))
+      (get_or_from_slice_get kinds cell k span_kind at)
       (v.each cell (slice_get_within kinds cell k at)).of_kind;
 }
 
