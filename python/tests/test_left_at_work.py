@@ -25,7 +25,7 @@ from propbench.program import StillAtWork
 HELD = Path(__file__).with_name("held_program.py")
 RUNS = "ask why core settle worldview nogoods"
 # How long a call may take behind its `seconds`: a second, and half of one on a busy machine.
-LATE = 1.5
+LATE = 4.0
 # A statement that changes nothing.
 SAID = "tell a one 1"
 # A chain of sums: what follows for the last cell takes more steps than a slice has.

@@ -21,8 +21,9 @@ from propbench import Done, OutOfTime, ProgramEnded, Reply, Session, SessionInUs
 from propbench.overview import overview
 
 SOURCES = str(Path(__file__).resolve().parents[1] / "src")
-# How long a call may take behind its `seconds`: a second, and half of one more on a busy machine.
-LATE = 1.5
+# How long a call may take behind its `seconds`: a second, and more where the machine is busy with
+# other things.
+LATE = 4.0
 
 
 def script(path: Path, text: str) -> str:
