@@ -24,7 +24,8 @@ from propbench.program import StillAtWork
 
 HELD = Path(__file__).with_name("held_program.py")
 RUNS = "ask why core settle worldview nogoods"
-# How long a call may take behind its `seconds`: a second, and half of one on a busy machine.
+# How long a call may take behind its `seconds`: a second, and more where the machine is busy with
+# other things.
 LATE = 4.0
 # A statement that changes nothing.
 SAID = "tell a one 1"
