@@ -1,12 +1,17 @@
 //! One place: what is believed of it.
+ghost use Rattle.std.specs.Prelude.{◌≡◌, ◌≢◌, ◌↔◌, ◌⊎◌, IsTrue, IfSome, None, ◌<ℤ◌};
+ghost use Rattle.prop_lattice.specs.Order.{merge_of};
+ghost use Rattle.prop_lattice.specs.Points.{Number};
+ghost use Rattle.prop_trail.specs.Narrowing.{IsNarrowed, IsTight};
+ghost use Rattle.prop_trail.specs.Places.{root_of, made, unmade, IsLeftIn};
+ghost use Rattle.prop_trail.specs.Windows.{IsOut};
 
 use crate::entry::Entry;
 use crate::window::Window;
-use prop_facts::Fact;
 use prop_lattice::{Info, Partial};
 
 /// What is believed of a place, and since when.
-#[derive(Clone, Copy, Debug)]
+#[derive(Drop)]
 pub(crate) struct Place {
     /// What is believed.
     pub(crate) info: Info,
@@ -18,7 +23,9 @@ pub(crate) struct Place {
 
 impl Place {
     /// A place of which this is believed at the root.
-    pub(crate) fn new(info: Info) -> Place {
+    pub(crate) fn new(info: Info) -> Place
+        ensures { result ≡ root_of info }
+    {
         Place {
             info,
             newest: None,
@@ -27,17 +34,28 @@ impl Place {
     }
 
     /// What is believed once this is said too.
-    pub(crate) fn merged(&self, said: Info) -> Info {
+    pub(crate) fn merged(&self, said: Info) -> Info
+        ensures { IsNarrowed (IsOut self.now.window) (merge_of self.now.info said) result }
+    {
         self.window.narrowed(self.info.merge(said))
     }
 
-    /// Whether the number was ruled out, or is none that the information leaves.
-    pub(crate) fn is_out(&self, number: i64) -> bool {
-        Fact::Other(number).follows_from(self.info) || self.window.has(number)
+    /// Whether the number is not left: what is believed leaves it out, or it was ruled out.
+    pub(crate) fn is_out(&self, number: i64) -> bool
+        ensures { IsTrue result ↔ (IsLeftIn self.now (Number number) → ⊥) }
+    {
+        let leaves = match self.info {
+            Info::Nothing => true,
+            Info::Span(span) => span.lo() <= number && number <= span.hi(),
+            _ => false,
+        };
+        !leaves || self.window.has(number)
     }
 
     /// The entry with this number is made.
-    pub(crate) fn make(&mut self, entry: &Entry, at: usize) {
+    pub(crate) fn make(&mut self, entry: &Entry, at: usize)
+        ensures { self.new ≡ made self.old entry.now at }
+    {
         self.info = entry.is;
         self.newest = Some(at);
         if let Some(number) = entry.out {
@@ -46,7 +64,9 @@ impl Place {
     }
 
     /// The newest entry is taken back.
-    pub(crate) fn take_back(&mut self, entry: &Entry) {
+    pub(crate) fn take_back(&mut self, entry: &Entry)
+        ensures { self.new ≡ unmade self.old entry.now }
+    {
         self.info = entry.was;
         self.newest = entry.before;
         if let Some(number) = entry.out {

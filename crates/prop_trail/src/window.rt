@@ -1,6 +1,12 @@
 //! Numbers of a small span that were ruled out.
+ghost use Rattle.std.specs.Prelude.{◌≡◌, ◌↔◌, IsTrue, ℤ, pos, ◌+ℤ◌, ◌-ℤ◌, ◌≤ℤ◌, ◌<ℤ◌, neg_ℤ};
+ghost use Rattle.std.specs.Prelude.{◌≢◌, ◌⊎◌, ◌<◌, IfSome, None};
+ghost use Rattle.prop_lattice.specs.declared.span.TheConstants.{B};
+ghost use Rattle.prop_trail.specs.Narrowing.{IsNarrowed, IsTight, IsEnd};
+ghost use Rattle.prop_trail.specs.Windows.{Covers, IsOut, bit_of, flipped, window_of};
 
 use prop_lattice::{Info, Span};
+use std::marker::Model;
 
 /// How many numbers a window has at the most.
 const WIDTH: i64 = 256;
@@ -9,19 +15,47 @@ const WORD: usize = 64;
 
 /// The numbers from the first to the last, and which of them were ruled out: a bit each. There are
 /// none where the last is below the first.
-#[derive(Clone, Copy, Debug)]
+#[derive(Drop)]
 pub(crate) struct Window {
     first: i64,
     last: i64,
     out: [u64; 4],
 }
 
+impl Model for Window {
+    ghost use Rattle.prop_trail.specs.Windows.{Ruled};
+    ghost use Rattle.prop_trail.specs.inner.Words.{cat, IsWindow};
+
+    ghost Value = { Ruled };
+
+    ghost view = { λ w. record { first = w.first; last = w.last; bits = cat w.out } };
+
+    ghost invariant = { λ w. IsWindow w.first w.last w.out };
+}
+
 impl Window {
     /// The numbers that an information leaves, where they are few. None is ruled out.
-    pub(crate) fn of(info: Info) -> Window {
-        let (first, last) = match info {
-            Info::Span(span) if span.hi() - span.lo() < WIDTH => (span.lo(), span.hi()),
-            _ => (1, 0),
+    pub(crate) fn of(info: Info) -> Window
+        ensures { result ≡ window_of info }
+    {
+        match info {
+            Info::Span(span) => Window::over(span),
+            _ => Window {
+                first: 1,
+                last: 0,
+                out: [0; 4],
+            },
+        }
+    }
+
+    /// The numbers of a span, where they are few.
+    fn over(span: Span) -> Window
+        ensures { result ≡ window_of (Info.Span span) }
+    {
+        let (first, last) = if span.hi() - span.lo() < WIDTH {
+            (span.lo(), span.hi())
+        } else {
+            (1, 0)
         };
         Window {
             first,
@@ -31,46 +65,102 @@ impl Window {
     }
 
     /// Whether the number is one of the window's.
-    pub(crate) fn covers(&self, number: i64) -> bool {
+    pub(crate) fn covers(&self, number: i64) -> bool
+        ensures { IsTrue result ↔ Covers self.now number }
+    {
         self.first <= number && number <= self.last
     }
 
+    /// Which bit is the number's.
+    fn bit_of(&self, number: i64) -> usize
+        requires { Covers self.now number }
+        ensures bit { result ≡ bit_of self.now number }
+        ensures within { result < 256 }
+    {
+        (number - self.first) as usize
+    }
+
     /// Whether the number was ruled out.
-    pub(crate) fn has(&self, number: i64) -> bool {
+    pub(crate) fn has(&self, number: i64) -> bool
+        ensures { IsTrue result ↔ IsOut self.now number }
+    {
         if !self.covers(number) {
             return false;
         }
-        let at = (number - self.first) as usize;
+        let at = self.bit_of(number);
         self.out[at / WORD] >> (at % WORD) & 1 == 1
     }
 
     /// The number is ruled out, or if it was, no longer. One that is not the window's stays as it
     /// is.
-    pub(crate) fn flip(&mut self, number: i64) {
-        if self.covers(number) {
-            let at = (number - self.first) as usize;
-            self.out[at / WORD] ^= 1 << (at % WORD);
+    pub(crate) fn flip(&mut self, number: i64)
+        ensures { self.new ≡ flipped self.old number }
+    {
+        if !self.covers(number) {
+            return;
         }
+        let at = self.bit_of(number);
+        self.out[at / WORD] ^= 1 << (at % WORD);
+    }
+
+    /// The first number from `lo` up to `hi` that wasn't ruled out; one more than `hi` where all
+    /// were.
+    fn first_left(&self, lo: i64, hi: i64) -> i64
+        requires order { lo ≤ℤ (hi +ℤ pos 1) }
+        requires most { hi ≤ℤ B }
+        ensures least { lo ≤ℤ result }
+        ensures most { result ≤ℤ (hi +ℤ pos 1) }
+        ensures passed { (m : ℤ) → lo ≤ℤ m → m <ℤ result → IsOut self.now m }
+        ensures left { result ≤ℤ hi → IsOut self.now result → ⊥ }
+    {
+        let mut number = lo;
+        while number <= hi && self.has(number) {
+            number += 1;
+        }
+        number
+    }
+
+    /// The last number from `hi` down to `lo` that wasn't ruled out; one less than `lo` where all
+    /// were.
+    fn last_left(&self, lo: i64, hi: i64) -> i64
+        requires order { lo ≤ℤ (hi +ℤ pos 1) }
+        requires least { neg_ℤ B ≤ℤ lo }
+        ensures most { result ≤ℤ hi }
+        ensures least { lo ≤ℤ (result +ℤ pos 1) }
+        ensures passed { (m : ℤ) → result <ℤ m → m ≤ℤ hi → IsOut self.now m }
+        ensures left { lo ≤ℤ result → IsOut self.now result → ⊥ }
+    {
+        let mut number = hi;
+        while lo <= number && self.has(number) {
+            number -= 1;
+        }
+        number
     }
 
     /// The same with its ends moved inwards past the numbers that were ruled out.
-    pub(crate) fn narrowed(&self, info: Info) -> Info {
+    pub(crate) fn narrowed(&self, info: Info) -> Info
+        ensures { IsNarrowed (IsOut self.now) info result }
+    {
         let Info::Span(span) = info else {
             return info;
         };
-        let (mut lo, mut hi) = (span.lo(), span.hi());
-        while lo <= hi && self.has(lo) {
-            lo += 1;
-        }
-        while lo <= hi && self.has(hi) {
-            hi -= 1;
-        }
+        let lo = self.first_left(span.lo(), span.hi());
+        let hi = self.last_left(lo, span.hi());
         Info::between(lo, hi)
     }
 
     /// What is left of a span of two numbers or more whose ends weren't ruled out, without a number
-    /// of it that wasn't; `None` where that can't be told.
-    pub(crate) fn without(&self, span: Span, number: i64) -> Option<Info> {
+    /// of it that wasn't either; `None` where that can't be kept.
+    pub(crate) fn without(&self, span: Span, number: i64) -> Option<Info>
+        requires two { span.lo <ℤ span.hi }
+        requires least { span.lo ≤ℤ number }
+        requires most { number ≤ℤ span.hi }
+        requires tight { IsTight (IsOut self.now) (Info.Span span) }
+        ensures some { IfSome result (λ info. (info ≢ Info.Contradiction)
+            × IsNarrowed (λ m. IsOut self.now m ⊎ (m ≡ number)) (Info.Span span) info) }
+        ensures none { result ≡ None → (IsEnd (Info.Span span) number → ⊥)
+            × (Covers self.now number → ⊥) }
+    {
         if number == span.lo() {
             Some(self.narrowed(Info::between(number + 1, span.hi())))
         } else if number == span.hi() {

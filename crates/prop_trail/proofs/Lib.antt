@@ -1,0 +1,5 @@
+pub mod FlagLaws
+pub mod WordLaws
+pub mod WindowLaws
+pub mod TrailLaws
+pub mod NarrowingLaws

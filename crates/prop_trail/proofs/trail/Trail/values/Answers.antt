@@ -1,0 +1,13 @@
+use Rattle.std.proofs.Common.{◌≡◌, ◌<◌, ◌↔◌, ℤ, Option, length, ap, subst, arith, IsTrue, IfSome}
+use Rattle.prop_lattice.specs.Points.{Number}
+use Rattle.prop_trail.specs.Places.{IsLeftIn}
+use Rattle.prop_trail.specs.declared.place.Place.{Place}
+use Rattle.prop_trail.proofs.TrailLaws.{places_count, place_is}
+use Rattle.prop_trail.proofs.trail.Trail.values.Goals as goal
+
+pub index-requires : goal.index-requires
+index-requires c =
+    let n = c.self.inside in
+    let l : c.args.place < length n.roots.items = rw (← c.self.view_is) at c.requires in
+    let count = places_count n.roots.items n.places.items n.entries.items n.starts.items c.self.invariant in
+    omega (arith, l, count, n.places.ok)
