@@ -6,15 +6,19 @@ use Rattle.std.proofs.Math.ListN.{set, length-set}
 use Rattle.std.proofs.lemmas.Bool.{cases_eq, cases_lt}
 use Rattle.std.proofs.lemmas.List.{set-set, set-get_or, length_push, take_more, get_or-map, get_or_past, length-take-le, length-take, length-map, get_or-take, get_or_read}
 use Rattle.prop_lattice.specs.declared.info.Info.{Info}
-use Rattle.prop_lattice.specs.declared.info.Info.TheVariants.{Nothing}
-use Rattle.prop_trail.specs.Places.{root_of, without_out, made, unmade}
+use Rattle.prop_lattice.specs.declared.info.Info.TheVariants.{Nothing, Span, Set, Sym, Contradiction}
+use Rattle.prop_lattice.specs.Order.{Below, merge_of}
+use Rattle.prop_lattice.specs.Points.{Number}
+use Rattle.prop_lattice.specs.laws.OrderLaws.{info_laws}
+use Rattle.prop_trail.specs.Narrowing.{IsTight, IsNarrowed}
+use Rattle.prop_trail.specs.Places.{root_of, without_out, made, unmade, IsLeftIn}
 use Rattle.prop_trail.specs.Trails.{place_at, after, all_after}
-use Rattle.prop_trail.specs.Windows.{Ruled, flipped}
+use Rattle.prop_trail.specs.Windows.{Ruled, IsOut, flipped, window_of}
 use Rattle.prop_trail.specs.declared.entry.Entry.{Entry}
 use Rattle.prop_trail.specs.declared.entry.Source.TheVariants.{Decision}
 use Rattle.prop_trail.specs.declared.place.Place.{Place}
 use Rattle.prop_trail.specs.inner.Making.{IsMadeOn, AreMade, IsTrail}
-use Rattle.prop_trail.proofs.WindowLaws.{flipped_twice}
+use Rattle.prop_trail.proofs.WindowLaws.{flipped_twice, out_or_same, none_out}
 
 -- ---- one entry more, one less
 
@@ -341,3 +345,100 @@ entries_in roots places es starts t k d l =
     let n = places_count roots places es starts t in
     let m = length-map roots root_of in
     omega (arith, w, n, m)
+
+pub untold : (ps : List Place) (es : List Entry) (m p : ℕ) → AreMade 0 ps es → m ≤ length es
+    → (place_at ps p).newest ≡ None → (was_at ps es m p).newest ≡ None → was_at ps es m p ≡ place_at ps p
+untold ps es m p all l none here = elim (newest_entry ps es no_entry m p all l none)
+    as (λ _. was_at ps es m p ≡ place_at ps p) [
+  | inl u ↦ u.root
+  | inr (j, n) ↦ (let some = n.newest in let clash : Some j ≡ None = sym some ∙ here in absurd (cc))
+]
+
+-- what an entry says that says an information
+pub said_made : (ps : List Place) (x : Place) (e : Entry) (said : Info) → e.place < length ps
+    → x ≡ place_at ps e.place → e.was ≡ x.info → e.before ≡ x.newest → e.out ≡ None
+    → IsNarrowed (IsOut x.window) (merge_of x.info said) e.is → IsMadeOn ps e
+said_made ps x e said l here was before out nar = record {
+  within = l;
+  was = was ∙ ap (λ (y : Place). y.info) here;
+  before = before ∙ ap (λ (y : Place). y.newest) here;
+  grows = subst (λ (i : Info). Below i e.is) (sym was) (info_laws.transitive x.info (merge_of x.info said) e.is
+      (info_laws.least_above x.info said).above_first nar.above);
+  tight = subst (λ (y : Place). IsTight (IsOut (without_out y.window e.out)) e.is) here
+      (subst (λ (o : Option ℤ). IsTight (IsOut (without_out x.window o)) e.is) (sym out) nar.tight);
+  left = subst (λ (o : Option ℤ). IfSome o (λ n. IsLeftIn (place_at ps e.place) (Number n))) (sym out) tt;
+}
+
+-- a tight information is so after a turn
+tight_flipped : (w : Ruled) (n : ℤ) (is : Info) → IsTight (λ m. IsOut w m ⊎ (m ≡ n)) is
+    → IsTight (IsOut (flipped w n)) is
+tight_flipped w n Nothing t = tt
+tight_flipped w n (Span s) t =
+    ((λ out. t.0 (out_or_same w n s.lo out)), (λ out. t.1 (out_or_same w n s.hi out)))
+tight_flipped w n (Set s) t = tt
+tight_flipped w n (Sym s) t = tt
+tight_flipped w n Contradiction t = tt
+
+-- what an entry says that rules a number out
+pub out_made : (ps : List Place) (x : Place) (e : Entry) (n : ℤ) → e.place < length ps
+    → x ≡ place_at ps e.place → e.was ≡ x.info → e.before ≡ x.newest → e.out ≡ Some n → IsLeftIn x (Number n)
+    → IsNarrowed (λ m. IsOut x.window m ⊎ (m ≡ n)) x.info e.is → IsMadeOn ps e
+out_made ps x e n l here was before out left nar = record {
+  within = l;
+  was = was ∙ ap (λ (y : Place). y.info) here;
+  before = before ∙ ap (λ (y : Place). y.newest) here;
+  grows = subst (λ (i : Info). Below i e.is) (sym was) nar.above;
+  tight = subst (λ (y : Place). IsTight (IsOut (without_out y.window e.out)) e.is) here
+      (subst (λ (o : Option ℤ). IsTight (IsOut (without_out x.window o)) e.is) (sym out)
+      (tight_flipped x.window n e.is nar.tight));
+  left = subst (λ (o : Option ℤ). IfSome o (λ m. IsLeftIn (place_at ps e.place) (Number m))) (sym out)
+      (subst (λ (y : Place). IsLeftIn y (Number n)) here left);
+}
+
+-- ---- no end was ruled out
+
+root_tight : (info : Info) → IsTight (IsOut (window_of info)) info
+root_tight Nothing = tt
+root_tight (Span s) = (none_out (Span s) s.lo, none_out (Span s) s.hi)
+root_tight (Set s) = tt
+root_tight (Sym s) = tt
+root_tight Contradiction = tt
+
+after_tight : (at : ℕ) (ps : List Place) (e : Entry) → IsMadeOn ps e
+    → ((p : ℕ) → IsTight (IsOut (place_at ps p).window) (place_at ps p).info) → (p : ℕ)
+    → IsTight (IsOut (place_at (after ps at e) p).window) (place_at (after ps at e) p).info
+after_tight at ps e m all p =
+    elim (cases_eq p e.place)
+    as (λ _. IsTight (IsOut (place_at (after ps at e) p).window) (place_at (after ps at e) p).info) [
+      | inl same ↦ (
+          let here : place_at (after ps at e) p ≡ made (place_at ps e.place) e at =
+          ap (place_at (after ps at e)) same
+          ∙ get_or-set_same ps e.place (made (place_at ps e.place) e at) (root_of Nothing) m.within in
+          subst (λ (x : Place). IsTight (IsOut x.window) x.info) (sym here) m.tight)
+      | inr other ↦ (
+          let here : place_at (after ps at e) p ≡ place_at ps p =
+          get_or-set_other ps e.place p (made (place_at ps e.place) e at) (root_of Nothing) other in
+          subst (λ (x : Place). IsTight (IsOut x.window) x.info) (sym here) (all p))
+    ]
+
+all_tight : (at : ℕ) (ps : List Place) (es : List Entry) → AreMade at ps es
+    → ((p : ℕ) → IsTight (IsOut (place_at ps p).window) (place_at ps p).info) → (p : ℕ)
+    → IsTight (IsOut (place_at (all_after at ps es) p).window) (place_at (all_after at ps es) p).info
+all_tight at ps [] all base p = base p
+all_tight at ps (e ∷ es) all base p =
+    all_tight (suc at) (after ps at e) es all.1 (after_tight at ps e all.0 base) p
+
+pub root_is : (roots : List Info) (p : ℕ) → (info : Info) × (place_at (map root_of roots) p ≡ root_of info)
+root_is roots p = elim (cases_lt p (length roots))
+    as (λ _. (info : Info) × (place_at (map root_of roots) p ≡ root_of info)) [
+  | inl l ↦ (get_or roots p Nothing, get_or-map root_of roots p Nothing (root_of Nothing) l)
+  | inr past ↦ (Nothing, get_or_past (map root_of roots) p (root_of Nothing)
+      (let n = length-map roots root_of in omega (arith, n, past)))
+]
+
+pub tight_at : (roots : List Info) (es : List Entry) → AreMade 0 (map root_of roots) es → (p : ℕ)
+    → IsTight (IsOut (place_at (all_after 0 (map root_of roots) es) p).window)
+    (place_at (all_after 0 (map root_of roots) es) p).info
+tight_at roots es all = all_tight 0 (map root_of roots) es all (λ p. (
+  let r = root_is roots p in
+  subst (λ (x : Place). IsTight (IsOut x.window) x.info) (sym r.1) (root_tight r.0)))

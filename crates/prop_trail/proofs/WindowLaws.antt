@@ -1,7 +1,7 @@
 -- Numbers that are ruled out, and that no longer are.
 use Rattle.std.proofs.Common.{◌≡◌, ◌≢◌, ◌∙◌, ◌⊎◌, ℕ, ◌+◌, ◌%◌, ◌^◌, ℤ, ◌-ℤ◌, ◌≤ℤ◌, Bool, true, false, ◌&&◌, ◌==◌}
 use Rattle.std.proofs.Common.{ap, sym, refl, subst, arith, inl, inr, bit_xor, unsigned_abs}
-use Rattle.std.specs.Prelude.{int_le, int_lt, pos, IsTrue, ◌↔◌}
+use Rattle.std.specs.Prelude.{int_le, int_lt, pos, IsTrue, ◌↔◌, zero, suc, ◌<◌, ◌≤◌, ◌-◌, ◌+ℤ◌, cond}
 use Rattle.std.specs.Int.{bit_at}
 use Rattle.std.specs.Int.Bits.{xor_zero_r, xor_self, xor_assoc}
 use Rattle.std.proofs.lemmas.Int.{by_lt_z, ints}
@@ -11,6 +11,7 @@ use Rattle.prop_lattice.specs.declared.span.Span as spans
 use Rattle.prop_lattice.specs.declared.info.Info.{Info}
 use Rattle.prop_lattice.specs.declared.info.Info.TheVariants.{Nothing, Span, Set, Sym, Contradiction}
 use Rattle.prop_trail.specs.Windows.{Ruled, Covers, IsOut, bit_of, covers, turned, flipped, window_of, window_over}
+use Rattle.prop_trail.specs.Windows.{out_count, left_in}
 
 -- what is turned twice is as it was
 xor_twice : (bits m : ℕ) → bit_xor (bit_xor bits m) m ≡ bits
@@ -173,3 +174,38 @@ flipped_is w n bits here e =
 
 pub not_flipped : (w : Ruled) (n : ℤ) → (Covers w n → ⊥) → w ≡ flipped w n
 not_flipped w n off = elim (uncovers w n) [ inl here ↦ absurd (off here) | inr f ↦ sym (stays w n f) ]
+
+-- ---- how many are left
+
+bit_or_none : (b : ℕ) → b < 2 → b ≢ 1 → b ≡ 0
+bit_or_none b l ne = omega (arith, l, ne)
+
+pub count_out : (w : Ruled) (n : ℤ) → IsOut w n → out_count w n ≡ 1
+count_out w n out = ap (λ (t : Bool). cond t (bit_at w.bits (bit_of w n)) 0) (covered w n out.0) ∙ out.1
+
+pub count_not_out : (w : Ruled) (n : ℤ) → (IsOut w n → ⊥) → out_count w n ≡ 0
+count_not_out w n off = elim (uncovers w n) [
+  | inl here ↦ ap (λ (t : Bool). cond t (bit_at w.bits (bit_of w n)) 0) (covered w n here)
+      ∙ bit_or_none (bit_at w.bits (bit_of w n)) (bit_at-lt w.bits (bit_of w n)) (λ e. off (here, e))
+  | inr f ↦ ap (λ (t : Bool). cond t (bit_at w.bits (bit_of w n)) 0) f
+]
+
+-- all are left where none was ruled out
+pub all_left : (w : Ruled) (lo : ℤ) (n : ℕ) → w.bits ≡ 0 → n ≡ left_in w lo n
+all_left w lo zero e = refl
+all_left w lo (suc n) e =
+    let rest = all_left w lo n e in
+    let none = count_not_out w (lo +ℤ pos n) (no_bits w (lo +ℤ pos n) e) in
+    omega (arith, rest, none)
+
+-- no more are left than there are
+pub left_le : (w : Ruled) (lo : ℤ) (n : ℕ) → left_in w lo n ≤ n
+left_le w lo zero = omega arith
+left_le w lo (suc n) = let rest = left_le w lo n in omega (arith, rest)
+
+-- one number more
+pub left_more : (w : Ruled) (lo n : ℤ) (k : ℕ) → n ≡ lo +ℤ pos k
+    → left_in w lo (k + 1) ≡ left_in w lo k + (1 - out_count w n)
+left_more w lo n k e =
+    let next : k + 1 ≡ suc k = omega arith in
+    ap (left_in w lo) next ∙ ap (λ (z : ℤ). left_in w lo k + (1 - out_count w z)) (sym e)

@@ -1,5 +1,5 @@
 -- Information and numbers that were ruled out beside it.
-use Rattle.std.specs.Prelude.{◌≡◌, ◌⊎◌, ℤ, ⊤}
+use Rattle.std.specs.Prelude.{ℤ, ⊤}
 use Rattle.prop_lattice.specs.Order.{Below}
 use Rattle.prop_lattice.specs.Points.{Point, Number, Holds}
 use Rattle.prop_lattice.specs.declared.info.Info.{Info}
@@ -14,11 +14,6 @@ IsGone Out p = ⊥
 abbrev pub IsTight : (ℤ → Type 0) → Info → Type 0
 IsTight Out (Span s) = (Out s.lo → ⊥) × (Out s.hi → ⊥)
 IsTight Out a = ⊤
-
--- the number is an end of the information
-abbrev pub IsEnd : Info → ℤ → Type 0
-IsEnd (Span s) n = (n ≡ s.lo) ⊎ (n ≡ s.hi)
-IsEnd a n = ⊥
 
 -- the second information is the first with its ends moved inwards past the numbers that were ruled
 -- out: a contradiction where all were

@@ -4,9 +4,9 @@ use Rattle.prop_lattice.specs.Order.{Below, merge_of}
 use Rattle.prop_lattice.specs.Points.{Point, Number}
 use Rattle.prop_lattice.specs.declared.info.Info.{Info}
 use Rattle.prop_lattice.specs.declared.info.Info.TheVariants.{Nothing, Contradiction}
-use Rattle.prop_trail.specs.Narrowing.{IsNarrowed, IsEnd}
+use Rattle.prop_trail.specs.Narrowing.{IsNarrowed}
 use Rattle.prop_trail.specs.Trails.{Trailed, info_of, newest_of, window_at, IsLeft, entered}
-use Rattle.prop_trail.specs.Windows.{Covers, IsOut}
+use Rattle.prop_trail.specs.Windows.{CanGo, IsOut}
 use Rattle.prop_trail.specs.declared.entry.Outcome.{Outcome}
 use Rattle.prop_trail.specs.declared.entry.Outcome.TheVariants.{Same, Changed, Clash}
 use Rattle.prop_trail.specs.declared.entry.Source.{Source}
@@ -38,8 +38,7 @@ Said old place said by new (Changed changes) =
 -- one more entry says so; or it is a clash, where it was the only value that was left.
 abbrev pub RuledOut : Trailed → ℕ → ℤ → Source → Trailed → Outcome → Type 0
 RuledOut old place n by new Same =
-    (IsLeft old place (Number n) → (IsEnd (info_of old place) n → ⊥)
-    × (Covers (window_at old place) n → ⊥))
+    (IsLeft old place (Number n) → CanGo (info_of old place) (window_at old place) n → ⊥)
     × (new ≡ old)
 RuledOut old place n by new Clash =
     IsLeft old place (Number n) × ((p : Point) → IsLeft old place p → p ≡ Number n) × (new ≡ old)

@@ -1,6 +1,6 @@
 -- Numbers that were ruled out.
-use Rattle.std.specs.Prelude.{◌≡◌, ℕ, ℤ, pos, ◌^◌, ◌&&◌, Bool, true, false, ◌-ℤ◌, ◌≤ℤ◌, int_lt, int_le}
-use Rattle.std.specs.Prelude.{unsigned_abs, bit_xor}
+use Rattle.std.specs.Prelude.{◌≡◌, ◌⊎◌, ℕ, zero, suc, ℤ, pos, ◌+◌, ◌-◌, ◌^◌, ◌&&◌, Bool, true, false, ◌-ℤ◌, ◌+ℤ◌, ◌≤ℤ◌, int_lt, int_le}
+use Rattle.std.specs.Prelude.{unsigned_abs, bit_xor, if◌then◌else◌}
 use Rattle.std.specs.Int.{bit_at}
 use Rattle.prop_lattice.specs.declared.span.Span as spans
 use Rattle.prop_lattice.specs.declared.info.Info.{Info}
@@ -51,3 +51,17 @@ window_over false s = no_numbers
 abbrev pub window_of : Info → Ruled
 window_of (Span s) = window_over (int_lt (s.hi -ℤ s.lo) (pos 256)) s
 window_of info = no_numbers
+
+-- the number of a span can be ruled out: it is an end, or one that is kept
+abbrev pub CanGo : Info → Ruled → ℤ → Type 0
+CanGo (Span s) w n = (n ≡ s.lo) ⊎ (n ≡ s.hi) ⊎ Covers w n
+CanGo info w n = ⊥
+
+-- 1 for a number that was ruled out, and 0 for another
+abbrev pub out_count : Ruled → ℤ → ℕ
+out_count w n = if covers w n then bit_at w.bits (bit_of w n) else 0
+
+-- how many numbers are left, so many from this one on
+abbrev pub left_in : Ruled → ℤ → ℕ → ℕ
+left_in w lo zero = 0
+left_in w lo (suc n) = left_in w lo n + (1 - out_count w (lo +ℤ pos n))

@@ -1,9 +1,9 @@
 //! One place: what is believed of it.
-ghost use Rattle.std.specs.Prelude.{◌≡◌, ◌≢◌, ◌↔◌, ◌⊎◌, IsTrue, IfSome, None, ◌<ℤ◌};
+ghost use Rattle.std.specs.Prelude.{◌≡◌, ◌↔◌, IsTrue};
 ghost use Rattle.prop_lattice.specs.Order.{merge_of};
 ghost use Rattle.prop_lattice.specs.Points.{Number};
-ghost use Rattle.prop_trail.specs.Narrowing.{IsNarrowed, IsTight};
-ghost use Rattle.prop_trail.specs.Places.{root_of, made, unmade, IsLeftIn};
+ghost use Rattle.prop_trail.specs.Narrowing.{IsNarrowed};
+ghost use Rattle.prop_trail.specs.Places.{root_of, made, unmade, IsLeftIn, values_of};
 ghost use Rattle.prop_trail.specs.Windows.{IsOut};
 
 use crate::entry::Entry;
@@ -40,16 +40,16 @@ impl Place {
         self.window.narrowed(self.info.merge(said))
     }
 
-    /// Whether the number is not left: what is believed leaves it out, or it was ruled out.
-    pub(crate) fn is_out(&self, number: i64) -> bool
-        ensures { IsTrue result ↔ (IsLeftIn self.now (Number number) → ⊥) }
+    /// Whether the number is left: what is believed leaves it, and it wasn't ruled out.
+    pub(crate) fn leaves(&self, number: i64) -> bool
+        ensures { IsTrue result ↔ IsLeftIn self.now (Number number) }
     {
-        let leaves = match self.info {
+        let believed = match self.info {
             Info::Nothing => true,
             Info::Span(span) => span.lo() <= number && number <= span.hi(),
             _ => false,
         };
-        !leaves || self.window.has(number)
+        believed && !self.window.has(number)
     }
 
     /// The entry with this number is made.
@@ -74,11 +74,13 @@ impl Place {
         }
     }
 
-    /// How many values are left.
-    pub(crate) fn values(&self) -> u64 {
+    /// How many values are left; where nothing is known, `u64::MAX`.
+    pub(crate) fn values(&self) -> u64
+        ensures { result ≡ values_of self.now }
+    {
         match self.info {
             Info::Nothing => u64::MAX,
-            Info::Span(span) => span.count() - self.window.count_within(span),
+            Info::Span(span) => self.window.count_left(span),
             Info::Set(elements) => elements.bits().count_ones() as u64,
             Info::Sym(_) => 1,
             Info::Contradiction => 0,

@@ -4,10 +4,10 @@ ghost use Rattle.std.specs.Prelude.{◌≡◌, ◌↔◌, ◌⊎◌, ◌<◌, �
 ghost use Rattle.std.specs.Prelude.{length, slice_get, slice_index_or, slice_set, Some, IsTrue};
 ghost use Rattle.std.specs.Prelude.{IfOk, OnOk, OnErr, IfSome, All, map};
 ghost use Rattle.prop_lattice.specs.Points.{Point, Number};
-ghost use Rattle.prop_trail.specs.Places.{root_of, unmade};
+ghost use Rattle.prop_trail.specs.Places.{root_of, unmade, values_of};
 ghost use Rattle.prop_trail.specs.Sayings.{Said, RuledOut};
 ghost use Rattle.prop_trail.specs.Trails.{info_of, newest_of, before_of, entered, start_of};
-ghost use Rattle.prop_trail.specs.Trails.{place_at, after, IsLeft};
+ghost use Rattle.prop_trail.specs.Trails.{place_at, place_of, after, IsLeft};
 ghost use Rattle.prop_trail.specs.inner.Making.{IsMadeOn, AreMade};
 ghost use Rattle.prop_trail.specs.declared.place.Place.{Place as PlaceOf};
 ghost use Rattle.prop_trail.specs.Trails.{all_after};
@@ -26,6 +26,13 @@ pub struct Trail {
     places: Vec<Place>,
     entries: Vec<Entry>,
     starts: Vec<usize>,
+}
+
+/// The places of which this is believed at the root.
+fn root_places(alloc: Global, beliefs: &[Info]) -> Result<Vec<Place>, AllocError>
+    ensures { IfOk result (λ places. places.items ≡ map root_of beliefs.now) }
+{
+    beliefs.iter().map(|info| Place::new(*info)).collect(alloc)
 }
 
 /// The entry with this number is made.
@@ -84,7 +91,7 @@ impl Trail {
         ensures { IfOk result (λ t. t
             ≡ record { roots = beliefs.items; entries = []; starts = [] }) }
     {
-        let places = beliefs.iter().map(|info| Place::new(*info)).collect(alloc)?;
+        let places = root_places(alloc, beliefs.as_slice())?;
         Ok(Trail {
             roots: beliefs,
             places,
@@ -122,7 +129,7 @@ impl Trail {
         requires { place < length self.now.roots }
         ensures { IsTrue result ↔ (IsLeft self.now place (Number number) → ⊥) }
     {
-        self.places[place].is_out(number)
+        !self.places[place].leaves(number)
     }
 
     /// Whether the fact is so of all values that are left.
@@ -131,7 +138,7 @@ impl Trail {
     {
         let place = &self.places[literal.place];
         match literal.fact {
-            Fact::Other(number) => place.is_out(number),
+            Fact::Other(number) if place.window.has(number) => true,
             fact => fact.follows_from(place.info),
         }
     }
@@ -142,7 +149,7 @@ impl Trail {
     {
         let place = &self.places[literal.place];
         match literal.fact {
-            Fact::Is(number) => place.is_out(number),
+            Fact::Is(number) => !place.leaves(number),
             fact => fact.is_barred_by(place.info),
         }
     }
@@ -151,6 +158,7 @@ impl Trail {
     /// where nothing is known.
     pub fn values(&self, place: usize) -> u64
         requires { place < length self.now.roots }
+        ensures { result ≡ values_of (place_of self.now place) }
     {
         self.places[place].values()
     }
@@ -288,7 +296,7 @@ impl Trail {
         let Info::Span(span) = was else {
             return Ok(Outcome::Same);
         };
-        if now.is_out(number) {
+        if !now.leaves(number) {
             return Ok(Outcome::Same);
         }
         if span.lo() == span.hi() {

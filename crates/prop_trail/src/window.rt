@@ -2,8 +2,9 @@
 ghost use Rattle.std.specs.Prelude.{◌≡◌, ◌↔◌, IsTrue, ℤ, pos, ◌+ℤ◌, ◌-ℤ◌, ◌≤ℤ◌, ◌<ℤ◌, neg_ℤ};
 ghost use Rattle.std.specs.Prelude.{◌≢◌, ◌⊎◌, ◌<◌, IfSome, None};
 ghost use Rattle.prop_lattice.specs.declared.span.TheConstants.{B};
-ghost use Rattle.prop_trail.specs.Narrowing.{IsNarrowed, IsTight, IsEnd};
-ghost use Rattle.prop_trail.specs.Windows.{Covers, IsOut, bit_of, flipped, window_of};
+ghost use Rattle.prop_lattice.specs.Ends.{numbers_in};
+ghost use Rattle.prop_trail.specs.Narrowing.{IsNarrowed, IsTight};
+ghost use Rattle.prop_trail.specs.Windows.{Covers, IsOut, CanGo, bit_of, flipped, window_of, left_in};
 
 use prop_lattice::{Info, Span};
 use std::marker::Model;
@@ -158,8 +159,7 @@ impl Window {
         requires tight { IsTight (IsOut self.now) (Info.Span span) }
         ensures some { IfSome result (λ info. (info ≢ Info.Contradiction)
             × IsNarrowed (λ m. IsOut self.now m ⊎ (m ≡ number)) (Info.Span span) info) }
-        ensures none { result ≡ None → (IsEnd (Info.Span span) number → ⊥)
-            × (Covers self.now number → ⊥) }
+        ensures none { result ≡ None → CanGo (Info.Span span) self.now number → ⊥ }
     {
         if number == span.lo() {
             Some(self.narrowed(Info::between(number + 1, span.hi())))
@@ -172,22 +172,27 @@ impl Window {
         }
     }
 
-    /// How many numbers of the span were ruled out.
-    pub(crate) fn count_within(&self, span: Span) -> u64 {
-        let (lo, hi) = (span.lo().max(self.first), span.hi().min(self.last));
-        if hi < lo {
-            return 0;
+    /// Whether no number was ruled out, for sure.
+    fn is_clean(&self) -> bool
+        ensures { IsTrue result → self.now.bits ≡ 0 }
+    {
+        self.out.iter().all(|word| *word == 0)
+    }
+
+    /// How many numbers of the span weren't ruled out.
+    pub(crate) fn count_left(&self, span: Span) -> u64
+        ensures { result ≡ left_in self.now span.lo (numbers_in span) }
+    {
+        if self.is_clean() {
+            return span.count();
         }
-        let (from, to) = ((lo - self.first) as usize, (hi - self.first) as usize);
         let mut count = 0;
-        for (k, word) in self.out.iter().enumerate() {
-            let start = WORD * k;
-            if start <= to && from < start + WORD {
-                let above = from.saturating_sub(start);
-                let beyond = (start + WORD - 1).saturating_sub(to);
-                let within = *word & u64::MAX << above & u64::MAX >> beyond;
-                count += within.count_ones() as u64;
+        let mut number = span.lo();
+        while number <= span.hi() {
+            if !self.has(number) {
+                count += 1;
             }
+            number += 1;
         }
         count
     }

@@ -104,4 +104,12 @@ returns-then-entry-at-clause-newest c =
     rw (← c.self.view_is) (sym now ∙ ap (λ (x : Place). x.newest) (sym quiet))
 
 pub returns-in_default-clause-newest : goal.returns-in_default-clause-newest
-returns-in_default-clause-newest c = let a = c.in_default.is in let b = c.in_default.not-Some in ?
+returns-in_default-clause-newest c =
+    let n = c.self.inside in
+    let es = n.entries.items in
+    let ps = map root_of n.roots.items in
+    let v = c.loop-newest.invariant in
+    let now : (was_at ps es v.0 c.args.place).newest ≡ None = sym v.3 ∙ c.in_default.is in
+    let old = subst (λ (o : Option ℕ). IfSome o (λ j. j < c.args.at)) (sym now) tt in
+    let quiet = quiet_since ps es no_entry c.args.at v.0 c.args.place c.self.invariant.entries_made v.1 v.2 old in
+    rw (← c.self.view_is) (v.3 ∙ ap (λ (x : Place). x.newest) (sym quiet))

@@ -44,10 +44,13 @@ returns-then-covers-clause-some c =
     without_inner (IsOut c.args.self.now) s c.args.number c.requires.tight low high
 
 pub returns-else-covers-clause-none : goal.returns-else-covers-clause-none
-returns-else-covers-clause-none c = λ _. (
-  λ o. elim o [ inl e ↦ omega (arith, ints) | inr e ↦ omega (arith, ints) ],
-  λ here. (
-    let fits : SFits w64 c.args.number = c.ranges.number in
-    let there : Covers c.args.self.now (to_z w64 (of_z w64 c.args.number)) = simp to_z-of_z here in
-    false≢true (c.if-covers.ensures.1 there)),
-)
+returns-else-covers-clause-none c = λ _ o. elim o [
+  | inl e ↦ omega (arith, ints)
+  | inr more ↦ elim more [
+    | inl e ↦ omega (arith, ints)
+    | inr here ↦ (
+        let fits : SFits w64 c.args.number = c.ranges.number in
+        let there : Covers c.args.self.now (to_z w64 (of_z w64 c.args.number)) = simp to_z-of_z here in
+        false≢true (c.if-covers.ensures.1 there))
+  ]
+]
