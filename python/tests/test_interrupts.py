@@ -10,6 +10,7 @@ import gc
 import os
 import random
 import signal
+import threading
 import time
 from collections.abc import Callable, Iterator
 from contextlib import suppress
@@ -21,6 +22,7 @@ from moments import at, by_exception, by_signal
 
 from propbench import Refused, Session, runs
 from propbench.conversation import Conversation
+from propbench.program import Program
 
 FIRST = [
     "cell x span",
@@ -270,3 +272,33 @@ def test_ctrl_c_is_held_back_while_a_program_is_started_or_ended(program: str) -
         with suppress(KeyboardInterrupt), at(number):
             Session(program).close()
         assert descriptors() <= opened and children() <= own, number
+
+
+def test_batches_of_two_threads_leave_looks_for_garbage_as_they_were(
+    program: str, monkeypatch: pytest.MonkeyPatch
+) -> None:
+    """That of the main thread ends while the other one is under way."""
+    take, main = Program.take, threading.current_thread()
+    has_begun, is_over = threading.Event(), threading.Event()
+
+    with Session(program) as session, Session(program) as other:
+        beside = threading.Thread(target=other.send_all, args=(FIRST,))
+
+        def take_in_turn(self: Program, wait: bool) -> list[str]:
+            if threading.current_thread() is not main:
+                has_begun.set()
+                assert is_over.wait(60)
+                # (so that it waits for its replies)
+                return take(self, wait) if wait else []
+            if not beside.ident:
+                beside.start()
+                assert has_begun.wait(60)
+            return take(self, wait)
+
+        with monkeypatch.context() as patch:
+            patch.setattr(Program, "take", take_in_turn)
+            session.send_all(FIRST)
+            is_over.set()
+            beside.join()
+        assert gc.isenabled()
+        assert other.lines == session.lines == FIRST

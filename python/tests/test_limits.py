@@ -1,7 +1,8 @@
 """Every question ends in the seconds that it is given, with what is known by then.
 
-On a machine where the steps of a run take long, each run that a question waits for beyond its time
-costs five seconds, so what is asked for here is far from both sides.
+On a machine where the steps of a run take long, whether the program is at work on them or waits,
+each run that a question waits for beyond its time costs five seconds: so what is asked for here is
+far from that.
 """
 
 import inspect
@@ -24,8 +25,9 @@ from propbench.watching.of_session import SessionWatched
 from propbench.watching.of_workbench import WorkbenchWatched
 
 SLOW = Path(__file__).with_name("slow_program.py")
-# What a question is given, and what it may take over that; less than a run takes on a slow machine.
-SECONDS, OVER = 0.2, 3.5
+# What a question is given, and what it may take over that: a second, and half of one on a busy
+# machine.
+SECONDS, OVER = 0.2, 1.5
 
 
 @dataclass
@@ -60,12 +62,18 @@ def bench(wide: str) -> Iterator[Bench]:
     yield from bench_of(wide)
 
 
-@pytest.fixture(scope="module", params=[0.00025, 0.00001], ids=["slow", "less slow"])
+@pytest.fixture(
+    scope="module",
+    params=[(0.00025, "waits"), (0.00025, "works"), (0.002, "works"), (0.00001, "waits")],
+    ids=["slow", "slow and at work", "slower", "less slow"],
+)
 def slow(wide: str, request: pytest.FixtureRequest) -> Iterator[Bench]:
     """Over a machine on which a step takes so many seconds."""
     with pytest.MonkeyPatch.context() as patch:
         patch.setenv("SLOW_OF", wide)
-        patch.setenv("SLOW_BY", str(request.param))
+        by, how = request.param
+        patch.setenv("SLOW_BY", str(by))
+        patch.setenv("SLOW_HOW", how)
         yield from bench_of(str(SLOW))
 
 
@@ -117,7 +125,7 @@ MORE: dict[str, Ask] = {
     "best of a session": lambda b, s: _watched(b).best("t0_end_", "least", seconds=s),
     "a line": lambda b, s: b.w.session.send("settle", seconds=s),
 }
-# (where not even the first slice of a run has come to its end by then, the program is ended)
+# (where not even the first slice of a run has come to its end by then)
 MAY_RAISE = (NothingFits, NotSettled, Conflict, OutOfTime)
 
 

@@ -21,8 +21,8 @@ from propbench import Done, OutOfTime, ProgramEnded, Reply, Session, SessionInUs
 from propbench.overview import overview
 
 SOURCES = str(Path(__file__).resolve().parents[1] / "src")
-# How long a call may take behind its `seconds`: two seconds, and one more on a busy machine.
-LATE = 3.0
+# How long a call may take behind its `seconds`: a second, and half of one more on a busy machine.
+LATE = 1.5
 
 
 def script(path: Path, text: str) -> str:
@@ -329,16 +329,21 @@ for line in sys.stdin:
 """
 
 
-def test_a_program_that_is_at_work_has_more_time(tmp_path: Path) -> None:
-    """It isn't ended, which would cost all that it has done: its steps take long, and it answers."""
+def test_a_program_that_is_at_work_is_left_at_that(tmp_path: Path) -> None:
+    """It isn't ended, which would cost all that it has done: its steps take long, and it answers to
+    the next question. Only a session that ends by a time ends it."""
     busy = tmp_path / "busy"
     busy.write_text(BUSY)
     busy.chmod(0o700)
     with Session(busy) as session:
         session.send("cell x span")
         number = session.pid
-        assert str(session.send("settle", seconds=0.1)) == "settled" and session.pid == number
-        with pytest.raises(OutOfTime):
+        for _ in range(2):
+            with within(0.1), pytest.raises(OutOfTime, match="it is still at work"):
+                session.send("settle", seconds=0.1)
+        assert str(session.send("cell y span")) == "ok" and session.pid == number
+        assert "settle" in session.lines
+        with within(0.1), pytest.raises(OutOfTime, match="was ended"):
             session.end_by(time.monotonic() + 0.1)
             session.send("settle")
 

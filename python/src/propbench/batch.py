@@ -1,6 +1,7 @@
 """Many lines at once: they are written while replies are read, and taken in as these come."""
 
 import gc
+import threading
 from collections import deque
 from collections.abc import Iterable
 
@@ -52,8 +53,10 @@ class Batch:
         # last is still to come.
         self._places: deque[int] = deque()
         self._begun: list[str] = []
-        # Whether garbage is looked for at other times.
-        self._collects = gc.isenabled()
+        # Whether garbage is looked for at other times, and this may change that: it holds for all
+        # threads, so that only the main one does.
+        is_main = threading.current_thread() is threading.main_thread()
+        self._holds_off = is_main and gc.isenabled()
 
     def run(self) -> None:
         """Sends all lines and takes in all replies. Where that ends early, what was taken in by
@@ -82,7 +85,7 @@ class Batch:
             is_done = True
         finally:
             # (once more, for what cuts short the end of what was tried)
-            if self._collects:
+            if self._holds_off:
                 gc.enable()
             if not is_done:
                 self._talk.program.kill()
@@ -91,13 +94,14 @@ class Batch:
         """Sends all lines, without looks for garbage; of a program that ends all that came before
         is taken in."""
         try:
-            gc.disable()
+            if self._holds_off:
+                gc.disable()
             self._send()
         except ProgramEnded:
             self._take_in(self._talk.program.rest())
             raise
         finally:
-            if self._collects:
+            if self._holds_off:
                 gc.enable()
 
     def _send(self) -> None:
@@ -119,8 +123,9 @@ class Batch:
 
     def _waited_for(self) -> list[str]:
         """Lines that have not come yet."""
-        if self._collects:
-            gc.enable()
+        if not self._holds_off:
+            return self._talk.program.take(wait=True)
+        gc.enable()
         came = self._talk.program.take(wait=True)
         gc.disable()
         return came

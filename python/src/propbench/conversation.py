@@ -3,12 +3,15 @@
 What was carried out and what the program has done are in step, but where an exception came between
 the two; then the program is begun anew with the lines that are known to be carried out. So `in_step`
 is False from before a line is sent until all that came of it is taken in, and an exception may cut
-that short at any place.
+that short at any place. Where the time of a question was over before that, and the program is at
+work on it yet, it is `owed`, and can be taken in later.
 """
+
+from dataclasses import dataclass
 
 from propbench.blame import blame_for
 from propbench.known import Known
-from propbench.program import Program, ProgramEnded
+from propbench.program import Program, ProgramEnded, StillAtWork
 from propbench.refusals import CLASSES, Refused
 from propbench.replies import SEVERAL, NotAReply, Reply, lines_behind, refusal_in, reply_of
 from propbench.showing import printable
@@ -27,6 +30,16 @@ class WrongReply(ProgramEnded):
         return f"{self.errors}, and was ended"
 
 
+@dataclass(frozen=True)
+class Owed:
+    """A line whose reply is still to come: a question under a limit of so many steps, or that limit.
+    All that was done before it is taken in."""
+
+    line: str
+    words: list[str]
+    steps: int
+
+
 class Conversation:
     """What was said to a program so far."""
 
@@ -42,6 +55,7 @@ class Conversation:
         self.program_limit = limit
         self._learns = self.known.learns
         self.in_step = True
+        self.owed: Owed | None = None
 
     def tell(self, line: str, steps: int) -> None:
         """Sends a line, under a limit of so many steps. The conversation is out of step until its
@@ -83,6 +97,32 @@ class Conversation:
         self.program_limit = steps
         self.in_step = was_in_step
 
+    def leave(self, line: str, words: list[str], steps: int) -> None:
+        """Has a question owed that is under way, under so many steps; or the limit before it."""
+        if steps == self.program_limit:
+            self.owed = Owed(line, words, steps)
+        else:
+            self.owed = Owed(f"limit {steps}", ["limit", str(steps)], steps)
+
+    def take_in(self) -> None:
+        """Waits for what is owed, and takes it in. It is owed yet where StillAtWork is raised; all
+        else that cuts this short leaves the conversation out of step, with nothing owed."""
+        owed, self.owed = self.owed, None
+        assert owed
+        try:
+            text = self.hear(owed.words[0])
+        except StillAtWork:
+            self.owed = owed
+            raise
+        if owed.words[0] == "limit":
+            if text != "ok":
+                raise self.wrong(owed.line, text)
+            self.program_limit = owed.steps
+        elif refusal_in(text) is None:
+            self.reply(owed.line, owed.words, text)
+            self.cut(owed.line, owed.steps)
+        self.in_step = True
+
     def carried(self, line: str, words: list[str]) -> None:
         """Takes in that a line was carried out."""
         self.lines.append(line)
@@ -91,6 +131,26 @@ class Conversation:
             learn(words, line)
         elif words[0] == "limit":
             self.limit = self.program_limit = int(words[1])
+
+    def read_known(self) -> Known:
+        """The names that the lines have declared. (What was taken in last may have been cut short,
+        where the conversation is out of step: then they are read anew.)"""
+        if self.in_step or self.owed:
+            return self.known
+        known = Known()
+        for line in self.lines:
+            words = line.split()
+            learn = known.learns.get(words[0])
+            if learn:
+                learn(words, line)
+        return known
+
+    def read_limit(self, first: int) -> int:
+        """The limit that the user gave, by the lines: the first one where none of them gives it."""
+        if self.in_step or self.owed:
+            return self.limit
+        words = (line.split() for line in reversed(self.lines))
+        return next((int(each[1]) for each in words if each[0] == "limit"), first)
 
     def cut(self, line: str, steps: int) -> None:
         """Takes in that a question was run for so many steps."""

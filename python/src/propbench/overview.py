@@ -4,10 +4,12 @@ Every value and every name of a premise is that of a reply. A side of a choice i
 says (`venue: days = 2`), and not as `venue=1`.
 """
 
+from collections.abc import Sequence
 from dataclasses import dataclass
 
 from propbench.listing import Told, told_by
-from propbench.replies import NO_PREMISE, Contradiction, Value, Worldview
+from propbench.refusals import Refused
+from propbench.replies import NO_PREMISE, Contradiction, Reply, Value, Worldview
 from propbench.runs import Progress, is_settled
 from propbench.session import Session
 from propbench.tables import table
@@ -82,17 +84,28 @@ def overview(
     """All that follows now, found by a run that is cut after so many seconds."""
     before = len(session.lines)
     end = session.send("settle", seconds=seconds, progress=progress)
-    lines = session.lines
-    told = told_by(lines)
-    # (A run that was cut stands between its steps and the limit that was in force. Of one in which
-    # the program hung there is nothing.)
-    ran = lines[before:] or ["limit 0"]
-    steps = int(ran[0].split()[1]) if ran != ["settle"] else None
-    if isinstance(end, Contradiction):
-        return Overview(True, end.premises, (), (), told, session.proved)
-    replies = session.look([*(f"why {cell}" for cell in session.known.cells), "worldview"])
+    replies: Sequence[Reply | Refused] = ()
+    if not isinstance(end, Contradiction):
+        # (what the program was at work on yet is taken in before that)
+        replies = session.look([*(f"why {cell}" for cell in session.known.cells), "worldview"])
+    clash = next((each for each in (end, *replies) if isinstance(each, Contradiction)), None)
+    told = told_by(session.lines)
+    if clash:
+        return Overview(True, clash.premises, (), (), told, session.proved)
     values = tuple(reply for reply in replies if isinstance(reply, Value))
     plan: tuple[str, ...] = ()
     if told.choices and isinstance(replies[-1], Worldview):
         plan = tuple(name for name in replies[-1].inside if told.side(name))
-    return Overview(is_settled(end), None, values, plan, told, session.proved, steps)
+    is_all = is_settled(end) or isinstance(replies[-1], Worldview)
+    steps = _cut_after(session.lines[before:])
+    return Overview(is_all, None, values, plan, told, session.proved, steps)
+
+
+def _cut_after(ran: Sequence[str]) -> int | None:
+    """After how many steps a run was cut, by the lines that came of it and of a look behind it; None
+    where it was not. (What was cut stands between its steps and the limit that was in force. Of a
+    run in which the program hung there is nothing.)"""
+    limits = [behind for behind, line in zip(["", *ran], ran) if line == "settle"]
+    if not all(limit.startswith("limit ") for limit in limits):
+        return None
+    return sum(int(limit.split()[1]) for limit in limits)

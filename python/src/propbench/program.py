@@ -2,7 +2,7 @@
 
 What is to be written waits here while the program is not ready to read it, and replies are taken in
 meanwhile, so neither side waits for the other for good. What is waited for may have an end: a time
-of the monotonic clock, at which the program is ended where it has not answered.
+of the monotonic clock, at which the program is ended where it has not answered, or left at work.
 """
 
 import os
@@ -28,6 +28,10 @@ _END = 5.0
 # whether it is at work, in seconds.
 _LOOK = 1
 _AGAIN = 0.05
+_AT_WORK = (
+    "the program did not answer in time: it is still at work, and the next use of the session goes on"
+    " from there"
+)
 # The variable by which a repository's scripts don't say once more that they run unproved.
 _TOLD = "PROPBENCH_TOLD"
 # The commands of which what they say was shown already.
@@ -56,8 +60,13 @@ class ProgramEnded(Exception):
 
 
 class OutOfTime(Exception):
-    """A reply did not come in the time that there was for it, and the program was ended. The next
-    use of the session begins it anew."""
+    """A reply did not come in the time that there was for it. Where the program was at work on a
+    question it is so still, and the next use of the session goes on from there. Else it was ended,
+    and the next use begins it anew."""
+
+
+class StillAtWork(OutOfTime):
+    """A reply did not come in its time, and the program was left at work on it."""
 
 
 def _signal_name(number: int) -> str:
@@ -69,7 +78,8 @@ def _signal_name(number: int) -> str:
 
 class Program:
     """A process of the program. What it is sent are whole lines, in bytes. Where a reply doesn't come
-    by `until`, it is ended, and OutOfTime raised by whoever waits."""
+    by `until`, OutOfTime is raised by whoever waits, and it is ended, or left at work: then nothing
+    of what has come is lost, and whoever waits again goes on."""
 
     def __init__(self, command: list[str], show_errors: bool = False) -> None:
         """Starts the program. What it says on standard error is kept, or shown on that of this
@@ -91,9 +101,10 @@ class Program:
         # How it ended by itself, where that came to light.
         self.ended: ProgramEnded | None = None
         # Until when replies are waited for, by the monotonic clock; None where that has no end. One
-        # that is at work then has so many seconds more.
+        # that is at work then has so many seconds more, and is left at work where it is kept.
         self.until: float | None = None
         self.patience = 0.0
+        self.is_kept = False
         self._come, self._room = select.poll(), select.poll()
         self._come.register(self._out, select.POLLIN)
         self._room.register(self._in, select.POLLOUT)
@@ -233,7 +244,11 @@ class Program:
         return self._process.is_at_work() or self._is_readable(0)
 
     def _end_late(self) -> None:
-        """Ends the program, since the time is over."""
+        """Ends the program, since the time is over, unless it is kept, and is at work on all that it
+        was sent. (What it says may come in this moment: then it isn't at work any more.)"""
+        if self.is_kept and not self._waiting:
+            if self._process.is_at_work() or self._is_readable(0):
+                raise StillAtWork(_AT_WORK)
         self.kill()
         raise OutOfTime("the program did not answer in time, and was ended")
 

@@ -3,6 +3,9 @@
 A slice that is used up is gone on from by the next. So the reply at the end is that of one run
 under the user's limit; only which of several reasons are named may differ, where there are choices
 and the run takes more than one slice.
+
+A slice that isn't done soon after the time of its question is left to the program, which goes on
+with it: what is known by then is the answer, and the next use of the session takes the slice in.
 """
 
 import time
@@ -10,7 +13,7 @@ from collections.abc import Callable
 from dataclasses import dataclass, replace
 
 from propbench.conversation import Conversation
-from propbench.program import OutOfTime, ProgramEnded
+from propbench.program import OutOfTime, ProgramEnded, StillAtWork
 from propbench.refusals import Refused
 from propbench.replies import Reply, Unsettled, Value, unread
 
@@ -24,11 +27,11 @@ _SHORT, _LONG = 0.05, 0.5
 # seconds, so that the end is not missed by much where steps take long.
 _FIRST_OF_TIMED, _FEWEST_OF_TIMED = 2_000, 100
 _BRIEF, _TIMED = 0.05, 0.2
-# How long, in seconds, a slice that was interrupted is waited for before the program is ended, and
-# one that is not done when the time of its question is over; and how long the second is waited for
-# beyond that as long as the program is at work.
+# How long, in seconds, a slice that was interrupted is waited for before the program is ended; one
+# that is not done when the time of its question is over; and one that was left to the program then,
+# by the next use of the session, where that has no time of its own, and the program is at work.
 _GRACE = 2.0
-_LATE = 1.8
+LATE = 0.6
 PATIENCE = 20.0
 
 
@@ -36,12 +39,14 @@ PATIENCE = 20.0
 class Watch:
     """Who may end a run: it is cut after `until`, a time of the monotonic clock, and `progress` is
     told of it, which may raise. `stopped` is what ended it from outside, and `taken` the steps of
-    the slices that were used up. Where no reply comes by `latest`, the program is ended."""
+    the slices that were used up, of which so many are among the lines. After `latest` no reply is
+    waited for."""
 
     until: float | None = None
     progress: Progress | None = None
     stopped: BaseException | None = None
     taken: int = 0
+    recorded: int = 0
     steps: int = _FIRST_OF_TIMED
 
     def adapt(self, seconds: float) -> None:
@@ -60,7 +65,7 @@ class Watch:
     @property
     def latest(self) -> float | None:
         """By when a reply has to come."""
-        return None if self.until is None else self.until + _LATE
+        return None if self.until is None else self.until + LATE
 
     def is_over(self, reply: Reply) -> bool:
         """Tells of a run that isn't settled; whether it is to end here."""
@@ -148,7 +153,7 @@ class Runner:
 
     def watched(self, question: Question, watch: Watch) -> Reply:
         """The reply to a question that is not told yet, where somebody may end the run. Raises its
-        refusal, what they raise, and OutOfTime where the program hangs before anything is known."""
+        refusal, what they raise, and OutOfTime where nothing is known when the time is over."""
         words, talk = question.words, self.talk
         is_long_core = words[0] == "core" and self.steps < talk.limit
         if not is_long_core or len(words) != 2 or words[1] not in talk.known.cells:
@@ -164,14 +169,14 @@ class Runner:
 
     def _ended(self, watch: Watch, reply: Reply) -> Reply:
         """The reply to a question of which all is taken in. (Where the program hangs, which is
-        ended then, what was known before is.)"""
-        self.talk.in_step = self.talk.program.is_open
+        ended then, or is at work yet, what was known before is.)"""
+        self.talk.in_step = self.talk.program.is_open and self.talk.owed is None
         if watch.stopped:
             raise watch.stopped
         return reply
 
     def _take_in(self, question: Question, watch: Watch, reply: Reply) -> None:
-        if not self.talk.program.is_open:
+        if not self.talk.program.is_open or self.talk.owed:
             return
         if is_settled(reply) or watch.taken == self.talk.limit:
             self.talk.carried(question.line, question.words)
@@ -205,23 +210,41 @@ class Runner:
             self._adapt(watch, time.monotonic() - begun)
         return reply
 
-    def _slice(self, question: Question, watch: Watch, steps: int) -> Reply:
+    def _slice(
+        self, question: Question, watch: Watch, steps: int, before: Question | None = None
+    ) -> Reply:
         """The reply to a question under so many steps. Where the run was interrupted, and no reply
-        came soon, the program is ended, and KeyboardInterrupt raised."""
-        self.talk.tell(question.line, steps)
+        came soon, the program is ended, and KeyboardInterrupt raised. Where it is left to the
+        program, that is owed, and what was done before is among the lines: the question that was
+        answered before it, or what was taken of this one."""
+        talk = self.talk
         try:
-            text = self.talk.hear(question.words[0])
-        except KeyboardInterrupt as stopped:
-            watch.stopped = stopped
-            return self._late(question, watch)
+            talk.tell(question.line, steps)
+            try:
+                text = talk.hear(question.words[0])
+            except KeyboardInterrupt as stopped:
+                watch.stopped = stopped
+                return self._late(question, watch)
+        except StillAtWork:
+            if before:
+                talk.carried(before.line, before.words)
+            self._record(question, watch)
+            talk.leave(question.line, question.words, steps)
+            raise
         return self._reply(question, text)
+
+    def _record(self, question: Question, watch: Watch) -> None:
+        """Takes in the slices that were used up, and are not among the lines yet."""
+        if watch.taken > watch.recorded:
+            self.talk.cut(question.line, watch.taken - watch.recorded)
+            watch.recorded = watch.taken
 
     def _late(self, question: Question, watch: Watch) -> Reply:
         """The reply to a question that was interrupted, where it comes soon. Raises what interrupted
         it where none does, or a part of it was lost, and where it is refused."""
         assert watch.stopped
         talk = self.talk
-        talk.program.until, talk.program.patience = time.monotonic() + _GRACE, 0.0
+        talk.program.until, talk.program.is_kept = time.monotonic() + _GRACE, False
         try:
             text = talk.late()
             if not text:
@@ -233,8 +256,7 @@ class Runner:
         except Refused:
             raise watch.stopped from None
         except (OutOfTime, ProgramEnded):
-            if watch.taken:
-                self.talk.cut(question.line, watch.taken)
+            self._record(question, watch)
             raise watch.stopped from None
 
     def _reply(self, question: Question, text: str) -> Reply:
@@ -279,22 +301,25 @@ class Runner:
         steps = min(self._size(watch), most) if is_watched else most
         watch.taken = 0
         found: Reply = replace(reply, reduced=False)
-        is_first = True
+        before: Question | None = why
         while True:
             begun = time.monotonic()
             try:
-                found = self._slice(question, watch, steps)
+                found = self._slice(question, watch, steps, before)
             except OutOfTime:
                 if watch.until is None:
                     raise
                 return found
             is_done = steps == most or not (isinstance(found, Value) and found.reduced is False)
-            if is_first and is_done:
+            if before and is_done:
                 talk.carried(question.line, question.words)
             else:
+                if before:
+                    talk.carried(before.line, before.words)
                 talk.cut(question.line, steps)
             watch.taken += steps
+            watch.recorded = watch.taken
             more = watch.growth(time.monotonic() - begun)
             if is_done or watch.is_over(found) or more < 1:
                 return found
-            is_first, steps = False, min(int(steps * more) + 1, most)
+            before, steps = None, min(int(steps * more) + 1, most)

@@ -22,10 +22,10 @@ from propbench.finding import find_program
 from propbench.given import seconds_given
 from propbench.grammar import ASKING, FORMS, RUNNING
 from propbench.known import Known
-from propbench.program import Program, ProgramEnded
+from propbench.program import OutOfTime, Program, ProgramEnded, StillAtWork
 from propbench.refusals import Refused, UnknownCommand
 from propbench.replies import DONE, SILENT, How, Listing, Reply, Step
-from propbench.runs import PATIENCE, Progress, Question, Runner, Watch, is_settled
+from propbench.runs import LATE, PATIENCE, Progress, Question, Runner, Watch, is_settled
 from propbench.words import MOST_STEPS, as_line, is_silent
 
 STEPS = 1_000_000_000
@@ -109,18 +109,19 @@ class Session(Closing):
 
         A program that is given these lines answers as this session did. A question that was cut
         stands between a `limit` of the steps that its run took and the limit that was in force.
+        What the program is at work on yet is not among them.
         """
         return list(self._talk.lines)
 
     @property
     def known(self) -> Known:
         """The names that the lines so far have declared."""
-        return self._ready().known
+        return self._seen().read_known()
 
     @property
     def limit(self) -> int:
         """The most steps of a run, as given last."""
-        return self._ready().limit
+        return self._seen().read_limit(self._first_limit)
 
     @property
     def pid(self) -> int:
@@ -149,8 +150,8 @@ class Session(Closing):
 
     def end_by(self, until: float | None) -> None:
         """Has the session last until then, a time of the monotonic clock, or without an end: who
-        waits for a reply longer gets OutOfTime, and the program is ended. That is for a session that
-        is a question's own."""
+        waits for a reply longer gets OutOfTime, and the program is ended, at work or not. That is
+        for a session that is a question's own."""
         self._until = self._talk.program.until = until
 
     def send(
@@ -167,29 +168,31 @@ class Session(Closing):
         from there. `progress` is called after each slice that doesn't settle, with the steps so far
         and what is known. Where it raises, and at Ctrl-C, the run ends, and the session goes on.
 
-        A program that hangs is ended within two seconds after `seconds`: what was known before is
-        the answer then, or OutOfTime is raised where nothing was. The next use begins it anew. One
-        that is at work on steps that take long has 20 seconds more.
+        The call comes back within a second after `seconds`. Where a slice takes longer the answer
+        is what was known before, or OutOfTime is raised where nothing was. A program that is at work
+        goes on with the slice, and the next use of the session waits for it first: within its own
+        `seconds`, or for 20 seconds. One that hangs is ended, and the next use begins it anew; so is
+        one that has not carried out a statement by then.
 
         Raises the Refused of the number that the program answers, ProgramEnded, SessionInUse, and
         ValueError where a line feed stands within the line.
         """
         text = line if isinstance(line, str) and "\n" not in line else as_line(line)
-        watch, until, patience = None, self._until, 0.0
+        watch, until, is_kept = None, self._until, False
         if seconds is not None or progress is not None:
             limit = seconds_given(seconds)
             watch = Watch(None if limit is None else time.monotonic() + limit, progress)
             until = _earlier(until, watch.latest)
-            patience = PATIENCE if until == watch.latest else 0.0
+            is_kept = until == watch.latest
         turn = self._turn
         if not turn.lock.acquire(False) or turn is not self._turn:
             turn = self._see_whose_turn()
         try:
             talk = self._talk
             if talk.in_step:
-                talk.program.until, talk.program.patience = until, patience
+                talk.program.until, talk.program.is_kept = until, is_kept
             else:
-                self._be_ready(until, patience)
+                self._be_ready(until, is_kept)
             self._sent += 1
             if watch is None and text[:4] in _QUESTIONS:
                 return self._runner.ask(text, self._sent)
@@ -205,15 +208,25 @@ class Session(Closing):
             turn.lock.release()
 
     @overload
-    def send_all(self, lines: Iterable[str | bytes]) -> Replies:
+    def send_all(self, lines: Iterable[str | bytes], *, until: float | None = None) -> Replies:
         ...
 
     @overload
-    def send_all(self, lines: Iterable[str | bytes], *, keep_refused: Literal[True]) -> Outcomes:
+    def send_all(
+        self,
+        lines: Iterable[str | bytes],
+        *,
+        keep_refused: Literal[True],
+        until: float | None = None,
+    ) -> Outcomes:
         ...
 
     def send_all(
-        self, lines: Iterable[str | bytes], *, keep_refused: bool = False
+        self,
+        lines: Iterable[str | bytes],
+        *,
+        keep_refused: bool = False,
+        until: float | None = None,
     ) -> Replies | Outcomes:
         """Sends lines without waiting for the replies in between, and gives the reply to each.
 
@@ -221,14 +234,16 @@ class Session(Closing):
         end, with the replies and refusals to all lines in its `replies`; with `keep_refused` none
         is raised, and each stands in its line's place.
 
-        A question is one run here. At Ctrl-C the lines whose replies have come count as carried
+        A question is one run here. `until` is a time of the monotonic clock: OutOfTime is raised
+        then. Where the time is over before, or the program at work yet, nothing is sent; else the
+        program is ended. At that, and at Ctrl-C, the lines whose replies have come count as carried
         out, and no others; the next use of the session begins the program anew with these. Raises
         ProgramEnded, and ValueError, before anything is sent, for a line feed within a line.
         """
         texts = as_lines(lines)
         turn = self._take_turn()
         try:
-            self._be_ready(self._until)
+            self._be_ready_in_time(until)
             if self._talk.program_limit != self._talk.limit:
                 self._talk.set_limit(self._talk.limit)
             batch = Batch(self._talk, texts, self._sent)
@@ -241,15 +256,16 @@ class Session(Closing):
             raise batch.first_refused
         return batch.replies
 
-    def look(self, questions: Iterable[str]) -> Outcomes:
+    def look(self, questions: Iterable[str], *, until: float | None = None) -> Outcomes:
         """What is known now: the replies to questions that are asked without a step being taken.
 
-        Where what is known is settled, they leave no trace in `lines`.
+        Where what is known is settled, they leave no trace in `lines`. `until` is as that of
+        `send_all`.
         """
         texts = as_lines(questions)
         turn = self._take_turn()
         try:
-            self._be_ready(self._until)
+            self._be_ready_in_time(until)
             talk = self._talk
             talk.set_limit(0)
             batch = Batch(talk, texts, self._sent)
@@ -318,10 +334,10 @@ class Session(Closing):
         finally:
             turn.lock.release()
 
-    def _begun(self, until: float | None, patience: float = 0.0) -> Conversation:
+    def _begun(self, until: float | None) -> Conversation:
         """A conversation in which nothing is said as yet, whose replies come by then."""
         talk = Conversation(self._command, self._first_limit, self._found.builds)
-        talk.program.until, talk.program.patience = until, patience
+        talk.program.until = until
         return talk
 
     def _use(self, talk: Conversation) -> None:
@@ -329,16 +345,16 @@ class Session(Closing):
         self._runner = Runner(talk)
         self._talk = talk
 
-    def _begin_anew(self, kept: Texts, until: float | None, patience: float = 0.0) -> Outcomes:
+    def _begin_anew(self, kept: Texts, until: float | None) -> Outcomes:
         """Begins the program anew with these lines, and gives their replies, which come by then.
         Where that is cut short, the next use begins it anew with them."""
         talk = self._talk
-        talk.in_step = False
+        talk.in_step, talk.owed = False, None
         talk.program.ended = None
         talk.lines = kept
         talk.program.kill()
         try:
-            begun = self._begun(until, patience)
+            begun = self._begun(until)
             self._coming = begun.program
             batch = Batch(begun, kept, self._sent)
             batch.run()
@@ -358,20 +374,52 @@ class Session(Closing):
         if self._closed:
             raise RuntimeError("the session is closed")
 
-    def _be_ready(self, until: float | None, patience: float = 0.0) -> None:
-        """Sees to it that the next reply is that to the next line, and that replies come by then."""
+    def _be_ready(self, until: float | None, is_kept: bool = False) -> None:
+        """Sees to it that the next reply is that to the next line, and that replies come by then;
+        or else whether a program that is at work is kept. Raises OutOfTime."""
         self._be_open()
         if self._talk.program.ended:
             raise self._talk.program.ended
+        if self._talk.owed:
+            self._take_in(until)
         if not self._talk.in_step:
-            self._begin_anew(self._talk.lines, until, patience)
-        self._talk.program.until, self._talk.program.patience = until, patience
+            self._begin_anew(self._talk.lines, until)
+        self._talk.program.until, self._talk.program.is_kept = until, is_kept
 
-    def _ready(self) -> Conversation:
-        """The conversation, in step with the program."""
+    def _be_ready_in_time(self, until: float | None) -> None:
+        """The same for several lines, which have until then. Raises OutOfTime where that is over."""
+        latest = _earlier(self._until, until)
+        if until is not None and time.monotonic() >= until:
+            self._be_open()
+            raise OutOfTime("there was no time for what was to be asked")
+        self._be_ready(latest)
+
+    def _take_in(self, until: float | None) -> None:
+        """Waits for what the program owes, and takes it in. Where it doesn't come, as long as the
+        program is at work, the conversation is out of step. Raises OutOfTime where there is an end,
+        and it doesn't come by then; it is owed yet where the program is at work."""
+        talk, program = self._talk, self._talk.program
+        program.until = time.monotonic() if until is None else until
+        program.patience = PATIENCE if until is None else 0.0
+        program.is_kept = until is not None
+        try:
+            talk.take_in()
+        except OutOfTime:
+            if until is not None:
+                raise
+        except ProgramEnded:
+            if self._closed:
+                raise
+            program.ended = None
+        program.patience = 0.0
+
+    def _seen(self) -> Conversation:
+        """The conversation, for what its lines say: the program isn't asked, nor begun anew."""
         turn = self._take_turn()
         try:
-            self._be_ready(self._until)
+            self._be_open()
+            if self._talk.program.ended:
+                raise self._talk.program.ended
             return self._talk
         finally:
             turn.lock.release()
@@ -381,6 +429,8 @@ class Session(Closing):
         words = line.split()
         if words and words[0] in RUNNING:
             return self._runner.watched(Question(line, words, self._sent), watch)
+        # (who is told that it came to nothing may send it again)
+        self._talk.program.is_kept = False
         self._runner.tell(line)
         return self._heard(line, words)
 
@@ -444,9 +494,13 @@ class Session(Closing):
         turn = self._turn
         if turn.lock.acquire(False):
             try:
-                is_at_rest = turn is self._turn and self._talk.in_step
-                if is_at_rest and self._talk.program.notice():
-                    self._talk.in_step = False
+                talk = self._talk
+                is_at_rest = turn is self._turn and (talk.in_step or talk.owed is not None)
+                if is_at_rest and talk.program.notice():
+                    talk.in_step = False
+                    if talk.owed:
+                        # (which is begun anew, as where it is noticed while that is waited for)
+                        talk.owed = talk.program.ended = None
             finally:
                 turn.lock.release()
 
@@ -491,7 +545,7 @@ _CALLS = {_LOOKING} | {
         Session.look,
         Session.replay,
         Session.drop_lines,
-        Session._ready,
+        Session._seen,
         Session._notice_end,
     )
 }

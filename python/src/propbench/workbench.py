@@ -12,7 +12,7 @@
 
 import os
 from collections.abc import Collection, Iterable, Iterator, Mapping, Sequence
-from contextlib import ExitStack, contextmanager
+from contextlib import ExitStack, contextmanager, suppress
 from datetime import date
 from typing import TYPE_CHECKING, TypeVar, overload
 from weakref import WeakValueDictionary
@@ -57,11 +57,12 @@ from propbench.model.overall import over_all_plans
 from propbench.model.reading import Reader
 from propbench.model.saving import read, saved
 from propbench.model.seam import BenchModel
-from propbench.model.shrinking import shrunk
+from propbench.model.shrinking import shrink
 from propbench.model.tabling import Table
 from propbench.nearby import near_names
 from propbench.overview import UNPROVED
 from propbench.planning import Calendar, Project
+from propbench.program import OutOfTime
 from propbench.questions import Sensitivity
 from propbench.questions.asking import CellLike
 from propbench.questions.clock import Clock, Progress
@@ -353,15 +354,19 @@ class Workbench(Measuring, Closing):
         read = Reader(names, premises)
         if not premises.choices:
             return read.answer(cell, reply, {})
-        if command == "core" and reply.settled:
+        if seconds is not None and not reply.settled:
+            return read.answer(cell, reply, {})
+        if command == "core" and reply.settled and not clock.is_over():
             # (after a core every procedure is called once more, before the plan is known)
-            session.send("worldview", seconds=clock.seconds_left())
-        return read.answer(cell, reply, self._plan())
+            with suppress(OutOfTime):
+                session.send("worldview", seconds=clock.seconds_left())
+        return read.answer(cell, reply, self._plan(clock))
 
     def table(self, *cells: Cell, seconds: float | None = None) -> Table:
         """What follows for these cells, of all where none is given, as a table.
 
-        Raises Conflict where what is believed can't all hold.
+        Raises Conflict where what is believed can't all hold, and OutOfTime where values can't be
+        asked for in time, as the program is at work yet.
         """
         declared = [self._own(cell) for cell in cells] or list(self._network.cells.values())
         clock = Clock(seconds, None)
@@ -369,8 +374,12 @@ class Workbench(Measuring, Closing):
         if isinstance(reply, Contradiction):
             raise self._conflict(reply, clock.seconds_left())
         names = self._network.vocabulary.cells
-        replies = self.session.look([f"why {names.line(cell.name)}" for cell in declared])
-        plan, read = self._plan(), self._reader
+        asks = [f"why {names.line(cell.name)}" for cell in declared]
+        replies = self.session.look(asks, until=clock.last)
+        clash = next((each for each in replies if isinstance(each, Contradiction)), None)
+        if clash:
+            raise self._conflict(clash, clock.seconds_left())
+        plan, read = self._plan(clock), self._reader
         answers = tuple(
             read.answer(cell, reply, plan)
             for cell, reply in zip(declared, replies)
@@ -426,10 +435,10 @@ class Workbench(Measuring, Closing):
         """What makes up what follows for a cell, as `cell.how()` gives it."""
         from propbench.watching.of_workbench import WorkbenchWatched
 
-        declared = self._own(cell)
+        declared, clock = self._own(cell), Clock(seconds, None)
         self.answer("why", declared, seconds, None)
         try:
-            return WorkbenchWatched(self).how(declared.name)
+            return WorkbenchWatched(self).how(declared.name, clock.last)
         except UnknownCommand:
             raise ValueError(_UNTOLD) from None
 
@@ -566,21 +575,37 @@ class Workbench(Measuring, Closing):
         low, high = ends_of(value)
         return Answer(cell.name, value, low, high, is_settled, self.believed)
 
-    def _plan(self) -> dict[str, int]:
+    def _known(self, cell: Declared, clock: Clock) -> Answer:
+        """What follows for a cell as far as there is time, or what is known of it where there is
+        none. Raises OutOfTime."""
+        if not clock.is_over():
+            return self.answer("why", cell, clock.seconds_left(), None)
+        line = self._network.vocabulary.cells.line(cell.name)
+        [reply] = self.session.look([f"why {line}"], until=clock.last)
+        if isinstance(reply, Contradiction):
+            raise self._conflict(reply, 0)
+        assert isinstance(reply, Value)
+        return self._reader.answer(cell, reply, {})
+
+    def _plan(self, clock: Clock) -> dict[str, int]:
         """For each choice the place of the alternative that it stands on, where a run has found
-        that."""
+        that, and it is told in time."""
         if not self._network.premises.choices:
             return {}
-        [reply] = self.session.look(["worldview"])
+        try:
+            [reply] = self.session.look(["worldview"], until=clock.last)
+        except OutOfTime:
+            return {}
         return self._reader.plan(reply.inside) if isinstance(reply, Worldview) else {}
 
     def _conflict(self, found: Contradiction, seconds: float | None = None) -> Conflict:
         """The conflict, made small as far as there is time."""
         names, clock = self._network.vocabulary.premises, Clock(seconds, None)
         believed = [names.line(name) for name in self._network.premises.in_force]
-        with self._network.tried() as session:
-            kept = [names.text(line) for line in shrunk(session, believed, found.premises, seconds)]
-        says = {name: self._network.premises.text(name) for name in kept}
+        kept = list(found.premises)
+        with suppress(OutOfTime), self._network.tried() as session:
+            shrink(session, believed, kept, clock)
+        says = {name: self._network.premises.text(name) for name in map(names.text, kept)}
         if says and clock.is_over():
             return Conflict(tuple(says), says, (_MAY_BE_FEWER,))
         notes = beyond(self._network, list(says), clock.seconds_left())

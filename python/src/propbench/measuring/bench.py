@@ -23,14 +23,14 @@ from propbench.measuring.stating import (
 from propbench.measuring.terms import Law, Real, text_of
 from propbench.measuring.units import unit_of
 from propbench.measuring.zeros import check_zeros
-from propbench.model.answers import Conflict
+from propbench.model.answers import Answer, Conflict
 from propbench.model.events import LawStated, Read
 from propbench.model.measures import Measure
 from propbench.model.network import Network
 from propbench.model.nodes import Declared, cells_in
 from propbench.model.reading import Reader
 from propbench.questions import Questions
-from propbench.questions.clock import Progress
+from propbench.questions.clock import Clock, Progress
 from propbench.questions.rooms import Numbers
 from propbench.replies import Contradiction, Value
 from propbench.values import Span
@@ -239,6 +239,9 @@ class Measuring(Questions):
         return self._conflict(Contradiction(tuple(map(lines.line, names))), seconds)
 
     def _conflict(self, found: Contradiction, seconds: float | None = None) -> Conflict:
+        raise NotImplementedError
+
+    def _known(self, cell: Declared, clock: Clock) -> Answer:
         raise NotImplementedError
 
     def _own(self, cell: object) -> Declared:

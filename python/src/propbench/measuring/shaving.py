@@ -5,7 +5,9 @@ from dataclasses import dataclass
 from typing import Protocol
 
 from propbench.measuring.narrowing import Impossible, Narrowing
-from propbench.measuring.quantities import MeasuredAnswer, Quantity
+from propbench.measuring.quantities import MeasuredAnswer, Quantity, measured
+from propbench.model.answers import Answer
+from propbench.model.nodes import Declared
 from propbench.questions.asking import tried
 from propbench.questions.certificate import Certificate, Evidence
 from propbench.questions.checker import MOST
@@ -39,6 +41,10 @@ class Bench(Protocol):
     @property
     def model(self) -> Model:
         """The workbench as questions see it."""
+        ...
+
+    def _known(self, cell: Declared, clock: Clock) -> Answer:
+        """What follows for a cell as far as there is time, or what is known of it."""
         ...
 
     def _related(self, quantity: Quantity) -> list[str]:
@@ -78,8 +84,8 @@ def find_shaved(
 
     def result() -> Shaved:
         if "room" not in state:
-            left = clock.seconds_left()
-            return Shaved(**vars(quantity.ask(seconds=left)), complete=False)
+            known = measured(bench._known(quantity.declared, clock))
+            return Shaved(**vars(known), complete=False)
         room, begun = state["room"], state["begun"]
         because = [each for each in believed if trial.line[each] in narrowing.names]
         told = bench._told(quantity, room, because)

@@ -12,6 +12,7 @@ from propbench.model.nodes import Declared, Node, Op, cells_in
 from propbench.model.ranges import Range, Ranges, declared_range, range_of
 from propbench.model.shrinking import shrunk
 from propbench.model.writing import text_of
+from propbench.program import OutOfTime
 from propbench.questions.clock import Clock
 from propbench.replies import Contradiction, Value
 from propbench.values import Span
@@ -39,7 +40,10 @@ def beyond(network: Network, premises: Sequence[str], seconds: float | None = No
     for premise in premises or [""]:
         if clock.is_over():
             break
-        ranges = Ranges(_without(network, premise, numbers, clock).__getitem__)
+        try:
+            ranges = Ranges(_without(network, premise, numbers, clock).__getitem__)
+        except OutOfTime:
+            break
         found = list(dict.fromkeys(node for node in concerned if _is_beyond(ranges.uncut(node))))
         if found:
             return [f"{text_of(node)} lies beyond 10^18, which no cell holds" for node in found]
@@ -64,6 +68,7 @@ def always(network: Network, seconds: float | None = None) -> list[str]:
         return []
     copy = network.copy(kept)
     try:
+        copy.session.end_by(clock.latest)
         reply = copy.session.send("settle", seconds=clock.seconds_left())
         if not isinstance(reply, Contradiction):
             return []
@@ -77,6 +82,8 @@ def always(network: Network, seconds: float | None = None) -> list[str]:
         if clock.is_over():
             return []
         return [_text(named[names.text(line)]) for line in lines]
+    except OutOfTime:
+        return []
     finally:
         copy.close()
 
@@ -115,17 +122,18 @@ def _without(
     network: Network, premise: str, cells: Sequence[Declared], clock: Clock
 ) -> dict[Declared, Range]:
     """Between which numbers the cells lie by all that is believed but the premise, and by what is
-    told under it of the cells themselves."""
+    told under it of the cells themselves. Raises OutOfTime."""
     names = network.vocabulary
     found = {cell: declared_range(cell) for cell in cells}
     line = names.premises.line(premise) if premise else ""
     with network.tried() as session:
         if line:
-            session.send(f"kick {line}")
+            session.send_all([f"kick {line}"], until=clock.last)
             session.send("settle", seconds=clock.seconds_left())
-        replies = session.look([f"ask {names.cells.line(cell.name)}" for cell in cells])
+        asks = [f"ask {names.cells.line(cell.name)}" for cell in cells]
+        replies = session.look(asks, until=clock.last)
         if line:
-            session.send(f"bring {line}")
+            session.send_all([f"bring {line}"], until=clock.last)
     for cell, reply in zip(cells, replies):
         if isinstance(reply, Value) and isinstance(reply.value, Span):
             found[cell] = _both(found[cell], (reply.value.low, reply.value.high))

@@ -20,33 +20,41 @@ def shrunk(
     contradiction.
     """
     kept = list(found)
+    with suppress(OutOfTime):
+        shrink(session, believed, kept, Clock(seconds, None))
+    return tuple(kept)
+
+
+def shrink(session: Session, believed: Sequence[str], kept: list[str], clock: Clock) -> None:
+    """The same in place, of those that are kept. Raises OutOfTime where there was none to have those
+    that are believed be so again."""
+    if clock.is_over():
+        return
     try:
         with suppress(OutOfTime):
-            _shrink(session, believed, kept, Clock(seconds, None))
+            _shrink(session, believed, kept, clock)
     finally:
-        with suppress(OutOfTime):
-            _send(session, "bring", believed)
-    return tuple(kept)
+        _send(session, "bring", believed, clock)
 
 
 def _shrink(session: Session, believed: Sequence[str], kept: list[str], clock: Clock) -> None:
     """Leaves out of what is kept what can be left out."""
-    _send(session, "kick", [name for name in believed if name not in kept])
+    _send(session, "kick", [name for name in believed if name not in kept], clock)
     tried = list(kept)
     while tried and not clock.is_over():
         name = tried.pop()
-        _send(session, "kick", [name])
+        _send(session, "kick", [name], clock)
         reply = session.send("settle", seconds=clock.seconds_left())
         if isinstance(reply, Contradiction):
             gone = [each for each in kept if each != name and each not in reply.premises]
-            _send(session, "kick", gone)
+            _send(session, "kick", gone, clock)
             kept[:] = [each for each in kept if each in reply.premises]
             tried = [each for each in tried if each in kept]
         else:
-            _send(session, "bring", [name])
+            _send(session, "bring", [name], clock)
 
 
-def _send(session: Session, command: str, names: Sequence[str]) -> None:
+def _send(session: Session, command: str, names: Sequence[str], clock: Clock) -> None:
     """Sends a command for each name."""
-    for name in names:
-        session.send(f"{command} {name}")
+    if names:
+        session.send_all([f"{command} {name}" for name in names], until=clock.last)

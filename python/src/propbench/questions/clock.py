@@ -11,8 +11,9 @@ Progress = Callable[[str], None]
 
 # A terminal is told of a question after so many seconds, and so often.
 _FIRST, _AGAIN = 1.0, 0.2
-# How long, in seconds, a reply that is under way is waited for when the time is over.
-_GRACE = 0.4
+# How long, in seconds, a reply that is under way is waited for when the time is over; and what has
+# to be done behind that, as to take back what was tried.
+_GRACE, _LAST = 0.4, 0.8
 
 
 class Clock:
@@ -44,6 +45,12 @@ class Clock:
         """Until when replies are waited for, by the monotonic clock: a bit longer than there is
         time, so that what is nearly there isn't lost; None where there is no end."""
         return None if self._until is None else self._until + _GRACE
+
+    @property
+    def last(self) -> float | None:
+        """Until when what is behind that has to come, by the monotonic clock; None where there is no
+        end."""
+        return None if self._until is None else self._until + _LAST
 
     def reply_left(self) -> float | None:
         """How many seconds replies are waited for yet, None where there is no end."""

@@ -9,26 +9,27 @@ from propbench.replies import Called, How, Listing, Reply
 from propbench.session import Session
 
 
-def listing_of(session: Session) -> Listing | None:
+def listing_of(session: Session, until: float | None = None) -> Listing | None:
     """What there is, None where the program doesn't list it."""
     try:
-        found = _told(session, "list")
+        found = _told(session, "list", until)
     except UnknownCommand:
         return None
     assert isinstance(found, Listing)
     return found
 
 
-def how_of(session: Session, cell: str) -> How:
-    """What makes up what is known of a cell. Raises UnknownCommand where the program doesn't tell."""
-    found = _told(session, f"how {cell}")
+def how_of(session: Session, cell: str, until: float | None = None) -> How:
+    """What makes up what is known of a cell. Raises UnknownCommand where the program doesn't tell,
+    and OutOfTime."""
+    found = _told(session, f"how {cell}", until)
     assert isinstance(found, How)
     return found
 
 
-def _told(session: Session, question: str) -> Reply:
-    """The reply to a question, which leaves no trace. Raises its refusal."""
-    [reply] = session.look([question])
+def _told(session: Session, question: str, until: float | None) -> Reply:
+    """The reply to a question, which leaves no trace. Raises its refusal, and OutOfTime."""
+    [reply] = session.look([question], until=until)
     if isinstance(reply, Refused):
         raise reply
     return reply
@@ -37,8 +38,8 @@ def _told(session: Session, question: str) -> Reply:
 class Instances:
     """The instances of a session, as they were when this was made."""
 
-    def __init__(self, session: Session) -> None:
-        listing = listing_of(session)
+    def __init__(self, session: Session, until: float | None = None) -> None:
+        listing = listing_of(session, until)
         self._known = {each.number: each for each in listing.instances} if listing else {}
 
     def attach_of(self, call: Called) -> int:

@@ -18,7 +18,7 @@ from propbench.watching.network import Cell, Choice, Network, Premise, Said, Use
 class Lines:
     """The lines of a session, read as they come."""
 
-    def __init__(self, listing: Callable[[], Listing | None]) -> None:
+    def __init__(self, listing: Callable[[float | None], Listing | None]) -> None:
         """Of a session of which the program lists what there is, where it does."""
         self._listing = listing
         self._begin()
@@ -28,15 +28,23 @@ class Lines:
         self._told = Told()
         self._uses: list[Use] = []
 
-    def take(self, lines: Sequence[str], known: Known) -> None:
-        """Takes in the lines of a session, of which those that are known are not read again."""
+    def take(self, lines: Sequence[str], known: Known, until: float | None = None) -> None:
+        """Takes in the lines of a session, of which those that are known are not read again. Raises
+        OutOfTime; what cuts it short has all be read again."""
         if self._read != lines[: len(self._read)]:
             self._begin()
+        try:
+            self._take(lines, known, until)
+        except BaseException:
+            self._begin()
+            raise
+
+    def _take(self, lines: Sequence[str], known: Known, until: float | None) -> None:
         parts: _Parts | None = None
         for line in lines[len(self._read) :]:
             self._told.learn(line)
             if line.split(None, 1)[0] == "attach":
-                parts = parts or _Parts(self._listing, known)
+                parts = parts or _Parts(lambda: self._listing(until), known)
                 self._uses.append(parts.attached(line, str(len(self._uses) + 1)))
         self._read = list(lines)
 

@@ -41,7 +41,7 @@ class SessionWatched:
         self.session = session
         self._source = list(source)
         self._since = len(session.lines)
-        self._lines = Lines(lambda: listing_of(session))
+        self._lines = Lines(lambda until: listing_of(session, until))
         # The premises under which a side of a choice is wished for.
         self._wishes: dict[tuple[str, int], str] = {}
 
@@ -88,7 +88,8 @@ class SessionWatched:
             other.end_by(clock.latest)
             with suppress(OutOfTime):
                 other.send_all(self.lines())
-                return mended(other, self._believed(), _MOST_MENDS, clock)
+                believed = self._believed(self._read(clock.last).told)
+                return mended(other, believed, _MOST_MENDS, clock)
         return NOT_MENDED
 
     def without(self, premises: Sequence[str], progress: Progress | None = None) -> Seen:
@@ -100,8 +101,10 @@ class SessionWatched:
     def best(
         self, cell: str, sort: str, progress: Telling | None = None, seconds: float | None = None
     ) -> Best:
-        model = SessionModel(self.session, self.lines(), self._told)
-        found = so_far(lambda: find_optimum(model, cell, sort, seconds, progress), Optimum)
+        clock = Clock(seconds, progress)
+        model = SessionModel(self.session, self.lines(), self._read(clock.last).told)
+        left = clock.seconds_left()
+        found = so_far(lambda: find_optimum(model, cell, sort, left, progress), Optimum)
         return Best(
             found.headline(),
             tuple((name, point_text(value)) for name, value in (found.plan or {}).items()),
@@ -149,8 +152,9 @@ class SessionWatched:
     def _told(self) -> Told:
         return self._read().told
 
-    def _read(self) -> Lines:
-        self._lines.take(self.session.lines, self._known)
+    def _read(self, until: float | None = None) -> Lines:
+        """What the lines say. Raises OutOfTime."""
+        self._lines.take(self.session.lines, self._known, until)
         return self._lines
 
     def _call(self, did: Called, instances: Instances) -> Call:
@@ -165,8 +169,8 @@ class SessionWatched:
         is_inner = call.output not in self._known.cells
         return Call(f"{own}{whole}", use.name, call.output if is_inner else "")
 
-    def _believed(self) -> list[str]:
-        told = self._told
+    def _believed(self, told: Told | None = None) -> list[str]:
+        told = told or self._told
         return [each for each in told.premises if each and each not in told.kicked]
 
     def _fresh(self, name: str) -> str:

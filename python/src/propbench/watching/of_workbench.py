@@ -176,11 +176,11 @@ class WorkbenchWatched:
         rows = tuple((name, point_text(value)) for name, value in plan.items())
         return Best(found.headline(), rows, found.proved, PLAN)
 
-    def how(self, cell: str) -> Claim:
+    def how(self, cell: str, until: float | None = None) -> Claim:
         made = self.workbench.network
         names = made.vocabulary.cells
-        found = how_of(made.session, names.line(cell))
-        return claim_of(found, wording_of(made, Instances(made.session), found.sides))
+        found = how_of(made.session, names.line(cell), until)
+        return claim_of(found, wording_of(made, Instances(made.session, until), found.sides))
 
     def steps(self) -> Steps:
         made = self.workbench.network

@@ -1,0 +1,66 @@
+-- What is known of the answers of the kit's rules without a call.
+use Rattle.std.specs.Prelude.{ℕ, zero, suc, ℤ, Bool, false, not, ◌&&◌, ◌||◌, ◌==◌, List, []}
+use Rattle.std.specs.Prelude.{◌∷◌, Option, Some, None, if◌then◌else◌}
+use Rattle.std.specs.List.{list_any}
+use Rattle.std.specs.Ordering.{int_eq}
+use Rattle.prop_intervals.specs.Comparisons.{yes_bits, no_bits}
+use Rattle.prop_lattice.specs.declared.info.Info.{Info}
+use Rattle.prop_lattice.specs.declared.info.Info.TheVariants.{Span, Sym}
+use Rattle.prop_sets.specs.Truth.{leaves, is_nothing}
+use Rattle.prop_arith.specs.Comparing.{is_single}
+use Rattle.prop_arith.specs.inner.Compared.{is_just}
+use Rattle.prop_arith.specs.declared.kit.Kit as kits
+use Rattle.prop_arith.specs.declared.kit.Kit.TheVariants.{Root, Below, Above, Apart, Switch}
+use Rattle.prop_arith.specs.declared.kit.Kit.TheVariants.{And, AndBack, Or, OrBack}
+use Rattle.prop_guards.specs.Known.{is_settled, number_of}
+
+-- of one of the two nothing is known, and z may be what leaves x open, whatever truth y is
+abbrev pub leaves_open : Info → Info → ℕ → Bool
+leaves_open z y t = (is_nothing z || is_nothing y) && (leaves z t && (leaves y 0 || leaves y 1))
+
+-- of some of two inputs too little is known: of a truth that says whether there is anything to say,
+-- of what decides by itself in `and` and `or`, and else of any
+abbrev pub is_silent_of_two : kits.Kit → Info → Info → Bool
+is_silent_of_two Root y x = is_nothing y
+is_silent_of_two Below t y = not (is_settled t) || is_nothing y
+is_silent_of_two Above t x = not (is_settled t) || is_nothing x
+is_silent_of_two Switch t x = not (is_just yes_bits t) || is_nothing x
+is_silent_of_two And x y = (is_nothing x || is_nothing y) && (leaves x 0 && leaves y 0)
+is_silent_of_two AndBack z y = leaves_open z y 1
+is_silent_of_two Or x y = (is_nothing x || is_nothing y) && (leaves x 1 && leaves y 1)
+is_silent_of_two OrBack z y = leaves_open z y 0
+is_silent_of_two rule x y = is_nothing x || is_nothing y
+
+-- of some of three inputs: where y is another than x, x has to be a single one
+abbrev pub is_silent_of_three : kits.Kit → Info → Info → Info → Bool
+is_silent_of_three Apart t x y = (not (is_just no_bits t) || not (is_single x)) || is_nothing y
+is_silent_of_three rule x y z = (is_nothing x || is_nothing y) || is_nothing z
+
+-- of some input too little is known
+abbrev pub is_silent : kits.Kit → List Info → Bool
+is_silent rule (x ∷ y ∷ []) = is_silent_of_two rule x y
+is_silent rule (x ∷ y ∷ z ∷ []) = is_silent_of_three rule x y z
+is_silent rule args = list_any is_nothing args
+
+-- x is one number alone, and no end of y; or they are different symbols
+abbrev pub is_inside : Info → Info → Bool
+is_inside (Span x) (Span y) =
+    int_eq x.lo x.hi && (not (int_eq y.lo x.lo) && not (int_eq y.hi x.lo))
+is_inside (Sym x) (Sym y) = not (x == y)
+is_inside x y = false
+
+-- y is another than x, and keeps its ends
+abbrev pub is_repeated : kits.Kit → List Info → Bool
+is_repeated Apart (t ∷ x ∷ y ∷ []) = is_just no_bits t && is_inside x y
+is_repeated rule args = false
+
+-- the input that is the output: what is known of the root already, and y
+abbrev pub own_of : kits.Kit → Option ℕ
+own_of Root = Some 1
+own_of Apart = Some 2
+own_of rule = None
+
+-- the number that y can't be where it is another than x, which is told of x
+abbrev pub ruled_out : kits.Kit → List Info → ℕ → Option ℤ
+ruled_out Apart (t ∷ x ∷ y ∷ []) (suc zero) = if is_just no_bits t then number_of x else None
+ruled_out rule args place = None
