@@ -1,5 +1,5 @@
 -- Ends that move inwards past numbers that were ruled out.
-use Rattle.std.proofs.Common.{◌≡◌, ◌≢◌, ◌∙◌, ◌⊎◌, ℤ, pos, ◌+ℤ◌, ◌-ℤ◌, ◌≤ℤ◌, ◌<ℤ◌, neg_ℤ, sym, refl, subst, arith, inl, inr}
+use Rattle.std.proofs.Common.{◌≡◌, ◌≢◌, ◌∙◌, ◌⊎◌, ℤ, pos, ◌+ℤ◌, ◌-ℤ◌, ◌≤ℤ◌, ◌<ℤ◌, neg_ℤ, ap, sym, refl, subst, arith, inl, inr}
 use Rattle.std.proofs.lemmas.Int.{by_lt_z, ints}
 use Rattle.prop_lattice.specs.Ends.{span_from}
 use Rattle.prop_lattice.specs.Order.{Below}
@@ -10,7 +10,9 @@ use Rattle.prop_lattice.specs.declared.span.Span as spans
 use Rattle.prop_lattice.specs.declared.info.Info.{Info}
 use Rattle.prop_lattice.specs.declared.info.Info.TheVariants.{Nothing, Span, Set, Sym, Contradiction}
 use Rattle.prop_lattice.proofs.EndLemmas.{span_is, span_from-none}
-use Rattle.prop_trail.specs.Narrowing.{IsGone, IsTight, IsEnd, IsNarrowed}
+use Rattle.prop_trail.specs.Places.{IsLeftIn}
+use Rattle.prop_trail.specs.declared.place.Place.{Place}
+use Rattle.prop_trail.specs.Narrowing.{IsGone, IsTight, IsNarrowed}
 
 -- nothing is passed of what has no numbers
 pub narrowed_same : (Out : ℤ → Type 0) (a : Info) → IsTight Out a → IsNarrowed Out a a
@@ -164,3 +166,17 @@ without_inner Out s n tight low high = (
     λ o. elim o [ inl out ↦ tight.1 out | inr e ↦ high (sym e) ],
   ),
 )
+
+-- of a place with one number, it alone is left
+pub one_left : (x : Place) (s : spans.Span) (n : ℤ) → x.info ≡ Span s → s.lo ≡ s.hi → s.lo ≤ℤ n → n ≤ℤ s.hi
+    → (p : Point) → IsLeftIn x p → p ≡ Number n
+one_left x s n is one least most p left = only p (holds p left.0)
+  where
+    holds : (q : Point) → Holds x.info q → Holds (Span s) q
+    holds (Number v) h = subst (λ (i : Info). Holds i (Number v)) is h
+    holds (Element v) h = subst (λ (i : Info). Holds i (Element v)) is h
+    holds (Symbol v) h = subst (λ (i : Info). Holds i (Symbol v)) is h
+    only : (q : Point) → Holds (Span s) q → q ≡ Number n
+    only (Number v) h = let a = h.0 in let b = h.1 in let e : v ≡ n = omega (arith, ints) in ap Number e
+    only (Element v) h = absurd h
+    only (Symbol v) h = absurd h

@@ -15,9 +15,10 @@ use Rattle.prop_trail.specs.Places.{root_of, without_out, made, unmade, IsLeftIn
 use Rattle.prop_trail.specs.Trails.{place_at, after, all_after}
 use Rattle.prop_trail.specs.Windows.{Ruled, IsOut, flipped, window_of}
 use Rattle.prop_trail.specs.declared.entry.Entry.{Entry}
+use Rattle.prop_trail.specs.declared.entry.Source.{Source}
 use Rattle.prop_trail.specs.declared.entry.Source.TheVariants.{Decision}
 use Rattle.prop_trail.specs.declared.place.Place.{Place}
-use Rattle.prop_trail.specs.inner.Making.{IsMadeOn, AreMade, IsTrail}
+use Rattle.prop_trail.specs.inner.Making.{IsMadeOn, AreMade, IsTrail, IsSpan}
 use Rattle.prop_trail.proofs.WindowLaws.{flipped_twice, out_or_same, none_out}
 
 -- ---- one entry more, one less
@@ -367,6 +368,7 @@ said_made ps x e said l here was before out nar = record {
   tight = subst (λ (y : Place). IsTight (IsOut (without_out y.window e.out)) e.is) here
       (subst (λ (o : Option ℤ). IsTight (IsOut (without_out x.window o)) e.is) (sym out) nar.tight);
   left = subst (λ (o : Option ℤ). IfSome o (λ n. IsLeftIn (place_at ps e.place) (Number n))) (sym out) tt;
+  span = subst (λ (o : Option ℤ). IfSome o (λ n. IsSpan e.was)) (sym out) tt;
 }
 
 -- a tight information is so after a turn
@@ -381,9 +383,10 @@ tight_flipped w n Contradiction t = tt
 
 -- what an entry says that rules a number out
 pub out_made : (ps : List Place) (x : Place) (e : Entry) (n : ℤ) → e.place < length ps
-    → x ≡ place_at ps e.place → e.was ≡ x.info → e.before ≡ x.newest → e.out ≡ Some n → IsLeftIn x (Number n)
+    → x ≡ place_at ps e.place → e.was ≡ x.info → e.before ≡ x.newest → e.out ≡ Some n → IsSpan e.was
+    → IsLeftIn x (Number n)
     → IsNarrowed (λ m. IsOut x.window m ⊎ (m ≡ n)) x.info e.is → IsMadeOn ps e
-out_made ps x e n l here was before out left nar = record {
+out_made ps x e n l here was before out span left nar = record {
   within = l;
   was = was ∙ ap (λ (y : Place). y.info) here;
   before = before ∙ ap (λ (y : Place). y.newest) here;
@@ -393,6 +396,7 @@ out_made ps x e n l here was before out left nar = record {
       (tight_flipped x.window n e.is nar.tight));
   left = subst (λ (o : Option ℤ). IfSome o (λ m. IsLeftIn (place_at ps e.place) (Number m))) (sym out)
       (subst (λ (y : Place). IsLeftIn y (Number n)) here left);
+  span = subst (λ (o : Option ℤ). IfSome o (λ m. IsSpan e.was)) (sym out) span;
 }
 
 -- ---- no end was ruled out
@@ -442,3 +446,13 @@ pub tight_at : (roots : List Info) (es : List Entry) → AreMade 0 (map root_of 
 tight_at roots es all = all_tight 0 (map root_of roots) es all (λ p. (
   let r = root_is roots p in
   subst (λ (x : Place). IsTight (IsOut x.window) x.info) (sym r.1) (root_tight r.0)))
+
+pub same_entry : (place : ℕ) (b b' : Option ℕ) (w w' is said : Info) (o o' : Option ℤ) (by : Source) (l l' : ℕ)
+    → b ≡ b' → w ≡ w' → o ≡ o' → l ≡ l'
+    → (let e : Entry = record { place = place; before = b; was = w; is = is; said = said; out = o; by = by; level = l } in e)
+    ≡ (let e : Entry = record { place = place; before = b'; was = w'; is = is; said = said; out = o'; by = by; level = l' } in e)
+same_entry place b b' w w' is said o o' by l l' p q r s =
+    ap (λ (x : Option ℕ). let e : Entry = record { place = place; before = x; was = w; is = is; said = said; out = o; by = by; level = l } in e) p
+    ∙ ap (λ (x : Info). let e : Entry = record { place = place; before = b'; was = x; is = is; said = said; out = o; by = by; level = l } in e) q
+    ∙ ap (λ (x : Option ℤ). let e : Entry = record { place = place; before = b'; was = w'; is = is; said = said; out = x; by = by; level = l } in e) r
+    ∙ ap (λ (x : ℕ). let e : Entry = record { place = place; before = b'; was = w'; is = is; said = said; out = o'; by = by; level = x } in e) s

@@ -101,3 +101,11 @@ bits_turned first last words at one w l e =
 -- `1 << k`
 pub one_at : (k : ℕ) → k < 64 → 1 * 2 ^ k % 2 ^ 64 ≡ 2 ^ k
 one_at k l = let small : 2 ^ k < 2 ^ 64 = pow-lt l in omega (arith, small)
+
+-- zeros are zero
+pub cat_zero : (words : List ℕ) → ((k : ℕ) → k < length words → get_or words k 0 ≡ 0) → cat words ≡ 0
+cat_zero [] all = refl
+cat_zero (x ∷ xs) all =
+    let first : x ≡ 0 = all 0 (omega arith) in
+    let rest = cat_zero xs (λ k l. all (suc k) (omega (arith, l))) in
+    omega (arith, first, rest)

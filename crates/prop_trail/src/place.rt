@@ -1,13 +1,15 @@
 //! One place: what is believed of it.
 ghost use Rattle.std.specs.Prelude.{◌≡◌, ◌↔◌, IsTrue};
 ghost use Rattle.prop_lattice.specs.Order.{merge_of};
-ghost use Rattle.prop_lattice.specs.Points.{Number};
-ghost use Rattle.prop_trail.specs.Narrowing.{IsNarrowed};
+ghost use Rattle.prop_lattice.specs.Points.{Point, Number};
+ghost use Rattle.prop_facts.specs.Facts.{IsSo};
+ghost use Rattle.prop_trail.specs.Narrowing.{IsNarrowed, IsTight};
 ghost use Rattle.prop_trail.specs.Places.{root_of, made, unmade, IsLeftIn, values_of};
 ghost use Rattle.prop_trail.specs.Windows.{IsOut};
 
 use crate::entry::Entry;
 use crate::window::Window;
+use prop_facts::Fact;
 use prop_lattice::{Info, Partial};
 
 /// What is believed of a place, and since when.
@@ -50,6 +52,28 @@ impl Place {
             _ => false,
         };
         believed && !self.window.has(number)
+    }
+
+    /// Whether the fact is so of all values that are left.
+    pub(crate) fn says(&self, fact: Fact) -> bool
+        requires { IsTight (IsOut self.now.window) self.now.info }
+        ensures { IsTrue result ↔ ((p : Point) → IsLeftIn self.now p → IsSo fact p) }
+    {
+        match (fact, self.info) {
+            (Fact::Other(number), Info::Span(_)) => !self.leaves(number),
+            (fact, info) => fact.follows_from(info),
+        }
+    }
+
+    /// Whether the fact is so of no value that is left.
+    pub(crate) fn bars(&self, fact: Fact) -> bool
+        requires { IsTight (IsOut self.now.window) self.now.info }
+        ensures { IsTrue result ↔ ((p : Point) → IsLeftIn self.now p → IsSo fact p → ⊥) }
+    {
+        match fact {
+            Fact::Is(number) => !self.leaves(number),
+            fact => fact.is_barred_by(self.info),
+        }
     }
 
     /// The entry with this number is made.

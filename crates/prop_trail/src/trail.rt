@@ -1,11 +1,15 @@
 //! What is believed of each place, on a trail of entries that are taken back level by level.
 
 ghost use Rattle.std.specs.Prelude.{◌≡◌, ◌↔◌, ◌⊎◌, ◌<◌, ◌≤◌, ◌+◌, ℕ, List, [], ◌∷◌, ◌++◌, take};
-ghost use Rattle.std.specs.Prelude.{length, slice_get, slice_index_or, slice_set, Some, IsTrue};
+ghost use Rattle.std.specs.Prelude.{length, slice_get, slice_index_or, slice_set, Some, None, IsTrue, ℤ};
 ghost use Rattle.std.specs.Prelude.{IfOk, OnOk, OnErr, IfSome, All, map};
 ghost use Rattle.prop_lattice.specs.Points.{Point, Number};
 ghost use Rattle.prop_trail.specs.Places.{root_of, unmade, values_of};
-ghost use Rattle.prop_trail.specs.Sayings.{Said, RuledOut};
+ghost use Rattle.prop_trail.specs.Sayings.{Said, RuledOut, AreWithout, IsMeant, Says, Bars, IsMaker};
+ghost use Rattle.prop_facts.specs.Facts.{IsHole};
+ghost use Rattle.prop_lattice.specs.declared.info.Info.{Info as InfoOf};
+ghost use Rattle.prop_trail.specs.Windows.{IsOut};
+ghost use Rattle.prop_trail.specs.Trails.{window_at};
 ghost use Rattle.prop_trail.specs.Trails.{info_of, newest_of, before_of, entered, start_of};
 ghost use Rattle.prop_trail.specs.Trails.{place_at, place_of, after, IsLeft};
 ghost use Rattle.prop_trail.specs.inner.Making.{IsMadeOn, AreMade};
@@ -26,6 +30,22 @@ pub struct Trail {
     places: Vec<Place>,
     entries: Vec<Entry>,
     starts: Vec<usize>,
+}
+
+/// The changes as a number went: within the span, or as an end moved.
+fn changes_without(was: Info, is: Info) -> Changes
+    ensures { AreWithout was is result }
+{
+    if is == was {
+        Changes {
+            low: false,
+            high: false,
+            point: false,
+            hole: true,
+        }
+    } else {
+        Changes::between(was, is)
+    }
 }
 
 /// The places of which this is believed at the root.
@@ -135,23 +155,17 @@ impl Trail {
     /// Whether the fact is so of all values that are left.
     pub fn holds(&self, literal: Literal) -> bool
         requires { literal.place < length self.now.roots }
+        ensures { IsTrue result ↔ Says self.now literal }
     {
-        let place = &self.places[literal.place];
-        match literal.fact {
-            Fact::Other(number) if place.window.has(number) => true,
-            fact => fact.follows_from(place.info),
-        }
+        self.places[literal.place].says(literal.fact)
     }
 
     /// Whether the fact is so of no value that is left.
     pub fn bars(&self, literal: Literal) -> bool
         requires { literal.place < length self.now.roots }
+        ensures { IsTrue result ↔ Bars self.now literal }
     {
-        let place = &self.places[literal.place];
-        match literal.fact {
-            Fact::Is(number) => !place.leaves(number),
-            fact => fact.is_barred_by(place.info),
-        }
+        self.places[literal.place].bars(literal.fact)
     }
 
     /// How many values are left of a place: of a set its elements, of a symbol one, and `u64::MAX`
@@ -316,15 +330,18 @@ impl Trail {
             level: self.starts.len(),
         };
         self.enter(entry)?;
-        let ends = Changes::between(was, is);
-        let hole = ends == Changes::default();
-        Ok(Outcome::Changed(Changes { hole, ..ends }))
+        Ok(Outcome::Changed(changes_without(was, is)))
     }
 
     /// Says a fact of its place: `rule_out` where it is that the value is other than a number, and
     /// else `say` of the information that says as much.
     pub fn say_fact(&mut self, literal: Literal, by: Source) -> Result<Outcome, AllocError>
         requires { literal.place < length self.old.roots }
+        ensures other { (n : ℤ) → literal.fact ≡ Fact.Other n
+            → IfOk result (RuledOut self.old literal.place n by self.new) }
+        ensures said { (IsHole literal.fact → ⊥) → IfOk result (λ outcome.
+            (said : InfoOf) × IsMeant literal.fact said
+            × Said self.old literal.place said by self.new outcome) }
         ensures err { OnErr result (self.new ≡ self.old) }
     {
         match literal.fact {
@@ -382,11 +399,16 @@ impl Trail {
         requires place { literal.place < length self.now.roots }
         requires before { before ≤ length self.now.entries }
         ensures within { IfSome result (λ entry. entry < before) }
+        ensures some { IfSome result (λ entry. IsMaker self.now literal entry) }
+        ensures none { result ≡ None → Says (before_of self.now before) literal
+            → Says (before_of self.now 0) literal }
     {
         match literal.fact {
             Fact::Other(number) if self.places[literal.place].window.has(number) => {
-                let entry = self.remover(literal.place, number)?;
-                (entry < before).then_some(entry)
+                match self.remover(literal.place, number) {
+                    Some(entry) if entry < before => Some(entry),
+                    _ => None,
+                }
             }
             _ => self.first_saying(literal, before),
         }
@@ -395,7 +417,10 @@ impl Trail {
     /// The entry that ruled the number out.
     fn remover(&self, place: usize, number: i64) -> Option<usize>
         requires { place < length self.now.roots }
-        ensures { IfSome result (λ entry. entry < length self.now.entries) }
+        ensures within { IfSome result (λ entry. entry < length self.now.entries) }
+        ensures some { IfSome result (λ entry. IfSome (slice_get self.now.entries entry)
+            (λ e. (e.place ≡ place) × (e.out ≡ Some number))) }
+        ensures none { result ≡ None → IsOut (window_at self.now place) number → ⊥ }
     {
         let mut newest = self.places[place].newest;
         while let Some(at) = newest {
@@ -408,12 +433,17 @@ impl Trail {
         None
     }
 
-    /// The entry below `before` since which the fact follows from the information; `None` where it
-    /// did at the root, and where it doesn't before the entry `before`.
+    /// The same as `maker` for a fact that isn't that the value is another than a number that was
+    /// ruled out: since that entry it follows from the information.
     fn first_saying(&self, literal: Literal, before: usize) -> Option<usize>
         requires place { literal.place < length self.now.roots }
         requires before { before ≤ length self.now.entries }
+        requires apart { (n : ℤ) → literal.fact ≡ Fact.Other n
+            → IsOut (window_at self.now literal.place) n → ⊥ }
         ensures within { IfSome result (λ entry. entry < before) }
+        ensures some { IfSome result (λ entry. IsMaker self.now literal entry) }
+        ensures none { result ≡ None → Says (before_of self.now before) literal
+            → Says (before_of self.now 0) literal }
     {
         let mut at = self.newest_before(literal.place, before)?;
         if !literal.fact.follows_from(self.entries[at].is) {

@@ -1,6 +1,6 @@
 //! Numbers of a small span that were ruled out.
 ghost use Rattle.std.specs.Prelude.{◌≡◌, ◌↔◌, IsTrue, ℤ, pos, ◌+ℤ◌, ◌-ℤ◌, ◌≤ℤ◌, ◌<ℤ◌, neg_ℤ};
-ghost use Rattle.std.specs.Prelude.{◌≢◌, ◌⊎◌, ◌<◌, IfSome, None};
+ghost use Rattle.std.specs.Prelude.{◌≢◌, ◌⊎◌, ◌<◌, IfSome, None, EachIndex, slice_index};
 ghost use Rattle.prop_lattice.specs.declared.span.TheConstants.{B};
 ghost use Rattle.prop_lattice.specs.Ends.{numbers_in};
 ghost use Rattle.prop_trail.specs.Narrowing.{IsNarrowed, IsTight};
@@ -32,6 +32,13 @@ impl Model for Window {
     ghost view = { λ w. record { first = w.first; last = w.last; bits = cat w.out } };
 
     ghost invariant = { λ w. IsWindow w.first w.last w.out };
+}
+
+/// Whether each word is zero.
+fn are_zero(words: &[u64]) -> bool
+    ensures { IsTrue result ↔ EachIndex words.now (λ k. slice_index words.now k ≡ 0) }
+{
+    words.iter().all(|word| *word == 0)
 }
 
 impl Window {
@@ -172,11 +179,11 @@ impl Window {
         }
     }
 
-    /// Whether no number was ruled out, for sure.
+    /// Whether it can be seen that no number was ruled out.
     fn is_clean(&self) -> bool
         ensures { IsTrue result → self.now.bits ≡ 0 }
     {
-        self.out.iter().all(|word| *word == 0)
+        are_zero(&self.out)
     }
 
     /// How many numbers of the span weren't ruled out.

@@ -1,16 +1,21 @@
 -- Entries as they are made, one after the other.
-use Rattle.std.specs.Prelude.{◌≡◌, ◌≢◌, ◌<◌, ◌≤◌, ℕ, suc, IfSome, List, [], ◌∷◌, map, length}
+use Rattle.std.specs.Prelude.{◌≡◌, ◌<◌, ◌≤◌, ℕ, suc, IfSome, List, [], ◌∷◌, map, length}
 use Rattle.std.specs.Prelude.{slice_index_or, ⊤}
 use Rattle.prop_lattice.specs.Order.{Below}
 use Rattle.prop_lattice.specs.Points.{Number}
 use Rattle.prop_lattice.specs.declared.info.Info.{Info}
-use Rattle.prop_lattice.specs.declared.info.Info.TheVariants.{Contradiction}
+use Rattle.prop_lattice.specs.declared.info.Info.TheVariants.{Span}
 use Rattle.prop_trail.specs.Narrowing.{IsTight}
 use Rattle.prop_trail.specs.Places.{root_of, without_out, IsLeftIn}
 use Rattle.prop_trail.specs.Trails.{place_at, after, all_after}
 use Rattle.prop_trail.specs.Windows.{IsOut}
 use Rattle.prop_trail.specs.declared.entry.Entry.{Entry}
 use Rattle.prop_trail.specs.declared.place.Place.{Place}
+
+-- the information is a span
+abbrev pub IsSpan : Info → Type 0
+IsSpan (Span s) = ⊤
+IsSpan info = ⊥
 
 -- the entry tells what was believed of its place, and says more; a number that it rules out was
 -- left
@@ -21,6 +26,7 @@ pub record IsMadeOn (places : List Place) (e : Entry) : Type 0 where
   pub grows : Below e.was e.is
   pub tight : IsTight (IsOut (without_out (place_at places e.place).window e.out)) e.is
   pub left : IfSome e.out (λ n. IsLeftIn (place_at places e.place) (Number n))
+  pub span : IfSome e.out (λ n. IsSpan e.was)
 
 -- each entry is made on those before it
 abbrev pub AreMade : ℕ → List Place → List Entry → Type 0

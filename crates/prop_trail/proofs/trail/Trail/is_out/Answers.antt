@@ -3,6 +3,7 @@ use Rattle.std.proofs.lemmas.Bool.{false≢true}
 use Rattle.std.proofs.lemmas.Int.{to_z-of_z}
 use Rattle.prop_lattice.specs.Points.{Number}
 use Rattle.prop_trail.specs.Places.{IsLeftIn}
+use Rattle.prop_trail.specs.Trails.{place_of}
 use Rattle.prop_trail.specs.declared.place.Place.{Place}
 use Rattle.prop_trail.proofs.TrailLaws.{places_count, place_is}
 use Rattle.prop_trail.proofs.trail.Trail.is_out.Goals as goal

@@ -1,5 +1,8 @@
-use Rattle.std.proofs.Common.{◌≡◌, ◌<◌, length, arith}
-use Rattle.prop_trail.proofs.TrailLaws.{places_count, place_is, said_made, out_made, tight_at}
+use Rattle.std.proofs.Common.{◌≡◌, ◌∙◌, ◌<◌, length, ap, sym, refl, subst, arith}
+use Rattle.prop_lattice.specs.Order.{Below}
+use Rattle.prop_trail.specs.Trails.{Trailed, place_of}
+use Rattle.prop_trail.specs.declared.place.Place.{Place}
+use Rattle.prop_trail.proofs.TrailLaws.{places_count, place_is}
 use Rattle.prop_trail.proofs.trail.Trail.say.Goals as goal
 
 pub index-now-requires : goal.index-now-requires
@@ -8,3 +11,6 @@ index-now-requires c =
     let l : c.args.place < length n.roots.items = rw (← c.self.view_is) at c.requires in
     let count = places_count n.roots.items n.places.items n.entries.items n.starts.items c.self.invariant in
     omega (arith, l, count, n.places.ok)
+
+pub returns-clause-ok : goal.returns-clause-ok
+returns-clause-ok c = ?
