@@ -1,4 +1,6 @@
 //! In which ways what is known of a value may grow.
+ghost use Rattle.std.specs.Prelude.{◌↔◌, ◌⊎◌, IsTrue};
+ghost use Rattle.prop_facts.specs.Changing.{AreBetween};
 
 use prop_lattice::Info;
 
@@ -24,8 +26,11 @@ impl Changes {
         hole: true,
     };
 
-    /// The ways in which the first information grew into the second, which says more.
-    pub fn between(was: Info, is: Info) -> Changes {
+    /// The ways in which the first information grew into the second, which says more. Between
+    /// informations that are not both spans or both sets they are all.
+    pub fn between(was: Info, is: Info) -> Changes
+        ensures { AreBetween was is result }
+    {
         match (was, is) {
             (Info::Span(a), Info::Span(b)) => Changes {
                 low: a.lo() < b.lo(),
@@ -44,7 +49,11 @@ impl Changes {
     }
 
     /// Whether one of these ways is among the others.
-    pub fn meets(self, others: Changes) -> bool {
+    pub fn meets(self, others: Changes) -> bool
+        ensures { IsTrue result ↔ ((IsTrue self.low × IsTrue others.low)
+            ⊎ (IsTrue self.high × IsTrue others.high) ⊎ (IsTrue self.point × IsTrue others.point)
+            ⊎ (IsTrue self.hole × IsTrue others.hole)) }
+    {
         self.low && others.low
             || self.high && others.high
             || self.point && others.point
