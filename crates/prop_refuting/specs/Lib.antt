@@ -1,0 +1,4 @@
+pub mod Places
+pub mod Nogoods
+pub mod Calls
+pub mod Steps
