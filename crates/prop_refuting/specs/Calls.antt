@@ -43,6 +43,7 @@ pub record Tells (library : List Stored) (n : Attached) (x : Instance) (args : L
 pub record Excepts (library : List Stored) (n : Attached) (x : Instance) (args : List Info)
     (place : ℕ) (fact : Fact) : Type 0 where
   pub within : place < length args
+  pub same : length x.inputs ≡ length args
   pub arguments : AreArguments n.kinds x.inputs args
   pub told : (s : Members) (points : ℕ → Point) → ArePoints (AreHeld library) n s points
       → AllZip Holds (take place args) (map points (take place x.inputs))

@@ -10,6 +10,7 @@ use Rattle.prop_facts.specs.Facts.{IsSo}
 use Rattle.prop_facts.specs.declared.fact.Fact.{Fact}
 use Rattle.prop_facts.specs.declared.fact.Fact.TheVariants.{Among, AtLeast, AtMost, Other}
 use Rattle.prop_facts.specs.declared.fact.Literal.{Literal}
+use Rattle.prop_refuting.specs.Nogoods.{Nogood, Replaces}
 use Rattle.prop_refuting.specs.Places.{kind_at_place}
 
 -- the value of the place is none of so many numbers in a row
@@ -25,6 +26,15 @@ IsByHoles (AtLeast n) from first count nearer =
 IsByHoles (AtMost n) from first count nearer =
     (from ≡ n +ℤ pos count) × (first ≡ n +ℤ pos 1) × (nearer ≡ AtMost from)
 IsByHoles fact from first count nearer = ⊥
+
+-- an end went, and these numbers and the nearer end came
+pub record ByHoles (old : Nogood) (at : ℕ) (x : Literal) (from : ℤ) (new : Nogood) : Type 0 where
+  pub first : ℤ
+  pub count : ℕ
+  pub nearer : Fact
+  pub by : IsByHoles x.fact from first count nearer
+  pub replaced : Replaces old at
+      (record { place = x.place; fact = nearer } ∷ holes_at x.place first count) new
 
 -- the premise is that of a side of the choice with this number; sides count from 0 here
 pub record IsSideAt (choices : List Choice) (premise choice side : ℕ) : Type 0 where

@@ -41,9 +41,7 @@ impl Nogood {
         if !literal.fact.follows_from(why.value) {
             return Ok(false);
         }
-        let premises = self.premises().union(&why.support)?;
-        self.drop_at(at);
-        self.set_premises(premises);
+        self.replace_under(at, &[], &why.support)?;
         Ok(true)
     }
 }

@@ -90,8 +90,8 @@ pub fn says<R: Rule + Drop>(network: &Network<R>, claim: Claim, args: &[Info]) -
     }
 }
 
-/// Puts an information in the place of an argument where what is claimed is still said, and tells
-/// whether it did.
+/// Puts an information in the place of an argument where that is another one and what is claimed is
+/// still said, and tells whether it did.
 fn replace_argument<R: Rule + Drop>(
     network: &Network<R>,
     claim: Claim,
@@ -105,12 +105,16 @@ fn replace_argument<R: Rule + Drop>(
     requires kept { IsKept (stored_of R.value_of network.now.library) network.now.cells }
     ensures still { OnFalse result (args.new ≡ args.old) }
     ensures replaced { OnTrue result (args.new ≡ slice_set args.old place info) }
-    ensures says { OnTrue result ((x : InstanceOf)
-        → slice_get network.now.cells.instances claim.instance ≡ Some x
+    ensures tells { (x : InstanceOf) → slice_get network.now.cells.instances claim.instance ≡ Some x
+        → Tells (stored_of R.value_of network.now.library) (attached_of network.now.cells) x args.old
+        claim.rest claim.fact
         → Tells (stored_of R.value_of network.now.library) (attached_of network.now.cells) x args.new
-        claim.rest claim.fact) }
+        claim.rest claim.fact }
 {
     let own = args[place];
+    if own == info {
+        return false;
+    }
     args[place] = info;
     if says(network, claim, args) {
         return true;
@@ -161,15 +165,24 @@ fn weaken_argument<R: Rule + Drop>(
         claim.rest claim.fact }
 {
     let own = args[place];
-    if own == widest || replace_argument(network, claim, args, place, widest) {
+    if replace_argument(network, claim, args, place, widest) {
         return;
     }
-    if let (Info::Span(own), Info::Span(widest)) = (own, widest) {
-        let higher = Info::between(own.lo(), widest.hi());
-        if !replace_argument(network, claim, args, place, higher) {
-            let lower = Info::between(widest.lo(), own.hi());
-            replace_argument(network, claim, args, place, lower);
-        }
+    let (higher, lower) = with_one_end(own, widest);
+    if replace_argument(network, claim, args, place, higher) {
+        return;
+    }
+    replace_argument(network, claim, args, place, lower);
+}
+
+/// A span with the upper end of a wider one, and with its lower end; other informations as they are.
+fn with_one_end(own: Info, widest: Info) -> (Info, Info) {
+    match (own, widest) {
+        (Info::Span(own), Info::Span(widest)) => (
+            Info::between(own.lo(), widest.hi()),
+            Info::between(widest.lo(), own.hi()),
+        ),
+        _ => (own, own),
     }
 }
 
@@ -190,6 +203,23 @@ pub(crate) fn push_parts(
         push_said(literals, *cell, parts.second)?;
     }
     Ok(())
+}
+
+/// The facts that say together that each cell but the one in this place lies in its information.
+fn parts_but(
+    alloc: Global,
+    cells: &[usize],
+    args: &[Info],
+    place: usize,
+) -> Result<Vec<Literal>, AllocError>
+    requires same { length cells.now ≡ length args.now }
+    requires place { place < length args.now }
+    ensures { IfOk result (λ v. v.items ≡ literals_but place cells.now args.now) }
+{
+    let mut literals = Vec::new(alloc);
+    push_parts(&mut literals, &cells[..place], &args[..place])?;
+    push_parts(&mut literals, &cells[place + 1..], &args[place + 1..])?;
+    Ok(literals)
 }
 
 impl Nogood {
@@ -266,10 +296,8 @@ impl Nogood {
         {
             return Ok(false);
         }
-        let inputs = network.data().instance(call.instance).inputs();
-        let mut more = Vec::new(self.alloc());
-        push_parts(&mut more, &inputs[..place], &call.args[..place])?;
-        push_parts(&mut more, &inputs[place + 1..], &call.args[place + 1..])?;
+        let x = network.data().instance(call.instance);
+        let more = parts_but(self.alloc(), x.inputs(), call.args, place)?;
         self.replace(at, &more)?;
         Ok(true)
     }
@@ -291,10 +319,15 @@ fn takes_away<R: Rule + Drop>(
         → Excepts (stored_of R.value_of network.now.library) (attached_of network.now.cells) x
         call.entry.args.now place fact }
 {
-    let Fact::Other(n) = fact else { return false };
+    let Fact::Other(n) = fact else {
+        return false;
+    };
     let x = network.data().instance(call.instance);
-    let is_number = matches!(network.data().kind(x.output()).kind, Kind::Span);
-    if !is_number || place >= call.args.len() || x.inputs().get(place) != Some(&x.output()) {
+    let output = x.output();
+    if network.data().kind(output).kind != Kind::Span || place >= call.args.len() {
+        return false;
+    }
+    if place >= x.inputs().len() || x.inputs()[place] != output {
         return false;
     }
     if Fact::Is(n).is_barred_by(call.args[place]) {

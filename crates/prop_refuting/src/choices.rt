@@ -23,7 +23,7 @@ use std::alloc::AllocError;
 #[derive(Clone, Copy)]
 struct Side {
     choice: usize,
-    side: u8,
+    side: u16,
 }
 
 /// The side whose premise this is.
@@ -34,19 +34,23 @@ fn side_of(choices: &[Choice], premise: Premise) -> Option<Side>
         if choice.first <= premise && premise - choice.first < u16::from(choice.sides) {
             return Some(Side {
                 choice: number,
-                side: (premise - choice.first) as u8,
+                side: premise - choice.first,
             });
         }
     }
     None
 }
 
-/// That the side is taken under whose premise a statement is made, where it is one that can be told
-/// apart.
+/// That the side is taken under whose premise a statement about a cell is made, where it is one that
+/// can be told apart.
 fn taken_side(cells: &Cells, choices: &[Choice], said: Statement) -> Option<Literal>
-    ensures { IfSome result (λ taken.
+    ensures cell { IfSome result (λ _. said.cell < length cells.now.kinds) }
+    ensures side { IfSome result (λ taken.
         IsTaken (attached_of cells.now) choices.now said.premise taken) }
 {
+    if said.cell >= cells.len() {
+        return None;
+    }
     let side = side_of(choices, said.premise?)?;
     Some(Literal {
         place: cells.len().checked_add(side.choice)?,
@@ -55,11 +59,11 @@ fn taken_side(cells: &Cells, choices: &[Choice], said: Statement) -> Option<Lite
 }
 
 /// The element with this number alone.
-fn one_element(number: u8) -> Option<Elements>
+fn one_element(number: u16) -> Option<Elements>
     ensures { IfSome result (λ e. e.bits ≡ 2 ^ number) }
 {
     if number < 64 {
-        Elements::new(1 << number)
+        Elements::new(1 << usize::from(number))
     } else {
         None
     }
@@ -181,7 +185,9 @@ fn barred_side_says(
     literal: Literal,
     rest: Option<Fact>,
 ) -> bool
-    ensures { IsTrue result → SaysBarred (attached_of cells.now) choices.now said.premise literal rest }
+    ensures cell { IsTrue result → said.cell < length cells.now.kinds }
+    ensures says { IsTrue result
+        → SaysBarred (attached_of cells.now) choices.now said.premise literal rest }
 {
     let Some(taken) = taken_side(cells, choices, said) else {
         return false;

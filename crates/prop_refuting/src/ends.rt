@@ -6,10 +6,9 @@ ghost use Rattle.std.specs.Int.{w64};
 ghost use Rattle.prop_premises.specs.declared.choice.Choice.{Choice};
 ghost use Rattle.prop_procedures.specs.Stored.{Stored};
 ghost use Rattle.prop_cells.specs.Points.{Attached};
-ghost use Rattle.prop_facts.specs.declared.fact.Fact.{Fact as FactOf};
 ghost use Rattle.prop_facts.specs.declared.fact.Literal.{Literal as LiteralOf};
 ghost use Rattle.prop_refuting.specs.Nogoods.{Narrows, Replaces};
-ghost use Rattle.prop_refuting.specs.Steps.{IsByHoles, holes_at};
+ghost use Rattle.prop_refuting.specs.Steps.{ByHoles, holes_at};
 
 use crate::nogood::Nogood;
 use prop_facts::{Fact, Literal};
@@ -21,6 +20,7 @@ const MOST: i64 = 256;
 /// How far the second number is above the first, from 1 to 256.
 fn gap(low: i64, high: i64) -> Option<usize>
     ensures gap { IfSome result (λ k. high ≡ low +ℤ pos k) }
+    ensures some { IfSome result (λ k. 1 ≤ k) }
     ensures most { IfSome result (λ k. k ≤ 256) }
 {
     match high.checked_sub(low) {
@@ -58,9 +58,7 @@ impl Nogood {
         ensures err { OnErr result (self.new ≡ self.old) }
         ensures still { result ≡ Ok false → self.new ≡ self.old }
         ensures step { result ≡ Ok true → (x : LiteralOf) → slice_get self.old.literals at ≡ Some x
-            → (count : ℕ) × (first : ℤ) × (nearer : FactOf) × IsByHoles x.fact from first count nearer
-            × Replaces self.old at (record { place = x.place; fact = nearer } ∷ holes_at x.place first count)
-            self.new }
+            → ByHoles self.old at x from self.new }
         ensures narrows { (library : List Stored) (n : Attached) (choices : List Choice)
             → Narrows library n choices self.old self.new }
     {

@@ -1,12 +1,12 @@
 //! Nogoods: facts about places, and premises.
 ghost use Rattle.std.specs.Prelude.{◌≡◌, ◌<◌, ◌++◌, length, true, false, IsTrue, IfOk, OnOk, OnErr};
-ghost use Rattle.std.specs.Prelude.{Some, slice_get, slice_set, List};
+ghost use Rattle.std.specs.Prelude.{Some, [], slice_get, slice_set, List};
 ghost use Rattle.std.specs.Bool.{OnFalse, OnTrue};
 ghost use Rattle.prop_premises.specs.declared.choice.Choice.{Choice};
 ghost use Rattle.prop_procedures.specs.Stored.{Stored};
 ghost use Rattle.prop_cells.specs.Points.{Attached};
 ghost use Rattle.prop_facts.specs.declared.fact.Literal.{Literal as LiteralOf};
-ghost use Rattle.prop_refuting.specs.Nogoods.{IsReplaced, Narrows, Replaces, said_at};
+ghost use Rattle.prop_refuting.specs.Nogoods.{Narrows, Replaces, ReplacesUnder, said_at};
 
 use prop_facts::{Fact, Literal};
 use prop_premises::PremiseSet;
@@ -83,11 +83,22 @@ impl Nogood {
         self.literals.swap_remove(at);
     }
 
-    /// Its premises are these from now on.
-    pub(crate) fn set_premises(&mut self, premises: PremiseSet)
-        ensures { self.new ≡ record self.old { premises = premises } }
+    /// A literal goes, the last one stands in its place, these come behind, and these premises.
+    /// Refused memory changes nothing.
+    pub(crate) fn replace_under(
+        &mut self,
+        at: usize,
+        more: &[Literal],
+        came: &PremiseSet,
+    ) -> Result<(), AllocError>
+        requires { at < length self.old.literals }
+        ensures ok { OnOk result (ReplacesUnder self.old at more.now came.now self.new) }
+        ensures err { OnErr result (self.new ≡ self.old) }
     {
+        let premises = self.premises.union(came)?;
+        self.replace(at, more)?;
         self.premises = premises;
+        Ok(())
     }
 
     /// A fact that can be seen to imply the one of this literal stands there in its place, and

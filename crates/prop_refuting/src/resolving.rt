@@ -51,9 +51,7 @@ impl Nogood {
         let mut more = Vec::from_slice(self.alloc(), &other.literals()[..which])?;
         more.extend_from_slice(&other.literals()[which + 1..])?;
         push_said(&mut more, literal.place, rest)?;
-        let premises = self.premises().union(other.premises())?;
-        self.replace(at, &more)?;
-        self.set_premises(premises);
+        self.replace_under(at, &more, other.premises())?;
         Ok(true)
     }
 }

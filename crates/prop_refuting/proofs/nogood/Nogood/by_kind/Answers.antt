@@ -1,0 +1,5 @@
+use Rattle.std.proofs.Common.{refl}
+use Rattle.prop_refuting.proofs.nogood.Nogood.by_kind.Goals as goal
+
+pub returns-clause-narrows : goal.returns-clause-narrows
+returns-clause-narrows c = ?
