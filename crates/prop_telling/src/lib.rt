@@ -22,6 +22,7 @@ mod listing;
 mod naming;
 mod notes;
 mod running;
+mod solving;
 mod telling;
 mod texts;
 

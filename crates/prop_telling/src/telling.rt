@@ -5,6 +5,7 @@ ghost use Rattle.prop_telling.specs.Notes.{is_done};
 
 use crate::asking::{is_how, is_list, is_step, may_declare};
 use crate::notes::{Note, Notes};
+use crate::solving::{Asked, is_solve};
 use crate::texts::{call_text, cell_text, moved_text, sides_text};
 use prop_amb::{Move, Step};
 use prop_engine::Reply;
@@ -30,6 +31,7 @@ fn is_done(reply: &Reply) -> bool
 pub struct Teller<R, O> {
     pub(crate) session: Session<R, O>,
     pub(crate) notes: Notes,
+    pub(crate) asked: Option<Asked>,
 }
 
 impl<R: Rule + Drop, O: Order + Drop> Teller<R, O> {
@@ -61,7 +63,7 @@ impl<R: Rule + Drop, O: Order + Drop> Teller<R, O> {
         ensures notes { result.notes ≡ no_notes }
     {
         let notes = Notes::new(session.alloc());
-        Teller { session, notes }
+        Teller { session, notes, asked: None }
     }
 
     /// Carries out a line: one of its own, or as its session does.
@@ -83,6 +85,10 @@ impl<R: Rule + Drop, O: Order + Drop> Teller<R, O> {
         if is_list(line) {
             return self.list();
         }
+        if is_solve(line) {
+            return self.solve(line);
+        }
+        self.asked = None;
         if may_declare(line) {
             return self.declare(line);
         }
