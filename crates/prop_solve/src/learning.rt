@@ -62,7 +62,7 @@ pub enum State {
 pub struct Learning {
     pub nogood: Nogood,
     makers: Vec<usize>,
-    level: usize,
+    pub level: usize,
     pub steps: u64,
 }
 
@@ -360,7 +360,7 @@ impl Learning {
         rest: Option<Fact>,
         weights: &mut Weights,
     ) -> Result<bool, AllocError> {
-        let other = &ground.store.kept[number].nogood;
+        let other = ground.store.nogood(number);
         let literal = self.nogood.literals()[at];
         let size = ground.places.kinds[literal.place].size;
         let mut which = 0;

@@ -41,6 +41,9 @@ pub struct Solver {
     weights: Weights,
     root: Worldview,
     idles: Vec<u8>,
+    /// Literals that are refuted by themselves, with their nogoods, and how many were denied here.
+    units: Vec<(Literal, usize)>,
+    denied: usize,
     seen: usize,
     looked: usize,
     touched: usize,
@@ -53,6 +56,7 @@ pub struct Solver {
     until: u64,
     restarts: u64,
     pub steps: u64,
+    allowed: u64,
     pub nodes: u64,
     pub fails: u64,
     pub learned: u64,
@@ -110,6 +114,8 @@ impl Solver {
             waiting,
             root,
             idles,
+            units: Vec::new(alloc),
+            denied: 0,
             seen: 0,
             looked: 0,
             touched: 0,
@@ -122,6 +128,7 @@ impl Solver {
             until: RUN,
             restarts: 0,
             steps: 0,
+            allowed: 0,
             nodes: 0,
             fails: 0,
             learned: 0,
@@ -220,6 +227,14 @@ impl Solver {
                 self.looked = 0;
                 self.touched = 0;
             }
+            if self.denied < self.units.len() {
+                let (literal, number) = self.units[self.denied];
+                self.denied += 1;
+                if !self.is_denied(network, literal, number)? {
+                    return Ok(Quiet::Clash);
+                }
+                continue;
+            }
             if self.steps >= until {
                 return Ok(Quiet::Cut);
             }
@@ -299,7 +314,9 @@ impl Solver {
 
     fn back(&mut self, level: usize) {
         self.trail.back(level);
+        self.store.back(level);
         self.waiting.clear();
+        self.denied = 0;
         self.seen = self.trail.len();
         self.looked = 0;
         self.touched = 0;
@@ -311,7 +328,8 @@ impl Solver {
         network: &Network<R>,
         budget: u64,
     ) -> Result<Answer, AllocError> {
-        let until = self.steps.saturating_add(budget);
+        self.allowed = self.allowed.saturating_add(budget);
+        let until = self.allowed;
         loop {
             if self.is_failed {
                 return Ok(Answer::Unsettled);
@@ -413,8 +431,17 @@ impl Solver {
             return Ok(());
         }
         self.learned += 1;
-        let (level, second) = learning.second_level(&self.trail);
+        let (mut level, second) = learning.second_level(&self.trail);
         let literal = learning.nogood.literals()[0];
+        if matches!(self.question.goal, Goal::Plans(_)) {
+            // (what was told on the way back to here is not to be told again)
+            level = learning.level - 1;
+        }
+        if count > 3 && matches!(self.question.goal, Goal::Plans(_)) {
+            self.back(level);
+            let number = self.store.pass(learning.nogood, level)?;
+            return self.deny(network, literal, number);
+        }
         let mut order = Vec::new(self.alloc);
         for place in 0..count {
             order.push(place)?;
@@ -424,19 +451,47 @@ impl Solver {
         }
         self.back(level);
         let number = self.store.add(self.alloc, learning.nogood, order, count < 3)?;
-        let size = self.places.kinds[literal.place].size;
-        if let Some(fact) = literal.fact.negation(size) {
-            let denied = Literal { place: literal.place, fact };
-            if !self.say_fact(network, denied, Source::Nogood(number))? {
-                return self.begin(network);
-            }
+        if count == 1 {
+            self.units.push((literal, number))?;
         }
-        Ok(())
+        self.deny(network, literal, number)
+    }
+
+    /// Says that a literal isn't so, by a nogood, and begins to learn where that can't be.
+    fn deny<R: Rule + Drop>(
+        &mut self,
+        network: &Network<R>,
+        literal: Literal,
+        number: usize,
+    ) -> Result<(), AllocError> {
+        if self.is_denied(network, literal, number)? {
+            Ok(())
+        } else {
+            self.begin(network)
+        }
+    }
+
+    /// Says that a literal isn't so, by a nogood. False where that can't be.
+    fn is_denied<R: Rule + Drop>(
+        &mut self,
+        network: &Network<R>,
+        literal: Literal,
+        number: usize,
+    ) -> Result<bool, AllocError> {
+        let size = self.places.kinds[literal.place].size;
+        match literal.fact.negation(size) {
+            Some(fact) => {
+                let denied = Literal { place: literal.place, fact };
+                self.say_fact(network, denied, Source::Nogood(number))
+            }
+            None => Ok(true),
+        }
     }
 
     /// Supposes something more, or looks at a plan.
     fn decide<R: Rule + Drop>(&mut self, network: &Network<R>) -> Result<(), AllocError> {
-        if self.failures >= self.until && self.trail.level() > 0 {
+        let restarts = !matches!(self.question.goal, Goal::Plans(_));
+        if restarts && self.failures >= self.until && self.trail.level() > 0 {
             self.failures = 0;
             self.restarts += 1;
             self.until = RUN * luby(self.restarts + 1);
@@ -519,7 +574,7 @@ impl Solver {
             again.push(*literal)?;
         }
         self.closing = Some(Nogood::excused(self.alloc, again)?);
-        if count > 1 {
+        if count > 1 && !matches!(self.question.goal, Goal::Plans(_)) {
             self.watch_last(&literals, &mut order);
             let _ = self.store.add(self.alloc, Nogood::excused(self.alloc, literals)?, order, true)?;
         }

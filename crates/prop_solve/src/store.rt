@@ -16,9 +16,18 @@ pub struct Kept {
     pub is_gone: bool,
 }
 
+/// A nogood that stays as long as its level does.
+#[derive(Drop)]
+struct Passing {
+    nogood: Nogood,
+    level: usize,
+}
+
 #[derive(Drop)]
 pub struct Store {
-    pub kept: Vec<Kept>,
+    kept: Vec<Kept>,
+    /// Those that go with their level, of the first level first.
+    passing: Vec<Passing>,
     /// By place, the nogoods that watch it.
     watchers: Vec<Vec<usize>>,
     most: usize,
@@ -76,6 +85,7 @@ impl Store {
         }
         Ok(Store {
             kept: Vec::new(alloc),
+            passing: Vec::new(alloc),
             watchers,
             most: 4_000,
             visits: 0,
@@ -93,7 +103,7 @@ impl Store {
         self.visits += 1;
         if self.kept[number].is_gone {
             let _ = self.watchers[place].swap_remove(n);
-            return Ok((number, Look::Moves));
+            return Ok((2 * number, Look::Moves));
         }
         let look = self.kept[number].look(trail, place);
         if let Look::Moves = look {
@@ -101,7 +111,7 @@ impl Store {
             self.watchers[other].push(number)?;
             let _ = self.watchers[place].swap_remove(n);
         }
-        Ok((number, look))
+        Ok((2 * number, look))
     }
 
     /// One more nogood. The literals at the first two places of `order` are watched.
@@ -118,7 +128,33 @@ impl Store {
         }
         self.kept.push(kept)?;
         let _ = alloc;
-        Ok(number)
+        Ok(2 * number)
+    }
+
+    /// The nogood of this number. Those that are kept have even ones.
+    pub fn nogood(&self, number: usize) -> &Nogood {
+        if number % 2 == 0 {
+            &self.kept[number / 2].nogood
+        } else {
+            &self.passing[number / 2].nogood
+        }
+    }
+
+    /// One more nogood, which goes once this level does.
+    pub fn pass(&mut self, nogood: Nogood, level: usize) -> Result<usize, AllocError> {
+        let number = self.passing.len();
+        self.passing.push(Passing { nogood, level })?;
+        Ok(2 * number + 1)
+    }
+
+    /// Lets go of those of later levels.
+    pub fn back(&mut self, level: usize) {
+        while let Some(last) = self.passing.last() {
+            if last.level <= level {
+                break;
+            }
+            let _ = self.passing.pop();
+        }
     }
 
     /// Forgets the longer half of what was learned, at the root.

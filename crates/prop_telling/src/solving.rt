@@ -147,7 +147,7 @@ impl<R: Rule + Drop, O: Order + Drop> Teller<R, O> {
         let mut text = String::new(alloc);
         let limit = self.session.limit;
         let network = self.session.live().network();
-        let from = asked.solver.steps;
+        let mut is_begun = false;
         let mut lines = 0;
         let mut most = match asked.solver.question.goal {
             Goal::Plans(most) => most,
@@ -155,12 +155,9 @@ impl<R: Rule + Drop, O: Order + Drop> Teller<R, O> {
         };
         let mut body = String::new(alloc);
         loop {
-            let used = asked.solver.steps - from;
-            if used > limit {
-                write!(text, "unsettled")?;
-                break;
-            }
-            match asked.solver.advance(network, limit - used)? {
+            let more = if is_begun { 0 } else { limit };
+            is_begun = true;
+            match asked.solver.advance(network, more)? {
                 Answer::Unsettled => {
                     let failed = if asked.solver.is_failed { " failed" } else { "" };
                     write!(text, "unsettled{failed}")?;
