@@ -63,6 +63,8 @@ pub struct Learning {
     pub nogood: Nogood,
     makers: Vec<usize>,
     pub level: usize,
+    /// Whether it goes on to what was supposed itself, so that all of that is refuted.
+    pub is_whole: bool,
     pub steps: u64,
 }
 
@@ -149,6 +151,7 @@ impl Learning {
             nogood,
             makers: Vec::new(ground.alloc),
             level: 0,
+            is_whole: false,
             steps: 0,
         };
         let reason = Reason {
@@ -189,6 +192,7 @@ impl Learning {
             nogood,
             makers: Vec::new(ground.alloc),
             level: 0,
+            is_whole: false,
             steps: 0,
         };
         learning.make(ground, ground.trail.len())?;
@@ -443,12 +447,24 @@ impl Learning {
             self.level = last;
             return Ok(State::Going);
         }
-        let size = ground.places.kinds[self.nogood.literals()[at].place].size;
-        if count == 1 && self.nogood.literals()[at].fact.negation(size).is_some() {
+        let is_supposed = matches!(ground.trail.entry(top - 1).by, Source::Decision);
+        let can_end = count == 1 && (is_supposed || !self.is_whole);
+        if can_end && self.can_be_denied(ground, at) {
             self.bring_first(at);
             return Ok(State::Learned);
         }
         self.resolve(ground, at, weights)
+    }
+
+    /// Whether a literal has a denial that the trail keeps. (A number within a span is kept out of
+    /// it where few were left at the root.)
+    fn can_be_denied<R: Rule + Drop>(&self, ground: &Ground<'_, R>, at: usize) -> bool {
+        let literal = self.nogood.literals()[at];
+        let size = ground.places.kinds[literal.place].size;
+        if let (Fact::Is(_), Info::Span(span)) = (literal.fact, ground.trail.root(literal.place)) {
+            return span.count() <= 256;
+        }
+        literal.fact.negation(size).is_some()
     }
 
     fn bring_first(&mut self, at: usize) {

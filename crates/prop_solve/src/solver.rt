@@ -400,6 +400,7 @@ impl Solver {
         let Some(mut learning) = self.learning.take() else {
             return Ok(());
         };
+        learning.is_whole = matches!(self.question.goal, Goal::Plans(_));
         let ground = Ground {
                     alloc: self.alloc,
                     network,
