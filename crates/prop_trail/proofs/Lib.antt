@@ -3,3 +3,5 @@ pub mod WordLaws
 pub mod WindowLaws
 pub mod TrailLaws
 pub mod NarrowingLaws
+pub mod SayLaws
+pub mod GrowLaws

@@ -5,7 +5,7 @@ use Rattle.std.specs.Prelude.{int_le, int_lt, pos, IsTrue, ◌↔◌, zero, suc,
 use Rattle.std.specs.Int.{bit_at}
 use Rattle.std.specs.Int.Bits.{xor_zero_r, xor_self, xor_assoc}
 use Rattle.std.proofs.lemmas.Int.{by_lt_z, ints}
-use Rattle.std.proofs.lemmas.Bool.{cases_Bool, eqb-true, eq-eqb}
+use Rattle.std.proofs.lemmas.Bool.{cases_Bool, cases_eq, eqb-true, eq-eqb}
 use Rattle.std.proofs.lemmas.Nat.Bits.{bit_at-zero, bit_at_xor, bit_at-pow_same, bit_at-pow_other, bit_at-lt}
 use Rattle.prop_lattice.specs.declared.span.Span as spans
 use Rattle.prop_lattice.specs.declared.info.Info.{Info}
@@ -209,3 +209,13 @@ pub left_more : (w : Ruled) (lo n : ℤ) (k : ℕ) → n ≡ lo +ℤ pos k
 left_more w lo n k e =
     let next : k + 1 ≡ suc k = omega arith in
     ap (left_in w lo) next ∙ ap (λ (z : ℤ). left_in w lo k + (1 - out_count w z)) (sym e)
+
+-- it can be told whether a number was ruled out
+pub out_or_not : (w : Ruled) (n : ℤ) → IsOut w n ⊎ (IsOut w n → ⊥)
+out_or_not w n = elim (uncovers w n) [
+  | inl here ↦ elim (cases_eq (bit_at w.bits (bit_of w n)) 1) [
+    | inl e ↦ inl (here, e)
+    | inr ne ↦ inr (λ o. ne o.1)
+  ]
+  | inr f ↦ inr (λ o. let clash : true ≡ false = sym (covered w n o.0) ∙ f in cc)
+]
