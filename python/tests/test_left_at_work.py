@@ -49,7 +49,10 @@ class Holding:
 
     def hold(self, commands: str = RUNS) -> None:
         """From now on lines of these commands are held."""
-        self._path.write_text(commands)
+        # (at once, since the program looks at the file again and again)
+        beside = self._path.with_suffix(".new")
+        beside.write_text(commands)
+        beside.replace(self._path)
 
     def let_go(self) -> None:
         """No line is held any more."""

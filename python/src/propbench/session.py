@@ -28,6 +28,9 @@ from propbench.replies import DONE, SILENT, How, Listing, Reply, Step
 from propbench.runs import LATE, PATIENCE, Progress, Question, Runner, Watch, is_settled
 from propbench.words import MOST_STEPS, as_line, is_silent
 
+# How long, in seconds, a program that owes a reply is waited for where it isn't at work: it may be
+# that another process is, which it has begun.
+_GRACE = 3.0
 STEPS = 1_000_000_000
 MOST_SEED = 2**64 - 1
 ORDERS = ("fifo", "lifo", "mixed")
@@ -399,7 +402,7 @@ class Session(Closing):
         program is at work, the conversation is out of step. Raises OutOfTime where there is an end,
         and it doesn't come by then; it is owed yet where the program is at work."""
         talk, program = self._talk, self._talk.program
-        program.until = time.monotonic() if until is None else until
+        program.until = time.monotonic() + _GRACE if until is None else until
         program.patience = PATIENCE if until is None else 0.0
         program.is_kept = until is not None
         try:
