@@ -303,8 +303,8 @@ def test_a_program_that_hangs_over_it_is_ended(held: Holding) -> None:
         asked.send("settle", seconds=0)
     os.kill(asked.pid, signal.SIGSTOP)
     held.let_go()
-    # (at once, where it has no time of its own)
-    with within(0):
+    # (soon, where it has no time of its own: it might wait for another process)
+    with within(sessions._GRACE):
         assert str(asked.send(SAID)) == "ok"
 
 
