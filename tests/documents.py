@@ -23,16 +23,20 @@ worldview nogoods
 """.split()
 # What propwide has more.
 TOLD = ["step", "how", "list"]
+# Questions that have a word behind them which is no number, while a reply to them has one.
+ENDS = ["how", "least", "greatest"]
 # Documents whose sessions are run over propwide, where it is built.
-WIDE = {"docs/WIDE.md"}
+WIDE = {"docs/WIDE.md", "docs/FITTING.md"}
 
 
 def is_command(line: str) -> bool:
-    """Whether it is no reply: those to `nogoods`, `step`, `how` and `list` begin with the word too,
-    and a number."""
+    """Whether it is no reply: those to `nogoods`, `step`, `how`, `list`, `least` and `plans` begin
+    with the word too, and a number."""
     word, *rest = line.split(" ")
-    if word == "how":
-        return not "".join(rest).isdigit()
+    if word in ENDS:
+        return not "".join(rest).lstrip("-").isdigit()
+    if word in ("solve", "plans"):
+        return word == "solve" or len(rest) > 1
     return word in (*COMMANDS, *TOLD) and not (word in ("nogoods", *TOLD) and rest)
 
 
@@ -41,8 +45,10 @@ def told_apart(block: list[str]) -> Iterator[tuple[str, bool]]:
     left = 0
     for line in block:
         yield line, left == 0 and is_command(line)
-        counted = re.fullmatch(r"(?:nogoods|step|how|list) (\d+)", line)
-        left = int(counted[1]) if counted and not left else max(left - 1, 0)
+        counted = re.fullmatch(r"(nogoods|step|how|list|plans?) (\d+)", line)
+        # (behind plans stands what is known of others)
+        more = 1 if counted and counted[1] == "plans" else 0
+        left = int(counted[2]) + more if counted and not left else max(left - 1, 0)
 
 
 def blocks(text: str) -> Iterator[list[str]]:

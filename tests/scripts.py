@@ -43,9 +43,10 @@ def first_lines() -> Optional[str]:
     return f"{odd}" if odd else None
 
 
-TYPED_TESTS = ["conftest", "documents", "driver", "first_start", "gate", "lines", "package"]
-TYPED_TESTS += ["pages", "peers", "pipe", "puzzles", "scripts", "searches", "test_sessions"]
-TYPED_TESTS += ["versions", "wide_puzzles", "wide_rules"]
+TYPED_TESTS = ["conftest", "documents", "driver", "first_start", "gate", "lines", "networks"]
+TYPED_TESTS += ["package", "pages", "peers", "pipe", "points", "puzzles", "relations", "scripts"]
+TYPED_TESTS += ["searches", "solving", "spoiled_solving", "talking", "test_sessions", "versions"]
+TYPED_TESTS += ["wide_puzzles", "wide_rules"]
 # Scripts and modules that are typed and laid out by black, by the folder that they are looked at in.
 TYPED = {
     "tools/start": ["*.py", "../../propbench", "../../propwide"],

@@ -19,6 +19,9 @@ PATH is crates/propbench/out/propbench where it is left out. What is run:
   those beside the kit over propwide, where that is built (tests/wide_rules.py), and values that all
   differ, and Sudokus (tests/wide_puzzles.py), and random networks over both, and sums as chains
   (tests/wide_sessions.py), and random sessions of steps that are told (tests/telling.py);
+- points that are asked for of random small networks, against all that there are (tests/solving.py),
+  and such replies spoiled on purpose, which these networks have to find out
+  (tests/spoiled_solving.py);
 - random sessions, each answer of which is compared with a plain and slow evaluation
   (tests/plain.py), such with choices, of which every list is tried (tests/choices.py), and such
   under small limits, of which every step is taken anew (tests/steps.py);
@@ -74,7 +77,9 @@ import refusals
 import rules
 import scripts
 import searches
+import solving
 import spoiled
+import spoiled_solving
 import stacks
 import steps
 import telling
@@ -139,6 +144,8 @@ def cases() -> Iterator[Runnable]:
     yield from wide_rules.built()
     yield from wide_puzzles.built()
     yield from wide_sessions.built()
+    yield from solving.built()
+    yield from spoiled_solving.built()
     yield from documents.built()
     yield from telling.built()
     yield from in_each_order(worked())

@@ -92,6 +92,21 @@ class Judge:
         is_once = len(set(said)) == len(said) and set(said) <= there
         return is_once and (not complete or set(said) == there)
 
+    def _best(self, given: Sequence[str], sort: str, cell: str, value: int, because: Any) -> bool:
+        values = [int(plan[cell]) for plan in self.plans(given)]
+        others = [int(plan[cell]) for plan in self.plans(because)]
+        assert sort in ("least", "greatest") and set(because) <= set(given)
+        beyond = [each for each in others if (each < value if sort == "least" else each > value)]
+        return value in values and not beyond
+
+    def _refuted(self, given: Sequence[str]) -> bool:
+        return not self.plans(given)
+
+    def _listed(self, given: Sequence[str], show: Sequence[str], plans: Any, because: Any) -> bool:
+        if because is None:
+            return self._plans_are(given, show, plans, None, False)
+        return all(self._plans_are(each, show, plans, None, True) for each in (given, because))
+
     def _answer(self, given: Sequence[str], told: Told, ask: str, said: str) -> bool:
         """Whether a session that was told nothing else answers so."""
         with Session(self.model.session.program) as session:

@@ -97,7 +97,7 @@ def test_each_checks(found: dict[str, Certificate], tmp_path: Path) -> None:
 def test_the_checker_reads_nothing_else(found: dict[str, Certificate], tmp_path: Path) -> None:
     with open(checker_file.__file__, encoding="utf-8") as file:
         text = file.read()
-    assert sum(map(bool, text.split("\n"))) < 250 and "propbench." not in text
+    assert sum(map(bool, text.split("\n"))) < 300 and "propbench." not in text
     found["least"].save(tmp_path / "claim")
     (tmp_path / "alone.py").write_text(text)
     with Session() as session:
@@ -172,6 +172,9 @@ def test_repairs_with_a_premise_more_or_less(found: dict[str, Certificate]) -> N
 def test_another_optimum(found: dict[str, Certificate]) -> None:
     for name in ("least", "greatest", "slack"):
         claims, _ = parts(found[name])
+        if claims[0][0] == "best":
+            another_best(found[name], claims)
+            continue
         for by in (-1, 1):
             for keys in (["value"], ["bound"], ["value", "bound"]):
                 changed = copy.deepcopy(claims)
@@ -182,6 +185,69 @@ def test_another_optimum(found: dict[str, Certificate]) -> None:
                     refused(spoilt(found[name], changed))
 
 
+def another_best(certificate: Certificate, claims: list[Any]) -> None:
+    """What a program that searches has found, with another value or fewer premises, doesn't hold."""
+    for by in (-1, 1):
+        changed = copy.deepcopy(claims)
+        changed[0][1]["value"] += by
+        refused(spoilt(certificate, changed))
+    changed = copy.deepcopy(claims)
+    changed[0][1]["because"] = []
+    refused(spoilt(certificate, changed))
+    changed = copy.deepcopy(claims)
+    changed[0][1]["sort"] = {"least": "greatest", "greatest": "least"}[claims[0][1]["sort"]]
+    refused(spoilt(certificate, changed))
+    changed[0][1] = {**claims[0][1], "cell": "length"}
+    refused(spoilt(certificate, changed))
+    changed[0][1] = {**claims[0][1], "because": ["morning"]}
+    refused(spoilt(certificate, changed))
+
+
+def test_what_is_listed_spoilt(wide: str) -> None:
+    with Session(wide) as session:
+        model = LineModel(session, WISHES)
+        model.send("kick long", "kick morning", "kick soon", "tell few day 0..7")
+        certificate = model.plans(["day"]).certificate
+    assert certificate.check(wide)
+    claims, _ = parts(certificate)
+    [[sort, claim]] = claims
+    assert sort == "listed" and len(claim["plans"]) == 3 and len(claim["because"]) == 2
+    less, other = claim["plans"][1:], [*claim["plans"][1:], ["9"]]
+    open_ = [*claim["plans"][1:], ["5..6"]]
+    for changed in (
+        {"plans": less},
+        {"plans": other},
+        {"plans": open_},
+        {"plans": [*claim["plans"], claim["plans"][0]]},
+        {"plans": other, "because": None},
+        {"plans": [], "because": None},
+        {"because": claim["because"][1:]},
+        {"because": ["long"]},
+        {"show": ["length"]},
+        {"show": []},
+        {"show": ["day", "day"]},
+        {"given": ["late"]},
+    ):
+        with pytest.raises(CertificateError):
+            spoilt(certificate, [[sort, {**claim, **changed}]]).check(wide)
+    assert spoilt(certificate, [[sort, {**claim, "plans": less, "because": None}]]).check(wide)
+
+
+def test_what_is_refuted_spoilt(wide: str) -> None:
+    """Three that differ, each of two values: no run alone finds that out."""
+    lines = ["cell t truth", "fix t no", *(f"cell {cell} span" for cell in "xyz")]
+    lines += [*(f"fix {cell} 0..9" for cell in "xyz"), "attach alike x y t", "attach alike y z t"]
+    lines += ["attach alike x z t", "tell a x 1..2", "tell b y 1..2", "tell c z 1..2"]
+    with Session(wide) as session:
+        found = LineModel(session, lines).least("x")
+    assert found.value is None and found.proved and found.because == ("a", "b", "c")
+    assert json.loads(found.certificate.lines[1]) == [["refuted", {"given": ["a", "b", "c"]}]]
+    assert found.certificate.check(wide)
+    for given in (["a", "b"], ["a", "b", "d"], [], None):
+        with pytest.raises(CertificateError):
+            spoilt(found.certificate, [["refuted", {"given": given}]]).check(wide)
+
+
 def test_plans_spoilt(found: dict[str, Certificate]) -> None:
     claims, evidence = parts(found["plans"])
     changed = copy.deepcopy(claims)
@@ -190,6 +256,8 @@ def test_plans_spoilt(found: dict[str, Certificate]) -> None:
     changed = copy.deepcopy(claims)
     changed[0][1]["plans"][0][0] = "40"
     refused(spoilt(found["plans"], changed))
+    if claims[0][0] == "listed":
+        return
     tree = claims[0][1]["tree"]
     for number in range(len(tree[1])):
         changed = copy.deepcopy(claims)
@@ -334,7 +402,7 @@ def test_what_is_claimed_is_told_in_words(
     assert told("table", "plan")[1] == (
         "- With Ana and cheap, the program is asked where days = 7..9, and answers cost = 2100..2400."
     )
-    assert "--base FILE compares" in told("least")[2]
+    assert any("--base FILE compares" in line for line in told("least"))
     assert told("least", "all")[0] == (
         "The certificate doesn't hold: it is of another network; gone since then: kick comfort"
     )

@@ -183,7 +183,7 @@ def test_a_session_tells_how(wide: str) -> None:
     lines += ["tell ana x 3..5", "fix y 10", "choose plan x 9 or 4 or 2"]
     with Session(wide, limit=3) as session:
         session.send_all(lines)
-        assert session.tells == ("step", "how", "list")
+        assert session.tells[:3] == ("step", "how", "list")
         assert session.how("z") == How((), "z", Nothing(), (), ())
         session.send("settle")
         assert session.how("z") == How(

@@ -92,6 +92,7 @@ QUESTIONS: dict[str, Ask] = {
     "least": lambda b, s: b.w.least(b.p.end, seconds=s),
     "greatest": lambda b, s: b.w.greatest(b.p.total_cost, seconds=s),
     "plans": lambda b, s: b.w.plans(seconds=s),
+    "solve": lambda b, s: b.w.solve(seconds=s),
     "slack": lambda b, s: b.w.slack(b.cell, seconds=s),
     "critical": lambda b, s: b.w.critical(b.p.end, seconds=s),
     "sensitivity": lambda b, s: b.w.sensitivity(b.p.end, seconds=s),
@@ -184,8 +185,11 @@ def test_what_is_known_by_then_is_told(slow: Bench) -> None:
     assert "end is not known" in str(slow.w.sensitivity(slow.p.end, seconds=0))
     assert "l is not known" in str(slow.w.improvements(slow.length, seconds=0))
     assert not slow.w.outliers(seconds=0)
-    with pytest.raises(NothingFits, match="no plan was found in time"):
-        slow.p.chart(seconds=0)
+    # (where it isn't slow, the first slice has one)
+    try:
+        assert not slow.p.chart(seconds=0).complete
+    except NothingFits as none:
+        assert "no plan was found in time" in str(none)
 
 
 def test_a_conflict_that_could_not_be_made_small_says_so(wide: str) -> None:

@@ -10,14 +10,14 @@ import propbench.workbench
 
 PAGE = REPOSITORY / "docs/WORKBENCH.md"
 # What the pages for who uses a workbench may take together.
-PAGES, MOST_BYTES = [PAGE, REPOSITORY / "docs/QUESTIONS.md"], 9_500
+PAGES, MOST_BYTES = [PAGE, REPOSITORY / "docs/QUESTIONS.md"], 10_600
 
 
 def test_the_page(
     program: str, monkeypatch: pytest.MonkeyPatch, capsys: pytest.CaptureFixture[str]
 ) -> None:
     monkeypatch.setenv("PROPBENCH", program)
-    carried_out(PAGE.read_text(encoding="utf-8"), 4, capsys)
+    carried_out(PAGE.read_text(encoding="utf-8"), 5, capsys)
 
 
 def test_they_are_short() -> None:

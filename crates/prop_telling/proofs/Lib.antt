@@ -1,4 +1,3 @@
-pub mod Starting
 pub mod TextLemmas
 pub mod TellingLemmas
 pub mod NoteLemmas

@@ -5,6 +5,5 @@ pub mod Naming
 pub mod Listing
 pub mod How
 pub mod Telling
-pub mod Answering
 pub mod inner
 pub mod laws

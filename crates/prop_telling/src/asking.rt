@@ -12,8 +12,8 @@ pub(crate) fn is_step(line: &[u8]) -> bool
     line == b"step".as_slice() || line == b"step\r".as_slice()
 }
 
-/// Whether a word ends before these bytes.
-fn is_apart(rest: &[u8]) -> bool
+/// Whether a word ends before these bytes: there is none, or a blank or a return is the first.
+pub fn is_apart(rest: &[u8]) -> bool
     ensures { result ≡ is_apart rest.now }
 {
     matches!(rest, [] | [b' ' | b'\t' | b'\r', ..])

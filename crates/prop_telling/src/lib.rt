@@ -11,19 +11,15 @@
 //! `how X` takes no step. It tells the value of a cell as it stands, as `why` would, and of which
 //! statements and calls it is made up under these premises alone, each founded on those told behind
 //! it. Where so many calls as are made at most don't find them it says `cut`.
-//!
-//! `run` is a program's session with a teller around it.
 #![tactic(auto)]
 
 mod asking;
 mod how;
-mod interpreting;
 mod listing;
 mod naming;
 mod notes;
-mod running;
 mod telling;
 mod texts;
 
-pub use running::run;
+pub use asking::is_apart;
 pub use telling::Teller;

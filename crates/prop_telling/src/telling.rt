@@ -57,11 +57,19 @@ impl<R: Rule + Drop, O: Order + Drop> Teller<R, O> {
 
     /// A teller of a session.
     pub fn new(session: Session<R, O>) -> Teller<R, O>
+        requires sound { IsSound R.value_of session }
         ensures session { result.session ≡ session }
         ensures notes { result.notes ≡ no_notes }
     {
         let notes = Notes::new(session.alloc());
         Teller { session, notes }
+    }
+
+    /// The session.
+    pub fn session(&self) -> &Session<R, O>
+        ensures { result.now ≡ self.now.session }
+    {
+        &self.session
     }
 
     /// Carries out a line: one of its own, or as its session does.

@@ -21,6 +21,13 @@ impl<R: Rule + Drop, O: Order + Drop> Session<R, O> {
         self.alloc
     }
 
+    /// How many steps a line may take.
+    pub fn limit(&self) -> u64
+        ensures { result ≡ self.now.limit }
+    {
+        self.limit
+    }
+
     /// The network under way.
     pub fn live(&self) -> &Live<R>
         ensures { result.now ≡ self.now.live }

@@ -41,7 +41,7 @@ use Rattle.prop_points.proofs.ExcluderLaws.{excluders_are_exact}
 use Rattle.prop_points.proofs.KitLaws.{kit_is_exact}
 use Rattle.prop_points.proofs.NetworkLaws.{singles_solve}
 use Rattle.prop_points.proofs.WideLaws.{wide_is_exact}
-use Rattle.prop_telling.specs.Answering.{Stock, stocked}
+use Rattle.prop_seeking.specs.Answering.{Stock, stocked}
 use Rattle.propwide.specs.Kits.{Mixed, Made, answer_of, RelatedBy, of_kit, of_wide, of_excluder, in_order, shown}
 use Rattle.propwide.specs.Kits.{wide, wide_related, wide_tells, TellsBy}
 use Rattle.propwide.specs.declared.entries.Entry.{Entry}

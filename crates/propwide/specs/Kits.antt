@@ -23,7 +23,7 @@ use Rattle.prop_hall.specs.Excluder.{in_order as excluders, ins_of, name_of}
 use Rattle.prop_hall.specs.Excluder.{need_of as excluder_need, out_of as excluder_out}
 use Rattle.prop_hall.specs.Excluder.{Related as ExcluderRelated, value_of as excluder_value}
 use Rattle.prop_points.specs.Kit.{KitTells}
-use Rattle.prop_telling.specs.Answering.{Stock, stocked}
+use Rattle.prop_seeking.specs.Answering.{Stock, stocked}
 use Rattle.propwide.specs.declared.entries.Entry as entries
 
 -- a rule of the kit, a wider one or an excluder

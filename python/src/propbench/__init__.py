@@ -23,6 +23,7 @@ from propbench.model.expressions import (
     pairs,
 )
 from propbench.model.saving import NotAWorkbench
+from propbench.points import Best, NoneFits, Points, Several, SoFar
 from propbench.program import OutOfTime, ProgramEnded
 from propbench.questions import Certificate, CertificateError, Interrupted
 from propbench.refusals import (
@@ -73,6 +74,7 @@ from propbench.workbench import Workbench
 
 __all__ = [
     "Answer",
+    "Best",
     "Called",
     "Certificate",
     "CertificateError",
@@ -101,6 +103,7 @@ __all__ = [
     "NoSuchProcedure",
     "NoSuchRelation",
     "Nogoods",
+    "NoneFits",
     "NotAName",
     "NotAWorkbench",
     "NotANumberInRange",
@@ -110,13 +113,16 @@ __all__ = [
     "Nothing",
     "OutOfMemory",
     "OutOfTime",
+    "Points",
     "ProgramEnded",
     "Refused",
     "Reply",
     "Session",
     "SessionInUse",
     "Settled",
+    "Several",
     "Silent",
+    "SoFar",
     "Span",
     "Stand",
     "Stated",

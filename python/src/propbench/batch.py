@@ -9,7 +9,7 @@ from propbench.conversation import Conversation
 from propbench.grammar import ASKING
 from propbench.program import ProgramEnded
 from propbench.refusals import Refused
-from propbench.replies import DONE, SEVERAL, SILENT, NotAReply, Reply, lines_behind, reply_of
+from propbench.replies import DONE, SEVERAL, SILENT, NotAReply, Reply, lines_in, reply_of
 from propbench.words import as_line, encoded, is_silent
 
 # How many lines are written before replies are looked at.
@@ -163,7 +163,7 @@ class Batch:
         if not words or words[0] not in SEVERAL:
             return text
         self._begun.append(text)
-        if len(self._begun) <= lines_behind(words[0], self._begun[0]):
+        if len(self._begun) < lines_in(words[0], self._begun):
             return None
         whole = "\n".join(self._begun)
         self._begun.clear()

@@ -10,7 +10,7 @@ from itertools import islice
 
 from propbench.commands import usages_of
 from propbench.fitting import Fitting, Misfit
-from propbench.grammar import FORMS, KINDS, TELLING, Expected, Parse, Place, Role, parsed
+from propbench.grammar import FORMS, KINDS, SEEKING, Expected, Parse, Place, Role, parsed
 from propbench.kit import KIT
 from propbench.known import Known, steps_of
 from propbench.showing import quoted
@@ -49,6 +49,7 @@ _UNTOLD = {
     "step": "what its runs do",
     "how": "what makes up a value",
     "list": "what it holds",
+    **dict.fromkeys(SEEKING, "which points fit"),
 }
 
 
@@ -130,7 +131,7 @@ def _not_utf8(case: _Case) -> Blame:
 
 def _unknown_command(case: _Case) -> Blame:
     first, *more = tokens_of(case.line)
-    if first.text in TELLING:
+    if first.text in _UNTOLD:
         return _untold(case, first, more)
     return _at(first, f"No command is called {quoted(first.text)}.", FORMS)
 
@@ -212,6 +213,8 @@ def _not_a_number(case: _Case) -> Blame:
     for token in case.parse.of(Role.STEPS):
         says = "A limit is a whole number of steps from 0 to 1,000,000,000,000,000."
         return _at(token, says)
+    for token in case.parse.of(Role.COUNT):
+        return _at(token, "So many plans are asked for: a whole number from 1 to 1,000,000,000.")
     for token in case.parse.of(Role.GIVEN):
         if looks_like_number(token.text) and number_in(token.text, 1, MOST_SCALE) is None:
             return _at(token, "A scale is a whole number from 1 to 1,000,000,000.")

@@ -77,6 +77,10 @@ TOLD = tuple(
         ("step", "takes one step of a run, and tells it"),
         ("how X", "what makes up what is known of X: statements and calls"),
         ("list", "what there is: cells, procedures, premises, choices"),
+        ("solve [X ..]", "points that fit, by values of X .. first"),
+        ("least X [Y ..]", "the least that X can be at points that fit, and because of what"),
+        ("greatest X [Y ..]", "the greatest that X can be at such points"),
+        ("plans N X ..", "N points that fit, and differ at X .."),
     )
 )
 

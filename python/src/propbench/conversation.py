@@ -10,10 +10,11 @@ work on it yet, it is `owed`, and can be taken in later.
 from dataclasses import dataclass
 
 from propbench.blame import blame_for
+from propbench.grammar import ASKING, SEEKING
 from propbench.known import Known
 from propbench.program import Program, ProgramEnded, StillAtWork
 from propbench.refusals import CLASSES, Refused
-from propbench.replies import SEVERAL, NotAReply, Reply, lines_behind, refusal_in, reply_of
+from propbench.replies import SEVERAL, NotAReply, Reply, lines_in, refusal_in, reply_of
 from propbench.showing import printable
 
 # A line that changes nothing, and what is answered to it.
@@ -54,6 +55,11 @@ class Conversation:
         self.limit = limit
         self.program_limit = limit
         self._learns = self.known.learns
+        # The question for points that the program goes on with where it is asked again at once: what
+        # is sought, and behind how many lines.
+        self.sought = ("", 0)
+        # Whether the same question for plans would be gone on with by the lines.
+        self._is_listing = False
         self.in_step = True
         self.owed: Owed | None = None
 
@@ -70,8 +76,9 @@ class Conversation:
         program = self.program
         if command not in SEVERAL:
             return program.hear()
-        [first] = program.first_lines(1)
-        lines = program.first_lines(1 + lines_behind(command, first))
+        lines = program.first_lines(1)
+        while (count := lines_in(command, lines)) > len(lines):
+            lines = program.first_lines(count)
         program.rest()
         return "\n".join(lines)
 
@@ -95,7 +102,16 @@ class Conversation:
         if said != "ok":
             raise self.wrong(line, said)
         self.program_limit = steps
+        if self._is_listing:
+            # (what lists plans begins anew: so it does by the lines)
+            self.lines.append(f"limit {self.limit}")
+            self._is_listing = False
         self.in_step = was_in_step
+
+    def tell_limit_anew(self) -> None:
+        """Has the program told its limit before the next line, whatever that is: so a question for
+        points begins anew."""
+        self.program_limit = -1
 
     def leave(self, line: str, words: list[str], steps: int) -> None:
         """Has a question owed that is under way, under so many steps; or the limit before it."""
@@ -120,12 +136,18 @@ class Conversation:
             self.program_limit = owed.steps
         elif refusal_in(text) is None:
             self.reply(owed.line, owed.words, text)
-            self.cut(owed.line, owed.steps)
+            if owed.words[0] == "plans":
+                # (nobody is told of these: so they are told once more)
+                self.sought = ("", 0)
+            elif owed.words[0] not in SEEKING:
+                self.cut(owed.line, owed.steps)
         self.in_step = True
 
     def carried(self, line: str, words: list[str]) -> None:
         """Takes in that a line was carried out."""
         self.lines.append(line)
+        if words[0] == "plans" or words[0] not in ASKING:
+            self._is_listing = words[0] == "plans"
         learn = self._learns.get(words[0])
         if learn:
             learn(words, line)

@@ -40,6 +40,7 @@ class Role(Enum):
     SECOND = "an element of the second domain"
     GIVEN = "a scale or a relation"
     STEPS = "a number of steps"
+    COUNT = "a number of plans"
     END = "the end of the line"
 
 
@@ -197,6 +198,21 @@ def _of_cell() -> Form:
     yield (Role.END,)
 
 
+def _of_cells() -> Form:
+    while True:
+        yield (Role.CELL, Role.END)
+
+
+def _end_of() -> Form:
+    yield (Role.CELL,)
+    yield from _of_cells()
+
+
+def _plans() -> Form:
+    yield (Role.COUNT,)
+    yield from _end_of()
+
+
 def _limit() -> Form:
     yield (Role.STEPS,)
     yield (Role.END,)
@@ -228,9 +244,16 @@ RUNNING = frozenset(("ask", "why", "core", "settle", "worldview"))
 # Those that tell what a run does, what a value is made of, and what there is: propwide has them, and
 # propbench has not.
 TELLING: dict[str, Callable[[], Form]] = {"step": _bare, "how": _of_cell, "list": _bare}
-_ALL = {**FORMS, **TELLING}
+# Those that ask for points that fit: propwide has them as well.
+SEEKING: dict[str, Callable[[], Form]] = {
+    "solve": _of_cells,
+    "least": _end_of,
+    "greatest": _end_of,
+    "plans": _plans,
+}
+_ALL = {**FORMS, **TELLING, **SEEKING}
 # Those that ask: they are answered by more than `ok`, and change nothing that was said.
-ASKING = RUNNING | TELLING.keys() | {"nogoods"}
+ASKING = RUNNING | TELLING.keys() | SEEKING.keys() | {"nogoods"}
 
 
 def parsed(line: str) -> Parse:

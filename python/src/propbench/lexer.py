@@ -28,6 +28,7 @@ _STYLES: dict[Role, _TokenType] = {
     Role.PREMISE: Name.Decorator,
     Role.NEW_CHOICE: Name.Decorator,
     Role.STEPS: Number,
+    Role.COUNT: Number,
     Role.GIVEN: Name.Constant,
     Role.NEW_RELATION: Name.Constant,
     Role.NEW_ELEMENT: Name.Constant,

@@ -9,10 +9,11 @@ from dataclasses import dataclass
 
 from propbench.listing import Told, told_by
 from propbench.refusals import Refused
-from propbench.replies import NO_PREMISE, Contradiction, Reply, Value, Worldview
+from propbench.replies import Contradiction, Reply, Value, Worldview
 from propbench.runs import Progress, is_settled
 from propbench.session import Session
 from propbench.tables import table
+from propbench.words import NO_PREMISE
 
 UNPROVED = "The program that answers is not known to be proved."
 _OPEN = "This is not settled: values may still become narrower, or turn out to be in conflict."

@@ -8,8 +8,11 @@ from collections.abc import Iterator, Mapping, Sequence
 from dataclasses import dataclass
 from typing import TYPE_CHECKING
 
+from propbench.grammar import SEEKING
+from propbench.points import Best, NoneFits, Points, Several, SoFar, points_in
+from propbench.points import lines_in as lines_of_points
 from propbench.values import Held, value_of
-from propbench.words import looks_like_number
+from propbench.words import looks_like_number, named, names_in
 
 
 @dataclass(frozen=True)
@@ -97,7 +100,7 @@ class Value:
             text += " unsettled"
         elif self.reduced is False:
             text += " not reduced"
-        return text if self.because is None else f"{text} because {_named(self.because)}"
+        return text if self.because is None else f"{text} because {named(self.because)}"
 
 
 # The fields of a Value: their names in order, and what they are.
@@ -130,7 +133,7 @@ class Contradiction:
     premises: tuple[str, ...]
 
     def __str__(self) -> str:
-        return f"contradiction: {_named(self.premises)}"
+        return f"contradiction: {named(self.premises)}"
 
 
 @dataclass(frozen=True)
@@ -151,9 +154,7 @@ class Nogoods:
     sets: tuple[tuple[str, ...], ...]
 
     def __str__(self) -> str:
-        return "\n".join(
-            [f"nogoods {len(self.sets)}", *(f"nogood: {_named(s)}" for s in self.sets)]
-        )
+        return "\n".join([f"nogoods {len(self.sets)}", *(f"nogood: {named(s)}" for s in self.sets)])
 
 
 @dataclass(frozen=True)
@@ -194,7 +195,7 @@ class Moved:
     nogood: tuple[str, ...]
 
     def __str__(self) -> str:
-        return f"moved: {self.left} {self.taken}\nnogood: {_named(self.nogood)}"
+        return f"moved: {self.left} {self.taken}\nnogood: {named(self.nogood)}"
 
 
 @dataclass(frozen=True)
@@ -287,7 +288,7 @@ class Stand:
     def __str__(self) -> str:
         word = _BELIEVED[self.is_believed]
         lines = [f"choice {self.choice} {self.side} of {self.sides} {word}"]
-        lines += [f"refuted {side} because {_named(names)}" for side, names in self.refuted]
+        lines += [f"refuted {side} because {named(names)}" for side, names in self.refuted]
         return "\n".join(lines)
 
 
@@ -330,6 +331,11 @@ Reply = (
     | Step
     | How
     | Listing
+    | Points
+    | SoFar
+    | Best
+    | Several
+    | NoneFits
 )
 
 SILENT = Silent()
@@ -337,10 +343,8 @@ DONE = Done()
 SETTLED = Settled()
 UNSETTLED = Unsettled()
 
-# What is said in place of premises where there are none.
-NO_PREMISE = "no premise"
 # The commands whose reply may have more than one line.
-SEVERAL = frozenset(("worldview", "nogoods", "step", "how", "list"))
+SEVERAL = frozenset(("worldview", "nogoods", "step", "how", "list", *SEEKING))
 # Those of them whose first line is the command and how many lines follow.
 _COUNTED = ("nogoods", "step", "how", "list")
 _WORDS: dict[str, Reply] = {"ok": DONE, "settled": SETTLED, "unsettled": UNSETTLED}
@@ -349,23 +353,15 @@ _OK: tuple[str, ...] = ("ok",)
 _PLAIN: dict[str, tuple[str, ...]] = {
     **dict.fromkeys(("ask", "why", "core", *_COUNTED), ()),
     "settle": ("settled", "unsettled"),
-    "worldview": ("unsettled",),
+    **dict.fromkeys(("worldview", *SEEKING), ("unsettled",)),
 }
 _VALUED = frozenset(("ask", "why", "core"))
 _RUNS = _VALUED | {"settle", "worldview"}
 _new, _put = object.__new__, object.__setattr__
 
 
-def _named(premises: tuple[str, ...]) -> str:
-    return " ".join(premises) or NO_PREMISE
-
-
 def _said_of(cell: str, value: Held, because: tuple[str, ...]) -> str:
-    return f"{cell} = {value} because {_named(because)}"
-
-
-def _names(text: str) -> tuple[str, ...]:
-    return () if text == NO_PREMISE else tuple(text.split(" "))
+    return f"{cell} = {value} because {named(because)}"
 
 
 def refusal_in(text: str) -> tuple[int, str] | None:
@@ -384,6 +380,13 @@ def lines_behind(command: str, first: str) -> int:
     return int(count) if word == command and command in _COUNTED and count.isdecimal() else 0
 
 
+def lines_in(command: str, begun: Sequence[str]) -> int:
+    """How many lines the reply to this command has, as far as its first lines tell."""
+    if command in SEEKING:
+        return lines_of_points(command, begun)
+    return 1 + lines_behind(command, begun[0])
+
+
 class NotAReply(Exception):
     """A text is no reply to the line that it was taken for."""
 
@@ -396,9 +399,11 @@ def reply_of(words: list[str], text: str, kinds: Mapping[str, str]) -> Reply:
     if command in _VALUED and text.startswith(f"{name} = ") and name in kinds:
         return unread(text, command, kinds[name])
     if command in _RUNS and text.startswith("contradiction:"):
-        return Contradiction(_names(text[15:]))
+        return Contradiction(names_in(text[15:]))
     if text in _PLAIN.get(command, _OK):
         return _WORDS[text]
+    if command in SEEKING:
+        return _found(words, text, kinds)
     lines = text.split("\n")
     begins = [line.partition(" ")[0] for line in lines]
     if command == "worldview" and begins == ["in:", "out:"]:
@@ -406,7 +411,7 @@ def reply_of(words: list[str], text: str, kinds: Mapping[str, str]) -> Reply:
     if command not in _COUNTED or lines[0] != f"{command} {len(lines) - 1}":
         raise NotAReply
     if command == "nogoods":
-        return Nogoods(tuple(_names(line[8:]) for line in lines[1:]))
+        return Nogoods(tuple(names_in(line[8:]) for line in lines[1:]))
     if command == "step":
         return _step(lines[1:], kinds)
     if command == "list":
@@ -414,6 +419,17 @@ def reply_of(words: list[str], text: str, kinds: Mapping[str, str]) -> Reply:
     if len(lines) < 3 or not lines[2].startswith(f"{name} = "):
         raise NotAReply
     return _how(lines[1:], kinds)
+
+
+def _found(words: list[str], text: str, kinds: Mapping[str, str]) -> Reply:
+    """The points that a text says."""
+    try:
+        found = points_in(words, text, kinds)
+    except (ValueError, KeyError, IndexError):
+        found = None
+    if found is None:
+        raise NotAReply
+    return found
 
 
 def unread(text: str, command: str, kind: str) -> Value:
@@ -441,7 +457,7 @@ def _said(text: str, command: str, kind: str) -> Said:
     """The fields of the value that a text says in reply to a command, of a cell of this kind."""
     cell, held, behind = _cut(text)
     mark, _, names = behind.partition("because ")
-    because = None if command == "ask" else _names(names)
+    because = None if command == "ask" else names_in(names)
     reduced = (mark == "") if command == "core" else None
     return cell, value_of(held, kind), mark[:9] != "unsettled", because, reduced
 
@@ -454,8 +470,8 @@ def _step(lines: list[str], kinds: Mapping[str, str]) -> Step:
         return Step(sides, _called(said, lines[2], kinds))
     if word == "moved:":
         left, taken = said
-        return Step(sides, Moved(left, taken, _names(lines[2][8:])))
-    return Step(sides, SETTLED if word == "settled" else Contradiction(_names(lines[1][15:])))
+        return Step(sides, Moved(left, taken, names_in(lines[2][8:])))
+    return Step(sides, SETTLED if word == "settled" else Contradiction(names_in(lines[1][15:])))
 
 
 def _how(lines: list[str], kinds: Mapping[str, str]) -> How:
@@ -511,7 +527,7 @@ def _stand(words: list[str], refuted: Sequence[list[str]]) -> Stand:
     """Where a choice stands, given all sides that were left."""
     _, choice, side, _, sides, word = words
     left = [
-        (name, _names(" ".join(names)))
+        (name, names_in(" ".join(names)))
         for _, name, _, *names in refuted
         if name.partition("=")[0] == choice
     ]
@@ -530,7 +546,7 @@ def _known(text: str, kinds: Mapping[str, str]) -> tuple[str, Held, tuple[str, .
     cell, held, behind = _cut(text)
     # (of a cell without a name the value tells whether it is of numbers: no name begins so)
     kind = kinds.get(cell, "span" if looks_like_number(held) else "")
-    return cell, value_of(held, kind), _names(behind.partition("because ")[2])
+    return cell, value_of(held, kind), names_in(behind.partition("because ")[2])
 
 
 def _cut(text: str) -> tuple[str, str, str]:

@@ -13,6 +13,7 @@ from collections.abc import Callable
 from dataclasses import dataclass, replace
 
 from propbench.conversation import Conversation
+from propbench.points import SoFar
 from propbench.program import OutOfTime, ProgramEnded, StillAtWork
 from propbench.refusals import Refused
 from propbench.replies import Reply, Unsettled, Value, unread
@@ -89,7 +90,16 @@ class Question:
 
 def is_settled(reply: Reply) -> bool:
     """Whether a reply says all that a run under a higher limit would."""
-    return reply.settled if isinstance(reply, Value) else not isinstance(reply, Unsettled)
+    if isinstance(reply, Value):
+        return reply.settled
+    return not isinstance(reply, Unsettled | SoFar)
+
+
+def late_text(talk: Conversation) -> str:
+    """What there is of the reply to a question that was interrupted, where it comes soon; "" where
+    all of it was read and lost. Raises OutOfTime and ProgramEnded."""
+    talk.program.until, talk.program.is_kept = time.monotonic() + _GRACE, False
+    return talk.late()
 
 
 class Runner:
@@ -244,9 +254,8 @@ class Runner:
         it where none does, or a part of it was lost, and where it is refused."""
         assert watch.stopped
         talk = self.talk
-        talk.program.until, talk.program.is_kept = time.monotonic() + _GRACE, False
         try:
-            text = talk.late()
+            text = late_text(talk)
             if not text:
                 # It was read and lost: what is known by now says as much.
                 watch.taken += talk.program_limit

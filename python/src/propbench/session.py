@@ -20,12 +20,14 @@ from propbench.closing import Closing
 from propbench.conversation import Conversation, WrongReply
 from propbench.finding import find_program
 from propbench.given import seconds_given
-from propbench.grammar import ASKING, FORMS, RUNNING
+from propbench.grammar import ASKING, FORMS, RUNNING, SEEKING
 from propbench.known import Known
 from propbench.program import OutOfTime, Program, ProgramEnded, StillAtWork
 from propbench.refusals import Refused, UnknownCommand
-from propbench.replies import DONE, SILENT, How, Listing, Reply, Step
+from propbench.points import Best, NoneFits, Points, Several, SoFar
+from propbench.replies import DONE, SILENT, How, Listing, Reply, Step, Unsettled
 from propbench.runs import LATE, PATIENCE, Progress, Question, Runner, Watch, is_settled
+from propbench.seeking import Seeking
 from propbench.words import MOST_STEPS, as_line, is_silent
 
 # How long, in seconds, a program that owes a reply is waited for where it isn't at work: it may be
@@ -38,8 +40,9 @@ ORDERS = ("fifo", "lifo", "mixed")
 Texts = list[str]
 Replies = list[Reply]
 Outcomes = list[Reply | Refused]
-# With what most questions begin.
+# With what most questions begin, and with what those for points do.
 _QUESTIONS = frozenset(("ask ", "why "))
+_SEEKING = tuple(SEEKING)
 
 
 class SessionInUse(RuntimeError):
@@ -199,7 +202,7 @@ class Session(Closing):
             self._sent += 1
             if watch is None and text[:4] in _QUESTIONS:
                 return self._runner.ask(text, self._sent)
-            if watch is not None or "core" in text:
+            if watch is not None or "core" in text or text.startswith(_SEEKING):
                 return self._send_watched(text, watch or Watch())
             self._runner.tell(text)
             # What the line asks is looked at while the program is at work.
@@ -305,14 +308,91 @@ class Session(Closing):
         assert isinstance(reply, Listing)
         return reply
 
+    def solve(
+        self, *cells: str, seconds: float | None = None, progress: Progress | None = None
+    ) -> Points | NoneFits | Unsettled:
+        """Points that fit, one value for each cell, or the premises that leave none; where the
+        program is propwide. The cells that are named get their values first.
+
+            found = session.solve()
+            if isinstance(found, Points):
+                print(found.values["x"], found.sides)
+
+        `seconds` and `progress` are as those of `send`; asked again at once it goes on. Raises
+        UnknownCommand over a program that doesn't search, the refusal of a cell that isn't there,
+        and as `send`.
+        """
+        reply = self.send(" ".join(["solve", *cells]), seconds=seconds, progress=progress)
+        assert isinstance(reply, Points | NoneFits | Unsettled)
+        return reply
+
+    def least(
+        self, cell: str, *cells: str, seconds: float | None = None, progress: Progress | None = None
+    ) -> Best | NoneFits | SoFar | Unsettled:
+        """The least that a number can be, with points at which it is, and the premises because of
+        which it can't be less. Where that isn't settled in time the best points so far are given.
+        All else is as in `solve`.
+
+            best = session.least("cost", seconds=10)
+            if isinstance(best, Best):
+                print(best.value, best.because, best.points.values)
+        """
+        return self._end("least", cell, cells, seconds, progress)
+
+    def greatest(
+        self, cell: str, *cells: str, seconds: float | None = None, progress: Progress | None = None
+    ) -> Best | NoneFits | SoFar | Unsettled:
+        """The same for the greatest that a number can be."""
+        return self._end("greatest", cell, cells, seconds, progress)
+
+    def _end(
+        self,
+        end: str,
+        cell: str,
+        cells: Iterable[str],
+        seconds: float | None,
+        progress: Progress | None,
+    ) -> Best | NoneFits | SoFar | Unsettled:
+        """An end of a number."""
+        reply = self.send(" ".join([end, cell, *cells]), seconds=seconds, progress=progress)
+        assert isinstance(reply, Best | NoneFits | SoFar | Unsettled)
+        return reply
+
+    def plans(
+        self,
+        count: int,
+        *cells: str,
+        seconds: float | None = None,
+        progress: Progress | None = None,
+    ) -> Several | NoneFits | Unsettled:
+        """So many points that fit, of which no two are the same at all of these cells; and whether
+        there are others. Asked again at once it gives others yet. All else is as in `solve`.
+
+            found = session.plans(10, "x", "y")
+            if isinstance(found, Several):
+                print(len(found.rows), found.rows[0]["x"], found.others)
+        """
+        line = " ".join(["plans", str(count), *cells])
+        reply = self.send(line, seconds=seconds, progress=progress)
+        assert isinstance(reply, Several | NoneFits | Unsettled)
+        return reply
+
     @property
     def tells(self) -> tuple[str, ...]:
-        """Those of the commands `step`, `how` and `list` that the program has. It is asked once."""
+        """Those of the commands `step`, `how` and `list`, `solve`, `least`, `greatest` and `plans`
+        that the program has. It is asked once."""
         if self._tells is None:
-            replies = zip(("how", "list"), self.look(["how _", "list"]))
-            found = [word for word, reply in replies if not isinstance(reply, UnknownCommand)]
-            self._tells = ("step", *found) if found else ()
+            # (none of these is carried out but `list`)
+            asked = {"how _": ["step", "how"], "list": ["list"], "least": list(SEEKING)}
+            replies = zip(asked.values(), self.look(asked))
+            found = [words for words, reply in replies if not isinstance(reply, UnknownCommand)]
+            self._tells = tuple(word for words in found for word in words)
         return self._tells
+
+    @property
+    def seeks(self) -> bool:
+        """Whether the program searches for points that fit."""
+        return "solve" in self.tells
 
     def replay(self, lines: Iterable[str] | None = None) -> Outcomes:
         """Begins the program anew with the lines that were carried out, or with these in their
@@ -428,10 +508,12 @@ class Session(Closing):
             turn.lock.release()
 
     def _send_watched(self, line: str, watch: Watch) -> Reply:
-        """The reply to a line that may be a question which is watched, or a `core`."""
+        """The reply to a line that may be a question which is watched, a `core`, or one for points."""
         words = line.split()
         if words and words[0] in RUNNING:
             return self._runner.watched(Question(line, words, self._sent), watch)
+        if words and words[0] in SEEKING:
+            return Seeking(self._talk, Question(line, words, self._sent), watch).reply()
         # (who is told that it came to nothing may send it again)
         self._talk.program.is_kept = False
         self._runner.tell(line)

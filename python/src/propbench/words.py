@@ -5,6 +5,7 @@ what a line means, and this tells a user where on a line it stands.
 """
 
 import re
+from collections.abc import Iterable
 from dataclasses import dataclass
 
 MOST_BYTES = 4096
@@ -12,6 +13,8 @@ MOST_NUMBER = 10**18
 MOST_SCALE = 10**9
 MOST_STEPS = 10**15
 
+# What is said in place of premises where there are none.
+NO_PREMISE = "no premise"
 MARKS = "{};=*"
 NO_NAMES = frozenset("by local span symbol truth yes no nothing contradiction".split())
 
@@ -91,6 +94,16 @@ def tokens_of(line: str) -> list[Token]:
 def is_name(word: str) -> bool:
     """Whether the word may name something (as Python's Unicode knows letters)."""
     return word.isidentifier() and word not in NO_NAMES
+
+
+def named(premises: Iterable[str]) -> str:
+    """Premises as a reply names them."""
+    return " ".join(premises) or NO_PREMISE
+
+
+def names_in(text: str) -> tuple[str, ...]:
+    """The premises that a reply names so."""
+    return () if text == NO_PREMISE else tuple(text.split(" "))
 
 
 def looks_like_number(word: str) -> bool:

@@ -11,10 +11,9 @@ from propbench.given import path_given
 from propbench.questions.asking import tried
 from propbench.questions.bounding import LEAST, GREATEST, Bounding
 from propbench.questions.clock import Clock, Progress
-from propbench.questions.critical import NothingFits
 from propbench.questions.model import Plan
 from propbench.questions.shown import listed
-from propbench.questions.outcomes import Fits
+from propbench.questions.outcomes import Fits, NothingFits
 from propbench.questions.trial import Trial
 from propbench.showing import printable
 

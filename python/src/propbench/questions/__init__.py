@@ -12,7 +12,7 @@ from typing import TypeVar
 from propbench.given import count_given
 from propbench.questions.asking import CellLike, Interrupted, NoSuchName
 from propbench.questions.bench import Bench
-from propbench.questions.bounding import GREATEST, LEAST, Optimum, find_optimum
+from propbench.questions.bounding import GREATEST, LEAST, Optimum
 from propbench.questions.certificate import Certificate
 from propbench.questions.checker import CertificateError
 from propbench.questions.changes import ToldValue, changed, resolved
@@ -25,17 +25,14 @@ from propbench.questions.comparing import (
     snapshot_of,
 )
 from propbench.questions.conflicts import Conflicts, Repairs, find_conflicts, find_repairs
-from propbench.questions.critical import (
-    Critical,
-    NothingFits,
-    Slack,
-    find_critical,
-    find_slack,
-)
+from propbench.questions.critical import Critical, Slack, find_critical, find_slack
+from propbench.questions.ends import find_optimum, find_solution
 from propbench.questions.model import Model, Plan, Point
+from propbench.questions.outcomes import NothingFits
 from propbench.questions.plans import Plans, find_plans
 from propbench.questions.scenarios import Scenario, Scenarios, find_scenarios, sweep
 from propbench.questions.sensitivity import Sensitivity, of_answers, of_optimum
+from propbench.questions.solution import Solution
 
 SomeBench = TypeVar("SomeBench", bound=Bench)
 
@@ -86,6 +83,16 @@ class Questions:
         at_most = count_given(most, "most")
         given = {} if weight is None else weight
         return find_repairs(self.model, given, keep, at_most, seconds, progress)
+
+    def solve(self, *, seconds: float | None = None, progress: Progress | None = None) -> Solution:
+        """A plan: a value of each cell with which all holds that is believed, and one alternative of
+        each choice. Raises NothingFits with the `premises` that can't all hold, or None where no
+        plan was found in time.
+
+            plan = w.solve()
+            print(plan["days"], plan.choices)
+        """
+        return find_solution(self.model, seconds, progress)
 
     def least(
         self,
@@ -265,5 +272,6 @@ __all__ = [
     "Scenarios",
     "Sensitivity",
     "Slack",
+    "Solution",
     "Snapshot",
 ]

@@ -5,6 +5,7 @@ from typing import Protocol, TypeVar
 
 from propbench.nearby import near_names
 from propbench.program import OutOfTime
+from propbench.questions.clock import Clock
 from propbench.questions.model import Model
 from propbench.questions.trial import Trial
 from propbench.showing import quoted
@@ -52,6 +53,14 @@ def tried(trial: Trial, run: Callable[[], None], result: Callable[[], Result]) -
             return answered(run, result)
         finally:
             trial.clock.end()
+
+
+def tried_by(clock: Clock, run: Callable[[], None], result: Callable[[], Result]) -> Result:
+    """The same of a question with this clock, which ends with it."""
+    try:
+        return answered(run, result)
+    finally:
+        clock.end()
 
 
 def so_far(ask: Callable[[], Result], kind: type[Result]) -> Result:

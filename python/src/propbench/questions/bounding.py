@@ -1,13 +1,11 @@
 """The least and the greatest value of a cell in any plan, by bounds that close in on it."""
 
 from collections.abc import Mapping, Sequence
-from dataclasses import dataclass, field
+from dataclasses import dataclass, field, replace
 
-from propbench.questions.asking import CellLike, whole_named, tried
 from propbench.questions.certificate import Certificate, Evidence
 from propbench.questions.checker import MOST
-from propbench.questions.clock import Clock, Progress
-from propbench.questions.model import Model, Plan
+from propbench.questions.model import Plan
 from propbench.questions.outcomes import Cannot, Fits, Fork
 from propbench.questions.rooms import Numbers
 from propbench.questions.shown import NOT_REFUTED, Shown
@@ -25,7 +23,8 @@ class Optimum(Shown):
     `value` is that of the best plan that was found, and `plan` has the values of all cells in it but
     quantities; both are None where none was found. `choices` has for each choice the alternative
     that the plan takes. `bound` is a number beyond which nothing fits. `proved` says that there is
-    nothing better than `value`, or no plan at all where that is None.
+    nothing better than `value`, or no plan at all where that is None; by what the premises `because`
+    say, where the program searches itself.
     """
 
     cell: str
@@ -36,6 +35,11 @@ class Optimum(Shown):
     proved: bool
     _certificate: Certificate | None
     choices: Mapping[str, object] = field(default_factory=dict)
+    because: tuple[str, ...] = ()
+
+    def shown_by(self, certificate: Certificate | None) -> "Optimum":
+        """The same with a certificate."""
+        return replace(self, _certificate=certificate)
 
     @property
     def complete(self) -> bool:  # type: ignore[override]  # (what `proved` says)
@@ -159,20 +163,17 @@ class Bounding:
         return Optimum(self.cell, self.sort, *known, certificate, choices)
 
 
-def find_optimum(
-    model: Model, cell: CellLike, sort: str, seconds: float | None, progress: Progress | None
-) -> Optimum:
-    """The least or greatest value of a cell in any plan with what is believed."""
-    name, clock = whole_named(model, cell), Clock(seconds, progress)
-    trial = Trial(model, model.believed(), clock)
-    bounding = bounding_in(trial, model.believed(), name, sort)
-    return tried(trial, bounding.run, bounding.result)
-
-
 def bounding_in(trial: Trial, premises: Sequence[str], cell: str, sort: str) -> Bounding:
     """A search for an optimum in a trial, which ends where the cell is not for numbers; that raises
     ValueError."""
-    if not isinstance(trial.rooms[cell], Numbers):
+    is_number = isinstance(trial.rooms[cell], Numbers)
+    if not is_number:
         trial.close()
-        raise ValueError(f"{quoted(cell)} is not for numbers, and only of these one is the {sort}")
+    check_numbers(cell, is_number, sort)
     return Bounding(trial, premises, cell, sort)
+
+
+def check_numbers(cell: str, is_number: bool, sort: str) -> None:
+    """Raises ValueError where a cell is not for numbers."""
+    if not is_number:
+        raise ValueError(f"{quoted(cell)} is not for numbers, and only of these one is the {sort}")

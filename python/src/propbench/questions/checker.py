@@ -10,7 +10,7 @@ import json
 import re
 import subprocess
 import sys
-from collections.abc import Callable, Iterable, Sequence
+from collections.abc import Callable, Iterable, Iterator, Sequence
 from functools import partial
 from typing import Any  # (what JSON gives: its form is looked at where it is used)
 
@@ -23,8 +23,11 @@ KINDS: dict[str, Room] = {"span": range(-MOST, MOST + 1), "truth": frozenset(("n
 SYMBOLS = frozenset("{}")  # any symbol: two that none can be, so no cases cover them
 SETTLED, CONTRADICTS = "settled".__eq__, re.compile("contradiction:").match
 IS_POINT = re.compile(r"\S+ = (?!nothing$)[^ .{]+").fullmatch
+REFUTED, FOUND = re.compile("none: ").match, re.compile("plan [0-9]").match
+MANY = re.compile(r"(?:(least|greatest) -?|plan(s?) )([0-9]+)").match  # lines follow
 WHY = {SETTLED: "a plan doesn't fit", CONTRADICTS: "a case isn't refuted", IS_POINT: "left open"}
-CLAIMS = ("fits", "fails", "optimum", "conflicts", "plans_are", "answer")
+BY_CASES = ("fits", "fails", "optimum", "conflicts", "plans_are", "answer")
+CLAIMS = (*BY_CASES, "best", "refuted", "listed")  # (these are asked a program that searches)
 MORE = ("choices", "plans", "trees")  # what an evidence has beside a mark, a basis and rooms
 
 
@@ -88,6 +91,16 @@ def copies(listed: Iterable[str], mark: str) -> list[str]:
     return [re.sub(r"^instance \S+ \S+", "attach", line) for line in named if line in changed]
 
 
+def whole(said: Iterator[str], first: str) -> str:
+    """A reply of which this is the first line."""
+    lines, found = [first], MANY(first)
+    if found and found[1]:
+        lines += [next(said), plan := next(said)]
+        found = MANY(plan)
+    lines += [next(said) for _ in range(int(found[3]) + bool(found[2]) if found else 0)]
+    return "\n".join(lines)
+
+
 def replies(program: str, asks: Asks) -> list[str]:
     """What the program answers behind these lines, each of which it has to answer as wanted."""
     pairs = [(ask, "ok".__eq__) if isinstance(ask, str) else ask for ask in asks]
@@ -96,7 +109,7 @@ def replies(program: str, asks: Asks) -> list[str]:
     said = iter(ran.stdout.split("\n")[:-1])
     for line, wanted in pairs:
         says = f"{WHY.get(wanted, 'not as claimed')}: `{line}` is answered: "
-        demand(wanted(reply := next(said, ran.stderr)), says + reply)
+        demand(wanted(reply := whole(said, next(said, ran.stderr))), says + reply)
     return [*said]
 
 
@@ -257,6 +270,41 @@ class Checker:
         wanted = [tuple(map(self.room, show, items(plan, len(show)))) for plan in items(plans)]
         is_so = {*found} == {*wanted} and len({*found}) == len(found) == len(wanted)
         demand(is_so and all(len(room) == 1 for plan in found for room in plan), "wrong plans")
+
+    def refuted(self, given: Any) -> None:
+        """Nothing fits with these premises, as the program finds once more."""
+        self.believe(self.asks, self.names(given))
+        self.asks.append(("solve", REFUTED))
+
+    def best(self, given: Any, sort: str, cell: str, value: int, because: Any) -> None:
+        """A plan has this value, and by some of the premises the program finds none better."""
+        is_so = self.names(because) <= self.names(given) and self.kinds.get(cell) == KINDS["span"]
+        demand(is_so and sort in ("least", "greatest") and type(value) is int, "no such best value")
+        self.fits(given, [[cell, f"{value}"]])
+        self.believe(self.asks, self.names(because))
+        self.asks.append((f"{sort} {cell}", re.compile(f"{sort} {value}\n").match))
+
+    def listed(self, given: Any, show: Any, plans: Any, because: Any) -> None:
+        """The program finds a plan with each of these values, and by some premises no others."""
+        rows = [tuple(zip(items(show), items(plan, len(show)))) for plan in items(plans)]
+        is_so = show and all(len(self.room(*pair)) == 1 for row in rows for pair in row)
+        demand(is_so and len({*rows}) == len(rows), "wrong plans")
+        self.believe(self.asks, self.names(given))
+        for row in rows:
+            self.tell(self.asks, row, [("solve", FOUND)])
+        if because is None:
+            return demand(rows, "nothing is claimed of plans")
+        demand(self.names(because) <= self.names(given), "a name is not given")
+        wanted = {" ".join(f"{cell} = {text}" for cell, text in row) for row in rows}
+        self.believe(self.asks, self.names(because))
+        # (it may tell one twice, and has to come to the end)
+        ask = f"plans {4 * len(rows) + 4} {' '.join(show)}"
+        self.asks.append((ask, partial(self.are_all, wanted)))
+
+    def are_all(self, wanted: set[str], reply: str) -> bool:
+        first, *rows = reply.split("\n")
+        is_end = rows and rows.pop().startswith("others none: ")
+        return bool(is_end and first.startswith("plans ") and {*rows} == wanted)
 
     def answer(self, given: Any, told: Any, ask: str, said: str) -> None:
         """The program answers a question so, with the network's own choices."""

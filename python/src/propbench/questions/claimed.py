@@ -13,6 +13,8 @@ from propbench.words import ends_of
 
 # So many names, cells of a plan, and plans are told at the most.
 _NAMES, _CELLS, _PLANS = 12, 16, 20
+# How it was checked that nothing else fits, where the program searches for plans itself.
+_ANEW = "is what the program finds, asked anew: proved of it, and not looked at here."
 
 
 def claims_in(lines: Sequence[str]) -> list[str]:
@@ -36,6 +38,29 @@ def _optimum(claim: Any, plans: Any) -> list[str]:
     is_best = "" if value == bound else f"can be {value}, "
     plan = _plan(plans, claim["given"], [[cell, str(value)]])
     return [f"{_with(claim['given'])} {cell} is {than} {bound}, {is_best}{plan}"]
+
+
+def _best(claim: Any, plans: Any) -> list[str]:
+    """The best value, with its plan, and what the rest hangs on."""
+    cell, value, by = (claim[key] for key in ("cell", "value", "because"))
+    than, beyond = ("at least", "less") if claim["sort"] == "least" else ("at most", "more")
+    plan = _plan(plans, claim["given"], [[cell, str(value)]])
+    said = f"{_with(claim['given'])} {cell} is {than} {value}, {plan}"
+    return [said, f"That it can't be {beyond}, by {_some(by)}, {_ANEW}"]
+
+
+def _refuted(claim: Any, plans: Any) -> list[str]:
+    return [f"{_with(claim['given'])} nothing fits. That {_ANEW}"]
+
+
+def _listed(claim: Any, plans: Any) -> list[str]:
+    """Plans, and what the rest hangs on."""
+    said = _plans_are({**claim, "complete": claim["because"] is not None}, plans)
+    return [*said, f"That these fit{_no_others(claim['because'])}, {_ANEW}"]
+
+
+def _no_others(by: Sequence[str] | None) -> str:
+    return "" if by is None else f", and no others, by {_some(by)}"
 
 
 def _conflicts(claim: Any, plans: Any) -> list[str]:
@@ -74,8 +99,8 @@ def _plans_are(claim: Any, plans: Any) -> list[str]:
         return [f"{_with(claim['given'])} there are such plans, and maybe others: {told}."]
     if not found:
         return [f"{_with(claim['given'])} nothing fits."]
-    number = "this plan" if len(rows) == 1 else f"these {len(rows)} plans"
-    return [f"{_with(claim['given'])} there are {number} over {_some(show)}, no others: {told}."]
+    number = "is this plan" if len(rows) == 1 else f"are these {len(rows)} plans"
+    return [f"{_with(claim['given'])} there {number} over {_some(show)}, no others: {told}."]
 
 
 def _answer(claim: Any, plans: Any) -> list[str]:
@@ -90,6 +115,9 @@ _TELLS = {
     "conflicts": _conflicts,
     "plans_are": _plans_are,
     "answer": _answer,
+    "best": _best,
+    "refuted": _refuted,
+    "listed": _listed,
 }
 
 

@@ -2,7 +2,7 @@
 
 import sys
 import time
-from collections.abc import Callable
+from collections.abc import Callable, Iterator
 
 from propbench.given import seconds_given
 
@@ -14,6 +14,8 @@ _FIRST, _AGAIN = 1.0, 0.2
 # How long, in seconds, a reply that is under way is waited for when the time is over; and what has
 # to be done behind that, as to take back what was tried.
 _GRACE, _LAST = 0.4, 0.8
+# The seconds of the first turn, where ways of asking take turns, and how many times as many follow.
+_FIRST_TURN, _MORE = 0.5, 4
 
 
 class Clock:
@@ -59,6 +61,22 @@ class Clock:
     def seconds_left(self) -> float | None:
         """How many seconds are left, None where there is no end."""
         return None if self._until is None else max(0.0, self._until - time.monotonic())
+
+    def turn(self, seconds: float) -> "Clock":
+        """A clock for so many of these seconds, as far as there are as many."""
+        left = self.seconds_left()
+        return Clock(seconds if left is None else min(seconds, left), self.progress)
+
+    def turns(self) -> Iterator[float]:
+        """How many seconds something has at a time, where two ways of asking take turns: more and
+        more, and of what is left the half at the most."""
+        seconds = _FIRST_TURN
+        while True:
+            left = self.seconds_left()
+            yield seconds if left is None else min(seconds, left / 2)
+            if self.is_over():
+                return
+            seconds *= _MORE
 
     def tell(self, text: str) -> None:
         """Tells of how far a question is, now and then."""

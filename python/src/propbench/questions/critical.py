@@ -1,18 +1,22 @@
 """How much room a cell has over all plans, and which premises leave it no more."""
 
 from collections.abc import Sequence
+from contextlib import suppress
 from dataclasses import dataclass
 
-from propbench.questions.asking import CellLike, whole_named, tried
+from propbench.questions.asking import CellLike, tried, tried_by, whole_named
 from propbench.questions.bounding import GREATEST, LEAST, Bounding, bounding_in
 from propbench.questions.certificate import Certificate, Evidence
 from propbench.questions.clock import Clock, Progress
 from propbench.questions.conflicts import Premises
+from propbench.questions.ends import Ending
 from propbench.questions.exploring import Exploring, Refuted
 from propbench.questions.hitting import bits_of
 from propbench.questions.model import Model, Point
-from propbench.questions.plans import Listing
+from propbench.questions.outcomes import NothingFits
+from propbench.questions.plans import Listing, listed_in_turns
 from propbench.questions.rooms import Numbers
+from propbench.questions.seeking import Seeker, Unlike, seeks
 from propbench.questions.shown import NOT_REFUTED, Shown, shortened
 from propbench.questions.trial import Trial
 
@@ -82,15 +86,19 @@ class Critical(Shown, Premises):
         return Shown.__str__(self)
 
 
-class NothingFits(ValueError):
-    """There is no plan, or none was found in time: so nothing can be said of one."""
-
-
 def find_slack(
     model: Model, cell: CellLike, seconds: float | None, progress: Progress | None
 ) -> Slack:
     """The room of a cell over all plans with what is believed."""
     name, clock = whole_named(model, cell), Clock(seconds, progress)
+    if seeks(model):
+        with suppress(Unlike), Seeker(model, clock) as seeker:
+            return _slack_by(seeker, name)
+    return _slack_by_cases(model, name, clock)
+
+
+def _slack_by_cases(model: Model, name: str, clock: Clock) -> Slack:
+    """The room of a cell by bounds that close in, or by cases."""
     trial = Trial(model, model.believed(), clock)
     if not isinstance(trial.rooms[name], Numbers):
         return _slack_of_names(trial, name)
@@ -109,6 +117,39 @@ def find_slack(
         return Slack(name, ends[0].value, ends[1].value, (), proved, certificate)
 
     return tried(trial, run, result)
+
+
+def _slack_by(seeker: Seeker, cell: str) -> Slack:
+    """The same by a program that searches for plans itself. Raises Unlike."""
+    model, clock = seeker.model, seeker.clock
+    if not seeker.is_number(cell):
+        plans = listed_in_turns(seeker, [cell], len(model.candidates(cell) or ""))
+        values = tuple(plan[cell] for plan in plans)
+        return Slack(cell, None, None, values, plans.complete, plans._certificate)
+    ends, found = [Ending(seeker, cell, sort) for sort in (LEAST, GREATEST)], list[Slack]()
+
+    def run() -> None:
+        for seconds in clock.turns():
+            if all([ending.run(seconds / 2) for ending in ends]) or clock.is_over():
+                break
+            found.append(_slack_by_cases(model, cell, clock.turn(seconds)))
+            if found[-1].complete:
+                break
+
+    def result() -> Slack:
+        if found and found[-1].complete:
+            return found[-1]
+        known = [ending.known() for ending in ends]
+        values = [optimum.value for optimum, _, _ in known]
+        # (of two ends either plan shows that the number can be that much)
+        there = [value for value in values if value is not None]
+        low, high = (min(there), max(there)) if there else (None, None)
+        proved = all(optimum.proved for optimum, _, _ in known)
+        claims = [claim for _, claims, _ in known for claim in claims]
+        plans = [fits for _, _, plans in known for fits in plans]
+        return Slack(cell, low, high, (), proved, seeker.certificate(claims, plans))
+
+    return tried_by(clock, run, result)
 
 
 def _slack_of_names(trial: Trial, cell: str) -> Slack:

@@ -1,8 +1,10 @@
 """What came of a search: a plan, a contradiction in all cases, or neither."""
 
+from collections.abc import Sequence
 from dataclasses import dataclass
 
 from propbench.questions.model import Plan
+from propbench.questions.shown import listed
 
 
 @dataclass(frozen=True)
@@ -39,3 +41,30 @@ class Open:
 
 
 Outcome = Fits | Cannot | Open
+
+
+class NothingFits(ValueError):
+    """There is no plan, or none was found in time: so nothing can be said of one. `premises` can't
+    all hold where it is known that there is none, and are None where it isn't."""
+
+    premises: tuple[str, ...] | None = None
+
+    @staticmethod
+    def because_of(premises: Sequence[str]) -> "NothingFits":
+        """That there is no plan, since these can't all hold."""
+        by = listed(premises)
+        why = (
+            f"{by} can't {_ALL.get(len(premises), 'all ')}hold" if by else "what always holds can't"
+        )
+        made = NothingFits(f"nothing fits: {why}")
+        made.premises = tuple(premises)
+        return made
+
+    @staticmethod
+    def in_time() -> "NothingFits":
+        """That none was found in time."""
+        return NothingFits("no plan was found in time; that there is one is not refuted")
+
+
+# How many of so few premises can't hold.
+_ALL = {1: "", 2: "both "}

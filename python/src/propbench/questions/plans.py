@@ -1,16 +1,19 @@
 """All plans over some cells, each once: a tree of cases, each leaf a plan or a contradiction."""
 
 from collections.abc import Iterable, Sequence
+from contextlib import suppress
 from dataclasses import dataclass, field
 
-from propbench.questions.asking import CellLike, tried, whole_named
+from propbench.points import NoneFits, Points, Several
+from propbench.questions.asking import CellLike, tried, tried_by, whole_named
 from propbench.questions.certificate import Certificate, Evidence, Tree, as_json, on_lines
 from propbench.questions.clock import Clock, Progress
 from propbench.questions.model import Model, Plan
 from propbench.questions.outcomes import Cannot, Fits, Open, Outcome
 from propbench.questions.rooms import Names, Room, around, values_of
-from propbench.questions.shown import NOT_REFUTED, Shown
 from propbench.questions.searching import decided, decided_each
+from propbench.questions.seeking import Seeker, Unlike, count_asked, seeks
+from propbench.questions.shown import NOT_REFUTED, Shown
 from propbench.questions.trial import Case, Trial
 
 _OPEN = "open"
@@ -34,7 +37,8 @@ class _Branch:
 
 class Plans(Shown, list[Plan]):
     """Plans over the cells that are shown, each a dict by their names; all there are where it is
-    `complete`. In `whole` the same plans have all cells but quantities."""
+    `complete`, by what the premises `because` say, where the program searches itself. In `whole` the
+    same plans have all cells but quantities."""
 
     def __init__(
         self,
@@ -46,6 +50,7 @@ class Plans(Shown, list[Plan]):
         super().__init__(found)
         self.show = tuple(show)
         self.complete = complete
+        self.because: tuple[str, ...] = ()
         self.whole: tuple[Plan, ...] = ()
         self._certificate = certificate
 
@@ -171,6 +176,91 @@ def _around(cell: str, room: Room, fits: Fits) -> list[tuple[Room, Outcome | Non
     return [(part, fits if str(part) == value else None) for part in around(room, value)]
 
 
+def _shown(model: Model, names: Sequence[str] | None, symbols: Sequence[str]) -> list[str]:
+    """The cells that are shown: these, or all but quantities and those for symbols. Raises ValueError
+    for one of the symbols."""
+    if names is None:
+        return [e for e in model.cells() if e not in symbols and not model.is_measured(e)]
+    for name in names:
+        if name in symbols:
+            raise ValueError(f"{name} is for symbols, and these are too many to go through")
+    return list(dict.fromkeys(names))
+
+
+class Listed:
+    """All plans over some cells, by a program that searches for them itself."""
+
+    def __init__(self, seeker: Seeker, names: Sequence[str] | None, most: int) -> None:
+        """Over these cells, or all that are shown, so many at the most. Raises ValueError for one for
+        symbols."""
+        self._seeker, self._most = seeker, most
+        self.show = _shown(seeker.model, names, seeker.symbols())
+        self._lines = [seeker.lines[cell] for cell in self.show]
+
+    def run(self, seconds: float | None = None) -> bool:
+        """Asks, or goes on, for so many seconds; whether all is known that is wanted. Raises
+        OutOfTime."""
+        seeker = self._seeker
+        known = len(seeker.reply.rows) if isinstance(seeker.reply, Several) else 0
+        line = " ".join(["plans", str(count_asked(self._most) - known), *self._lines])
+        # (half the time is for the other cells of the plans)
+        left = seeker.clock.seconds_left()
+        if left is not None and len(self.show) < len(seeker.lines):
+            seconds = left / 2 if seconds is None else min(seconds, left / 2)
+        seeker.ask(line if self.show else "solve", seconds)
+        reply = seeker.reply
+        return seeker.is_settled or isinstance(reply, Several) and len(reply.rows) > self._most
+
+    def result(self) -> Plans:
+        """The plans that were found, in order. Raises Unlike."""
+        seeker, reply = self._seeker, self._seeker.reply
+        if isinstance(reply, NoneFits):
+            made = seeker.certificate([seeker.refuted(reply.premises)], [])
+            return self._plans([], reply.premises, made)
+        if isinstance(reply, Points):
+            fits, claim = seeker.fits(reply), {"given": seeker.given(), "told": []}
+            return self._plans([fits], (), seeker.certificate([("fits", claim)], [fits]))
+        if not isinstance(reply, Several):
+            return self._plans([], None, None)
+        # (a plan may be told twice)
+        different = list({str(row): row for row in reply.rows}.values())
+        found = seeker.whole(different[: self._most])
+        is_all = len(found) == len(different)
+        others = reply.others if is_all else None
+        return self._plans(found, others, self._made(found, others))
+
+    def _plans(
+        self, found: Iterable[Fits], others: Sequence[str] | None, made: Certificate | None
+    ) -> Plans:
+        """These plans, and by which premises of lines there are no others, where that is known."""
+        plans = sorted(found, key=self._place)
+        shown = ({cell: fits.plan[cell] for cell in self.show} for fits in plans)
+        result = Plans(self.show, shown, others is not None, made)
+        result.because = self._seeker.premises(others or ())
+        result.whole = tuple(self._seeker.shown(fits.plan) for fits in plans)
+        return result
+
+    def _made(self, found: Sequence[Fits], others: Sequence[str] | None) -> Certificate | None:
+        """What shows that these are plans, and that there are no others."""
+        plans = [[fits.values[cell] for cell in self.show] for fits in found]
+        by = None if others is None else sorted(others)
+        claim = {"given": self._seeker.given(), "show": self._lines, "plans": plans, "because": by}
+        return self._seeker.certificate([("listed", claim)] if found or by is not None else [], [])
+
+    def _place(self, fits: Fits) -> list[int]:
+        """What plans are ordered by: each number, or the place of each name in its domain."""
+        places = []
+        for cell in self.show:
+            value = fits.plan[cell]
+            if isinstance(value, str):
+                names = list(self._seeker.model.candidates(cell) or ())
+                places.append(names.index(value))
+            else:
+                # (of a truth yes comes first)
+                places.append(-value if isinstance(value, bool) else value)
+        return places
+
+
 def find_plans(
     model: Model,
     show: Iterable[CellLike] | None,
@@ -182,13 +272,42 @@ def find_plans(
     symbols. Raises ValueError for one for symbols, and TypeError for a quantity."""
     clock = Clock(seconds, progress)
     names = None if show is None else [whole_named(model, cell) for cell in show]
+    if seeks(model):
+        with suppress(Unlike), Seeker(model, clock) as seeker:
+            return listed_in_turns(seeker, names, most)
+    return _by_cases(model, names, most, clock)
+
+
+def listed_in_turns(seeker: Seeker, names: Sequence[str] | None, most: int) -> Plans:
+    """Plans by a program that searches, and where that takes long by cases too, in turns. Raises
+    Unlike."""
+    listed = Listed(seeker, names, most)
+    clock, found = seeker.clock, list[Plans]()
+
+    def run() -> None:
+        for seconds in clock.turns():
+            if listed.run(seconds) or clock.is_over():
+                break
+            found.append(_by_cases(seeker.model, names, most, clock.turn(seconds)))
+            if found[-1].complete or len(found[-1]) >= most:
+                break
+
+    def result() -> Plans:
+        if found and (found[-1].complete or len(found[-1]) >= most):
+            return found[-1]
+        own = listed.result()
+        return max([own, *found], key=len)
+
+    return tried_by(clock, run, result)
+
+
+def _by_cases(model: Model, names: Sequence[str] | None, most: int, clock: Clock) -> Plans:
+    """Plans by going through cases."""
     trial = Trial(model, model.believed(), clock)
-    symbols = [cell for cell in trial.cells if trial.rooms[cell] is None]
-    if names is None:
-        beside = {*symbols, *filter(model.is_measured, trial.cells)}
-        names = [cell for cell in trial.cells if cell not in beside]
-    for name in set(names) & set(symbols):
+    try:
+        shown = _shown(model, names, [cell for cell in trial.cells if trial.rooms[cell] is None])
+    except ValueError:
         trial.close()
-        raise ValueError(f"{name} is for symbols, and these are too many to go through")
-    listing = Listing(trial, list(dict.fromkeys(names)), most)
+        raise
+    listing = Listing(trial, shown, most)
     return tried(trial, listing.run, listing.result)

@@ -9,7 +9,8 @@ from propbench.listing import Told
 from propbench.model.kinds import point_text
 from propbench.program import OutOfTime
 from propbench.questions.asking import so_far
-from propbench.questions.bounding import Optimum, find_optimum
+from propbench.questions.bounding import Optimum
+from propbench.questions.ends import find_optimum
 from propbench.questions.clock import Clock
 from propbench.questions.clock import Progress as Telling
 from propbench.replies import Called, Contradiction, Stated, Value, Worldview

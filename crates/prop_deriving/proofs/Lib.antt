@@ -1,0 +1,3 @@
+pub mod PremiseLemmas
+pub mod SidingLemmas
+pub mod StayLemmas

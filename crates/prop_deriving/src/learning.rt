@@ -1,0 +1,439 @@
+//! A derivation, step by step.
+ghost use Rattle.std.specs.Prelude.{◌≡◌, IfOk, IfSome};
+ghost use Rattle.prop_procedures.specs.Kept.{AllMean, stored_of};
+ghost use Rattle.prop_cells.specs.Data.{IsKept};
+ghost use Rattle.prop_plans.specs.Held.{attached_of};
+ghost use Rattle.prop_deriving.specs.Known.{AlwaysStays, Follows, Stays};
+
+use crate::clash::{Clash, Pair};
+use crate::derivation::Derivation;
+use crate::ground::Ground;
+use crate::reading::{is_decided, is_later, level_of, maker};
+use crate::reason::Reason;
+use prop_facts::Fact;
+use prop_lattice::Info;
+use prop_learned::weights::Weights;
+use prop_procedures::Rule;
+use prop_refuting::Nogood;
+use prop_trail::Trail;
+use std::alloc::{AllocError, Global};
+use std::marker::Model;
+
+/// How many numbers a span may have of which single ones are kept out.
+const FEW: u64 = 256;
+
+/// How a derivation stands.
+#[derive(Clone, Copy, Debug, PartialEq, Eq)]
+pub enum State {
+    /// It goes on.
+    Going,
+    /// One literal alone is of the last level, or none is left.
+    Learned,
+    /// A step of it failed its test.
+    Failed,
+}
+
+/// A nogood under way. For each literal there is the entry of the trail that made it so, none where
+/// it was so at the root. After refused memory its steps fail, and its nogood is what it was or
+/// what a step made of it.
+#[derive(Drop)]
+pub struct Learning {
+    derivation: Derivation,
+    makers: Vec<Option<usize>>,
+    level: usize,
+    asserting: usize,
+}
+
+impl Model for Learning {
+    ghost use Rattle.prop_refuting.specs.Nogoods.{Nogood};
+
+    ghost Value = { Nogood };
+
+    ghost view = { λ l. l.derivation };
+}
+
+impl Learning {
+    /// Begins with a clash, which hasn't changed the trail. None where no facts are seen that can't
+    /// both be so, or what was said isn't explained.
+    pub fn of_clash<R: Rule + Drop>(
+        basis: &Ground<'_, R>,
+        clash: Clash,
+        weights: &mut Weights,
+    ) -> Result<Option<Learning>, AllocError>
+        requires means { AllMean R.value_of basis.now.network.now.library.procedures.items }
+        requires kept { IsKept (stored_of R.value_of basis.now.network.now.library)
+            basis.now.network.now.cells }
+        ensures { IfOk result (λ o. IfSome o (λ g.
+            Follows (stored_of R.value_of basis.now.network.now.library)
+            (attached_of basis.now.network.now.cells) basis.now.choices.now basis.now.root.now
+            basis.now.store.now g)) }
+    {
+        let Some(kind) = basis.kind(clash.place) else {
+            return Ok(None);
+        };
+        let was = info_now(basis.trail, clash.place);
+        let Some(pair) = clash.facts(was, kind.size) else {
+            return Ok(None);
+        };
+        let Some(mut derivation) = Derivation::clashing(basis.alloc, clash.place, pair)? else {
+            return Ok(None);
+        };
+        let reason = clash.reason(was, basis.trail.len());
+        if !derivation.explain_unsaid(basis, reason, weights)? {
+            return Ok(None);
+        }
+        Ok(Some(Learning::begun(basis.alloc, basis.trail, derivation)?))
+    }
+
+    /// Begins with a nogood all of which is so.
+    pub fn of_nogood<R: Rule + Drop>(
+        basis: &Ground<'_, R>,
+        nogood: Nogood,
+    ) -> Result<Learning, AllocError>
+        ensures { IfOk result (λ g. AlwaysStays nogood g) }
+    {
+        Learning::begun(basis.alloc, basis.trail, Derivation::new(nogood))
+    }
+
+    /// Begins, and ends, with what is believed of a cell at the root, where that is a
+    /// contradiction. None where it isn't.
+    pub fn of_belief<R: Rule + Drop>(
+        basis: &Ground<'_, R>,
+        cell: usize,
+    ) -> Result<Option<Learning>, AllocError>
+        requires kept { IsKept (stored_of R.value_of basis.now.network.now.library)
+            basis.now.network.now.cells }
+        ensures { IfOk result (λ o. IfSome o (λ g.
+            Follows (stored_of R.value_of basis.now.network.now.library)
+            (attached_of basis.now.network.now.cells) basis.now.choices.now basis.now.root.now
+            basis.now.store.now g)) }
+    {
+        let pair = Pair {
+            one: Fact::AtLeast(1),
+            other: Fact::AtMost(0),
+        };
+        let Some(mut derivation) = Derivation::clashing(basis.alloc, cell, pair)? else {
+            return Ok(None);
+        };
+        if !derivation.by_root(basis, 0)? {
+            return Ok(None);
+        }
+        if !derivation.by_root(basis, 0)? {
+            return Ok(None);
+        }
+        Ok(Some(Learning::begun(basis.alloc, basis.trail, derivation)?))
+    }
+
+    /// The nogood as it stands.
+    pub fn nogood(&self) -> &Nogood
+        ensures { result.now ≡ self.now }
+    {
+        self.derivation.nogood()
+    }
+
+    /// The nogood, at the end.
+    pub fn into_nogood(self) -> Nogood
+        ensures { result ≡ self }
+    {
+        self.derivation.into_nogood()
+    }
+
+    /// The number of the literal that alone is of the last level, where it is learned and has
+    /// literals.
+    pub fn asserting(&self) -> usize {
+        self.asserting
+    }
+
+    /// The last level of which there is a literal.
+    pub fn level(&self) -> usize {
+        self.level
+    }
+
+    /// How many calls of instances its steps made so far.
+    pub fn calls(&self) -> u64 {
+        self.derivation.calls()
+    }
+
+    /// The level of the last of the literals but the asserting one, and that literal's number; 0
+    /// and the asserting one's where there is no other.
+    pub fn second(&self, trail: &Trail) -> (usize, usize) {
+        let mut second = (0, self.asserting);
+        for (at, maker) in self.makers.iter().enumerate() {
+            let level = level_of(trail, *maker);
+            if at != self.asserting && level > second.0 {
+                second = (level, at);
+            }
+        }
+        second
+    }
+
+    /// Takes one step back from the contradiction, of what came last. `is_whole`: it goes on to
+    /// what was decided itself.
+    pub fn step<R: Rule + Drop>(
+        &mut self,
+        basis: &Ground<'_, R>,
+        weights: &mut Weights,
+        is_whole: bool,
+    ) -> Result<State, AllocError>
+        requires means { AllMean R.value_of basis.now.network.now.library.procedures.items }
+        requires kept { IsKept (stored_of R.value_of basis.now.network.now.library)
+            basis.now.network.now.cells }
+        ensures { Stays (stored_of R.value_of basis.now.network.now.library)
+            (attached_of basis.now.network.now.cells) basis.now.choices.now basis.now.root.now
+            basis.now.store.now self.old self.new }
+    {
+        let trail = basis.trail;
+        if self.makers.len() != self.nogood().literals().len() {
+            return Ok(State::Failed);
+        }
+        if let Some(at) = self.last_of(trail, 0) {
+            return self.resolve(basis, at, weights);
+        }
+        let Some(at) = self.last_of(trail, self.level) else {
+            return Ok(self.next_level(trail));
+        };
+        if self.can_end(basis, at, is_whole) {
+            self.asserting = at;
+            return Ok(State::Learned);
+        }
+        self.resolve(basis, at, weights)
+    }
+
+    /// A derivation that begins with a nogood all of which is so.
+    fn begun(alloc: Global, trail: &Trail, derivation: Derivation) -> Result<Learning, AllocError>
+        ensures { IfOk result (λ g. AlwaysStays derivation g) }
+    {
+        let mut learning = Learning {
+            derivation,
+            makers: Vec::new(alloc),
+            level: 0,
+            asserting: 0,
+        };
+        learning.find_makers(trail, trail.len())?;
+        learning.level = learning.last_level(trail);
+        Ok(learning)
+    }
+
+    /// The level of the last of the literals.
+    fn last_level(&self, trail: &Trail) -> usize {
+        let mut last = 0;
+        for maker in &self.makers {
+            last = last.max(level_of(trail, *maker));
+        }
+        last
+    }
+
+    /// Goes on with the last level of which there is a literal.
+    fn next_level(&mut self, trail: &Trail) -> State
+        ensures { self.new ≡ self.old }
+    {
+        let last = self.last_level(trail);
+        if last == 0 {
+            return State::Learned;
+        }
+        self.level = last;
+        State::Going
+    }
+
+    /// Of the literals of a level that which came to be so last.
+    fn last_of(&self, trail: &Trail, level: usize) -> Option<usize> {
+        let mut last = None;
+        let mut last_maker = None;
+        for (at, maker) in self.makers.iter().enumerate() {
+            if level_of(trail, *maker) == level
+                && (last.is_none() || is_later(*maker, last_maker))
+            {
+                last = Some(at);
+                last_maker = *maker;
+            }
+        }
+        last
+    }
+
+    /// Whether the derivation may end with a literal of the last level: it is the only one, can be
+    /// denied, and was decided, where that is wanted.
+    fn can_end<R: Rule + Drop>(&self, basis: &Ground<'_, R>, at: usize, is_whole: bool) -> bool {
+        self.is_alone(basis.trail, at)
+            && (!is_whole || is_decided(basis.trail, self.maker(at)))
+            && self.can_be_denied(basis, at)
+    }
+
+    /// Whether no other literal is of the last level.
+    fn is_alone(&self, trail: &Trail, at: usize) -> bool {
+        for (other, maker) in self.makers.iter().enumerate() {
+            if other != at && level_of(trail, *maker) == self.level {
+                return false;
+            }
+        }
+        true
+    }
+
+    /// Whether a literal has a denial that the trail keeps. A number within a span is kept out of
+    /// it where few were left at the root.
+    fn can_be_denied<R: Rule + Drop>(&self, basis: &Ground<'_, R>, at: usize) -> bool {
+        let Some(literal) = self.derivation.literal(at) else {
+            return false;
+        };
+        match (literal.fact, root_info(basis.trail, literal.place)) {
+            (Fact::Is(_), Info::Span(span)) => span.count() <= FEW,
+            (fact, _) => match basis.kind(literal.place) {
+                Some(kind) => fact.negation(kind.size).is_some(),
+                None => false,
+            },
+        }
+    }
+
+    /// The entry that made a literal so.
+    fn maker(&self, at: usize) -> Option<usize> {
+        *self.makers.get(at)?
+    }
+
+    /// Puts in place of a literal what it rests on.
+    fn resolve<R: Rule + Drop>(
+        &mut self,
+        basis: &Ground<'_, R>,
+        at: usize,
+        weights: &mut Weights,
+    ) -> Result<State, AllocError>
+        requires means { AllMean R.value_of basis.now.network.now.library.procedures.items }
+        requires kept { IsKept (stored_of R.value_of basis.now.network.now.library)
+            basis.now.network.now.cells }
+        ensures { Stays (stored_of R.value_of basis.now.network.now.library)
+            (attached_of basis.now.network.now.cells) basis.now.choices.now basis.now.root.now
+            basis.now.store.now self.old self.new }
+    {
+        let Some(before) = self.explain(basis, at, weights)? else {
+            return Ok(State::Failed);
+        };
+        self.forget_maker(at);
+        self.find_makers(basis.trail, before)?;
+        Ok(State::Going)
+    }
+
+    /// Puts in place of a literal of the nogood what it rests on, and tells before which entry that
+    /// was so; none where that fails.
+    fn explain<R: Rule + Drop>(
+        &mut self,
+        basis: &Ground<'_, R>,
+        at: usize,
+        weights: &mut Weights,
+    ) -> Result<Option<usize>, AllocError>
+        requires means { AllMean R.value_of basis.now.network.now.library.procedures.items }
+        requires kept { IsKept (stored_of R.value_of basis.now.network.now.library)
+            basis.now.network.now.cells }
+        ensures { Stays (stored_of R.value_of basis.now.network.now.library)
+            (attached_of basis.now.network.now.cells) basis.now.choices.now basis.now.root.now
+            basis.now.store.now self.old self.new }
+    {
+        let Some(literal) = self.derivation.literal(at) else {
+            return Ok(None);
+        };
+        let Some(reason) = self.reason(basis.trail, at) else {
+            let is_done = self.derivation.by_root(basis, at)?;
+            return Ok(is_done.then_some(basis.trail.len()));
+        };
+        let is_done = self.derivation.explain(basis, at, reason, weights)?;
+        Ok(is_done.then_some(reason.rests_before(literal.fact)))
+    }
+
+    /// Why a literal is so; none where it was so at the root.
+    fn reason(&self, trail: &Trail, at: usize) -> Option<Reason> {
+        Reason::of_entry(trail, self.maker(at)?)
+    }
+
+    /// A literal went, and the last one stands in its place.
+    fn forget_maker(&mut self, at: usize)
+        ensures { self.new ≡ self.old }
+    {
+        if at < self.makers.len() {
+            self.makers.swap_remove(at);
+        }
+    }
+
+    /// Finds what made the literals so that came last, before an entry, and drops those that others
+    /// imply.
+    fn find_makers(&mut self, trail: &Trail, before: usize) -> Result<(), AllocError>
+        ensures { AlwaysStays self.old self.new }
+    {
+        let first = self.makers.len();
+        self.push_makers(trail, before)?;
+        self.drop_repeated(first);
+        Ok(())
+    }
+
+    /// Finds what made the literals so that came last.
+    fn push_makers(&mut self, trail: &Trail, before: usize) -> Result<(), AllocError>
+        ensures { self.new ≡ self.old }
+    {
+        for literal in self
+            .derivation
+            .nogood()
+            .literals()
+            .iter()
+            .skip(self.makers.len())
+        {
+            self.makers.push(maker(trail, *literal, before))?;
+        }
+        Ok(())
+    }
+
+    /// Drops what others imply, from a literal on.
+    fn drop_repeated(&mut self, first: usize)
+        ensures { AlwaysStays self.old self.new }
+    {
+        let mut at = first;
+        for _ in 0..self.makers.len() {
+            let Some(next) = self.drop_next(at) else {
+                return;
+            };
+            at = next;
+        }
+    }
+
+    /// Drops the first literal from this one on that another one implies, or another one that it
+    /// implies, and tells from where on to look for more.
+    fn drop_next(&mut self, from: usize) -> Option<usize>
+        ensures { AlwaysStays self.old self.new }
+    {
+        for at in from..self.makers.len() {
+            if let Some(gone) = self.drop_beside(at) {
+                return Some(at.min(gone));
+            }
+        }
+        None
+    }
+
+    /// Drops a literal or one about its place, where the one implies the other, and tells which
+    /// one.
+    fn drop_beside(&mut self, at: usize) -> Option<usize>
+        ensures { AlwaysStays self.old self.new }
+    {
+        let (gone, beside) = self.derivation.repeated(at)?;
+        if gone >= self.makers.len() {
+            return None;
+        }
+        if !self.derivation.drop_repeated(gone, beside) {
+            return None;
+        }
+        self.makers.swap_remove(gone);
+        Some(gone)
+    }
+}
+
+/// What is believed of a place; nothing where there is no such place.
+fn info_now(trail: &Trail, place: usize) -> Info {
+    if place < trail.places() {
+        trail.info(place)
+    } else {
+        Info::Nothing
+    }
+}
+
+/// What was believed of a place at the root; nothing where there is no such place.
+fn root_info(trail: &Trail, place: usize) -> Info {
+    if place < trail.places() {
+        trail.root(place)
+    } else {
+        Info::Nothing
+    }
+}

@@ -1,0 +1,5 @@
+pub mod Places
+pub mod Nogoods
+pub mod Calls
+pub mod Steps
+pub mod laws

@@ -1,0 +1,14 @@
+use Rattle.std.proofs.Common.{◌≡◌, ◌≤◌, map, length}
+use Rattle.prop_procedures.specs.Kept.{stored_of}
+use Rattle.prop_seeking.specs.Plans.{ground_at}
+use Rattle.prop_seeking.specs.inner.Seekers.{IsInquiry, IsSameQuestion, AreFound, asked_in, plan_of}
+use Rattle.prop_seeking.proofs.inquiry.Inquiry.list.Given as goal
+
+abbrev pub invariant-loop : goal.invariant-loop
+invariant-loop g l = record {
+  inquiry : IsInquiry (ground_at (stored_of g.R.Rule.value_of l.network.library) l.network.cells l.premises) l.self;
+  same : IsSameQuestion l.initial.self l.self;
+  found : AreFound (ground_at (stored_of g.R.Rule.value_of l.network.library) l.network.cells l.premises)
+      (asked_in l.initial.self l.counter) l.initial.self.solver.excuses l.self.solver.excuses
+      (map plan_of l.plans.found.items);
+}

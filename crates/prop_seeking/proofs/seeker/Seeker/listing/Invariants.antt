@@ -1,0 +1,12 @@
+use Rattle.std.proofs.Common.{◌≡◌, ◌++◌, ◌∷◌, map, take, length, codes, decimal, string_bytes}
+use Rattle.std.specs.Prelude.{flat_map}
+use Rattle.prop_workbench.specs.Sessions.{state_of}
+use Rattle.prop_seeking.specs.Plans.{Plan}
+use Rattle.prop_seeking.specs.Texts.{row_text}
+use Rattle.prop_seeking.specs.inner.Seekers.{plan_of}
+use Rattle.prop_seeking.proofs.seeker.Seeker.listing.Given as goal
+
+abbrev pub invariant-loop-plan : goal.invariant-loop-plan
+invariant-loop-plan g l = string_bytes l.text ≡ (codes "plans " ++ decimal (length l.plans))
+    ++ flat_map (λ (p : Plan). 10 ∷ row_text (state_of l.self.teller.session) l.named p)
+    (map plan_of (take l.plan-index l.plans))

@@ -1,0 +1,24 @@
+use Rattle.std.proofs.Common.{◌≡◌, sym, ◌∙◌}
+use Rattle.prop_procedures.specs.Kept.{stored_of}
+use Rattle.prop_engine.specs.Answers.{answer_of}
+use Rattle.prop_telling.specs.inner.Telling.{told_of}
+use Rattle.std.proofs.Common.{ap}
+use Rattle.prop_seeking.proofs.StayLemmas.{telling_stays, stayed_inquiry}
+use Rattle.prop_seeking.proofs.seeker.Seeker.tell.Goals as goal
+
+pub returns-clause-ready : goal.returns-clause-ready
+returns-clause-ready g c =
+    let old = c.args.self.now.teller in
+    let new = c.command-reply.new.self in
+    let library = stored_of g.R.Rule.value_of old.session.live.network.library in
+    let same = c.command-reply.ensures.same in
+    let stays = telling_stays g.O.Order.picks library (told_of old) c.args.line.now (answer_of c.command-reply.result)
+    (told_of new) c.command-reply.ensures.tells (sym c.is_done.ensures ∙ c.if-is_done.false) in
+    record {
+      means = rw same c.requires.ready.means;
+      sound = c.command-reply.ensures.sound;
+      inquiry = stayed_inquiry library (stored_of g.R.Rule.value_of new.session.live.network.library)
+          old.session.live.network.cells new.session.live.network.cells old.session.search.premises
+          new.session.search.premises c.args.self.now.inquiry (ap (stored_of g.R.Rule.value_of) same) stays.kinds
+          stays.statements stays.instances stays.premises c.requires.ready.inquiry;
+    }

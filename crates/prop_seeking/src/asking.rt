@@ -1,0 +1,47 @@
+//! Which lines ask for points.
+ghost use Rattle.std.specs.Prelude.{◌≡◌, IfOk};
+ghost use Rattle.std.specs.Str.Lines.{strip_carriage_return};
+ghost use Rattle.prop_seeking.specs.Asking.{as_value, begins, is_question};
+
+use prop_telling::is_apart;
+use std::alloc::{AllocError, Global};
+
+/// Whether this is the line's first word, from its first byte on.
+fn begins(word: &[u8], line: &[u8]) -> bool
+    ensures { result ≡ begins word.now line.now }
+{
+    match line.strip_prefix(word) {
+        Some(rest) => is_apart(rest),
+        None => false,
+    }
+}
+
+/// Whether the line asks for points.
+pub(crate) fn is_question(line: &[u8]) -> bool
+    ensures { result ≡ is_question line.now }
+{
+    begins(b"solve".as_slice(), line)
+        || begins(b"least".as_slice(), line)
+        || begins(b"greatest".as_slice(), line)
+        || begins(b"plans".as_slice(), line)
+}
+
+/// The line without a return at its end.
+fn without_return(line: &[u8]) -> &[u8]
+    ensures { result.now ≡ strip_carriage_return line.now }
+{
+    let Some((last, front)) = line.split_last() else {
+        return line;
+    };
+    if *last == b'\r' { front } else { line }
+}
+
+/// The line's words as the elements of a value, so that they are read as those are.
+pub(crate) fn as_value(alloc: Global, line: &[u8]) -> Result<Vec<u8>, AllocError>
+    ensures { IfOk result (λ bytes. bytes.items ≡ as_value line.now) }
+{
+    let mut bytes = Vec::from_slice(alloc, b"fix at {")?;
+    bytes.extend_from_slice(without_return(line))?;
+    bytes.push(b'}')?;
+    Ok(bytes)
+}

@@ -1,0 +1,195 @@
+//! A question under way.
+
+ghost use Rattle.std.specs.Prelude.{◌≡◌, ◌++◌, ◌≤◌, [], map, length, IfOk, OnOk, IsTrue};
+ghost use Rattle.std.specs.Prelude.{false, true};
+ghost use Rattle.std.specs.Option.{option_map};
+ghost use Rattle.prop_procedures.specs.Kept.{AllMean, stored_of};
+ghost use Rattle.prop_cells.specs.Data.{IsKept};
+ghost use Rattle.prop_solve.specs.Questions.{is_optimum};
+ghost use Rattle.prop_seeking.specs.Plans.{ground_at};
+ghost use Rattle.prop_seeking.specs.inner.Seekers.{IsInquiry, IsEnd, IsSameQuestion, AreFound};
+ghost use Rattle.prop_seeking.specs.inner.Seekers.{plan_of, asked_in};
+
+use crate::question::Asked;
+use prop_cells::Network;
+use prop_guards::Guarded;
+use prop_premises::{PremiseSet, Premises};
+use prop_solve::{Answer, Goal, Plan, Question, Solver};
+use std::alloc::{AllocError, Global};
+
+/// A search for what was asked, the last plan that it found, and whether any was told.
+#[derive(Drop)]
+pub(crate) struct Inquiry {
+    solver: Solver,
+    last: Option<Plan>,
+}
+
+/// How a search ended for now.
+#[derive(Drop)]
+pub(crate) enum End {
+    /// No others fit, by these premises.
+    Refuted(PremiseSet),
+    /// That is open.
+    Open,
+}
+
+impl Inquiry {
+    /// A search that begins.
+    pub(crate) fn new<R: Guarded + Drop>(
+        alloc: Global,
+        network: &Network<R>,
+        premises: &Premises,
+        asked: &Asked,
+    ) -> Result<Inquiry, AllocError>
+        requires means { AllMean R.value_of network.now.library.procedures.items }
+        requires kept { IsKept (stored_of R.value_of network.now.library) network.now.cells }
+        ensures inquiry { IfOk result (IsInquiry
+            (ground_at (stored_of R.value_of network.now.library)
+            network.now.cells premises.now)) }
+        ensures goal { IfOk result (λ i. i.solver.goal ≡ asked.now.goal) }
+        ensures named { IfOk result (λ i. i.solver.named ≡ asked.now.named.items) }
+        ensures excuses { IfOk result (λ i. i.solver.excuses ≡ []) }
+    {
+        let question = Question {
+            goal: asked.goal,
+            named: Vec::from_slice(alloc, &asked.named)?,
+        };
+        Ok(Inquiry {
+            solver: Solver::new(alloc, network, premises, question)?,
+            last: None,
+        })
+    }
+
+    /// Whether it is for what is asked.
+    pub(crate) fn is_for(&self, asked: &Asked) -> bool
+        ensures goal { IsTrue result → self.now.solver.goal ≡ asked.now.goal }
+        ensures named { IsTrue result → self.now.solver.named ≡ asked.now.named.items }
+    {
+        let question = self.solver.question();
+        question.goal == asked.goal && question.named == asked.named
+    }
+
+    /// Whether a plan was found.
+    pub(crate) fn has_told(&self) -> bool
+        ensures { result ≡ false → self.now.solver.excuses ≡ [] }
+    {
+        self.solver.has_found()
+    }
+
+    /// The last plan that was found.
+    pub(crate) fn last(&self) -> Option<&Plan>
+        ensures { option_map (λ p. p.now) result ≡ self.now.last }
+    {
+        self.last.as_ref()
+    }
+
+    /// Goes on for so many steps, or until some points are found.
+    pub(crate) fn find<R: Guarded + Drop>(
+        &mut self,
+        network: &Network<R>,
+        premises: &Premises,
+        steps: u64,
+    ) -> Result<End, AllocError>
+        requires means { AllMean R.value_of network.now.library.procedures.items }
+        requires kept { IsKept (stored_of R.value_of network.now.library) network.now.cells }
+        requires inquiry { IsInquiry (ground_at (stored_of R.value_of network.now.library)
+            network.now.cells premises.now) self.old }
+        ensures inquiry { OnOk result (IsInquiry
+            (ground_at (stored_of R.value_of network.now.library)
+            network.now.cells premises.now) self.new) }
+        ensures same { OnOk result (IsSameQuestion self.old self.new) }
+        ensures end { IfOk result (IsEnd (ground_at (stored_of R.value_of network.now.library)
+            network.now.cells premises.now)
+            self.new.solver.excuses) }
+    {
+        if self.last.is_some() {
+            return Ok(End::Open);
+        }
+        match self.solver.advance(network, premises, steps)? {
+            Answer::Found(plan) => {
+                self.last = Some(plan);
+                Ok(End::Open)
+            }
+            Answer::Refuted(by) => Ok(End::Refuted(by)),
+            Answer::Unsettled => Ok(End::Open),
+        }
+    }
+
+    /// Goes on for so many steps, or until no better points are left.
+    pub(crate) fn improve<R: Guarded + Drop>(
+        &mut self,
+        network: &Network<R>,
+        premises: &Premises,
+        steps: u64,
+    ) -> Result<End, AllocError>
+        requires means { AllMean R.value_of network.now.library.procedures.items }
+        requires kept { IsKept (stored_of R.value_of network.now.library) network.now.cells }
+        requires inquiry { IsInquiry (ground_at (stored_of R.value_of network.now.library)
+            network.now.cells premises.now) self.old }
+        requires optimum { is_optimum self.old.solver.goal ≡ true }
+        ensures inquiry { OnOk result (IsInquiry
+            (ground_at (stored_of R.value_of network.now.library)
+            network.now.cells premises.now) self.new) }
+        ensures same { OnOk result (IsSameQuestion self.old self.new) }
+        ensures end { IfOk result (IsEnd (ground_at (stored_of R.value_of network.now.library)
+            network.now.cells premises.now)
+            self.new.solver.excuses) }
+    {
+        let until = self.solver.tally().steps.saturating_add(steps);
+        for _ in 0..steps {
+            let left = until.saturating_sub(self.solver.tally().steps);
+            match self.solver.advance(network, premises, left)? {
+                Answer::Found(plan) => self.last = Some(plan),
+                Answer::Refuted(by) => return Ok(End::Refuted(by)),
+                Answer::Unsettled => return Ok(End::Open),
+            }
+        }
+        Ok(End::Open)
+    }
+
+    /// Goes on for so many steps, or until so many plans are found or no others are left.
+    pub(crate) fn list<R: Guarded + Drop>(
+        &mut self,
+        network: &Network<R>,
+        premises: &Premises,
+        steps: u64,
+        plans: &mut Plans,
+    ) -> Result<End, AllocError>
+        requires means { AllMean R.value_of network.now.library.procedures.items }
+        requires kept { IsKept (stored_of R.value_of network.now.library) network.now.cells }
+        requires inquiry { IsInquiry (ground_at (stored_of R.value_of network.now.library)
+            network.now.cells premises.now) self.old }
+        requires differing { self.old.solver.goal ≡ Goal.Differing }
+        requires empty { plans.old.found.items ≡ [] }
+        ensures inquiry { OnOk result (IsInquiry
+            (ground_at (stored_of R.value_of network.now.library)
+            network.now.cells premises.now) self.new) }
+        ensures same { OnOk result (IsSameQuestion self.old self.new) }
+        ensures end { IfOk result (IsEnd (ground_at (stored_of R.value_of network.now.library)
+            network.now.cells premises.now)
+            self.new.solver.excuses) }
+        ensures found { OnOk result (AreFound (ground_at (stored_of R.value_of network.now.library)
+            network.now.cells premises.now)
+            (asked_in self.old plans.old.most) self.old.solver.excuses self.new.solver.excuses
+            (map plan_of plans.new.found.items)) }
+    {
+        let until = self.solver.tally().steps.saturating_add(steps);
+        for _ in 0..plans.most {
+            let left = until.saturating_sub(self.solver.tally().steps);
+            let answer = self.solver.advance(network, premises, left)?;
+            match answer {
+                Answer::Found(plan) => plans.found.push(plan)?,
+                Answer::Refuted(by) => return Ok(End::Refuted(by)),
+                Answer::Unsettled => return Ok(End::Open),
+            }
+        }
+        Ok(End::Open)
+    }
+}
+
+/// Plans that were found, and how many are wanted.
+#[derive(Drop)]
+pub(crate) struct Plans {
+    pub(crate) found: Vec<Plan>,
+    pub(crate) most: usize,
+}

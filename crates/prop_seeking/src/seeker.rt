@@ -1,0 +1,331 @@
+//! A session with a teller around it that answers questions for points.
+ghost use Rattle.std.specs.Prelude.{◌≡◌};
+ghost use Rattle.prop_engine.specs.Answers.{answer_of, is_refusal};
+ghost use Rattle.prop_telling.specs.Notes.{is_done};
+
+use crate::asking::{as_value, is_question};
+use crate::inquiry::{End, Inquiry, Plans};
+use crate::question::{Asked, question_of};
+use prop_engine::Reply;
+use prop_guards::Guarded;
+use prop_language::read_line;
+use prop_refusals::Refusal;
+use prop_scheduler::Order;
+use prop_solve::Goal;
+use prop_telling::Teller;
+use prop_workbench::Session;
+use std::alloc::AllocError;
+
+/// Whether a line was carried out without a word.
+fn is_done(reply: &Reply) -> bool
+    ensures { result ≡ is_done (answer_of reply.now) }
+{
+    matches!(reply, Reply::Done)
+}
+
+/// Whether a line was refused.
+fn is_refused(reply: &Reply) -> bool
+    ensures { result ≡ is_refusal (answer_of reply.now) }
+{
+    matches!(reply, Reply::Refused(_))
+}
+
+/// A teller, and the question that the next line may go on with.
+#[derive(Drop)]
+pub struct Seeker<R, O> {
+    pub(crate) teller: Teller<R, O>,
+    pub(crate) inquiry: Option<Inquiry>,
+}
+
+impl<R: Guarded + Drop, O: Order + Drop> Seeker<R, O> {
+    ghost use Rattle.std.specs.Prelude.{◌≡◌, ◌⊎◌, ℕ, List, cond, IfOk, IfSome, OnOk, OnErr};
+    ghost use Rattle.std.specs.Prelude.{string_bytes, None, true};
+    ghost use Rattle.std.specs.Option.{option_map};
+    ghost use Rattle.prop_language.specs.Reading.{AsRead};
+    ghost use Rattle.prop_language.specs.Said.{words};
+    ghost use Rattle.prop_engine.specs.Answers.{answer_of, Refused, Text};
+    ghost use Rattle.prop_workbench.specs.Loading.{Loads};
+    ghost use Rattle.prop_workbench.specs.Sessions.{library_of, state_of, IsMeant, IsSound};
+    ghost use Rattle.prop_telling.specs.Notes.{is_done, no_notes};
+    ghost use Rattle.prop_telling.specs.Telling.{telling};
+    ghost use Rattle.prop_telling.specs.inner.Telling.{told_of};
+    ghost use Rattle.prop_solve.specs.Questions.{is_optimum};
+    ghost use Rattle.prop_seeking.specs.Asking.{as_value, asked, is_question};
+    ghost use Rattle.prop_seeking.specs.Seeking.{seeking, AreBefore, Seeks};
+    ghost use Rattle.prop_seeking.specs.inner.Seekers.{Answers, Gives, IsInquiry, IsReady};
+    ghost use Rattle.prop_seeking.specs.inner.Seekers.{IsSameQuestion, Replied, asked_in};
+    ghost use Rattle.prop_seeking.specs.inner.Seekers.{asked_of, ground_in, inquiry_of, sought_of};
+
+    /// A seeker of a session.
+    pub fn new(session: Session<R, O>) -> Seeker<R, O>
+        requires sound { IsSound R.value_of session }
+        ensures session { result.teller.session ≡ session }
+        ensures notes { result.teller.notes ≡ no_notes }
+        ensures inquiry { result.inquiry ≡ None }
+    {
+        Seeker {
+            teller: Teller::new(session),
+            inquiry: None,
+        }
+    }
+
+    /// Carries out a line: a question for points, or as its teller does.
+    pub fn command(&mut self, line: &[u8]) -> Reply
+        requires ready { IsReady R.value_of self.old }
+        ensures same { self.new.teller.session.live.network.library
+            ≡ self.old.teller.session.live.network.library }
+        ensures ready { IsReady R.value_of self.new }
+        ensures seeks { seeking O.picks (library_of R.value_of self.old.teller.session)
+            (sought_of self.old) line.now (answer_of result) (sought_of self.new) }
+    {
+        if is_question(line) {
+            self.seek(line)
+        } else {
+            self.tell(line)
+        }
+    }
+
+    /// Carries out a line as its teller does. What changes something ends the question.
+    fn tell(&mut self, line: &[u8]) -> Reply
+        requires ready { IsReady R.value_of self.old }
+        ensures same { self.new.teller.session.live.network.library
+            ≡ self.old.teller.session.live.network.library }
+        ensures ready { IsReady R.value_of self.new }
+        ensures tells { telling O.picks (library_of R.value_of self.old.teller.session)
+            (told_of self.old.teller) line.now (answer_of result) (told_of self.new.teller) }
+        ensures inquiry { self.new.inquiry
+            ≡ cond (is_done (answer_of result)) None self.old.inquiry }
+    {
+        let reply = self.teller.command(line);
+        if is_done(&reply) {
+            self.inquiry = None;
+            return reply;
+        }
+        reply
+    }
+
+    /// Carries out the lines of a prelude, in order. The first that is refused ends it with its
+    /// refusal, and those before it stand.
+    pub(crate) fn load_prelude(&mut self, lines: &[&str]) -> Result<(), Refusal>
+        requires ready { IsReady R.value_of self.old }
+        ensures same { self.new.teller.session.live.network.library
+            ≡ self.old.teller.session.live.network.library }
+        ensures ready { IsReady R.value_of self.new }
+        ensures ok { OnOk result (Loads
+            (seeking O.picks (library_of R.value_of self.old.teller.session))
+            (sought_of self.old) (words lines.now) (sought_of self.new)) }
+    {
+        for line in lines {
+            if let Reply::Refused(refusal) = self.command(line.as_bytes()) {
+                return Err(refusal);
+            }
+        }
+        Ok(())
+    }
+
+    /// Answers a question. After want of memory for the reply it begins anew.
+    fn seek(&mut self, line: &[u8]) -> Reply
+        requires ready { IsReady R.value_of self.old }
+        ensures same { self.new.teller ≡ self.old.teller }
+        ensures ready { IsReady R.value_of self.new }
+        ensures seeks { Seeks (library_of R.value_of self.old.teller.session) (sought_of self.old)
+            line.now (answer_of result) (option_map inquiry_of self.new.inquiry) }
+    {
+        match self.asked(line) {
+            Ok(asked) => self.reply(&asked),
+            Err(refusal) => Reply::Refused(refusal),
+        }
+    }
+
+    /// What a line asks.
+    fn asked(&self, line: &[u8]) -> Result<Asked, Refusal>
+        ensures { (result ≡ Err Refusal.Memory) ⊎ AsRead (as_value line.now) (λ read.
+            Gives asked_of result (asked self.now.teller.session.names
+            self.now.teller.session.live.network.cells.kinds read)) }
+    {
+        let session = self.teller.session();
+        let alloc = session.alloc();
+        let Ok(line) = as_value(alloc, line) else {
+            return Err(Refusal::Memory);
+        };
+        match read_line(alloc, &line) {
+            Ok(command) => {
+                let cells = session.live().network().data();
+                question_of(alloc, session.names(), cells, &command)
+            }
+            Err(refusal) => Err(refusal),
+        }
+    }
+
+    /// The reply to what is asked, after which it can be gone on with, or want of memory.
+    fn reply(&mut self, asked: &Asked) -> Reply
+        requires ready { IsReady R.value_of self.old }
+        ensures same { self.new.teller ≡ self.old.teller }
+        ensures ready { IsReady R.value_of self.new }
+        ensures replies { ((answer_of result ≡ Refused Refusal.Memory) × (self.new.inquiry ≡ None))
+            ⊎ ((text : List ℕ) × Replied (ground_in R.value_of self.old.teller.session)
+            (state_of self.old.teller.session) (option_map inquiry_of self.old.inquiry)
+            (asked_of asked.now) (option_map inquiry_of self.new.inquiry) text
+            × (answer_of result ≡ Text text)) }
+    {
+        let reply = Reply::saying(self.answered(asked));
+        if is_refused(&reply) {
+            self.inquiry = None;
+            return reply;
+        }
+        reply
+    }
+
+    /// The inquiry of what is asked: the one before, or one that begins.
+    fn begun(&self, asked: &Asked, before: Option<Inquiry>) -> Result<Inquiry, AllocError>
+        requires means { IsMeant R.value_of self.now.teller.session }
+        requires sound { IsSound R.value_of self.now.teller.session }
+        requires inquiry { IfSome before (IsInquiry
+            (ground_in R.value_of self.now.teller.session)) }
+        ensures inquiry { IfOk result (IsInquiry (ground_in R.value_of self.now.teller.session)) }
+        ensures goal { IfOk result (λ i. i.solver.goal ≡ asked.now.goal) }
+        ensures named { IfOk result (λ i. i.solver.named ≡ asked.now.named.items) }
+        ensures before { IfOk result (λ i. AreBefore (option_map inquiry_of before)
+            (asked_of asked.now) i.solver.excuses) }
+    {
+        match before {
+            Some(inquiry) if inquiry.is_for(asked) => Ok(inquiry),
+            _ => {
+                let session = self.teller.session();
+                let premises = session.search().premises();
+                Inquiry::new(session.alloc(), session.live().network(), premises, asked)
+            }
+        }
+    }
+
+    /// What is replied to what is asked. The inquiry goes on with the next such question, or after
+    /// want of memory begins anew.
+    fn answered(&mut self, asked: &Asked) -> Result<String, AllocError>
+        requires ready { IsReady R.value_of self.old }
+        ensures same { self.new.teller ≡ self.old.teller }
+        ensures ready { IsReady R.value_of self.new }
+        ensures replied { IfOk result (λ text. Replied
+            (ground_in R.value_of self.old.teller.session) (state_of self.old.teller.session)
+            (option_map inquiry_of self.old.inquiry) (asked_of asked.now)
+            (option_map inquiry_of self.new.inquiry) (string_bytes text)) }
+    {
+        let before = self.inquiry.take();
+        let mut inquiry = self.begun(asked, before)?;
+        let text = self.text(asked, &mut inquiry)?;
+        self.inquiry = Some(inquiry);
+        Ok(text)
+    }
+
+    /// What is replied to what is asked, by its inquiry.
+    fn text(&self, asked: &Asked, inquiry: &mut Inquiry) -> Result<String, AllocError>
+        requires means { IsMeant R.value_of self.now.teller.session }
+        requires sound { IsSound R.value_of self.now.teller.session }
+        requires inquiry { IsInquiry (ground_in R.value_of self.now.teller.session) inquiry.old }
+        requires goal { inquiry.old.solver.goal ≡ asked.now.goal }
+        requires named { inquiry.old.solver.named ≡ asked.now.named.items }
+        ensures inquiry { OnOk result (IsInquiry
+            (ground_in R.value_of self.now.teller.session) inquiry.new) }
+        ensures same { OnOk result (IsSameQuestion inquiry.old inquiry.new) }
+        ensures answers { IfOk result (λ text. Answers
+            (ground_in R.value_of self.now.teller.session) (state_of self.now.teller.session)
+            (asked_in inquiry.old asked.now.most) inquiry.old.solver.excuses
+            inquiry.new.solver.excuses (string_bytes text)) }
+    {
+        match asked.goal {
+            Goal::Any => self.points(inquiry),
+            Goal::Differing => self.plans(inquiry, asked),
+            goal => self.optimum(inquiry, goal),
+        }
+    }
+
+    /// Some points.
+    fn points(&self, inquiry: &mut Inquiry) -> Result<String, AllocError>
+        requires means { IsMeant R.value_of self.now.teller.session }
+        requires sound { IsSound R.value_of self.now.teller.session }
+        requires inquiry { IsInquiry (ground_in R.value_of self.now.teller.session) inquiry.old }
+        requires goal { inquiry.old.solver.goal ≡ Goal.Any }
+        ensures inquiry { OnOk result (IsInquiry
+            (ground_in R.value_of self.now.teller.session) inquiry.new) }
+        ensures same { OnOk result (IsSameQuestion inquiry.old inquiry.new) }
+        ensures answers { IfOk result (λ text. (most : ℕ) → Answers
+            (ground_in R.value_of self.now.teller.session) (state_of self.now.teller.session)
+            (asked_in inquiry.old most) inquiry.old.solver.excuses
+            inquiry.new.solver.excuses (string_bytes text)) }
+    {
+        let session = self.teller.session();
+        let premises = session.search().premises();
+        let end = inquiry.find(session.live().network(), premises, session.limit())?;
+        match (inquiry.last(), &end) {
+            (Some(plan), _) => self.plan("", plan),
+            (None, End::Refuted(by)) => self.none(by),
+            (None, End::Open) => self.unsettled(),
+        }
+    }
+
+    /// An end of a number.
+    fn optimum(&self, inquiry: &mut Inquiry, goal: Goal) -> Result<String, AllocError>
+        requires means { IsMeant R.value_of self.now.teller.session }
+        requires sound { IsSound R.value_of self.now.teller.session }
+        requires inquiry { IsInquiry (ground_in R.value_of self.now.teller.session) inquiry.old }
+        requires goal { inquiry.old.solver.goal ≡ goal }
+        requires optimum { is_optimum goal ≡ true }
+        ensures inquiry { OnOk result (IsInquiry
+            (ground_in R.value_of self.now.teller.session) inquiry.new) }
+        ensures same { OnOk result (IsSameQuestion inquiry.old inquiry.new) }
+        ensures answers { IfOk result (λ text. (most : ℕ) → Answers
+            (ground_in R.value_of self.now.teller.session) (state_of self.now.teller.session)
+            (asked_in inquiry.old most) inquiry.old.solver.excuses
+            inquiry.new.solver.excuses (string_bytes text)) }
+    {
+        let session = self.teller.session();
+        let premises = session.search().premises();
+        let end = inquiry.improve(session.live().network(), premises, session.limit())?;
+        match (inquiry.last(), &end) {
+            (Some(plan), End::Refuted(by)) => self.best(goal, plan, by),
+            (Some(plan), End::Open) => self.plan(" unsettled", plan),
+            (None, End::Refuted(by)) => self.none(by),
+            (None, End::Open) => self.unsettled(),
+        }
+    }
+
+    /// Points that differ.
+    fn plans(&self, inquiry: &mut Inquiry, asked: &Asked) -> Result<String, AllocError>
+        requires means { IsMeant R.value_of self.now.teller.session }
+        requires sound { IsSound R.value_of self.now.teller.session }
+        requires inquiry { IsInquiry (ground_in R.value_of self.now.teller.session) inquiry.old }
+        requires goal { inquiry.old.solver.goal ≡ Goal.Differing }
+        requires named { inquiry.old.solver.named ≡ asked.now.named.items }
+        ensures inquiry { OnOk result (IsInquiry
+            (ground_in R.value_of self.now.teller.session) inquiry.new) }
+        ensures same { OnOk result (IsSameQuestion inquiry.old inquiry.new) }
+        ensures answers { IfOk result (λ text. Answers
+            (ground_in R.value_of self.now.teller.session) (state_of self.now.teller.session)
+            (asked_in inquiry.old asked.now.most) inquiry.old.solver.excuses
+            inquiry.new.solver.excuses (string_bytes text)) }
+    {
+        let session = self.teller.session();
+        let premises = session.search().premises();
+        let mut plans = Plans {
+            found: Vec::new(session.alloc()),
+            most: asked.most,
+        };
+        let limit = session.limit();
+        let end = inquiry.list(session.live().network(), premises, limit, &mut plans)?;
+        match &end {
+            End::Refuted(by) => {
+                if plans.found.is_empty() && !inquiry.has_told() {
+                    self.none(by)
+                } else {
+                    self.listing(&asked.named, &plans.found, Some(by))
+                }
+            }
+            End::Open => {
+                if plans.found.is_empty() {
+                    self.unsettled()
+                } else {
+                    self.listing(&asked.named, &plans.found, None)
+                }
+            }
+        }
+    }
+}

@@ -1,0 +1,58 @@
+-- A search under way, and what is known of it.
+use Rattle.std.specs.Prelude.{ℕ, List, [], Option, IfSome}
+use Rattle.prop_numbers.specs.Sets.{set_of, IsPart, IsSame}
+use Rattle.prop_premises.specs.ChoiceLists.{IsChoiceList, worldview}
+use Rattle.prop_premises.specs.Origins.{Origin, choices_of, believed_in}
+use Rattle.prop_procedures.specs.Stored.{Stored}
+use Rattle.prop_cells.specs.Data.{Data}
+use Rattle.prop_facts.specs.declared.fact.Literal.{Literal}
+use Rattle.prop_plans.specs.Held.{attached_of}
+use Rattle.prop_plans.specs.Plans.{Checked, IsUnderWay}
+use Rattle.prop_refuting.specs.Nogoods.{Nogood}
+use Rattle.prop_deriving.specs.Known.{IsKnown, AreKnown}
+use Rattle.prop_solve.specs.declared.question.Goal.{Goal}
+
+-- a plan that is looked at: its check, the sides that it takes, and what is believed with them
+pub record Proposed : Type 0 where
+  pub check : Checked
+  pub sides : List ℕ
+  pub view : List ℕ
+
+-- what follows: the nogoods that are kept, and what is believed where no side is
+pub record Spread : Type 0 where
+  pub nogoods : List (Option Nogood)
+  pub root : List ℕ
+
+-- what was asked, what is excused by now, and what the search knows
+pub record Search : Type 0 where
+  pub goal : Goal
+  pub named : List ℕ
+  pub excuses : List (List Literal)
+  pub spread : Spread
+  pub learning : Option Nogood
+  pub proposal : Option Proposed
+  pub refuted : Option (List ℕ)
+
+-- a plan with a side of each choice, of which what is known is so
+pub record IsProposed (library : List Stored) (d : Data) (premises : List Origin) (p : Proposed)
+    : Type 0 where
+  pub sides : IsChoiceList (choices_of premises) p.sides
+  pub view : IsSame (set_of p.view) (worldview (believed_in premises) (choices_of premises) p.sides)
+  pub under_way : IsUnderWay library d p.check
+
+-- the nogood without facts that rests on these premises
+abbrev pub bare : List ℕ → Nogood
+bare premises = record { literals = []; premises = premises }
+
+-- each nogood rests on believed premises, and whatever meets it is excused
+pub record IsSearch (library : List Stored) (d : Data) (premises : List Origin) (s : Search)
+    : Type 0 where
+  pub root : IsPart (set_of s.spread.root) (believed_in premises)
+  pub nogoods : AreKnown library (attached_of d) (choices_of premises)
+      (believed_in premises) s.excuses s.spread.nogoods
+  pub learning : IfSome s.learning (IsKnown library (attached_of d) (choices_of premises)
+      (believed_in premises) s.excuses)
+  pub proposal : IfSome s.proposal (IsProposed library d premises)
+  pub refuted : IfSome s.refuted
+      (λ ps. IsKnown library (attached_of d) (choices_of premises)
+      (believed_in premises) s.excuses (bare ps))

@@ -1,0 +1,18 @@
+//! A search for points that satisfy a network: what it finds is checked, what it refutes derived.
+//!
+//! A question (`Question`) asks for some points, for the least or the greatest that a number can
+//! be, or for points that differ at named cells. A search (`Solver`) goes on for so many steps at a
+//! time and answers a plan, that nothing else fits with the premises on which that rests, or that
+//! it is unsettled by then. However it chooses, a plan was looked at by a check of its own
+//! (prop_plans), and what it refutes was derived by steps each of which was tested (prop_deriving).
+#![tactic(auto)]
+
+mod choosing;
+mod pace;
+mod proposal;
+pub mod question;
+pub mod solver;
+mod spread;
+
+pub use question::{Goal, Question};
+pub use solver::{Answer, Plan, Solver, Tally};

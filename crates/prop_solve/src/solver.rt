@@ -1,0 +1,727 @@
+//! The search: what is supposed, what follows, what was refuted.
+
+ghost use Rattle.std.specs.Prelude.{◌≡◌, ◌↔◌, ◌⊎◌, [], Some, IsTrue, IfOk, IfSome};
+ghost use Rattle.std.specs.Prelude.{◌∷◌, All, Contains, OnOk, Ok, true, false};
+ghost use Rattle.prop_numbers.specs.Sets.{set_of, IsPart};
+ghost use Rattle.prop_premises.specs.Origins.{believed_in, choices_of};
+ghost use Rattle.prop_procedures.specs.Kept.{AllMean, stored_of};
+ghost use Rattle.prop_cells.specs.Data.{IsKept};
+ghost use Rattle.prop_plans.specs.Held.{attached_of};
+ghost use Rattle.prop_plans.specs.Plans.{Satisfy};
+ghost use Rattle.prop_refuting.specs.Nogoods.{Nogood as NogoodOf};
+ghost use Rattle.prop_learned.specs.Stores.{IsKeptIn};
+ghost use Rattle.prop_deriving.specs.Known.{IsKnown};
+ghost use Rattle.prop_solve.specs.Questions.{Grow, Imply, excused_then, is_optimum};
+ghost use Rattle.prop_solve.specs.Searches.{IsSearch, IsProposed, bare};
+ghost use Rattle.prop_solve.specs.Answers.{AsksTheSame, IsAnswer, IsFound, IfFound};
+
+use crate::pace::Pace;
+use crate::proposal::Proposal;
+use crate::question::{Goal, Question};
+use crate::spread::{Lesson, Quiet, Spread};
+use prop_cells::{Cells, Network};
+use prop_deriving::learning::{Learning, State};
+use prop_deriving::sides::Sides;
+use prop_facts::{Literal, widest};
+use prop_guards::Guarded;
+use prop_lattice::{Info, Kind, Partial};
+use prop_learned::store::Store;
+use prop_learned::weights::Weights;
+use prop_plans::Verdict;
+use prop_premises::{Choice, Premise, PremiseSet, Premises, Worldview};
+use prop_procedures::Rule;
+use prop_refuting::{Nogood, excused, kind_at_place};
+use prop_trail::{Trail, Waiting};
+use std::alloc::{AllocError, Global};
+use std::marker::Model;
+
+/// How many literals a nogood of an enumeration has at the most that stays when its level goes.
+const LASTING: usize = 3;
+
+/// A value for each cell that leaves a single point, and of each choice the side that is taken,
+/// counted from 1.
+#[derive(Drop)]
+pub struct Plan {
+    pub values: Vec<Info>,
+    pub sides: Vec<u8>,
+}
+
+/// What is known of the answer.
+#[derive(Drop)]
+pub enum Answer {
+    /// Points that satisfy everything.
+    Found(Plan),
+    /// No points satisfy what these premises say but those that are excused by the plans before.
+    Refuted(PremiseSet),
+    /// Neither by now.
+    Unsettled,
+}
+
+/// What a search did so far.
+#[derive(Clone, Copy, Debug)]
+pub struct Tally {
+    /// Steps: an entry that was looked at, a call, something supposed, a resolution.
+    pub steps: u64,
+    /// How often something was supposed.
+    pub supposed: u64,
+    /// How many contradictions there were.
+    pub contradictions: u64,
+    /// How many nogoods were learned.
+    pub learned: u64,
+}
+
+/// A search under way.
+#[derive(Drop)]
+pub struct Solver {
+    question: Question,
+    excuses: Vec<Vec<Literal>>,
+    /// The places in the order in which they are decided, others being equal.
+    order: Vec<usize>,
+    spread: Spread,
+    weights: Weights,
+    pace: Pace,
+    learning: Option<Learning>,
+    proposal: Option<Proposal>,
+    refuted: Option<PremiseSet>,
+    tally: Tally,
+    is_lost: bool,
+}
+
+/// What the believed premises of the user's believe, no side among them.
+fn root_of(alloc: Global, premises: &Premises) -> Result<Worldview, AllocError>
+    ensures { IfOk result (λ root. IsPart (set_of root) (believed_in premises.now)) }
+{
+    let mut root = Worldview::empty(alloc);
+    for number in 0..premises.len() {
+        let premise = number as Premise;
+        if premises.is_in(premise) {
+            root.believe(premise)?;
+        }
+    }
+    Ok(root)
+}
+
+/// What is believed of each place at the root: of a cell what its premises say, of a choice that it
+/// takes some side.
+fn beliefs<R: Rule + Drop>(
+    alloc: Global,
+    network: &Network<R>,
+    choices: &[Choice],
+    root: &Worldview,
+) -> Result<Vec<Info>, AllocError> {
+    let mut beliefs = Vec::new(alloc);
+    for cell in 0..network.cells() {
+        let kind = network.data().kind(cell);
+        let all = widest(kind.kind, kind.size);
+        beliefs.push(network.belief(cell, root).merge(all))?;
+    }
+    for choice in choices {
+        beliefs.push(widest(Kind::Set(0), choice.sides))?;
+    }
+    Ok(beliefs)
+}
+
+/// How many elements each place may have.
+fn sizes(alloc: Global, cells: &Cells, choices: &[Choice]) -> Result<Vec<u8>, AllocError> {
+    let mut sizes = Vec::new(alloc);
+    for cell in 0..cells.len() {
+        sizes.push(cells.kind(cell).size)?;
+    }
+    for choice in choices {
+        sizes.push(choice.sides)?;
+    }
+    Ok(sizes)
+}
+
+/// Of each instance whether a call of it is dear.
+fn dear<R: Guarded + Drop>(alloc: Global, network: &Network<R>) -> Result<Vec<bool>, AllocError> {
+    let mut dear = Vec::new(alloc);
+    for instance in 0..network.instances() {
+        let x = network.data().instance(instance);
+        let count = x.inputs().len();
+        let is_dear = match x.procedure() < network.library().len() {
+            true => network.library().get(x.procedure()).rule().is_dear(count),
+            false => false,
+        };
+        dear.push(is_dear)?;
+    }
+    Ok(dear)
+}
+
+/// The named cells, and behind them all places.
+fn order_of(alloc: Global, named: &[usize], places: usize) -> Result<Vec<usize>, AllocError> {
+    let mut order = Vec::from_slice(alloc, named)?;
+    for place in 0..places {
+        order.push(place)?;
+    }
+    Ok(order)
+}
+
+/// Everything is to be called.
+fn spread_of<R: Guarded + Drop>(
+    alloc: Global,
+    network: &Network<R>,
+    choices: &[Choice],
+    root: Worldview,
+) -> Result<Spread, AllocError>
+    ensures nogoods { IfOk result (λ s. (g : NogoodOf) → IsKeptIn s.nogoods g → ⊥) }
+    ensures root { IfOk result (λ s. s.root ≡ root) }
+{
+    let trail = Trail::new(alloc, beliefs(alloc, network, choices, &root)?)?;
+    let mut waiting = Waiting::new(alloc, dear(alloc, network)?)?;
+    waiting.wake_all();
+    Ok(Spread {
+        alloc,
+        root,
+        sides: Sides::new(alloc, network, choices)?,
+        store: Store::new(alloc, trail.places())?,
+        sizes: sizes(alloc, network.data(), choices)?,
+        trail,
+        waiting,
+        clash: None,
+        units: Vec::new(alloc),
+        seen: 0,
+        denied: 0,
+    })
+}
+
+impl Model for Solver {
+    ghost use Rattle.std.specs.Prelude.{map};
+    ghost use Rattle.prop_solve.specs.Searches.{Search};
+
+    ghost Value = { Search };
+
+    ghost view = { λ s. record {
+      goal = s.question.goal;
+      named = s.question.named.items;
+      excuses = map (λ v. v.items) s.excuses.items;
+      spread = s.spread;
+      learning = s.learning;
+      proposal = s.proposal;
+      refuted = s.refuted;
+    } };
+}
+
+impl Solver {
+    /// A search for what is asked, over the network and the believed premises of the user's.
+    pub fn new<'x, R: Guarded + Drop>(
+        alloc: Global,
+        network: &'x Network<R>,
+        premises: &'x Premises,
+        question: Question,
+    ) -> Result<Solver, AllocError>
+        requires means { AllMean R.value_of network.now.library.procedures.items }
+        requires kept { IsKept (stored_of R.value_of network.now.library) network.now.cells }
+        ensures search { IfOk result (λ s. IsSearch (stored_of R.value_of network.now.library)
+            network.now.cells premises.now s) }
+        ensures asks { IfOk result (λ s. (s.goal ≡ question.goal)
+            × (s.named ≡ question.named.items)) }
+        ensures excuses { IfOk result (λ s. s.excuses ≡ []) }
+    {
+        let root = root_of(alloc, premises)?;
+        let spread = spread_of(alloc, network, premises.choices(), root)?;
+        let places = spread.places();
+        let mut solver = Solver {
+            excuses: Vec::new(alloc),
+            order: order_of(alloc, &question.named, places)?,
+            weights: Weights::new(alloc, places)?,
+            pace: Pace::new(),
+            learning: None,
+            proposal: None,
+            refuted: None,
+            tally: Tally {
+                steps: 0,
+                supposed: 0,
+                contradictions: 0,
+                learned: 0,
+            },
+            is_lost: false,
+            question,
+            spread,
+        };
+        solver.begin_at_root(network, premises)?;
+        Ok(solver)
+    }
+
+    /// Begins to find out what a contradiction of the root rests on, where there is one.
+    fn begin_at_root<'x, R: Guarded + Drop>(
+        &mut self,
+        network: &'x Network<R>,
+        premises: &'x Premises,
+    ) -> Result<(), AllocError>
+        requires kept { IsKept (stored_of R.value_of network.now.library) network.now.cells }
+        requires search { IsSearch (stored_of R.value_of network.now.library) network.now.cells
+            premises.now self.old }
+        ensures search { OnOk result (IsSearch (stored_of R.value_of network.now.library)
+            network.now.cells premises.now self.new) }
+        ensures asks { OnOk result (AsksTheSame self.old self.new) }
+        ensures excuses { OnOk result (self.new.excuses ≡ self.old.excuses) }
+    {
+        let Some(cell) = self.spread.contradiction(network.cells()) else {
+            return Ok(());
+        };
+        let ground = self.spread.ground(network, premises);
+        self.learning = Learning::of_belief(&ground, cell)?;
+        self.is_lost = self.learning.is_none();
+        Ok(())
+    }
+
+    /// What is asked.
+    pub fn question(&self) -> &Question
+        ensures goal { result.now.goal ≡ self.now.goal }
+        ensures named { result.now.named.items ≡ self.now.named }
+    {
+        &self.question
+    }
+
+    /// Whether a plan was found.
+    pub fn has_found(&self) -> bool
+        ensures { result ≡ false → self.now.excuses ≡ [] }
+    {
+        !self.excuses.is_empty()
+    }
+
+    /// What was done so far.
+    pub fn tally(&self) -> Tally {
+        self.tally
+    }
+
+    /// Whether a test of a step failed, so that the question stays unsettled.
+    pub fn is_lost(&self) -> bool {
+        self.is_lost
+    }
+
+    /// Goes on for about so many steps.
+    pub fn advance<R: Guarded + Drop>(
+        &mut self,
+        network: &Network<R>,
+        premises: &Premises,
+        steps: u64,
+    ) -> Result<Answer, AllocError>
+        requires means { AllMean R.value_of network.now.library.procedures.items }
+        requires kept { IsKept (stored_of R.value_of network.now.library) network.now.cells }
+        requires search { IsSearch (stored_of R.value_of network.now.library) network.now.cells
+            premises.now self.old }
+        ensures search { OnOk result (IsSearch (stored_of R.value_of network.now.library)
+            network.now.cells premises.now self.new) }
+        ensures asks { OnOk result (AsksTheSame self.old self.new) }
+        ensures answer { IfOk result (λ answer. IsAnswer (stored_of R.value_of network.now.library)
+            network.now.cells premises.now self.old answer self.new) }
+    {
+        let until = self.tally.steps.saturating_add(steps);
+        for _ in 0..steps {
+            if let Some(refuted) = &self.refuted {
+                return Ok(Answer::Refuted(refuted.copy()?));
+            }
+            if self.is_lost || self.tally.steps >= until {
+                break;
+            }
+            let left = until - self.tally.steps;
+            if let Some(plan) = self.step(network, premises, left)? {
+                return Ok(Answer::Found(plan));
+            }
+        }
+        Ok(Answer::Unsettled)
+    }
+
+    /// Takes a step; answers a plan where all of it was looked at.
+    fn step<R: Guarded + Drop>(
+        &mut self,
+        network: &Network<R>,
+        premises: &Premises,
+        left: u64,
+    ) -> Result<Option<Plan>, AllocError>
+        requires means { AllMean R.value_of network.now.library.procedures.items }
+        requires kept { IsKept (stored_of R.value_of network.now.library) network.now.cells }
+        requires search { IsSearch (stored_of R.value_of network.now.library) network.now.cells
+            premises.now self.old }
+        ensures search { OnOk result (IsSearch (stored_of R.value_of network.now.library)
+            network.now.cells premises.now self.new) }
+        ensures asks { OnOk result (AsksTheSame self.old self.new) }
+        ensures found { IfOk result (λ found. IfFound found (λ plan.
+            IsFound (stored_of R.value_of network.now.library) network.now.cells premises.now
+            self.old plan.values.items plan.sides.items self.new)
+            (self.new.excuses ≡ self.old.excuses)) }
+    {
+        self.tally.steps = self.tally.steps.saturating_add(1);
+        if let Some(learning) = self.learning.take() {
+            self.learn(network, premises, learning)?;
+            return Ok(None);
+        }
+        if let Some(proposal) = self.proposal.take() {
+            return self.check(network, premises, proposal, left);
+        }
+        self.follow(network, premises)?;
+        Ok(None)
+    }
+
+    /// Finds out what follows, one step further.
+    fn follow<R: Guarded + Drop>(
+        &mut self,
+        network: &Network<R>,
+        premises: &Premises,
+    ) -> Result<(), AllocError>
+        requires means { AllMean R.value_of network.now.library.procedures.items }
+        requires kept { IsKept (stored_of R.value_of network.now.library) network.now.cells }
+        requires search { IsSearch (stored_of R.value_of network.now.library) network.now.cells
+            premises.now self.old }
+        ensures search { OnOk result (IsSearch (stored_of R.value_of network.now.library)
+            network.now.cells premises.now self.new) }
+        ensures asks { OnOk result (AsksTheSame self.old self.new) }
+        ensures excuses { OnOk result (self.new.excuses ≡ self.old.excuses) }
+    {
+        match self.spread.step(network)? {
+            Quiet::Going => Ok(()),
+            Quiet::Clashing => self.begin(network, premises),
+            Quiet::Still => self.decide(network, premises),
+        }
+    }
+
+    /// One contradiction more.
+    fn count_contradiction(&mut self)
+        ensures { self.new ≡ self.old }
+    {
+        self.tally.contradictions = self.tally.contradictions.saturating_add(1);
+        self.pace.fail();
+        self.weights.grow();
+    }
+
+    /// Begins to find out what a contradiction rests on.
+    fn begin<'x, R: Guarded + Drop>(
+        &mut self,
+        network: &'x Network<R>,
+        premises: &'x Premises,
+    ) -> Result<(), AllocError>
+        requires means { AllMean R.value_of network.now.library.procedures.items }
+        requires kept { IsKept (stored_of R.value_of network.now.library) network.now.cells }
+        requires search { IsSearch (stored_of R.value_of network.now.library) network.now.cells
+            premises.now self.old }
+        ensures search { OnOk result (IsSearch (stored_of R.value_of network.now.library)
+            network.now.cells premises.now self.new) }
+        ensures asks { OnOk result (AsksTheSame self.old self.new) }
+        ensures excuses { OnOk result (self.new.excuses ≡ self.old.excuses) }
+    {
+        self.count_contradiction();
+        let Some(clash) = self.spread.take_clash() else {
+            self.is_lost = true;
+            return Ok(());
+        };
+        let ground = self.spread.ground(&*network, &*premises);
+        self.learning = Learning::of_clash(&ground, clash, &mut self.weights)?;
+        self.is_lost = self.learning.is_none();
+        Ok(())
+    }
+
+    /// Takes a step of a derivation.
+    fn learn<'x, R: Guarded + Drop>(
+        &mut self,
+        network: &'x Network<R>,
+        premises: &'x Premises,
+        learning: Learning,
+    ) -> Result<(), AllocError>
+        requires means { AllMean R.value_of network.now.library.procedures.items }
+        requires kept { IsKept (stored_of R.value_of network.now.library) network.now.cells }
+        requires search { IsSearch (stored_of R.value_of network.now.library) network.now.cells
+            premises.now self.old }
+        requires known { IsKnown (stored_of R.value_of network.now.library)
+            (attached_of network.now.cells) (choices_of premises.now) (believed_in premises.now)
+            self.old.excuses learning }
+        ensures search { OnOk result (IsSearch (stored_of R.value_of network.now.library)
+            network.now.cells premises.now self.new) }
+        ensures asks { OnOk result (AsksTheSame self.old self.new) }
+        ensures excuses { OnOk result (self.new.excuses ≡ self.old.excuses) }
+    {
+        let mut learning = learning;
+        let is_whole = self.is_enumeration();
+        let ground = self.spread.ground(&*network, &*premises);
+        let before = learning.calls();
+        let state = learning.step(&ground, &mut self.weights, is_whole)?;
+        let calls = learning.calls().saturating_sub(before);
+        self.tally.steps = self.tally.steps.saturating_add(calls);
+        match state {
+            State::Going => self.learning = Some(learning),
+            State::Failed => self.is_lost = true,
+            State::Learned => self.take_in(network, premises, learning)?,
+        }
+        Ok(())
+    }
+
+    fn is_enumeration(&self) -> bool
+        ensures { IsTrue result ↔ (self.now.goal ≡ Goal.Differing) }
+    {
+        self.question.goal == Goal::Differing
+    }
+
+    /// Whether a nogood of so many literals goes with its level.
+    fn is_passing(&self, literals: usize) -> bool {
+        self.is_enumeration() && literals > LASTING
+    }
+
+    /// Takes in what was learned: goes back to where it says something, and says it.
+    fn take_in<R: Guarded + Drop>(
+        &mut self,
+        network: &Network<R>,
+        premises: &Premises,
+        learning: Learning,
+    ) -> Result<(), AllocError>
+        requires means { AllMean R.value_of network.now.library.procedures.items }
+        requires kept { IsKept (stored_of R.value_of network.now.library) network.now.cells }
+        requires search { IsSearch (stored_of R.value_of network.now.library) network.now.cells
+            premises.now self.old }
+        requires known { IsKnown (stored_of R.value_of network.now.library)
+            (attached_of network.now.cells) (choices_of premises.now) (believed_in premises.now)
+            self.old.excuses learning }
+        ensures search { OnOk result (IsSearch (stored_of R.value_of network.now.library)
+            network.now.cells premises.now self.new) }
+        ensures asks { OnOk result (AsksTheSame self.old self.new) }
+        ensures excuses { OnOk result (self.new.excuses ≡ self.old.excuses) }
+    {
+        let at = learning.asserting();
+        let (second_level, second) = self.spread.second(&learning);
+        // (what was told on the way back to there is not to be told again)
+        let level = if self.is_enumeration() {
+            learning.level().saturating_sub(1)
+        } else {
+            second_level
+        };
+        let nogood = learning.into_nogood();
+        let count = nogood.literals().len();
+        let Some(literal) = nogood.literals().get(at) else {
+            return self.refute(&nogood);
+        };
+        let lesson = Lesson {
+            literal: *literal,
+            watched: (at, second),
+            level,
+            passes: self.is_passing(count),
+            nogood,
+        };
+        self.tally.learned = self.tally.learned.saturating_add(1);
+        if !self.spread.learn(network, lesson)? {
+            self.begin(network, premises)?;
+        }
+        Ok(())
+    }
+
+    /// A nogood without literals refutes what is left.
+    fn refute(&mut self, nogood: &Nogood) -> Result<(), AllocError>
+        ensures refuted { OnOk result (IfSome self.new.refuted (λ premises.
+            (nogood.now ≡ bare premises) ⊎ (self.old.refuted ≡ Some premises))) }
+        ensures others { self.new ≡ record self.old { refuted = self.new.refuted } }
+    {
+        if nogood.literals().is_empty() {
+            self.refuted = Some(nogood.premises().copy()?);
+        } else {
+            self.is_lost = true;
+        }
+        Ok(())
+    }
+
+    /// Supposes something more, or looks at a plan.
+    fn decide<R: Guarded + Drop>(
+        &mut self,
+        network: &Network<R>,
+        premises: &Premises,
+    ) -> Result<(), AllocError>
+        requires means { AllMean R.value_of network.now.library.procedures.items }
+        requires kept { IsKept (stored_of R.value_of network.now.library) network.now.cells }
+        requires search { IsSearch (stored_of R.value_of network.now.library) network.now.cells
+            premises.now self.old }
+        ensures search { OnOk result (IsSearch (stored_of R.value_of network.now.library)
+            network.now.cells premises.now self.new) }
+        ensures asks { OnOk result (AsksTheSame self.old self.new) }
+        ensures excuses { OnOk result (self.new.excuses ≡ self.old.excuses) }
+    {
+        if self.pace.is_over() && !self.is_enumeration() && self.spread.level() > 0 {
+            self.pace.begin();
+            return self.spread.restart();
+        }
+        match self.next_place() {
+            Some(place) => {
+                let is_greatest = self.question.goal == Goal::Greatest(place);
+                self.tally.supposed = self.tally.supposed.saturating_add(1);
+                self.is_lost = !self.spread.suppose(network, place, is_greatest)?;
+            }
+            None => {
+                self.proposal = self.spread.propose(network, premises)?;
+                self.is_lost = self.proposal.is_none();
+            }
+        }
+        Ok(())
+    }
+
+    /// The place that is decided next, where one is open. Where points are to differ at the named
+    /// cells, these are decided before all others: then two plans in a row can't be the same there.
+    fn next_place(&self) -> Option<usize> {
+        let first = if self.is_enumeration() {
+            self.spread.pick(&self.question.named, &self.weights)
+        } else {
+            None
+        };
+        match first {
+            Some(place) => Some(place),
+            None => self.spread.pick(&self.order, &self.weights),
+        }
+    }
+
+    /// Looks at a plan; it is answered once all of it was looked at.
+    fn check<R: Guarded + Drop>(
+        &mut self,
+        network: &Network<R>,
+        premises: &Premises,
+        proposal: Proposal,
+        left: u64,
+    ) -> Result<Option<Plan>, AllocError>
+        requires means { AllMean R.value_of network.now.library.procedures.items }
+        requires kept { IsKept (stored_of R.value_of network.now.library) network.now.cells }
+        requires search { IsSearch (stored_of R.value_of network.now.library) network.now.cells
+            premises.now self.old }
+        requires proposed { IsProposed (stored_of R.value_of network.now.library) network.now.cells
+            premises.now proposal }
+        ensures search { OnOk result (IsSearch (stored_of R.value_of network.now.library)
+            network.now.cells premises.now self.new) }
+        ensures asks { OnOk result (AsksTheSame self.old self.new) }
+        ensures found { IfOk result (λ found. IfFound found (λ plan.
+            IsFound (stored_of R.value_of network.now.library) network.now.cells premises.now
+            self.old plan.values.items plan.sides.items self.new)
+            (self.new.excuses ≡ self.old.excuses)) }
+    {
+        let mut proposal = proposal;
+        let progress = proposal.go_on(network, left);
+        self.tally.steps = self.tally.steps.saturating_add(progress.calls);
+        match progress.verdict {
+            Verdict::Cut => {
+                self.proposal = Some(proposal);
+                Ok(None)
+            }
+            Verdict::No => {
+                self.is_lost = true;
+                Ok(None)
+            }
+            Verdict::Yes => self.tell(network, premises, proposal),
+        }
+    }
+
+    /// Tells a plan; from now on points are excused that are no better, or no other.
+    fn tell<'x, R: Guarded + Drop>(
+        &mut self,
+        network: &'x Network<R>,
+        premises: &'x Premises,
+        proposal: Proposal,
+    ) -> Result<Option<Plan>, AllocError>
+        requires means { AllMean R.value_of network.now.library.procedures.items }
+        requires kept { IsKept (stored_of R.value_of network.now.library) network.now.cells }
+        requires search { IsSearch (stored_of R.value_of network.now.library) network.now.cells
+            premises.now self.old }
+        requires proposed { IsProposed (stored_of R.value_of network.now.library) network.now.cells
+            premises.now proposal }
+        requires satisfied { Satisfy (stored_of R.value_of network.now.library) network.now.cells
+            (set_of proposal.view) proposal.check.values }
+        ensures search { OnOk result (IsSearch (stored_of R.value_of network.now.library)
+            network.now.cells premises.now self.new) }
+        ensures asks { OnOk result (AsksTheSame self.old self.new) }
+        ensures found { IfOk result (λ found. IfFound found (λ plan.
+            IsFound (stored_of R.value_of network.now.library) network.now.cells premises.now
+            self.old plan.values.items plan.sides.items self.new)
+            (self.new.excuses ≡ self.old.excuses)) }
+    {
+        let values = Vec::from_slice(self.spread.alloc(), proposal.check.values())?;
+        let Some(facts) = self.question.facts(self.spread.alloc(), &values)? else {
+            self.is_lost = true;
+            return Ok(None);
+        };
+        if !self.excuse(&facts)? {
+            self.is_lost = true;
+            return Ok(None);
+        }
+        self.begin_excused(network, premises, facts)?;
+        let sides = proposal.into_sides();
+        Ok(Some(Plan { values, sides }))
+    }
+
+    /// Begins a derivation with facts which are excused, and which are so.
+    fn begin_excused<'x, R: Guarded + Drop>(
+        &mut self,
+        network: &'x Network<R>,
+        premises: &'x Premises,
+        facts: Vec<Literal>,
+    ) -> Result<(), AllocError>
+        requires search { IsSearch (stored_of R.value_of network.now.library) network.now.cells
+            premises.now self.old }
+        requires excused { Contains self.old.excuses facts.items }
+        ensures search { OnOk result (IsSearch (stored_of R.value_of network.now.library)
+            network.now.cells premises.now self.new) }
+        ensures asks { OnOk result (AsksTheSame self.old self.new) }
+        ensures excuses { OnOk result (self.new.excuses ≡ self.old.excuses) }
+    {
+        let nogood = excused(self.spread.alloc(), facts);
+        let ground = self.spread.ground(network, premises);
+        self.learning = Some(Learning::of_nogood(&ground, nogood)?);
+        Ok(())
+    }
+
+    /// From now on points are excused that have all of these facts. Where the least or the greatest
+    /// is asked for, those that were excused are among them. False where that isn't so.
+    fn excuse(&mut self, facts: &[Literal]) -> Result<bool, AllocError>
+        ensures others { self.new ≡ record self.old { excuses = self.new.excuses } }
+        ensures excused { result ≡ Ok true
+            → self.new.excuses ≡ excused_then self.old.goal self.old.excuses facts.now }
+        ensures still { result ≡ Ok false → self.new.excuses ≡ self.old.excuses }
+        ensures grows { result ≡ Ok true → Grow self.old.excuses self.new.excuses }
+    {
+        let more = Vec::from_slice(self.spread.alloc(), facts)?;
+        if self.is_optimum() {
+            return self.excuse_alone(more);
+        }
+        self.excuses.push(more)?;
+        Ok(true)
+    }
+
+    /// From now on just those points are excused that have all of these facts, where those that
+    /// were excused are among them. False where that isn't so.
+    fn excuse_alone(&mut self, facts: Vec<Literal>) -> Result<bool, AllocError>
+        ensures others { self.new ≡ record self.old { excuses = self.new.excuses } }
+        ensures alone { result ≡ Ok true → self.new.excuses ≡ facts.items ∷ [] }
+        ensures still { result ≡ Ok false → self.new.excuses ≡ self.old.excuses }
+        ensures grows { result ≡ Ok true → Grow self.old.excuses self.new.excuses }
+    {
+        if !are_better(&self.excuses, &facts) {
+            return Ok(false);
+        }
+        self.excuses.clear();
+        self.excuses.push(facts)?;
+        Ok(true)
+    }
+
+    fn is_optimum(&self) -> bool
+        ensures { result ≡ is_optimum self.now.goal }
+    {
+        matches!(self.question.goal, Goal::Least(_) | Goal::Greatest(_))
+    }
+}
+
+/// Whether the only fact follows from the first of those before, and is another one.
+fn is_better(before: &[Literal], facts: &[Literal]) -> bool
+    ensures { IsTrue result → Imply before.now facts.now }
+{
+    if facts.len() != 1 {
+        return false;
+    }
+    let Some(old) = before.first() else {
+        return false;
+    };
+    let new = &facts[0];
+    old.place == new.place && old.fact != new.fact && old.fact.implies(new.fact)
+}
+
+/// Whether that is so of all that was excused before.
+fn are_better(excuses: &[Vec<Literal>], facts: &[Literal]) -> bool
+    ensures { IsTrue result → All (λ before. Imply before.items facts.now) excuses.now }
+{
+    for before in excuses {
+        if !is_better(before, facts) {
+            return false;
+        }
+    }
+    true
+}

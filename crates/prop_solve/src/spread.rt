@@ -1,0 +1,616 @@
+//! What follows from what is supposed, one step at a time.
+
+ghost use Rattle.std.specs.Prelude.{◌≡◌, ◌⊎◌, List, OnOk, IfOk, IfSome};
+ghost use Rattle.prop_premises.specs.Origins.{choices_of};
+ghost use Rattle.prop_procedures.specs.Stored.{Stored};
+ghost use Rattle.prop_solve.specs.Searches.{IsProposed};
+ghost use Rattle.prop_procedures.specs.Kept.{AllMean, stored_of};
+ghost use Rattle.prop_cells.specs.Data.{Data, IsKept};
+ghost use Rattle.prop_refuting.specs.Nogoods.{Nogood as NogoodOf};
+ghost use Rattle.prop_learned.specs.Stores.{IsKeptIn};
+
+use crate::choosing::{first_try, pick};
+use crate::proposal::Proposal;
+use prop_cells::{Instance, Network};
+use prop_deriving::clash::Clash;
+use prop_deriving::ground::Ground;
+use prop_deriving::learning::Learning;
+use prop_deriving::sides::{Sided, Sides};
+use prop_facts::{Changes, Fact, Literal};
+use prop_guards::Guarded;
+use prop_lattice::{Info, Partial};
+use prop_learned::store::{Look, Store};
+use prop_learned::weights::Weights;
+use prop_premises::{Premises, Worldview};
+use prop_refuting::Nogood;
+use prop_refuting::calls::answer;
+use prop_trail::{Outcome, Source, Trail, Waiting};
+use std::alloc::{AllocError, Global};
+use std::marker::Model;
+
+/// As many inputs as an instance has at the most.
+const MOST: usize = 8;
+
+/// How far it is.
+#[derive(Clone, Copy, Debug, PartialEq, Eq)]
+pub(crate) enum Quiet {
+    /// A step was taken, and more may follow.
+    Going,
+    /// Nothing more follows.
+    Still,
+    /// Something was said that can't be.
+    Clashing,
+}
+
+/// How many literals a nogood has at the most that is never forgotten.
+const SHORT: usize = 2;
+
+/// A nogood that was learned, with what is done with it.
+#[derive(Drop)]
+pub(crate) struct Lesson {
+    pub(crate) nogood: Nogood,
+    /// The literal that it denies once those before it are so.
+    pub(crate) literal: Literal,
+    /// The numbers of the two literals at which it is watched: of that one, and of the last other.
+    pub(crate) watched: (usize, usize),
+    /// The level to go back to.
+    pub(crate) level: usize,
+    /// Whether it goes with that level.
+    pub(crate) passes: bool,
+}
+
+/// A literal that a nogood denies by itself, and the number of that nogood.
+#[derive(Clone, Copy, Debug)]
+pub(crate) struct Unit {
+    pub(crate) literal: Literal,
+    pub(crate) number: usize,
+}
+
+/// What is believed of each place, and what waits to be looked at.
+#[derive(Drop)]
+pub(crate) struct Spread {
+    pub(crate) alloc: Global,
+    /// What is believed where no side is.
+    pub(crate) root: Worldview,
+    pub(crate) sides: Sides,
+    pub(crate) trail: Trail,
+    pub(crate) waiting: Waiting,
+    pub(crate) store: Store,
+    /// How many elements each place may have.
+    pub(crate) sizes: Vec<u8>,
+    pub(crate) clash: Option<Clash>,
+    pub(crate) units: Vec<Unit>,
+    /// How many entries, and how many units, were looked at.
+    pub(crate) seen: usize,
+    pub(crate) denied: usize,
+}
+
+impl Model for Spread {
+    ghost use Rattle.prop_solve.specs.Searches.{Spread};
+
+    ghost Value = { Spread };
+
+    ghost view = { λ s. record { nogoods = s.store; root = s.root } };
+}
+
+/// What is believed of the inputs, in their order.
+fn gather(trail: &Trail, inputs: &[usize], args: &mut [Info; MOST]) {
+    for j in 0..inputs.len().min(MOST) {
+        let place = inputs[j];
+        if place < trail.places() {
+            args[j] = trail.info(place);
+        }
+    }
+}
+
+/// Whether it is seen at a glance that a call says nothing new.
+fn is_idle<R: Guarded + Drop>(network: &Network<R>, x: &Instance, args: &[Info]) -> bool {
+    if x.procedure() >= network.library().len() {
+        return true;
+    }
+    let rule = network.library().get(x.procedure()).rule();
+    if rule.says_nothing(x.param(), args) {
+        return true;
+    }
+    match rule.own_place() {
+        Some(own) if x.inputs().get(own) == Some(&x.output()) => rule.repeats(x.param(), args),
+        _ => false,
+    }
+}
+
+/// Whether an instance heeds such changes of a place.
+fn heeds<R: Guarded + Drop>(
+    network: &Network<R>,
+    instance: usize,
+    place: usize,
+    changes: Changes,
+) -> bool {
+    if instance >= network.instances() {
+        return false;
+    }
+    let x = network.data().instance(instance);
+    if x.procedure() >= network.library().len() {
+        return false;
+    }
+    let rule = network.library().get(x.procedure()).rule();
+    let count = x.inputs().len();
+    for j in 0..count {
+        if x.inputs()[j] == place && changes.meets(rule.heeds(j, count)) {
+            return true;
+        }
+    }
+    false
+}
+
+/// The other elements.
+fn without_bit(info: Info, bit: u64) -> Info {
+    match info {
+        Info::Set(elements) => Info::from_bits(elements.bits() & !bit),
+        _ => info,
+    }
+}
+
+/// The instances that heed such changes of a place wait.
+fn wake<R: Guarded + Drop>(
+    waiting: &mut Waiting,
+    network: &Network<R>,
+    place: usize,
+    changes: Changes,
+) {
+    if place >= network.cells() {
+        return;
+    }
+    for reader in network.readers(place) {
+        let instance = *reader;
+        if instance < waiting.instances() && heeds(network, instance, place, changes) {
+            waiting.wake(instance);
+        }
+    }
+}
+
+/// Puts what was learned into the store, and answers its number.
+fn put(store: &mut Store, lesson: Lesson) -> Result<usize, AllocError>
+    ensures { (g : NogoodOf) → IsKeptIn store.new g → (g ≡ lesson.nogood) ⊎ IsKeptIn store.old g }
+{
+    if lesson.passes {
+        return store.pass(lesson.nogood, lesson.level);
+    }
+    let stays = lesson.nogood.literals().len() <= SHORT;
+    store.add(lesson.nogood, lesson.watched, stays)
+}
+
+impl Spread {
+    pub(crate) fn alloc(&self) -> Global {
+        self.alloc
+    }
+
+    /// How many places there are.
+    pub(crate) fn places(&self) -> usize {
+        self.trail.places()
+    }
+
+    /// How many suppositions there are.
+    pub(crate) fn level(&self) -> usize {
+        self.trail.level()
+    }
+
+    /// The first of so many cells of which a contradiction is believed.
+    pub(crate) fn contradiction(&self, cells: usize) -> Option<usize> {
+        for cell in 0..cells.min(self.trail.places()) {
+            if self.trail.info(cell).is_contradiction() {
+                return Some(cell);
+            }
+        }
+        None
+    }
+
+    /// What can't be, once.
+    pub(crate) fn take_clash(&mut self) -> Option<Clash>
+        ensures same { self.new ≡ self.old }
+    {
+        self.clash.take()
+    }
+
+    /// The level of the last literal of what was learned but one, and its number.
+    pub(crate) fn second(&self, learning: &Learning) -> (usize, usize) {
+        learning.second(&self.trail)
+    }
+
+    /// Of these places one that is open, which is decided next.
+    pub(crate) fn pick(&self, order: &[usize], weights: &Weights) -> Option<usize> {
+        pick(&self.trail, order, weights)
+    }
+
+    /// What is believed, as a plan; none where a choice has several sides left.
+    pub(crate) fn propose<R: Guarded + Drop>(
+        &self,
+        network: &Network<R>,
+        premises: &Premises,
+    ) -> Result<Option<Proposal>, AllocError>
+        ensures { IfOk result (λ o. IfSome o (λ p. (library : List Stored) (d : Data)
+            → IsProposed library d premises.now p)) }
+    {
+        Proposal::new(self.alloc, network, premises, &self.trail)
+    }
+
+    /// Supposes something of a place that is open; false where nothing can be.
+    pub(crate) fn suppose<R: Guarded + Drop>(
+        &mut self,
+        network: &Network<R>,
+        place: usize,
+        is_greatest: bool,
+    ) -> Result<bool, AllocError>
+        ensures same { self.new ≡ self.old }
+    {
+        if place >= self.trail.places() {
+            return Ok(false);
+        }
+        let Some(fact) = first_try(self.trail.info(place), is_greatest) else {
+            return Ok(false);
+        };
+        self.trail.raise()?;
+        self.say_fact(network, Literal { place, fact }, Source::Decision)
+    }
+
+    /// Goes back to where what was learned says something, keeps it, and says it; false where that
+    /// can't be.
+    pub(crate) fn learn<R: Guarded + Drop>(
+        &mut self,
+        network: &Network<R>,
+        lesson: Lesson,
+    ) -> Result<bool, AllocError>
+        ensures root { self.new.root ≡ self.old.root }
+        ensures kept { OnOk result ((g : NogoodOf) → IsKeptIn self.new.nogoods g
+            → IsKeptIn self.old.nogoods g ⊎ (g ≡ lesson.nogood)) }
+    {
+        self.back(lesson.level)?;
+        let unit = self.keep(lesson)?;
+        self.deny(network, unit)
+    }
+
+    /// Keeps what was learned.
+    fn keep(&mut self, lesson: Lesson) -> Result<Unit, AllocError>
+        ensures root { self.new.root ≡ self.old.root }
+        ensures kept { OnOk result ((g : NogoodOf) → IsKeptIn self.new.nogoods g
+            → IsKeptIn self.old.nogoods g ⊎ (g ≡ lesson.nogood)) }
+    {
+        let literal = lesson.literal;
+        let is_alone = lesson.nogood.literals().len() == 1;
+        let number = put(&mut self.store, lesson)?;
+        let unit = Unit { literal, number };
+        if is_alone {
+            self.units.push(unit)?;
+        }
+        Ok(unit)
+    }
+
+    /// Begins again where nothing is supposed, and forgets some of what was learned.
+    pub(crate) fn restart(&mut self) -> Result<(), AllocError>
+        ensures root { self.new.root ≡ self.old.root }
+        ensures kept { OnOk result ((g : NogoodOf) → IsKeptIn self.new.nogoods g
+            → IsKeptIn self.old.nogoods g) }
+    {
+        self.back(0)?;
+        self.store.forget(&self.trail)
+    }
+
+    /// What derivations read.
+    pub(crate) fn ground<'a, R>(
+        &'a self,
+        network: &'a Network<R>,
+        premises: &'a Premises,
+    ) -> Ground<'a, R>
+        ensures network { result.network.now ≡ network.now }
+        ensures choices { result.choices.now ≡ choices_of premises.now }
+        ensures root { result.root.now ≡ self.now.root }
+        ensures nogoods { result.store.now ≡ self.now.nogoods }
+    {
+        Ground {
+            alloc: self.alloc,
+            network,
+            choices: premises.choices(),
+            sides: &self.sides,
+            trail: &self.trail,
+            store: &self.store,
+            root: &self.root,
+        }
+    }
+
+    /// Says something of a place; false where that can't be.
+    pub(crate) fn say<R: Guarded + Drop>(
+        &mut self,
+        network: &Network<R>,
+        place: usize,
+        said: Info,
+        by: Source,
+    ) -> Result<bool, AllocError>
+        ensures same { self.new ≡ self.old }
+    {
+        if place >= self.trail.places() {
+            return Ok(true);
+        }
+        let outcome = self.trail.say(place, said, by)?;
+        let clash = Clash {
+            place,
+            said,
+            out: None,
+            by,
+        };
+        Ok(self.take_in(network, outcome, clash))
+    }
+
+    /// Rules a number out of a place; false where that can't be.
+    fn rule_out<R: Guarded + Drop>(
+        &mut self,
+        network: &Network<R>,
+        place: usize,
+        number: i64,
+        by: Source,
+    ) -> Result<bool, AllocError>
+        ensures same { self.new ≡ self.old }
+    {
+        if place >= self.trail.places() {
+            return Ok(true);
+        }
+        let outcome = self.trail.rule_out(place, number, by)?;
+        let clash = Clash {
+            place,
+            said: Info::Nothing,
+            out: Some(number),
+            by,
+        };
+        Ok(self.take_in(network, outcome, clash))
+    }
+
+    /// Says a fact; false where that can't be.
+    pub(crate) fn say_fact<R: Guarded + Drop>(
+        &mut self,
+        network: &Network<R>,
+        literal: Literal,
+        by: Source,
+    ) -> Result<bool, AllocError>
+        ensures same { self.new ≡ self.old }
+    {
+        match literal.fact {
+            Fact::Other(number) => self.rule_out(network, literal.place, number, by),
+            fact => self.say(network, literal.place, fact.info(), by),
+        }
+    }
+
+    /// Takes in what came of something that was said: who reads the place waits, or it clashed.
+    fn take_in<R: Guarded + Drop>(
+        &mut self,
+        network: &Network<R>,
+        outcome: Outcome,
+        clash: Clash,
+    ) -> bool
+        ensures same { self.new ≡ self.old }
+    {
+        match outcome {
+            Outcome::Same => true,
+            Outcome::Changed(changes) => {
+                wake(&mut self.waiting, network, clash.place, changes);
+                true
+            }
+            Outcome::Clash => {
+                self.clash = Some(clash);
+                false
+            }
+        }
+    }
+
+    /// Says that a literal isn't so, by a nogood; false where that can't be.
+    pub(crate) fn deny<R: Guarded + Drop>(
+        &mut self,
+        network: &Network<R>,
+        unit: Unit,
+    ) -> Result<bool, AllocError>
+        ensures same { self.new ≡ self.old }
+    {
+        let place = unit.literal.place;
+        let Some(size) = self.sizes.get(place) else {
+            return Ok(true);
+        };
+        match unit.literal.fact.negation(*size) {
+            Some(fact) => {
+                let by = Source::Nogood(unit.number);
+                self.say_fact(network, Literal { place, fact }, by)
+            }
+            None => Ok(true),
+        }
+    }
+
+    /// Calls an instance, and says what it answers; false where that can't be.
+    fn call<R: Guarded + Drop>(
+        &mut self,
+        network: &Network<R>,
+        instance: usize,
+    ) -> Result<bool, AllocError>
+        requires means { AllMean R.value_of network.now.library.procedures.items }
+        requires kept { IsKept (stored_of R.value_of network.now.library) network.now.cells }
+        ensures same { self.new ≡ self.old }
+    {
+        if instance >= network.instances() {
+            return Ok(true);
+        }
+        let x = network.data().instance(instance);
+        let mut args = [Info::Nothing; MOST];
+        gather(&self.trail, x.inputs(), &mut args);
+        let args = &args[..x.inputs().len().min(MOST)];
+        if is_idle(network, x, args) {
+            return Ok(true);
+        }
+        let Some(said) = answer(network, instance, args) else {
+            return Ok(true);
+        };
+        let by = Source::Call(instance);
+        if !self.say(network, x.output(), said, by)? {
+            return Ok(false);
+        }
+        self.rule_out_by(network, x, args, by)
+    }
+
+    /// Rules out of an instance's output what its arguments do, number by number.
+    fn rule_out_by<R: Guarded + Drop>(
+        &mut self,
+        network: &Network<R>,
+        x: &Instance,
+        args: &[Info],
+        by: Source,
+    ) -> Result<bool, AllocError>
+        ensures same { self.new ≡ self.old }
+    {
+        if x.procedure() >= network.library().len() {
+            return Ok(true);
+        }
+        let rule = network.library().get(x.procedure()).rule();
+        if rule.own_place().is_none() {
+            return Ok(true);
+        }
+        for place in 0..args.len() {
+            if let Some(number) = rule.rules_out(x.param(), args, place) {
+                if !self.rule_out(network, x.output(), number, by)? {
+                    return Ok(false);
+                }
+            }
+        }
+        Ok(true)
+    }
+
+    /// Looks at a statement under a side: what the side says where it is taken, and that it isn't
+    /// where that can't be. False where something can't be.
+    fn touch<R: Guarded + Drop>(
+        &mut self,
+        network: &Network<R>,
+        number: usize,
+    ) -> Result<bool, AllocError>
+        ensures same { self.new ≡ self.old }
+    {
+        let Some(sided) = self.sides.get(number) else {
+            return Ok(true);
+        };
+        let sided = *sided;
+        let by = Source::Side(number);
+        match self.standing(&sided) {
+            Standing::Taken => self.say(network, sided.cell, sided.info, by),
+            Standing::Barred(others) => self.say(network, sided.choice, others, by),
+            Standing::Open => Ok(true),
+        }
+    }
+
+    /// How a side stands.
+    fn standing(&self, sided: &Sided) -> Standing {
+        let places = self.trail.places();
+        if sided.choice >= places || sided.cell >= places || sided.side >= 64 {
+            return Standing::Open;
+        }
+        let Info::Set(left) = self.trail.info(sided.choice) else {
+            return Standing::Open;
+        };
+        let bit = 1u64 << sided.side;
+        if left.bits() == bit {
+            return Standing::Taken;
+        }
+        let is_left = left.bits() & bit != 0;
+        if is_left
+            && self
+                .trail
+                .info(sided.cell)
+                .merge(sided.info)
+                .is_contradiction()
+        {
+            let all = self.trail.root(sided.choice);
+            return Standing::Barred(without_bit(all, bit));
+        }
+        Standing::Open
+    }
+
+    /// Looks at all that an entry's place touches; false where something can't be.
+    fn look<R: Guarded + Drop>(
+        &mut self,
+        network: &Network<R>,
+        place: usize,
+    ) -> Result<bool, AllocError>
+        ensures same { self.new ≡ self.old }
+    {
+        for n in 0..self.sides.touching(place).len() {
+            let Some(number) = self.sides.touching(place).get(n) else {
+                return Ok(true);
+            };
+            let number = *number;
+            if !self.touch(network, number)? {
+                return Ok(false);
+            }
+        }
+        let mut at = 0;
+        for _ in 0..self.store.watching(place) {
+            match self.store.look(&self.trail, place, at)? {
+                Look::Moved => {}
+                Look::Silent => at += 1,
+                Look::Denies { literal, number } => {
+                    at += 1;
+                    if !self.deny(network, Unit { literal, number })? {
+                        return Ok(false);
+                    }
+                }
+            }
+        }
+        Ok(true)
+    }
+
+    /// Takes one step: looks at an entry, denies what a nogood denies by itself, or calls an
+    /// instance.
+    pub(crate) fn step<R: Guarded + Drop>(
+        &mut self,
+        network: &Network<R>,
+    ) -> Result<Quiet, AllocError>
+        requires means { AllMean R.value_of network.now.library.procedures.items }
+        requires kept { IsKept (stored_of R.value_of network.now.library) network.now.cells }
+        ensures same { self.new ≡ self.old }
+    {
+        let goes_on = if self.seen < self.trail.len() {
+            let place = self.trail.entry(self.seen).place;
+            self.seen += 1;
+            self.look(network, place)?
+        } else if self.denied < self.units.len() {
+            let unit = self.units[self.denied];
+            self.denied += 1;
+            self.deny(network, unit)?
+        } else {
+            match self.waiting.next() {
+                Some(instance) => self.call(network, instance)?,
+                None => return Ok(Quiet::Still),
+            }
+        };
+        Ok(if goes_on {
+            Quiet::Going
+        } else {
+            Quiet::Clashing
+        })
+    }
+
+    /// Goes back to a level; nothing waits any longer but the units.
+    pub(crate) fn back(&mut self, level: usize) -> Result<(), AllocError>
+        ensures root { self.new.root ≡ self.old.root }
+        ensures kept { OnOk result ((g : NogoodOf) → IsKeptIn self.new.nogoods g
+            → IsKeptIn self.old.nogoods g) }
+    {
+        self.trail.back(level);
+        self.store.back(level)?;
+        self.waiting.clear();
+        self.clash = None;
+        self.denied = 0;
+        self.seen = self.trail.len();
+        Ok(())
+    }
+}
+
+/// How a side of a choice stands.
+enum Standing {
+    /// It is taken.
+    Taken,
+    /// Its statement can't be so: these others are left.
+    Barred(Info),
+    /// It may be taken.
+    Open,
+}

@@ -1,0 +1,12 @@
+use Rattle.std.proofs.Common.{◌≡◌, ◌≤◌, ℕ, length, map}
+use Rattle.prop_trail.specs.Places.{root_of}
+use Rattle.prop_trail.proofs.TrailLaws.{was_at, above}
+use Rattle.prop_trail.proofs.trail.Trail.newest_before.Given as goal
+
+abbrev pub invariant-loop-newest : goal.invariant-loop-newest
+invariant-loop-newest l =
+    (m : ℕ) × (l.at ≤ m) × (m ≤ length l.self-inside.entries.items)
+    × (l.newest ≡ (was_at (map root_of l.self-inside.roots.items) l.self-inside.entries.items m l.place).newest)
+
+abbrev pub decreases-loop-newest : goal.decreases-loop-newest
+decreases-loop-newest l = above l.newest

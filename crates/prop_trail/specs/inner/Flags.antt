@@ -1,0 +1,10 @@
+-- The flags of the numbers in a line.
+use Rattle.std.specs.Prelude.{◌≡◌, ℕ, ◌≤◌, ◌==◌, Bool, false, cond, List, length, count_by}
+use Rattle.std.specs.Prelude.{slice_index_or}
+
+-- Each number has a flag that says how often it stands in the line, once or not at all, and the
+-- line has room for all.
+pub record IsFlagged (line : List ℕ) (flags : List Bool) (capacity : ℕ) : Type 0 where
+  pub flagged : (j : ℕ) → count_by (λ k. k == j) line ≡ cond (slice_index_or flags j false) 1 0
+  pub counted : length line ≡ count_by (λ flag. flag) flags
+  pub room : length flags ≤ capacity
