@@ -10,8 +10,8 @@ PROGRAM is a workbench that answers these, as propwide; of networks that are dra
 - a plan has each cell that has a name and a side of each choice, in order; it satisfies what is
   believed and said by these sides, and its points belong together at each rule and compound;
 - the best number is the best one, and what was the best so far gets better;
-- `plans` of cells that are no symbols (a row with one may come twice), asked to the end, tells just
-  the rows that there are, each once, and no more at a time than were asked for;
+- `plans`, asked to the end, tells just the rows that there are, each once, and no more at a time
+  than were asked for;
 - `none:` stands where nothing fits, and else nowhere;
 - the premises that are named are believed, and with them alone nothing fits, or nothing better, or
   no other row;
@@ -20,8 +20,7 @@ PROGRAM is a workbench that answers these, as propwide; of networks that are dra
 - what changes nothing between two `plans` changes nothing of the rows that are told.
 
 A question may stay unsettled for ever where nothing is stated of a symbol, since none is tried, or
-symbols clash in a way that isn't derived, or little is stated of a number but by choices (FAR). How
-many did is told; so is of how many premises that were named nothing is known here, since with them
+little is stated of a number but by choices (FAR). How many did is told; so is of how many premises that were named nothing is known here, since with them
 alone too much is open; and how often `plans` went on where it was, or began anew, behind a line
 that changes nothing. The status is 0 where nothing was wrong.
 """
@@ -407,8 +406,7 @@ class Session:
         """Asks a question of each kind, in random order."""
         chance, kinds = self.chance, truth.network.kinds
         numbers = [cell for cell, kind in kinds.items() if kind == "span"]
-        apart = [cell for cell, kind in kinds.items() if kind != "symbol"]
-        some = chance.sample(apart, chance.randint(1, min(3, len(apart))))
+        some = chance.sample([*kinds], chance.randint(1, min(3, len(kinds))))
         more = chance.sample([*kinds], chance.choice([0, 0, 1, min(2, len(kinds))]))
         asked = [Question(truth, "solve", more)]
         asked.append(Rows(truth, "plans", some, most=chance.choice([1, 2, 3, 7, 1000])))
@@ -467,8 +465,6 @@ class Session:
             self.tried.counts["not asked to the end"] += 1
         elif question.truth.is_open():
             self.tried.counts["unsettled over what is open"] += 1
-        elif "symbol" in question.truth.network.kinds.values():
-            self.tried.counts["unsettled over symbols"] += 1
         else:
             self.complain(question, f"no end in {asked} lines by {FIRST} steps")
 

@@ -59,6 +59,12 @@ impl Clash {
                 Some(Fact::Same(said)),
                 Some(Fact::Same(was)),
             ),
+            (Info::Sym(was), Info::Contradiction) => both(
+                Some(Fact::Same(was ^ 1)),
+                Some(Fact::Same(was)),
+            ),
+            // (of a symbol alone nothing may be known)
+            (Info::Nothing, Info::Contradiction) => both(Some(Fact::Same(1)), Some(Fact::Same(0))),
             _ => None,
         }
     }

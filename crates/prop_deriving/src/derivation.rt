@@ -7,7 +7,6 @@ ghost use Rattle.prop_deriving.specs.Known.{AlwaysFollows, AlwaysStays, Stays};
 
 use crate::clash::Pair;
 use crate::ground::Ground;
-use crate::reading::info_before;
 use crate::reason::{Reason, barred_fact};
 use prop_facts::{Fact, Literal};
 use prop_lattice::Info;
@@ -437,7 +436,9 @@ impl Derivation {
                 .nogood
                 .by_side(cells, basis.choices, at, statement, asked.rest);
         }
-        let was = info_before(basis.trail, sided.cell, asked.before);
+        let was = basis
+            .course
+            .info_before(basis.trail, sided.cell, asked.before);
         let Some(fact) = barred_fact(was, sided.info) else {
             return Ok(false);
         };
@@ -478,7 +479,7 @@ fn arguments<R: Rule + Drop>(
 {
     cells
         .iter()
-        .map(|cell| info_before(basis.trail, *cell, before))
+        .map(|cell| basis.course.info_before(basis.trail, *cell, before))
         .collect(basis.alloc)
 }
 

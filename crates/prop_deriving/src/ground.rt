@@ -3,6 +3,7 @@ ghost use Rattle.std.specs.Prelude.{◌≡◌};
 ghost use Rattle.prop_plans.specs.Held.{attached_of};
 ghost use Rattle.prop_refuting.specs.Places.{kind_at_place};
 
+use crate::course::Course;
 use crate::sides::Sides;
 use prop_cells::Network;
 use prop_facts::widest;
@@ -14,8 +15,8 @@ use prop_refuting::kind_at_place;
 use prop_trail::Trail;
 use std::alloc::Global;
 
-/// What is read as a nogood is derived: the network with its choices, what is believed on the trail
-/// and at the root, and the nogoods that are kept.
+/// What is read as a nogood is derived: the network with its choices, what is believed on the trail,
+/// whose entries are told place by place, and at the root, and the nogoods that are kept.
 #[derive(Drop)]
 pub struct Ground<'a, R> {
     pub alloc: Global,
@@ -23,6 +24,7 @@ pub struct Ground<'a, R> {
     pub choices: &'a [Choice],
     pub sides: &'a Sides,
     pub trail: &'a Trail,
+    pub course: &'a Course,
     pub store: &'a Store,
     pub root: &'a Worldview,
 }

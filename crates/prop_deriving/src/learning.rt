@@ -8,7 +8,7 @@ ghost use Rattle.prop_deriving.specs.Known.{AlwaysStays, Follows, Stays};
 use crate::clash::{Clash, Pair};
 use crate::derivation::Derivation;
 use crate::ground::Ground;
-use crate::reading::{is_decided, is_later, level_of, maker};
+use crate::reading::{is_decided, is_later, level_of};
 use crate::reason::Reason;
 use prop_facts::Fact;
 use prop_lattice::Info;
@@ -82,7 +82,7 @@ impl Learning {
         if !derivation.explain_unsaid(basis, reason, weights)? {
             return Ok(None);
         }
-        Ok(Some(Learning::begun(basis.alloc, basis.trail, derivation)?))
+        Ok(Some(Learning::begun(basis, derivation)?))
     }
 
     /// Begins with a nogood all of which is so.
@@ -92,7 +92,7 @@ impl Learning {
     ) -> Result<Learning, AllocError>
         ensures { IfOk result (λ g. AlwaysStays nogood g) }
     {
-        Learning::begun(basis.alloc, basis.trail, Derivation::new(nogood))
+        Learning::begun(basis, Derivation::new(nogood))
     }
 
     /// Begins, and ends, with what is believed of a cell at the root, where that is a
@@ -121,7 +121,7 @@ impl Learning {
         if !derivation.by_root(basis, 0)? {
             return Ok(None);
         }
-        Ok(Some(Learning::begun(basis.alloc, basis.trail, derivation)?))
+        Ok(Some(Learning::begun(basis, derivation)?))
     }
 
     /// The nogood as it stands.
@@ -200,17 +200,20 @@ impl Learning {
     }
 
     /// A derivation that begins with a nogood all of which is so.
-    fn begun(alloc: Global, trail: &Trail, derivation: Derivation) -> Result<Learning, AllocError>
+    fn begun<R: Rule + Drop>(
+        basis: &Ground<'_, R>,
+        derivation: Derivation,
+    ) -> Result<Learning, AllocError>
         ensures { IfOk result (λ g. AlwaysStays derivation g) }
     {
         let mut learning = Learning {
             derivation,
-            makers: Vec::new(alloc),
+            makers: Vec::new(basis.alloc),
             level: 0,
             asserting: 0,
         };
-        learning.find_makers(trail, trail.len())?;
-        learning.level = learning.last_level(trail);
+        learning.find_makers(basis, basis.trail.len())?;
+        learning.level = learning.last_level(basis.trail);
         Ok(learning)
     }
 
@@ -306,7 +309,7 @@ impl Learning {
             return Ok(State::Failed);
         };
         self.forget_maker(at);
-        self.find_makers(basis.trail, before)?;
+        self.find_makers(basis, before)?;
         Ok(State::Going)
     }
 
@@ -352,17 +355,25 @@ impl Learning {
 
     /// Finds what made the literals so that came last, before an entry, and drops those that others
     /// imply.
-    fn find_makers(&mut self, trail: &Trail, before: usize) -> Result<(), AllocError>
+    fn find_makers<R: Rule + Drop>(
+        &mut self,
+        basis: &Ground<'_, R>,
+        before: usize,
+    ) -> Result<(), AllocError>
         ensures { AlwaysStays self.old self.new }
     {
         let first = self.makers.len();
-        self.push_makers(trail, before)?;
+        self.push_makers(basis, before)?;
         self.drop_repeated(first);
         Ok(())
     }
 
     /// Finds what made the literals so that came last.
-    fn push_makers(&mut self, trail: &Trail, before: usize) -> Result<(), AllocError>
+    fn push_makers<R: Rule + Drop>(
+        &mut self,
+        basis: &Ground<'_, R>,
+        before: usize,
+    ) -> Result<(), AllocError>
         ensures { self.new ≡ self.old }
     {
         for literal in self
@@ -372,7 +383,8 @@ impl Learning {
             .iter()
             .skip(self.makers.len())
         {
-            self.makers.push(maker(trail, *literal, before))?;
+            let maker = basis.course.maker(basis.trail, *literal, before);
+            self.makers.push(maker)?;
         }
         Ok(())
     }

@@ -13,6 +13,7 @@
 
 mod bits;
 pub mod clash;
+pub mod course;
 mod derivation;
 pub mod ground;
 pub mod learning;
@@ -21,6 +22,7 @@ mod reason;
 pub mod sides;
 
 pub use clash::Clash;
+pub use course::Course;
 pub use ground::Ground;
 pub use learning::{Learning, State};
 pub use sides::{Sided, Sides};

@@ -1,27 +1,6 @@
 //! What the trail says, wherever it is asked.
 
-use prop_facts::Literal;
-use prop_lattice::Info;
 use prop_trail::{Source, Trail};
-
-/// What was believed of a place before an entry was made; nothing where there is no such place or
-/// entry.
-pub(crate) fn info_before(trail: &Trail, place: usize, before: usize) -> Info {
-    if place < trail.places() && before <= trail.len() {
-        trail.info_before(place, before)
-    } else {
-        Info::Nothing
-    }
-}
-
-/// The entry below this one since which a literal is so; none where it was so at the root.
-pub(crate) fn maker(trail: &Trail, literal: Literal, before: usize) -> Option<usize> {
-    if literal.place < trail.places() && before <= trail.len() {
-        trail.maker(literal, before)
-    } else {
-        None
-    }
-}
 
 /// The level at which an entry was made; 0 where there is none.
 pub(crate) fn level_of(trail: &Trail, maker: Option<usize>) -> usize {

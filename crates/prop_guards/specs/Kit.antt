@@ -1,6 +1,6 @@
 -- What is known of the answers of the kit's rules without a call.
 use Rattle.std.specs.Prelude.{ℕ, zero, suc, ℤ, Bool, false, not, ◌&&◌, ◌||◌, ◌==◌, List, []}
-use Rattle.std.specs.Prelude.{◌∷◌, Option, Some, None, if◌then◌else◌}
+use Rattle.std.specs.Prelude.{◌∷◌, Option, Some, None, if◌then◌else◌, int_le, int_lt}
 use Rattle.std.specs.List.{list_any}
 use Rattle.std.specs.Ordering.{int_eq}
 use Rattle.prop_intervals.specs.Comparisons.{yes_bits, no_bits}
@@ -10,18 +10,24 @@ use Rattle.prop_sets.specs.Truth.{leaves, is_nothing}
 use Rattle.prop_arith.specs.Comparing.{is_single}
 use Rattle.prop_arith.specs.inner.Compared.{is_just}
 use Rattle.prop_arith.specs.declared.kit.Kit as kits
-use Rattle.prop_arith.specs.declared.kit.Kit.TheVariants.{Root, Below, Above, Apart, Switch}
-use Rattle.prop_arith.specs.declared.kit.Kit.TheVariants.{And, AndBack, Or, OrBack}
+use Rattle.prop_arith.specs.declared.kit.Kit.TheVariants.{Root, Less, Below, Above, Apart}
+use Rattle.prop_arith.specs.declared.kit.Kit.TheVariants.{Switch, And, AndBack, Or, OrBack}
 use Rattle.prop_guards.specs.Known.{is_settled, number_of}
 
 -- of one of the two nothing is known, and z may be what leaves x open, whatever truth y is
 abbrev pub leaves_open : Info → Info → ℕ → Bool
 leaves_open z y t = (is_nothing z || is_nothing y) && (leaves z t && (leaves y 0 || leaves y 1))
 
+-- some numbers of x are less than some of y, and some are not; or too little is known
+abbrev pub are_mixed : Info → Info → Bool
+are_mixed (Span x) (Span y) = int_le y.lo x.hi && int_lt x.lo y.hi
+are_mixed x y = is_nothing x || is_nothing y
+
 -- of some of two inputs too little is known: of a truth that says whether there is anything to say,
 -- of what decides by itself in `and` and `or`, and else of any
 abbrev pub is_silent_of_two : kits.Kit → Info → Info → Bool
 is_silent_of_two Root y x = is_nothing y
+is_silent_of_two Less x y = are_mixed x y
 is_silent_of_two Below t y = not (is_settled t) || is_nothing y
 is_silent_of_two Above t x = not (is_settled t) || is_nothing x
 is_silent_of_two Switch t x = not (is_just yes_bits t) || is_nothing x

@@ -52,6 +52,13 @@ impl<A: Guarded, B: Guarded> Guarded for Both<A, B> {
         }
     }
 
+    fn waits_for(&self) -> Option<usize> {
+        match self {
+            Both::One(rule) => rule.waits_for(),
+            Both::Two(rule) => rule.waits_for(),
+        }
+    }
+
     fn is_dear(&self, count: usize) -> bool {
         match self {
             Both::One(rule) => rule.is_dear(count),

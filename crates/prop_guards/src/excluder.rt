@@ -100,6 +100,10 @@ impl Guarded for Excluder {
         }
     }
 
+    fn waits_for(&self) -> Option<usize> {
+        None
+    }
+
     fn is_dear(&self, count: usize) -> bool {
         FEW < count
     }

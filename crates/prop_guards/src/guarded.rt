@@ -51,6 +51,10 @@ pub trait Guarded: Rule {
     /// output's, all of its changes count.
     fn heeds(&self, place: usize, count: usize) -> Changes;
 
+    /// The place of an input of which one value alone has to be left before a call says anything,
+    /// where there is one. This is a hint.
+    fn waits_for(&self) -> Option<usize>;
+
     /// Whether a call with so many inputs takes much longer than most, so that the others had
     /// better come first. This is a hint.
     fn is_dear(&self, count: usize) -> bool;

@@ -1,7 +1,7 @@
 //! The rules of the kit, guarded.
 ghost use Rattle.std.specs.Prelude.{◌≡◌, ◌||◌};
-ghost use Rattle.prop_guards.specs.Kit.{is_inside, is_repeated, is_silent, is_silent_of_two};
-ghost use Rattle.prop_guards.specs.Kit.{own_of};
+ghost use Rattle.prop_guards.specs.Kit.{are_mixed, is_inside, is_repeated, is_silent};
+ghost use Rattle.prop_guards.specs.Kit.{is_silent_of_two, own_of};
 ghost use Rattle.prop_guards.specs.Kit.{is_silent_of_three, ruled_out};
 ghost use Rattle.prop_guards.specs.laws.KitLaws.{kit_silent, kit_repeated, kit_own, kit_barred};
 ghost use Rattle.prop_sets.specs.Truth.{is_nothing, leaves};
@@ -31,12 +31,24 @@ fn one_unknown(first: Info, second: Info) -> bool
     is_nothing(first) || is_nothing(second)
 }
 
+/// Whether it is open which of two arguments is less: some numbers of the first are less than some
+/// of the second, and some are not, or of one nothing is known.
+fn are_mixed(first: Info, second: Info) -> bool
+    ensures { result ≡ are_mixed first second }
+{
+    match (first, second) {
+        (Info::Span(x), Info::Span(y)) => y.lo() <= x.hi() && x.lo() < y.hi(),
+        _ => one_unknown(first, second),
+    }
+}
+
 /// Whether it is seen of two arguments that a rule answers nothing.
 fn is_silent_of_two(rule: Kit, first: Info, second: Info) -> bool
     ensures { result ≡ is_silent_of_two rule first second }
 {
     match rule {
         Kit::Root => is_nothing(first),
+        Kit::Less => are_mixed(first, second),
         Kit::Below | Kit::Above => !is_settled(first) || is_nothing(second),
         Kit::Switch => !is_just(first, YES) || is_nothing(second),
         Kit::And => one_unknown(first, second) && may_be_yes(first) && may_be_yes(second),
@@ -123,6 +135,13 @@ impl Guarded for Kit {
             (Kit::Not | Kit::And | Kit::AndBack | Kit::Or | Kit::OrBack, _) => POINT,
             (Kit::Copy | Kit::Alike | Kit::Switch | Kit::Image | Kit::Coimage, _) => Changes::ALL,
             _ => ENDS,
+        }
+    }
+
+    fn waits_for(&self) -> Option<usize> {
+        match self {
+            Kit::Below | Kit::Above | Kit::Switch | Kit::Apart => Some(0),
+            _ => None,
         }
     }
 

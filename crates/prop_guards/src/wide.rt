@@ -84,6 +84,10 @@ impl Guarded for Wide {
         }
     }
 
+    fn waits_for(&self) -> Option<usize> {
+        None
+    }
+
     fn is_dear(&self, _count: usize) -> bool {
         false
     }

@@ -28,8 +28,8 @@ pub(crate) enum Turn {
     Silent,
     /// All its literals but this one are so.
     Denies(Literal),
-    /// It is to be watched at these. The second wasn't, and is at this place.
-    Moves { watched: Watched, to: usize },
+    /// It is to be watched at these. The second wasn't, and is this literal.
+    Moves { watched: Watched, to: Literal },
 }
 
 /// Room for a nogood.
@@ -121,7 +121,7 @@ fn turn_of(trail: &Trail, literals: &[Literal], watched: Watched) -> Turn
             first: watched.first,
             second: open,
         },
-        to: literals[open].place,
+        to: literals[open],
     }
 }
 
@@ -158,14 +158,14 @@ impl Slot {
         }
     }
 
-    /// The places at which its nogood is watched.
-    pub(crate) fn places(&self) -> Option<(usize, usize)> {
+    /// The literals of its nogood that are watched.
+    pub(crate) fn watched_literals(&self) -> Option<(Literal, Literal)> {
         let nogood = self.nogood.as_ref()?;
         let watched = self.watched?;
         let literals = nogood.literals();
         let first = literals.get(watched.first)?;
         let second = literals.get(watched.second)?;
-        Some((first.place, second.place))
+        Some((*first, *second))
     }
 
     /// How many literals its nogood has, where it has one that needn't stay.

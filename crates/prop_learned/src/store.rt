@@ -7,8 +7,9 @@ ghost use Rattle.prop_trail.specs.declared.entry.Source.TheVariants.{Nogood as b
 ghost use Rattle.prop_learned.specs.Stores.{IsDenied, IsKeptIn, IsKeptAt, IsSeen};
 ghost use Rattle.prop_learned.specs.inner.Slots.{IfDenies};
 
+use crate::reading::is_so;
 use crate::slot::{Slot, Turn, Watched, watched_of};
-use prop_facts::Literal;
+use prop_facts::{Fact, Literal};
 use prop_refuting::Nogood;
 use prop_trail::{Source, Trail};
 use std::alloc::{AllocError, Global};
@@ -35,6 +36,13 @@ struct Passing {
     level: usize,
 }
 
+/// A nogood that watches a place, and which of its facts about the place it does.
+#[derive(Clone, Copy)]
+struct Watcher {
+    number: usize,
+    fact: Fact,
+}
+
 /// Nogoods by their numbers.
 #[derive(Drop)]
 pub struct Store {
@@ -44,8 +52,8 @@ pub struct Store {
     /// Those that go with their level, of the first level first.
     passing: Vec<Passing>,
     /// By place, the nogoods that watch it: twice where they watch two literals there. There may be
-    /// numbers of others too.
-    watchers: Vec<Vec<usize>>,
+    /// others too.
+    watchers: Vec<Vec<Watcher>>,
     /// Where there are fewer that may be forgotten, none is.
     most: usize,
 }
@@ -61,7 +69,7 @@ impl Model for Store {
 }
 
 /// No watcher of so many places.
-fn no_watchers(alloc: Global, places: usize) -> Result<Vec<Vec<usize>>, AllocError> {
+fn no_watchers(alloc: Global, places: usize) -> Result<Vec<Vec<Watcher>>, AllocError> {
     let mut watchers = Vec::with_capacity(alloc, places)?;
     for _ in 0..places {
         watchers.push(Vec::new(alloc))?;
@@ -132,9 +140,12 @@ impl Store {
         ensures same { self.new ≡ self.old }
         ensures seen { IfOk result (IsSeen trail.now self.old) }
     {
-        let Some(number) = self.watcher(place, n) else {
+        let Some(Watcher { number, fact }) = self.watcher(place, n) else {
             return Ok(Look::Silent);
         };
+        if !is_so(trail, Literal { place, fact }) {
+            return Ok(Look::Silent);
+        }
         match self.turn(trail, place, number) {
             Turn::Leaves => {
                 self.unwatch(place, n);
@@ -233,7 +244,7 @@ impl Store {
     }
 
     /// The number of the n-th that watches the place.
-    fn watcher(&self, place: usize, n: usize) -> Option<usize> {
+    fn watcher(&self, place: usize, n: usize) -> Option<Watcher> {
         let watchers = self.watchers.get(place)?;
         watchers.get(n).copied()
     }
@@ -248,12 +259,13 @@ impl Store {
         }
     }
 
-    /// The nogood with this number watches the place, where there is such a place.
-    fn watch(&mut self, place: usize, number: usize) -> Result<(), AllocError>
+    /// The nogood with this number watches the literal's place, where there is such a place.
+    fn watch(&mut self, literal: Literal, number: usize) -> Result<(), AllocError>
         ensures { self.new ≡ self.old }
     {
+        let Literal { place, fact } = literal;
         if place < self.watchers.len() {
-            self.watchers[place].push(number)?;
+            self.watchers[place].push(Watcher { number, fact })?;
         }
         Ok(())
     }
@@ -280,16 +292,16 @@ impl Store {
     fn watch_both(&mut self, number: usize) -> Result<(), AllocError>
         ensures { self.new ≡ self.old }
     {
-        let Some((first, second)) = self.watched_places(number) else {
+        let Some((first, second)) = self.watched_literals(number) else {
             return Ok(());
         };
         self.watch(first, number)?;
         self.watch(second, number)
     }
 
-    /// The places at which the nogood with this number is to be watched.
-    fn watched_places(&self, number: usize) -> Option<(usize, usize)> {
-        self.slots.get(number)?.places()
+    /// The literals at which the nogood with this number is to be watched.
+    fn watched_literals(&self, number: usize) -> Option<(Literal, Literal)> {
+        self.slots.get(number)?.watched_literals()
     }
 
     /// The number of an empty slot, which is counted as free no longer.

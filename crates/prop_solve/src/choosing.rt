@@ -1,5 +1,6 @@
 //! Which place is decided next, and how.
 
+use crate::present::Present;
 use prop_facts::Fact;
 use prop_lattice::{Elements, Info};
 use prop_learned::weights::Weights;
@@ -40,15 +41,61 @@ fn open_place(trail: &Trail, place: usize, weights: &Weights) -> Option<Candidat
     })
 }
 
+/// The one of which less is left for what it weighs; the first where both are alike.
+fn better(best: Option<Candidate>, other: Option<Candidate>) -> Option<Candidate> {
+    match (best, other) {
+        (Some(one), Some(two)) if !two.is_before(&one) => Some(one),
+        (one, None) => one,
+        (_, two) => two,
+    }
+}
+
 /// Of these places one that is open: of which least is left for what it weighs.
-pub(crate) fn pick(trail: &Trail, among: &[usize], weights: &Weights) -> Option<usize> {
-    let mut best: Option<Candidate> = None;
-    for place in among {
-        if let Some(open) = open_place(trail, *place, weights) {
-            best = match best {
-                Some(other) if !open.is_before(&other) => Some(other),
-                _ => Some(open),
-            };
+fn best_named(
+    trail: &Trail,
+    present: &Present,
+    named: &[usize],
+    weights: &Weights,
+) -> Option<Candidate> {
+    let mut best = None;
+    for place in named {
+        if present.is_open(*place) {
+            best = better(best, open_place(trail, *place, weights));
+        }
+    }
+    best
+}
+
+/// Of these places one that is open: of which least is left for what it weighs.
+pub(crate) fn pick_named(
+    trail: &Trail,
+    present: &Present,
+    named: &[usize],
+    weights: &Weights,
+) -> Option<usize> {
+    match best_named(trail, present, named, weights) {
+        Some(found) => Some(found.place),
+        None => None,
+    }
+}
+
+/// Of all places one that is open: of which least is left for what it weighs. Of several the first
+/// of the named ones is taken.
+pub(crate) fn pick(
+    trail: &Trail,
+    present: &Present,
+    named: &[usize],
+    weights: &Weights,
+) -> Option<usize> {
+    let mut best = best_named(trail, present, named, weights);
+    for word in 0..present.words() {
+        let mut left = present.open_among(word);
+        for _ in 0..left.count_ones() {
+            let place = word
+                .saturating_mul(64)
+                .saturating_add(left.trailing_zeros() as usize);
+            best = better(best, open_place(trail, place, weights));
+            left &= left.wrapping_sub(1);
         }
     }
     match best {

@@ -9,10 +9,12 @@
 
 mod choosing;
 mod pace;
+mod present;
 mod proposal;
 pub mod question;
 pub mod solver;
 mod spread;
+mod wiring;
 
 pub use question::{Goal, Question};
 pub use solver::{Answer, Plan, Solver, Tally};

@@ -1,7 +1,7 @@
 //! The search: what is supposed, what follows, what was refuted.
 
 ghost use Rattle.std.specs.Prelude.{◌≡◌, ◌↔◌, ◌⊎◌, [], Some, IsTrue, IfOk, IfSome};
-ghost use Rattle.std.specs.Prelude.{◌∷◌, All, Contains, OnOk, Ok, true, false};
+ghost use Rattle.std.specs.Prelude.{◌∷◌, All, Contains, OnOk, Ok, map, true, false};
 ghost use Rattle.prop_numbers.specs.Sets.{set_of, IsPart};
 ghost use Rattle.prop_premises.specs.Origins.{believed_in, choices_of};
 ghost use Rattle.prop_procedures.specs.Kept.{AllMean, stored_of};
@@ -16,13 +16,15 @@ ghost use Rattle.prop_solve.specs.Searches.{IsSearch, IsProposed, bare};
 ghost use Rattle.prop_solve.specs.Answers.{AsksTheSame, IsAnswer, IsFound, IfFound};
 
 use crate::pace::Pace;
+use crate::present::Present;
 use crate::proposal::Proposal;
 use crate::question::{Goal, Question};
 use crate::spread::{Lesson, Quiet, Spread};
+use crate::wiring::Wiring;
 use prop_cells::{Cells, Network};
 use prop_deriving::learning::{Learning, State};
 use prop_deriving::sides::Sides;
-use prop_facts::{Literal, widest};
+use prop_facts::{Fact, Literal, widest};
 use prop_guards::Guarded;
 use prop_lattice::{Info, Kind, Partial};
 use prop_learned::store::Store;
@@ -37,6 +39,9 @@ use std::marker::Model;
 
 /// How many literals a nogood of an enumeration has at the most that stays when its level goes.
 const LASTING: usize = 3;
+
+/// So many steps are taken before it is looked whether there is room for more.
+const AT_ONCE: u64 = 1_000;
 
 /// A value for each cell that leaves a single point, and of each choice the side that is taken,
 /// counted from 1.
@@ -75,8 +80,6 @@ pub struct Tally {
 pub struct Solver {
     question: Question,
     excuses: Vec<Vec<Literal>>,
-    /// The places in the order in which they are decided, others being equal.
-    order: Vec<usize>,
     spread: Spread,
     weights: Weights,
     pace: Pace,
@@ -148,15 +151,6 @@ fn dear<R: Guarded + Drop>(alloc: Global, network: &Network<R>) -> Result<Vec<bo
     Ok(dear)
 }
 
-/// The named cells, and behind them all places.
-fn order_of(alloc: Global, named: &[usize], places: usize) -> Result<Vec<usize>, AllocError> {
-    let mut order = Vec::from_slice(alloc, named)?;
-    for place in 0..places {
-        order.push(place)?;
-    }
-    Ok(order)
-}
-
 /// Everything is to be called.
 fn spread_of<R: Guarded + Drop>(
     alloc: Global,
@@ -167,7 +161,9 @@ fn spread_of<R: Guarded + Drop>(
     ensures nogoods { IfOk result (λ s. (g : NogoodOf) → IsKeptIn s.nogoods g → ⊥) }
     ensures root { IfOk result (λ s. s.root ≡ root) }
 {
-    let trail = Trail::new(alloc, beliefs(alloc, network, choices, &root)?)?;
+    let beliefs = beliefs(alloc, network, choices, &root)?;
+    let present = Present::new(alloc, &beliefs)?;
+    let trail = Trail::new(alloc, beliefs)?;
     let mut waiting = Waiting::new(alloc, dear(alloc, network)?)?;
     waiting.wake_all();
     Ok(Spread {
@@ -177,6 +173,8 @@ fn spread_of<R: Guarded + Drop>(
         store: Store::new(alloc, trail.places())?,
         sizes: sizes(alloc, network.data(), choices)?,
         trail,
+        present,
+        wiring: Wiring::new(alloc, network)?,
         waiting,
         clash: None,
         units: Vec::new(alloc),
@@ -223,7 +221,6 @@ impl Solver {
         let places = spread.places();
         let mut solver = Solver {
             excuses: Vec::new(alloc),
-            order: order_of(alloc, &question.named, places)?,
             weights: Weights::new(alloc, places)?,
             pace: Pace::new(),
             learning: None,
@@ -343,6 +340,10 @@ impl Solver {
             self.old plan.values.items plan.sides.items self.new)
             (self.new.excuses ≡ self.old.excuses)) }
     {
+        if self.is_following() {
+            self.follow(network, premises, left)?;
+            return Ok(None);
+        }
         self.tally.steps = self.tally.steps.saturating_add(1);
         if let Some(learning) = self.learning.take() {
             self.learn(network, premises, learning)?;
@@ -351,15 +352,20 @@ impl Solver {
         if let Some(proposal) = self.proposal.take() {
             return self.check(network, premises, proposal, left);
         }
-        self.follow(network, premises)?;
         Ok(None)
     }
 
-    /// Finds out what follows, one step further.
+    /// Whether no contradiction and no plan is looked at.
+    fn is_following(&self) -> bool {
+        self.learning.is_none() && self.proposal.is_none()
+    }
+
+    /// Finds out what follows, by so many steps at the most.
     fn follow<R: Guarded + Drop>(
         &mut self,
         network: &Network<R>,
         premises: &Premises,
+        left: u64,
     ) -> Result<(), AllocError>
         requires means { AllMean R.value_of network.now.library.procedures.items }
         requires kept { IsKept (stored_of R.value_of network.now.library) network.now.cells }
@@ -370,11 +376,24 @@ impl Solver {
         ensures asks { OnOk result (AsksTheSame self.old self.new) }
         ensures excuses { OnOk result (self.new.excuses ≡ self.old.excuses) }
     {
-        match self.spread.step(network)? {
+        if self.spread.is_full() {
+            self.is_lost = true;
+            return Ok(());
+        }
+        let (quiet, taken) = self.spread.run(network, left.min(AT_ONCE))?;
+        self.count_steps(taken);
+        match quiet {
             Quiet::Going => Ok(()),
             Quiet::Clashing => self.begin(network, premises),
             Quiet::Still => self.decide(network, premises),
         }
+    }
+
+    /// So many steps more.
+    fn count_steps(&mut self, steps: u64)
+        ensures { self.new ≡ self.old }
+    {
+        self.tally.steps = self.tally.steps.saturating_add(steps);
     }
 
     /// One contradiction more.
@@ -497,7 +516,7 @@ impl Solver {
             nogood,
         };
         self.tally.learned = self.tally.learned.saturating_add(1);
-        if !self.spread.learn(network, lesson)? {
+        if !self.spread.learn(lesson)? {
             self.begin(network, premises)?;
         }
         Ok(())
@@ -540,7 +559,7 @@ impl Solver {
             Some(place) => {
                 let is_greatest = self.question.goal == Goal::Greatest(place);
                 self.tally.supposed = self.tally.supposed.saturating_add(1);
-                self.is_lost = !self.spread.suppose(network, place, is_greatest)?;
+                self.is_lost = !self.spread.suppose(place, is_greatest)?;
             }
             None => {
                 self.proposal = self.spread.propose(network, premises)?;
@@ -554,13 +573,13 @@ impl Solver {
     /// cells, these are decided before all others: then two plans in a row can't be the same there.
     fn next_place(&self) -> Option<usize> {
         let first = if self.is_enumeration() {
-            self.spread.pick(&self.question.named, &self.weights)
+            self.spread.pick_named(&self.question.named, &self.weights)
         } else {
             None
         };
         match first {
             Some(place) => Some(place),
-            None => self.spread.pick(&self.order, &self.weights),
+            None => self.spread.pick(&self.question.named, &self.weights),
         }
     }
 
@@ -630,6 +649,10 @@ impl Solver {
             self.is_lost = true;
             return Ok(None);
         };
+        if let Some(told) = self.told_before(&facts)? {
+            self.begin_excused(network, premises, told)?;
+            return Ok(None);
+        }
         if !self.excuse(&facts)? {
             self.is_lost = true;
             return Ok(None);
@@ -658,6 +681,20 @@ impl Solver {
         let ground = self.spread.ground(network, premises);
         self.learning = Some(Learning::of_nogood(&ground, nogood)?);
         Ok(())
+    }
+
+    /// Just these facts, where points with them were told. That can be where one of them is that a
+    /// cell is a symbol: what made it so is denied once it is told, and not that it is so.
+    fn told_before(&self, facts: &[Literal]) -> Result<Option<Vec<Literal>>, AllocError>
+        ensures { IfOk result (λ o. IfSome o (λ told. Contains self.now.excuses told.items)) }
+    {
+        if !are_undeniable(facts) {
+            return Ok(None);
+        }
+        match find(&self.excuses, facts) {
+            Some(at) => copy_at(self.spread.alloc(), &self.excuses, at),
+            None => Ok(None),
+        }
     }
 
     /// From now on points are excused that have all of these facts. Where the least or the greatest
@@ -698,6 +735,38 @@ impl Solver {
     {
         matches!(self.question.goal, Goal::Least(_) | Goal::Greatest(_))
     }
+}
+
+/// Whether one of the facts is that a place is some symbol, which has no denial.
+fn are_undeniable(facts: &[Literal]) -> bool {
+    facts
+        .iter()
+        .any(|literal| matches!(literal.fact, Fact::Same(_)))
+}
+
+/// The number of just these facts among those that are excused.
+fn find(excuses: &[Vec<Literal>], facts: &[Literal]) -> Option<usize> {
+    for (at, told) in excuses.iter().enumerate() {
+        if told.as_slice() == facts {
+            return Some(at);
+        }
+    }
+    None
+}
+
+/// The facts with this number again.
+fn copy_at(
+    alloc: Global,
+    excuses: &[Vec<Literal>],
+    at: usize,
+) -> Result<Option<Vec<Literal>>, AllocError>
+    ensures { IfOk result (λ o. IfSome o (λ facts.
+        Contains (map (λ v. v.items) excuses.now) facts.items)) }
+{
+    let Some(told) = excuses.get(at) else {
+        return Ok(None);
+    };
+    Ok(Some(Vec::from_slice(alloc, told)?))
 }
 
 /// Whether the only fact follows from the first of those before, and is another one.

@@ -9,8 +9,10 @@ ghost use Rattle.prop_cells.specs.Data.{Data, IsKept};
 ghost use Rattle.prop_refuting.specs.Nogoods.{Nogood as NogoodOf};
 ghost use Rattle.prop_learned.specs.Stores.{IsKeptIn};
 
-use crate::choosing::{first_try, pick};
+use crate::choosing::{first_try, pick, pick_named};
+use crate::present::Present;
 use crate::proposal::Proposal;
+use crate::wiring::Wiring;
 use prop_cells::{Instance, Network};
 use prop_deriving::clash::Clash;
 use prop_deriving::ground::Ground;
@@ -41,6 +43,11 @@ pub(crate) enum Quiet {
     /// Something was said that can't be.
     Clashing,
 }
+
+/// How many entries there may be for each place, or in all where that is more.
+const MANY: usize = 32;
+
+const MOST_ENTRIES: usize = 1_000_000;
 
 /// How many literals a nogood has at the most that is never forgotten.
 const SHORT: usize = 2;
@@ -74,6 +81,8 @@ pub(crate) struct Spread {
     pub(crate) root: Worldview,
     pub(crate) sides: Sides,
     pub(crate) trail: Trail,
+    pub(crate) present: Present,
+    pub(crate) wiring: Wiring,
     pub(crate) waiting: Waiting,
     pub(crate) store: Store,
     /// How many elements each place may have.
@@ -94,12 +103,9 @@ impl Model for Spread {
 }
 
 /// What is believed of the inputs, in their order.
-fn gather(trail: &Trail, inputs: &[usize], args: &mut [Info; MOST]) {
+fn gather(present: &Present, inputs: &[usize], args: &mut [Info; MOST]) {
     for j in 0..inputs.len().min(MOST) {
-        let place = inputs[j];
-        if place < trail.places() {
-            args[j] = trail.info(place);
-        }
+        args[j] = present.info(inputs[j]);
     }
 }
 
@@ -118,53 +124,11 @@ fn is_idle<R: Guarded + Drop>(network: &Network<R>, x: &Instance, args: &[Info])
     }
 }
 
-/// Whether an instance heeds such changes of a place.
-fn heeds<R: Guarded + Drop>(
-    network: &Network<R>,
-    instance: usize,
-    place: usize,
-    changes: Changes,
-) -> bool {
-    if instance >= network.instances() {
-        return false;
-    }
-    let x = network.data().instance(instance);
-    if x.procedure() >= network.library().len() {
-        return false;
-    }
-    let rule = network.library().get(x.procedure()).rule();
-    let count = x.inputs().len();
-    for j in 0..count {
-        if x.inputs()[j] == place && changes.meets(rule.heeds(j, count)) {
-            return true;
-        }
-    }
-    false
-}
-
 /// The other elements.
 fn without_bit(info: Info, bit: u64) -> Info {
     match info {
         Info::Set(elements) => Info::from_bits(elements.bits() & !bit),
         _ => info,
-    }
-}
-
-/// The instances that heed such changes of a place wait.
-fn wake<R: Guarded + Drop>(
-    waiting: &mut Waiting,
-    network: &Network<R>,
-    place: usize,
-    changes: Changes,
-) {
-    if place >= network.cells() {
-        return;
-    }
-    for reader in network.readers(place) {
-        let instance = *reader;
-        if instance < waiting.instances() && heeds(network, instance, place, changes) {
-            waiting.wake(instance);
-        }
     }
 }
 
@@ -217,8 +181,19 @@ impl Spread {
     }
 
     /// Of these places one that is open, which is decided next.
-    pub(crate) fn pick(&self, order: &[usize], weights: &Weights) -> Option<usize> {
-        pick(&self.trail, order, weights)
+    pub(crate) fn pick_named(&self, named: &[usize], weights: &Weights) -> Option<usize> {
+        pick_named(&self.trail, &self.present, named, weights)
+    }
+
+    /// The same of all places, where of several the first of these ones is taken.
+    pub(crate) fn pick(&self, named: &[usize], weights: &Weights) -> Option<usize> {
+        pick(&self.trail, &self.present, named, weights)
+    }
+
+    /// Whether there are more entries than a search needs that comes to an end.
+    pub(crate) fn is_full(&self) -> bool {
+        let most = self.trail.places().saturating_mul(MANY).max(MOST_ENTRIES);
+        self.trail.len() > most
     }
 
     /// What is believed, as a plan; none where a choice has several sides left.
@@ -234,12 +209,7 @@ impl Spread {
     }
 
     /// Supposes something of a place that is open; false where nothing can be.
-    pub(crate) fn suppose<R: Guarded + Drop>(
-        &mut self,
-        network: &Network<R>,
-        place: usize,
-        is_greatest: bool,
-    ) -> Result<bool, AllocError>
+    pub(crate) fn suppose(&mut self, place: usize, is_greatest: bool) -> Result<bool, AllocError>
         ensures same { self.new ≡ self.old }
     {
         if place >= self.trail.places() {
@@ -249,23 +219,19 @@ impl Spread {
             return Ok(false);
         };
         self.trail.raise()?;
-        self.say_fact(network, Literal { place, fact }, Source::Decision)
+        self.say_fact(Literal { place, fact }, Source::Decision)
     }
 
     /// Goes back to where what was learned says something, keeps it, and says it; false where that
     /// can't be.
-    pub(crate) fn learn<R: Guarded + Drop>(
-        &mut self,
-        network: &Network<R>,
-        lesson: Lesson,
-    ) -> Result<bool, AllocError>
+    pub(crate) fn learn(&mut self, lesson: Lesson) -> Result<bool, AllocError>
         ensures root { self.new.root ≡ self.old.root }
         ensures kept { OnOk result ((g : NogoodOf) → IsKeptIn self.new.nogoods g
             → IsKeptIn self.old.nogoods g ⊎ (g ≡ lesson.nogood)) }
     {
         self.back(lesson.level)?;
         let unit = self.keep(lesson)?;
-        self.deny(network, unit)
+        self.deny(unit)
     }
 
     /// Keeps what was learned.
@@ -311,19 +277,14 @@ impl Spread {
             choices: premises.choices(),
             sides: &self.sides,
             trail: &self.trail,
+            course: self.present.course(),
             store: &self.store,
             root: &self.root,
         }
     }
 
     /// Says something of a place; false where that can't be.
-    pub(crate) fn say<R: Guarded + Drop>(
-        &mut self,
-        network: &Network<R>,
-        place: usize,
-        said: Info,
-        by: Source,
-    ) -> Result<bool, AllocError>
+    pub(crate) fn say(&mut self, place: usize, said: Info, by: Source) -> Result<bool, AllocError>
         ensures same { self.new ≡ self.old }
     {
         if place >= self.trail.places() {
@@ -336,17 +297,11 @@ impl Spread {
             out: None,
             by,
         };
-        Ok(self.take_in(network, outcome, clash))
+        self.take_in(outcome, clash)
     }
 
     /// Rules a number out of a place; false where that can't be.
-    fn rule_out<R: Guarded + Drop>(
-        &mut self,
-        network: &Network<R>,
-        place: usize,
-        number: i64,
-        by: Source,
-    ) -> Result<bool, AllocError>
+    fn rule_out(&mut self, place: usize, number: i64, by: Source) -> Result<bool, AllocError>
         ensures same { self.new ≡ self.old }
     {
         if place >= self.trail.places() {
@@ -359,52 +314,40 @@ impl Spread {
             out: Some(number),
             by,
         };
-        Ok(self.take_in(network, outcome, clash))
+        self.take_in(outcome, clash)
     }
 
     /// Says a fact; false where that can't be.
-    pub(crate) fn say_fact<R: Guarded + Drop>(
-        &mut self,
-        network: &Network<R>,
-        literal: Literal,
-        by: Source,
-    ) -> Result<bool, AllocError>
+    pub(crate) fn say_fact(&mut self, literal: Literal, by: Source) -> Result<bool, AllocError>
         ensures same { self.new ≡ self.old }
     {
         match literal.fact {
-            Fact::Other(number) => self.rule_out(network, literal.place, number, by),
-            fact => self.say(network, literal.place, fact.info(), by),
+            Fact::Other(number) => self.rule_out(literal.place, number, by),
+            fact => self.say(literal.place, fact.info(), by),
         }
     }
 
     /// Takes in what came of something that was said: who reads the place waits, or it clashed.
-    fn take_in<R: Guarded + Drop>(
-        &mut self,
-        network: &Network<R>,
-        outcome: Outcome,
-        clash: Clash,
-    ) -> bool
+    fn take_in(&mut self, outcome: Outcome, clash: Clash) -> Result<bool, AllocError>
         ensures same { self.new ≡ self.old }
     {
         match outcome {
-            Outcome::Same => true,
+            Outcome::Same => Ok(true),
             Outcome::Changed(changes) => {
-                wake(&mut self.waiting, network, clash.place, changes);
-                true
+                self.present.follow(&self.trail)?;
+                self.wiring
+                    .wake(&mut self.waiting, &self.present, clash.place, changes);
+                Ok(true)
             }
             Outcome::Clash => {
                 self.clash = Some(clash);
-                false
+                Ok(false)
             }
         }
     }
 
     /// Says that a literal isn't so, by a nogood; false where that can't be.
-    pub(crate) fn deny<R: Guarded + Drop>(
-        &mut self,
-        network: &Network<R>,
-        unit: Unit,
-    ) -> Result<bool, AllocError>
+    pub(crate) fn deny(&mut self, unit: Unit) -> Result<bool, AllocError>
         ensures same { self.new ≡ self.old }
     {
         let place = unit.literal.place;
@@ -414,7 +357,7 @@ impl Spread {
         match unit.literal.fact.negation(*size) {
             Some(fact) => {
                 let by = Source::Nogood(unit.number);
-                self.say_fact(network, Literal { place, fact }, by)
+                self.say_fact(Literal { place, fact }, by)
             }
             None => Ok(true),
         }
@@ -435,7 +378,7 @@ impl Spread {
         }
         let x = network.data().instance(instance);
         let mut args = [Info::Nothing; MOST];
-        gather(&self.trail, x.inputs(), &mut args);
+        gather(&self.present, x.inputs(), &mut args);
         let args = &args[..x.inputs().len().min(MOST)];
         if is_idle(network, x, args) {
             return Ok(true);
@@ -444,7 +387,7 @@ impl Spread {
             return Ok(true);
         };
         let by = Source::Call(instance);
-        if !self.say(network, x.output(), said, by)? {
+        if !self.present.info(x.output()).implies(said) && !self.say(x.output(), said, by)? {
             return Ok(false);
         }
         self.rule_out_by(network, x, args, by)
@@ -469,7 +412,7 @@ impl Spread {
         }
         for place in 0..args.len() {
             if let Some(number) = rule.rules_out(x.param(), args, place) {
-                if !self.rule_out(network, x.output(), number, by)? {
+                if !self.rule_out(x.output(), number, by)? {
                     return Ok(false);
                 }
             }
@@ -479,11 +422,7 @@ impl Spread {
 
     /// Looks at a statement under a side: what the side says where it is taken, and that it isn't
     /// where that can't be. False where something can't be.
-    fn touch<R: Guarded + Drop>(
-        &mut self,
-        network: &Network<R>,
-        number: usize,
-    ) -> Result<bool, AllocError>
+    fn touch(&mut self, number: usize) -> Result<bool, AllocError>
         ensures same { self.new ≡ self.old }
     {
         let Some(sided) = self.sides.get(number) else {
@@ -492,8 +431,8 @@ impl Spread {
         let sided = *sided;
         let by = Source::Side(number);
         match self.standing(&sided) {
-            Standing::Taken => self.say(network, sided.cell, sided.info, by),
-            Standing::Barred(others) => self.say(network, sided.choice, others, by),
+            Standing::Taken => self.say(sided.cell, sided.info, by),
+            Standing::Barred(others) => self.say(sided.choice, others, by),
             Standing::Open => Ok(true),
         }
     }
@@ -526,11 +465,7 @@ impl Spread {
     }
 
     /// Looks at all that an entry's place touches; false where something can't be.
-    fn look<R: Guarded + Drop>(
-        &mut self,
-        network: &Network<R>,
-        place: usize,
-    ) -> Result<bool, AllocError>
+    fn look(&mut self, place: usize) -> Result<bool, AllocError>
         ensures same { self.new ≡ self.old }
     {
         for n in 0..self.sides.touching(place).len() {
@@ -538,7 +473,7 @@ impl Spread {
                 return Ok(true);
             };
             let number = *number;
-            if !self.touch(network, number)? {
+            if !self.touch(number)? {
                 return Ok(false);
             }
         }
@@ -549,7 +484,7 @@ impl Spread {
                 Look::Silent => at += 1,
                 Look::Denies { literal, number } => {
                     at += 1;
-                    if !self.deny(network, Unit { literal, number })? {
+                    if !self.deny(Unit { literal, number })? {
                         return Ok(false);
                     }
                 }
@@ -558,12 +493,30 @@ impl Spread {
         Ok(true)
     }
 
-    /// Takes one step: looks at an entry, denies what a nogood denies by itself, or calls an
-    /// instance.
-    pub(crate) fn step<R: Guarded + Drop>(
+    /// Takes so many steps at the most, and tells how many it took.
+    pub(crate) fn run<R: Guarded + Drop>(
         &mut self,
         network: &Network<R>,
-    ) -> Result<Quiet, AllocError>
+        most: u64,
+    ) -> Result<(Quiet, u64), AllocError>
+        requires means { AllMean R.value_of network.now.library.procedures.items }
+        requires kept { IsKept (stored_of R.value_of network.now.library) network.now.cells }
+        ensures same { self.new ≡ self.old }
+    {
+        let mut taken: u64 = 0;
+        for _ in 0..most {
+            let quiet = self.step(network)?;
+            taken = taken.saturating_add(1);
+            if quiet != Quiet::Going {
+                return Ok((quiet, taken));
+            }
+        }
+        Ok((Quiet::Going, taken))
+    }
+
+    /// Takes one step: looks at an entry, denies what a nogood denies by itself, or calls an
+    /// instance.
+    fn step<R: Guarded + Drop>(&mut self, network: &Network<R>) -> Result<Quiet, AllocError>
         requires means { AllMean R.value_of network.now.library.procedures.items }
         requires kept { IsKept (stored_of R.value_of network.now.library) network.now.cells }
         ensures same { self.new ≡ self.old }
@@ -571,11 +524,11 @@ impl Spread {
         let goes_on = if self.seen < self.trail.len() {
             let place = self.trail.entry(self.seen).place;
             self.seen += 1;
-            self.look(network, place)?
+            self.look(place)?
         } else if self.denied < self.units.len() {
             let unit = self.units[self.denied];
             self.denied += 1;
-            self.deny(network, unit)?
+            self.deny(unit)?
         } else {
             match self.waiting.next() {
                 Some(instance) => self.call(network, instance)?,
@@ -595,6 +548,7 @@ impl Spread {
         ensures kept { OnOk result ((g : NogoodOf) → IsKeptIn self.new.nogoods g
             → IsKeptIn self.old.nogoods g) }
     {
+        self.present.take_back(&self.trail, level);
         self.trail.back(level);
         self.store.back(level)?;
         self.waiting.clear();

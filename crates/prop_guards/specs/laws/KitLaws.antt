@@ -1,7 +1,7 @@
 -- The laws of what is known of the kit's rules without a call.
 use Rattle.std.specs.Prelude.{◌≡◌, ◌≢◌, ℕ, zero, suc, ℤ, pos, ◌+ℤ◌, Bool, true, false}
 use Rattle.std.specs.Prelude.{not, ◌&&◌, ◌||◌, ◌==◌, List, [], ◌∷◌, Option, Some, None, IfSome}
-use Rattle.std.specs.Prelude.{if◌then◌else◌}
+use Rattle.std.specs.Prelude.{if◌then◌else◌, int_le, int_lt}
 use Rattle.std.specs.Ordering.{int_eq}
 use Rattle.std.proofs.Common.{arith, refl, rules, ap, sym, subst, ◌∙◌, eq-eqb}
 use Rattle.std.proofs.lemmas.Bool.{and_parts}
@@ -12,6 +12,7 @@ use Rattle.prop_intervals.specs.Comparisons.{yes_bits, no_bits}
 use Rattle.prop_intervals.specs.inner.Parts.{less_of, below_of, above_of, square_of}
 use Rattle.prop_intervals.specs.Spans.{sum_of, difference_of, product_of, quotient_of}
 use Rattle.prop_lattice.proofs.EndLemmas.{span_from-none}
+use Rattle.prop_lattice.specs.Ends.{elements_from}
 use Rattle.prop_lattice.specs.Points.{Point, Number, Element, Holds}
 use Rattle.prop_lattice.specs.declared.elements.Elements as sets
 use Rattle.prop_lattice.specs.declared.info.Info.{Info}
@@ -44,7 +45,7 @@ use Rattle.prop_arith.specs.laws.SingleLaws.{never, no_element}
 use Rattle.prop_guards.specs.Guards.{AreSilent, AreRepeated, AreRuledOut, IsOwn}
 use Rattle.prop_guards.specs.Guards.{IsRuledOut}
 use Rattle.prop_guards.specs.Kit.{is_silent, is_silent_of_two, is_repeated, is_inside}
-use Rattle.prop_guards.specs.Kit.{leaves_open, own_of, ruled_out}
+use Rattle.prop_guards.specs.Kit.{are_mixed, leaves_open, own_of, ruled_out}
 use Rattle.prop_guards.specs.Known.{is_settled, number_of, just}
 use Rattle.prop_guards.specs.laws.KnownLaws.{IsJust, just_holds, just_is, nothing_is, number_is}
 use Rattle.prop_guards.specs.laws.KnownLaws.{or_first}
@@ -105,6 +106,20 @@ spans_silent : (f : spans.Span → spans.Span → Info) (x y : Info)
     → (is_nothing x || is_nothing y) ≡ true → on_spans f x y ≡ Nothing
 spans_silent f (Span a) (Span b) e = absurd (never e)
 spans_silent f x y e = refl
+
+less_silent : (x y : Info) → are_mixed x y ≡ true → on_spans less_of x y ≡ Nothing
+less_silent (Span x) (Span y) e = by (int_lt x.hi y.lo) refl (int_le y.hi x.lo) refl
+  where
+    parts : (int_le y.lo x.hi ≡ true) × (int_lt x.lo y.hi ≡ true)
+    parts = and_parts (int_le y.lo x.hi) (int_lt x.lo y.hi) e
+
+    by : (s : Bool) → int_lt x.hi y.lo ≡ s → (t : Bool) → int_le y.hi x.lo ≡ t
+        → (if s then elements_from yes_bits else (if t then elements_from no_bits else Nothing))
+        ≡ Nothing
+    by true u t v = absurd (omega (arith, ints, parts.0))
+    by false u true v = absurd (omega (arith, ints, parts.1))
+    by false u false v = refl
+less_silent x y e = spans_silent less_of x y e
 
 set_silent : (f : sets.Elements → Info) (x : Info) → (is_nothing x || false) ≡ true
     → on_set f x ≡ Nothing
@@ -329,7 +344,7 @@ kit_silent Root param args c e =
     root_silent args e
 kit_silent Less param args c e =
     sym (value_is Less param args) ∙ two_silent (on_spans less_of) (λ a. is_silent Less a ≡ true)
-    (spans_silent less_of) args e
+    less_silent args e
 kit_silent Below param args c e =
     sym (value_is Below param args) ∙ two_silent (on_truth below_of) (λ a. is_silent Below a ≡ true)
     (by_truth_silent below_of below_open) args e

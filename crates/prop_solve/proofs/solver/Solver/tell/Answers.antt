@@ -11,8 +11,8 @@ use Rattle.prop_solve.specs.Searches.{IsSearch, Proposed, Search}
 use Rattle.prop_solve.proofs.SearchLemmas.{contains_then, satisfy_same, with_excuses}
 use Rattle.prop_solve.proofs.solver.Solver.tell.Goals as goal
 
-pub begin_excused-requires-clause-search : goal.begin_excused-requires-clause-search
-begin_excused-requires-clause-search g c =
+pub begin_excused-requires-2-clause-search : goal.begin_excused-requires-2-clause-search
+begin_excused-requires-2-clause-search g c =
     let library = stored_of g.R.Rule.value_of c.args.network.now.library in
     let d = c.args.network.now.cells in
     let premises = c.args.premises.now in
@@ -23,14 +23,14 @@ begin_excused-requires-clause-search g c =
     (c.in_ok-excuse.ensures.grows ok) c.requires.search in
     subst P (sym c.excuse.ensures.others) h
 
-pub begin_excused-requires-clause-excused : goal.begin_excused-requires-clause-excused
-begin_excused-requires-clause-excused g c =
+pub begin_excused-requires-2-clause-excused : goal.begin_excused-requires-2-clause-excused
+begin_excused-requires-2-clause-excused g c =
     let is : c.in_ok-excuse.field-0 ≡ true = c.if-not-branch.false in
     let ok : Ok c.in_ok-excuse.field-0 ≡ Ok true = cc in
-    let facts = c.deref-2.result.now in
+    let facts = c.deref-3.result.now in
     let P : List Literal → Type 0 = λ l. Contains c.excuse.new.self.excuses l in
     let Q : List (List Literal) → Type 0 = λ l. Contains l facts in
-    subst P c.deref-2.ensures.value (subst Q (sym (c.in_ok-excuse.ensures.excused ok)) (contains_then _ _ facts))
+    subst P c.deref-3.ensures.value (subst Q (sym (c.in_ok-excuse.ensures.excused ok)) (contains_then _ _ facts))
 
 pub returns-clause-found : goal.returns-clause-found
 returns-clause-found g c =
@@ -63,6 +63,6 @@ returns-clause-found g c =
           c.requires.proposed.view c.requires.satisfied));
       facts = facts;
       excusing = subst V c.self.view_is (subst U c.deref.ensures.value (subst T c.in-Some.is c.in_ok-facts.ensures));
-      excused = c.in_ok-begin_excused.ensures.excuses
-          ∙ subst W c.deref-2.ensures.value (c.in_ok-excuse.ensures.excused ok);
+      excused = c.in_ok-begin_excused-2.ensures.excuses
+          ∙ subst W c.deref-3.ensures.value (c.in_ok-excuse.ensures.excused ok);
     }

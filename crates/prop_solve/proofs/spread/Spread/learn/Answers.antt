@@ -6,7 +6,7 @@ use Rattle.prop_solve.proofs.SearchLemmas.{on_ok}
 use Rattle.prop_solve.proofs.spread.Spread.learn.Goals as goal
 
 pub returns-clause-kept : goal.returns-clause-kept
-returns-clause-kept g c =
+returns-clause-kept c =
     on_ok c.deny.result ((x : Nogood) → IsKeptIn c.deny.new.self.nogoods x
     → IsKeptIn c.args.self.now.nogoods x ⊎ (x ≡ c.args.lesson.nogood))
     (λ x k. let P : Spread → Type 0 = λ s. IsKeptIn s.nogoods x in
