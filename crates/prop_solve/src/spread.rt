@@ -124,6 +124,12 @@ fn is_idle<R: Guarded + Drop>(network: &Network<R>, x: &Instance, args: &[Info])
     }
 }
 
+/// Whether a call can tell what was said from what was believed before. A number that is ruled out
+/// within a span is none of its ends.
+fn is_seen(said: &Clash, changes: Changes) -> bool {
+    said.out.is_none() || changes.low || changes.high || changes.point
+}
+
 /// The other elements.
 fn without_bit(info: Info, bit: u64) -> Info {
     match info {
@@ -335,8 +341,10 @@ impl Spread {
             Outcome::Same => Ok(true),
             Outcome::Changed(changes) => {
                 self.present.follow(&self.trail)?;
-                self.wiring
-                    .wake(&mut self.waiting, &self.present, clash.place, changes);
+                if is_seen(&clash, changes) {
+                    self.wiring
+                        .wake(&mut self.waiting, &self.present, clash.place, changes);
+                }
                 Ok(true)
             }
             Outcome::Clash => {
