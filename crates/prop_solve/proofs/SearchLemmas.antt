@@ -259,6 +259,7 @@ module _ (library : List Stored) (d : Data) (premises : List Origin) where
       → IsFound library d premises old values sides new
   found_along old mid new values sides a e f = record {
     sided = f.sided;
+    single = f.single;
     satisfied = f.satisfied;
     facts = f.facts;
     excusing =

@@ -1,5 +1,5 @@
 -- What a search answers.
-use Rattle.std.specs.Prelude.{◌≡◌, ℕ, List, Option, Some, None}
+use Rattle.std.specs.Prelude.{◌≡◌, ◌<◌, ℕ, List, Option, Some, None, length}
 use Rattle.prop_lattice.specs.Points.{Point}
 use Rattle.prop_lattice.specs.declared.info.Info.{Info}
 use Rattle.prop_numbers.specs.Sets.{set_of, IsPart}
@@ -10,7 +10,8 @@ use Rattle.prop_cells.specs.Data.{Data}
 use Rattle.prop_cells.specs.Points.{ArePoints}
 use Rattle.prop_facts.specs.declared.fact.Literal.{Literal}
 use Rattle.prop_plans.specs.Held.{AreHeld, attached_of}
-use Rattle.prop_plans.specs.Plans.{Satisfy}
+use Rattle.prop_plans.specs.Plans.{Satisfy, value_in}
+use Rattle.prop_points.specs.Singles.{IsSingle}
 use Rattle.prop_deriving.specs.Known.{IsExcused}
 use Rattle.prop_solve.specs.Questions.{AreExcusing, excused_then}
 use Rattle.prop_solve.specs.Searches.{Search}
@@ -22,12 +23,18 @@ pub record AsksTheSame (old new : Search) : Type 0 where
   pub goal : new.goal ≡ old.goal
   pub named : new.named ≡ old.named
 
+-- each value leaves a single point
+abbrev pub AreSingle : Data → List Info → Type 0
+AreSingle d values = (points : ℕ → Point)
+    × ((cell : ℕ) → cell < length d.kinds → IsSingle (value_in values cell) (points cell))
+
 -- A side of each choice, and a value of each cell that leaves a single point: these points satisfy
 -- all that is believed with those sides, and each procedure. From then on points are excused that
 -- have its facts.
 pub record IsFound (library : List Stored) (d : Data) (premises : List Origin) (old : Search)
     (values : List Info) (sides : List ℕ) (new : Search) : Type 0 where
   pub sided : IsChoiceList (choices_of premises) sides
+  pub single : AreSingle d values
   pub satisfied :
       Satisfy library d (worldview (believed_in premises) (choices_of premises) sides) values
   pub facts : List Literal

@@ -8,6 +8,7 @@ ghost use Rattle.prop_procedures.specs.Stored.{Stored};
 ghost use Rattle.prop_cells.specs.Data.{Data, IsKept};
 ghost use Rattle.prop_plans.specs.Plans.{IsUnderWay, Satisfy};
 ghost use Rattle.prop_plans.specs.Verdicts.{IfYes};
+ghost use Rattle.prop_solve.specs.Answers.{AreSingle};
 ghost use Rattle.prop_solve.specs.Searches.{IsProposed};
 
 use prop_cells::Network;
@@ -130,6 +131,8 @@ impl Proposal {
         ensures others { self.new ≡ record self.old { check = self.new.check } }
         ensures under_way { IsUnderWay (stored_of R.value_of network.now.library)
             network.now.cells self.new.check }
+        ensures single { IfYes result.verdict
+            (AreSingle network.now.cells self.new.check.values) }
         ensures satisfied { IfYes result.verdict (Satisfy
             (stored_of R.value_of network.now.library) network.now.cells (set_of self.new.view)
             self.new.check.values) }

@@ -13,7 +13,7 @@ ghost use Rattle.prop_learned.specs.Stores.{IsKeptIn};
 ghost use Rattle.prop_deriving.specs.Known.{IsKnown};
 ghost use Rattle.prop_solve.specs.Questions.{Grow, Imply, excused_then, is_optimum};
 ghost use Rattle.prop_solve.specs.Searches.{IsSearch, IsProposed, bare};
-ghost use Rattle.prop_solve.specs.Answers.{AsksTheSame, IsAnswer, IsFound, IfFound};
+ghost use Rattle.prop_solve.specs.Answers.{AreSingle, AsksTheSame, IsAnswer, IsFound, IfFound};
 
 use crate::pace::Pace;
 use crate::present::Present;
@@ -634,6 +634,7 @@ impl Solver {
             premises.now self.old }
         requires proposed { IsProposed (stored_of R.value_of network.now.library) network.now.cells
             premises.now proposal }
+        requires single { AreSingle network.now.cells proposal.check.values }
         requires satisfied { Satisfy (stored_of R.value_of network.now.library) network.now.cells
             (set_of proposal.view) proposal.check.values }
         ensures search { OnOk result (IsSearch (stored_of R.value_of network.now.library)

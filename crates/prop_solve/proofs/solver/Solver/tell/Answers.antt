@@ -6,6 +6,7 @@ use Rattle.prop_premises.specs.Origins.{believed_in, choices_of}
 use Rattle.prop_procedures.specs.Kept.{stored_of}
 use Rattle.prop_facts.specs.declared.fact.Literal.{Literal}
 use Rattle.prop_plans.specs.Plans.{Satisfy}
+use Rattle.prop_solve.specs.Answers.{AreSingle}
 use Rattle.prop_solve.specs.Questions.{AreExcusing, excused_then}
 use Rattle.prop_solve.specs.Searches.{IsSearch, Proposed, Search}
 use Rattle.prop_solve.proofs.SearchLemmas.{contains_then, satisfy_same, with_excuses}
@@ -58,6 +59,7 @@ returns-clause-found g c =
     let W : List Literal → Type 0 = λ f. c.excuse.new.self.excuses ≡ excused_then old.goal old.excuses f in
     record {
       sided = subst P (sym c.into_sides-sides.ensures) c.requires.proposed.sides;
+      single = subst (AreSingle d) (sym same) c.requires.single;
       satisfied = subst R (sym c.into_sides-sides.ensures) (subst Q (sym same)
           (satisfy_same library d premises (set_of c.args.proposal.view) world c.args.proposal.check.values
           c.requires.proposed.view c.requires.satisfied));
