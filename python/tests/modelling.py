@@ -202,6 +202,21 @@ truths: st.SearchStrategy[Recipe] = st.recursive(
 )
 
 
+# Of three numbers that are 0 or 1 two are the same.
+TWO_OF_THREE: Recipe = (
+    "different",
+    *(("remainder", cell(name), ("constant", 2)) for name in ENDS),
+)
+
+
+def far(recipe: Recipe) -> Recipe:
+    """The recipe with a number in the place of z that may lie beyond 10^18: what is made of it is
+    kept within gates."""
+    if recipe == cell("z"):
+        return ("product", recipe, ("constant", 6 * 10**17))
+    return tuple(far(arg) if isinstance(arg, tuple) else arg for arg in recipe)
+
+
 def names_in(recipe: Recipe) -> set[str]:
     """The cells in a recipe."""
     if recipe[0] == "cell":

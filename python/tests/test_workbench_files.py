@@ -5,15 +5,18 @@ from tempfile import TemporaryDirectory
 from typing import Any
 
 import pytest
-from hypothesis import given
+from hypothesis import example, given
 from hypothesis import strategies as st
 from modelling import (
     CELLS,
+    TWO_OF_THREE,
     Bench,
     Recipe,
     all_points,
     bench,
     built,
+    cell,
+    far,
     meant,
     names_in,
     truths,
@@ -74,7 +77,19 @@ def test_a_file_is_the_workbench(program: str, recipes: list[Recipe]) -> None:
             assert asked(session) == asked(w.session)
 
 
-@given(truths)
+PAIR: Recipe = ("later", cell("d"), cell("e"))
+LESS: Recipe = ("less", cell("x"), cell("y"))
+# (the same elements are never a pair, and one number always differs)
+NEVER: Recipe = ("later", cell("d"), cell("d"))
+NO: Recipe = ("not", ("different", cell("x")))
+
+
+@given(st.one_of(truths, truths.map(far)))
+@example(recipe=("if", NEVER, NO, cell("b")))
+@example(recipe=("and", ("not", PAIR), ("or", PAIR, cell("b"))))
+@example(recipe=("and", PAIR, ("equal", PAIR, cell("b"))))
+@example(recipe=("and", LESS, ("xor", LESS, far(("less", cell("z"), cell("x"))))))
+@example(recipe=TWO_OF_THREE)
 def test_the_lines_of_a_constraint_are_all_that_it_needs(program: str, recipe: Recipe) -> None:
     """They say the same in a session that has the cells alone, also where others share cells."""
     alone, among = bench(program), bench(program)
@@ -90,6 +105,22 @@ def test_the_lines_of_a_constraint_are_all_that_it_needs(program: str, recipe: R
         session.send_all([line for line in lines if line not in declared])
         alone.workbench.require(built(recipe, alone.cells), under="it")
         assert asked(session) == asked(alone.workbench.session)
+
+
+def test_the_lines_of_a_constraint_join_its_own_cells(program: str) -> None:
+    """Also where they are joined by a cell that joins others too."""
+    made = bench(program)
+    with made.workbench as w, Session(program) as session:
+        session.send_all(w.model.base())
+        declared = set(session.lines)
+        pair, b = built(PAIR, made.cells), made.cells["b"]
+        w.require(~pair, under="other")
+        w.require(~pair & (pair | b), under="it")
+        lines = w.lines(~pair & (pair | b))
+        session.send_all([line for line in lines if line not in declared])
+        assert str(session.send("ask b")) == "b = yes"
+        w.kick("other")
+        assert b.ask().value is True
 
 
 @given(st.lists(truths, min_size=1, max_size=3), st.data())

@@ -2,15 +2,18 @@
 
 from typing import Any
 
-from hypothesis import assume, given
+from hypothesis import assume, example, given
 from hypothesis import strategies as st
 from modelling import (
     CELLS,
+    TWO_OF_THREE,
     Bench,
     Recipe,
     all_points,
     bench,
     built,
+    cell,
+    far,
     meant,
     names_in,
     tell_all,
@@ -100,6 +103,33 @@ def test_a_believed_premise_is_as_strong_as_none(program: str, recipes: list[Rec
         for number in range(len(recipes)):
             gated.workbench.bring(f"p{number}")
         assert all_left(gated) == believed
+
+
+# One of two elements, by a number.
+GUARDED: Recipe = ("if", ("less", cell("z"), ("constant", 0)), cell("d"), cell("e"))
+
+
+@given(st.one_of(truths, truths.map(far)), st.booleans(), st.booleans())
+@example(recipe=("later", cell("d"), cell("e")), holds=True, is_plain=True)
+@example(recipe=("later", cell("d"), cell("e")), holds=False, is_plain=False)
+@example(recipe=far(("later", GUARDED, cell("e"))), holds=False, is_plain=False)
+@example(recipe=TWO_OF_THREE, holds=True, is_plain=True)
+@example(recipe=TWO_OF_THREE, holds=True, is_plain=False)
+def test_what_is_stated_is_known_where_its_truth_stands(
+    program: str, recipe: Recipe, holds: bool, is_plain: bool
+) -> None:
+    """Whichever is stated first, it or what speaks of its truth."""
+    found = []
+    for is_first in (True, False):
+        made = bench(program)
+        with made.workbench as w:
+            it, truth = built(recipe, made.cells), w.truth("truth")
+            stated = {"it": it if holds else ~it, "of it": truth == it}
+            for name in stated if is_first else reversed(stated):
+                w.require(stated[name], under=None if is_plain else name)
+            found.append(all_left(made))
+            assert found[-1] is None or truth.ask().value is holds
+    assert found[0] == found[1]
 
 
 @given(truths, truths, st.data())

@@ -78,31 +78,25 @@ class Translation:
         return self.writer.made(copy, since)
 
     def join(self, each: Node, cell: str, context: Context) -> None:
-        """Has the cells of one expression in several contexts hold the same while they hold."""
-        since = self.writer.position
-        self._join(each, cell, context)
-        self.writer.shared(since)
-
-    def _join(self, each: Node, cell: str, context: Context) -> None:
-        """Joins a cell to the others of its expression: those within gates are joined by one that
-        is in none."""
+        """Has the cells of one expression in several contexts hold the same while they hold: those
+        within gates are joined by one that is in none."""
         gated = self._gated.setdefault(each, [])
         joint = self._joints.get(each)
         if not context.is_gated:
             self._joints[each] = cell
             if joint:
-                self.writer.link(joint, cell, context)
+                self.writer.join(joint, cell, context)
                 return
             for other, inside in gated:
-                self.writer.link(cell, inside, other)
+                self.writer.join(cell, inside, other)
             return
         gated.append((context, cell))
         if joint:
-            self.writer.link(joint, cell, context)
+            self.writer.join(joint, cell, context)
         elif len(gated) > 1:
-            joint = self._joints[each] = self.writer.new_cell(each.kind)
+            joint = self._joints[each] = self.writer.joint(each.kind)
             for other, inside in gated:
-                self.writer.link(joint, inside, other)
+                self.writer.join(joint, inside, other)
 
     def define_as(self, meaning: Node, context: Context, cell: str) -> None:
         """Has a cell, one of the context's own, hold what another expression does."""
@@ -143,6 +137,9 @@ class Translation:
             return
         context.stated.add(said)
         where = self._place(core, context)
+        if holds and core.op is Op.RAW and core.args[0].op is Op.ALL_DIFFERENT:
+            # (that tells more than the truth's cell, where there is one)
+            self._truths.different_at_once(core.args[0], context)
         if said in (TRUE, FALSE):
             if said is FALSE:
                 self.writer.narrow(YES, "no", Plain.TRUTH, context)
@@ -192,9 +189,9 @@ class Translation:
             self._narrow_elements(each.args[0], each.entries, holds, context)
         elif each.op is Op.PAIR:
             self._truths.link(each, holds, context)
+            # (from the elements alone a cell of that truth finds it out too late)
+            self._is_known(core, holds, context)
         elif each.op is Op.ALL_DIFFERENT:
-            if holds:
-                self._truths.different_at_once(each, context)
             self._state(different(each), holds, context)
         elif not self._compared_with_constant(each, holds, context):
             if self._place(core, context) is not context:

@@ -5,6 +5,7 @@ for the next statement is taken from it by `taken`.
 """
 
 from collections.abc import Callable, Iterable
+from dataclasses import dataclass
 
 from propbench.model.context import Context
 from propbench.model.kinds import MOST, Domain, Kind, Plain, Point
@@ -13,6 +14,15 @@ from propbench.model.vocabulary import SIDES, Vocabulary
 
 YES = "_yes"
 TRUTHS = "{yes no}"
+
+
+@dataclass(frozen=True)
+class _Join:
+    """Where the lines stand that link two cells of one expression: always, or by a gate."""
+
+    places: range
+    gate: str | None
+    ends: frozenset[str]
 
 
 class Writer:
@@ -28,8 +38,10 @@ class Writer:
         self._taken = 0
         # For each cell that a user never sees the lines by which it is made: from one to another.
         self._made: dict[str, tuple[int, int]] = {YES: (0, 2)}
-        # The lines by which constraints share what they find out, each of which does without.
+        # The lines by which constraints share what they find out, each of which does without those
+        # that join it with others.
         self._shared: set[int] = set()
+        self._joins: list[_Join] = []
         self._count = 0
         self._constants: dict[tuple[str, str], str] = {}
         self._relations: dict[object, str] = {}
@@ -67,9 +79,21 @@ class Writer:
             self._made[cell] = (since, len(self._log))
         return cell
 
-    def shared(self, since: int) -> None:
-        """Takes in that the lines from a position on only hand on what others have found out."""
-        self._shared.update(range(since, len(self._log)))
+    def joint(self, kind: Kind) -> str:
+        """A cell by which only those of one expression in several contexts are joined."""
+        since = self.position
+        cell = self.new_cell(kind)
+        self._shared.update(range(since, self.position))
+        return cell
+
+    def join(self, outside: str, inside: str, context: Context) -> None:
+        """Links two cells of one expression, so that each hands on what the other has found out."""
+        since = self.position
+        self.link(outside, inside, context)
+        places = range(since, self.position)
+        self._shared.update(places)
+        gate = context.gate if context.is_gated else None
+        self._joins.append(_Join(places, gate, frozenset((outside, inside))))
 
     def making(self) -> set[int]:
         """The positions of lines that only make cells which a user never sees, or hand on what
@@ -78,7 +102,7 @@ class Writer:
 
     def with_what_they_need(self, first: int, last: int) -> list[str]:
         """The lines from one position to another, and all that make the cells in them which a user
-        never sees."""
+        never sees, and join these with each other."""
         wanted = set(range(first, last)) - self._shared
         waiting = list(wanted)
         while waiting:
@@ -86,7 +110,30 @@ class Writer:
                 fresh = set(range(*self._made.get(word, (0, 0)))) - self._shared - wanted
                 wanted |= fresh
                 waiting += fresh
+        wanted |= self._joining(wanted)
         return [self._log[place] for place in sorted(wanted)]
+
+    def _joining(self, wanted: set[int]) -> set[int]:
+        """The positions of lines that join cells in some lines: two of them, or several by one
+        more, of which nothing else is told then."""
+        there = {word for place in wanted for word in self._log[place].split()}
+        found: set[int] = set()
+        by_one_more: dict[str, list[_Join]] = {}
+        for join in self._joins:
+            missing = join.ends - there
+            if join.gate and join.gate not in there:
+                continue
+            if not missing:
+                found.update(join.places)
+            elif len(missing) == 1:
+                [one_more] = missing
+                by_one_more.setdefault(one_more, []).append(join)
+        constants = {YES, *self._constants.values()}
+        for cell, joins in by_one_more.items():
+            if len(joins) > 1 and cell in self._made and cell not in constants:
+                found.add(self._made[cell][0])
+                found.update(place for join in joins for place in join.places)
+        return found
 
     def attach(self, procedure: str, *cells: str, by: str = "") -> None:
         """Puts a procedure or compound between cells."""
