@@ -15,8 +15,8 @@ use prop_refuting::kind_at_place;
 use prop_trail::Trail;
 use std::alloc::Global;
 
-/// What is read as a nogood is derived: the network with its choices, what is believed on the trail,
-/// whose entries are told place by place, and at the root, and the nogoods that are kept.
+/// What is read as a nogood is derived: the network with its choices, what is believed on the trail
+/// (whose entries are told place by place) and at the root, and the nogoods that are kept.
 #[derive(Drop)]
 pub struct Ground<'a, R> {
     pub alloc: Global,

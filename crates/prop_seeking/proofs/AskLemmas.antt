@@ -1,6 +1,7 @@
 -- What a line asks, piece by piece.
 use Rattle.std.proofs.Common.{◌≡◌, ◌∙◌, ◌⊎◌, ◌+◌, ◌<◌, ◌≤◌, ◌&&◌, ◌||◌, ◌++◌, ◌∷◌, ℕ, Bool, true, false, not, List, []}
-use Rattle.std.proofs.Common.{get_or, is_none, unwrap_or, length, map, take, ap, sym, refl, inl, inr, Some, None, Ok, Err}
+use Rattle.std.proofs.Common.{get_or, is_none, unwrap_or, length, map, take, ap, sym, refl, inl, inr}
+use Rattle.std.proofs.Common.{Some, None, Ok, Err}
 use Rattle.std.specs.Prelude.{ℤ, pos, All, IfOk, Option, Result, slice_get, unsigned_abs}
 use Rattle.std.specs.Borrow.{Bor}
 use Rattle.std.specs.List.{list_all, list_any}
@@ -58,7 +59,8 @@ module _ (c : CellNames) (xs : List (Bor (List ℕ))) (i : ℕ) (d : Bor (List �
 module _ (c : CellNames) (xs : List (Bor (List ℕ))) (i : ℕ) (l : length xs ≤ i) where
   -- all words
   pub named_all : list_all is_named (take i xs) ≡ true → list_all is_name (words xs) ≡ true
-  named_all h = list_all-map is_name (λ (x : Bor (List ℕ)). x.now) xs ∙ sym (ap (list_all is_named) (take_all i xs l)) ∙ h
+  named_all h = list_all-map is_name (λ (x : Bor (List ℕ)). x.now) xs
+      ∙ sym (ap (list_all is_named) (take_all i xs l)) ∙ h
 
   pub missing_all : (b : Bool) → b ≡ list_any (is_nowhere c) (take i xs) → is_cell_missing c (words xs) ≡ b
   missing_all b h = sym (missing_among c xs b (h ∙ ap (list_any (is_nowhere c)) (take_all i xs l)))

@@ -1,5 +1,6 @@
 -- Replies that are so.
-use Rattle.std.proofs.Common.{◌≡◌, ◌∙◌, ◌∷◌, ◌++◌, ◌<◌, ◌≤◌, ℕ, true, List, [], All, ap, inl, inr, map, refl, sym, subst}
+use Rattle.std.proofs.Common.{◌≡◌, ◌∙◌, ◌∷◌, ◌++◌, ◌<◌, ◌≤◌, ℕ, true, List, [], All, ap, inl, inr}
+use Rattle.std.proofs.Common.{map, refl, sym, subst}
 use Rattle.std.proofs.Common.{length, append-nil, arith}
 use Rattle.std.specs.Prelude.{Option, Some, None, IfSome, codes, slice_index, ◌==◌}
 use Rattle.std.proofs.lemmas.Bool.{eqb-true}

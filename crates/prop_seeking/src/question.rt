@@ -1,5 +1,6 @@
 //! What a line asks.
-ghost use Rattle.std.specs.Prelude.{◌≡◌, ◌⊎◌, ◌<◌, ℕ, All, IfOk, IfErr, OnOk, Ok, Some, false, true};
+ghost use Rattle.std.specs.Prelude.{◌≡◌, ◌⊎◌, ◌<◌, ℕ, All, IfOk, IfErr, OnOk, Ok, Some};
+ghost use Rattle.std.specs.Prelude.{false, true};
 ghost use Rattle.std.specs.Prelude.{drop, pos, slice_index_or, []};
 ghost use Rattle.std.specs.List.{list_all};
 ghost use Rattle.prop_refusals.specs.declared.refusal.Refusal.TheVariants.{Memory, NotAName};

@@ -1,6 +1,7 @@
 //! The texts of replies to questions for points. Each is the text that the specs state, or memory
 //! was refused.
-ghost use Rattle.std.specs.Prelude.{◌≡◌, ◌<◌, ◌++◌, ◌∷◌, ℕ, codes, length, map, zip, IfOk, OnOk, string_bytes};
+ghost use Rattle.std.specs.Prelude.{◌≡◌, ◌<◌, ◌++◌, ◌∷◌, ℕ, codes, length, map, zip, IfOk};
+ghost use Rattle.std.specs.Prelude.{OnOk, string_bytes};
 ghost use Rattle.std.specs.List.{join_by};
 ghost use Rattle.prop_premises.specs.ChoiceLists.{hypothetical};
 ghost use Rattle.prop_premises.specs.Origins.{choices_of};

@@ -79,8 +79,8 @@ kept_reading line read (inr (l, r)) =
 -- ---- lines by what is kept of them
 
 kept_seeks : {O : Type 0} (library : List Stored) (old : Sought O) (line : List ℕ) (answer : Answer)
-    (inquiry : Option (Question × List (List Info))) → Seeks library old (kept_of line) answer inquiry
-    → Seeks library old line answer inquiry
+    (inquiry : Option (Question × List (List Info)))
+    → Seeks library old (kept_of line) answer inquiry → Seeks library old line answer inquiry
 kept_seeks library old line answer inquiry (inl memory) = inl memory
 kept_seeks library old line answer inquiry (inr (read, is, replies)) =
     inr (read, kept_reading line read is, replies)
