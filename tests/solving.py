@@ -530,7 +530,7 @@ SAID = [
     ("plans 0 x", "error 6: not a number in range"),
     ("plans 1000000001 x", "error 6: not a number in range"),
     ("plans x x", "error 6: not a number in range"),
-    ("plans -1 q", "error 6: not a number in range"),
+    ("plans -1 q", "error 9: no such cell"),
     ("plans 3 q", "error 9: no such cell"),
     ("plans 3 x 3", "error 5: not a name"),
     ("solves", "error 3: unknown command"),

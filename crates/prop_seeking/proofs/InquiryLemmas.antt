@@ -1,72 +1,243 @@
 -- What an inquiry comes to.
-use Rattle.std.proofs.Common.{◌≡◌, ◌∙◌, ◌⊎◌, ◌+◌, ◌≤◌, ℕ, true, List, [], ◌∷◌, ◌++◌, length, refl, sym, ap, subst}
-use Rattle.std.proofs.Common.{inl, inr, arith, Some, None, append_assoc, append-nil, length-append}
-use Rattle.std.specs.Prelude.{Option}
+use Rattle.std.proofs.Common.{◌≡◌, ◌∙◌, ◌⊎◌, ◌+◌, ◌<◌, ◌≤◌, ℕ, true, false, List, [], ◌∷◌, ◌++◌, length, map, refl, sym, ap, subst}
+use Rattle.std.proofs.Common.{inl, inr, arith, All, Some, None, append_assoc, append-nil, length-append}
+use Rattle.std.specs.Prelude.{Option, is_some}
 use Rattle.std.specs.List.{AllZip}
-use Rattle.std.proofs.lemmas.Slice.Zip.{all_zipped_more}
+use Rattle.std.proofs.lemmas.List.{map-append}
+use Rattle.std.proofs.lemmas.List.Elements.{All-nil, All-push}
+use Rattle.prop_lattice.specs.declared.info.Info.{Info}
 use Rattle.prop_facts.specs.declared.fact.Literal.{Literal}
 use Rattle.prop_plans.specs.Held.{attached_of}
+use Rattle.prop_plans.specs.Plans.{value_in}
 use Rattle.prop_deriving.specs.Known.{IsExcused}
-use Rattle.prop_solve.specs.Questions.{AreExcusing, excused_then, is_optimum}
-use Rattle.prop_solve.specs.Searches.{Search}
-use Rattle.prop_solve.specs.Answers.{IsAnswer, IsFound}
+use Rattle.prop_solve.specs.Questions.{AreExcusing, IsValueFact, excused_then, is_optimum}
+use Rattle.prop_solve.specs.Searches.{Search, IsSearch}
+use Rattle.prop_solve.specs.Answers.{AsksTheSame, IsAnswer, IsFound}
 use Rattle.prop_solve.specs.declared.question.Goal.{Goal}
 use Rattle.prop_solve.specs.declared.question.Goal.TheVariants.{Any, Least, Greatest, Differing}
 use Rattle.prop_solve.specs.declared.solver.Answer.{Answer}
-use Rattle.prop_solve.specs.declared.solver.Answer.TheVariants.{Refuted}
+use Rattle.prop_solve.specs.declared.solver.Answer.TheVariants.{Found, Refuted, Unsettled}
 use Rattle.prop_solve.specs.declared.solver.Plan.{Plan as PlanOf}
-use Rattle.prop_seeking.specs.Plans.{Ground, Plan, Fits, IsTold, Refutes}
-use Rattle.prop_seeking.specs.inner.Seekers.{AreFound, plan_of}
+use Rattle.prop_seeking.specs.Texts.{Plan}
+use Rattle.prop_seeking.specs.Plans.{Fits}
+use Rattle.prop_seeking.specs.declared.question.Asked.{Asked as AskedOf}
+use Rattle.prop_seeking.specs.declared.inquiry.Inquiry.{Inquiry as InquiryOf}
+use Rattle.prop_seeking.specs.inner.Seekers.{AreFound, AreOf, Ground, IsAllBut, IsApt, IsFirst, IsInquiry, IsLast}
+use Rattle.prop_seeking.specs.inner.Seekers.{plan_of, row_of, state_at}
+use Rattle.prop_seeking.proofs.ExcuseLemmas.{facts_of, rows_of}
 
--- what is refuted is refuted of all that is excused then
-pub refuted_ends : (g : Ground) (old new : Search) (answer : Answer) (by : List ℕ) → answer ≡ Refuted by
-    → IsAnswer g.library g.cells g.premises old answer new → Refutes g new.excuses by
-refuted_ends g old new answer by is h =
-    let r = subst (λ (a : Answer). IsAnswer g.library g.cells g.premises old a new) is h in
-    record {
-      believed = r.believed;
-      only = λ list points sided are.
-          subst (λ (excuses : List (List Literal)). IsExcused (attached_of g.cells) excuses points list) (sym r.same)
-          (r.refuted list points sided are);
-    }
+-- ---- from one search to the next
+
+module _ (g : Ground) (old new : Search) where
+  -- what is refuted is refuted of all that is excused then
+  pub refuted_ends : (answer : Answer) (by : List ℕ) → answer ≡ Refuted by
+      → IsAnswer g.library g.cells g.premises old answer new → IsAllBut g new.excuses by
+  refuted_ends answer by is h =
+      let r = subst (λ (a : Answer). IsAnswer g.library g.cells g.premises old a new) is h in
+      record {
+        believed = r.believed;
+        only = λ list points sided are.
+            subst (λ (excuses : List (List Literal)). IsExcused (attached_of g.cells) excuses points list) (sym r.same)
+            (r.refuted list points sided are);
+      }
+
+  -- what was found fits
+  pub found_fits : (plan : PlanOf) → IsFound g.library g.cells g.premises old plan.values.items plan.sides.items new
+      → Fits g.library (state_at g) (plan_of plan)
+  found_fits plan f = (f.sided, f.satisfied)
+
+  -- where points are to differ, what is excused is of the named cells
+  found_rows : (plan : PlanOf) → IsFound g.library g.cells g.premises old plan.values.items plan.sides.items new
+      → old.goal ≡ Differing → (facts : List Literal) × AllZip (IsValueFact plan.values.items) old.named facts
+      × (new.excuses ≡ old.excuses ++ facts ∷ [])
+  found_rows plan f differing = (
+    f.facts,
+    subst (λ (goal : Goal). AreExcusing goal old.named plan.values.items f.facts) differing f.excusing,
+    f.excused ∙ ap (λ (goal : Goal). excused_then goal old.excuses f.facts) differing,
+  )
+
+  rows_then : (answer : Answer) → IsAnswer g.library g.cells g.premises old answer new → old.goal ≡ Differing
+      → All (AreOf old.named) old.excuses → All (AreOf old.named) new.excuses
+  rows_then (Found plan) h differing rows =
+      let more = found_rows plan h differing in
+      subst (All (AreOf old.named)) (sym more.2)
+      (All-push (AreOf old.named) old.excuses more.0 rows (facts_of plan.values.items old.named more.0 more.1))
+  rows_then (Refuted by) h differing rows = subst (All (AreOf old.named)) (sym h.same) rows
+  rows_then Unsettled h differing rows = subst (All (AreOf old.named)) (sym h) rows
+
+  pub rows_after : (answer : Answer) → IsAnswer g.library g.cells g.premises old answer new → AsksTheSame old new
+      → (old.goal ≡ Differing → All (AreOf old.named) old.excuses)
+      → new.goal ≡ Differing → All (AreOf new.named) new.excuses
+  rows_after answer h asks rows differing =
+      let was = sym asks.goal ∙ differing in
+      subst (λ (named : List ℕ). All (AreOf named) new.excuses) (sym asks.named)
+      (rows_then answer h was (rows was))
+
+  -- what is excused after the first plan, or the last of an optimum
+  alone : (goal : Goal) (excuses : List (List Literal)) (facts : List Literal)
+      → (is_optimum goal ≡ true) ⊎ (excuses ≡ []) → (goal ≡ Differing → ⊥)
+      → excused_then goal excuses facts ≡ facts ∷ []
+  alone (Least cell) excuses facts h quiet = refl
+  alone (Greatest cell) excuses facts h quiet = refl
+  alone Any excuses facts (inl e) quiet = cc
+  alone Any excuses facts (inr none) quiet = ap (λ (xs : List (List Literal)). xs ++ facts ∷ []) none
+  alone Differing excuses facts h quiet = absurd (quiet refl)
+
+  pub last_found : (plan : PlanOf) → IsFound g.library g.cells g.premises old plan.values.items plan.sides.items new
+      → AsksTheSame old new → (is_optimum old.goal ≡ true) ⊎ (old.excuses ≡ []) → (old.goal ≡ Differing → ⊥)
+      → IsLast g new (Some plan)
+  last_found plan f asks h quiet = (
+    found_fits plan f,
+    (
+      f.facts,
+      subst (λ (P : Type 0). P)
+          (λ i. AreExcusing (sym asks.goal i) (sym asks.named i) plan.values.items f.facts) f.excusing,
+      f.excused ∙ alone old.goal old.excuses f.facts h quiet,
+    ),
+  )
+
+  -- where no more is excused, the last plan stays
+  pub last_kept : (last : Option PlanOf) → AsksTheSame old new → new.excuses ≡ old.excuses → IsLast g old last
+      → IsLast g new last
+  last_kept (Some plan) asks same (fits, (facts, excusing, is)) = (
+    fits,
+    (
+      facts,
+      subst (λ (P : Type 0). P)
+          (λ i. AreExcusing (sym asks.goal i) (sym asks.named i) plan.values.items facts) excusing,
+      same ∙ is,
+    ),
+  )
+  last_kept None asks same h = same ∙ h
+
+  pub first_kept : AsksTheSame old new → IsFirst old.goal old.named → IsFirst new.goal new.named
+  first_kept asks h = subst (λ (P : Type 0). P) (λ i. IsFirst (sym asks.goal i) (sym asks.named i)) h
+
+-- ---- from one inquiry to the next
+
+pub inquiry_begins : (g : Ground) (i : InquiryOf) (a : AskedOf) → IsSearch g.library g.cells g.premises i.solver
+    → i.solver.goal ≡ a.goal → i.solver.named ≡ a.named.items → i.solver.excuses ≡ [] → i.last ≡ None
+    → IsApt g.cells.kinds a → IsInquiry g i
+inquiry_begins g i a search goal named none last apt = record {
+  search = search;
+  first = subst (λ (P : Type 0). P) (λ j. IsFirst (sym goal j) (sym named j)) apt.first;
+  within = subst (All (λ (cell : ℕ). cell < length g.cells.kinds)) (sym named) apt.within;
+  last = λ quiet. subst (λ (o : Option PlanOf). IsLast g i.solver o) (sym last) none;
+  rows = λ differing. subst (All (AreOf i.solver.named)) (sym none) (All-nil (AreOf i.solver.named));
+}
+
+module _ (g : Ground) (i j : InquiryOf) (inquiry : IsInquiry g i) (asks : AsksTheSame i.solver j.solver)
+    (search : IsSearch g.library g.cells g.premises j.solver) where
+  cells_kept : All (λ cell. cell < length g.cells.kinds) j.solver.named
+  cells_kept = subst (All (λ (cell : ℕ). cell < length g.cells.kinds)) (sym asks.named) inquiry.within
+
+  was_quiet : (j.solver.goal ≡ Differing → ⊥) → i.solver.goal ≡ Differing → ⊥
+  was_quiet quiet e = quiet (asks.goal ∙ e)
+
+  -- where nothing more is excused
+  pub on_kept : j.solver.excuses ≡ i.solver.excuses → j.last ≡ i.last → IsInquiry g j
+  on_kept same last = record {
+    search = search;
+    first = first_kept g i.solver j.solver asks inquiry.first;
+    within = cells_kept;
+    last = λ quiet. last_kept g i.solver j.solver j.last asks same
+        (subst (λ (o : Option PlanOf). IsLast g i.solver o) (sym last) (inquiry.last (was_quiet quiet)));
+    rows = λ differing. subst (λ (named : List ℕ). All (AreOf named) j.solver.excuses) (sym asks.named)
+        (subst (All (AreOf i.solver.named)) (sym same) (inquiry.rows (sym asks.goal ∙ differing)));
+  }
+
+  none_before : (goal : Goal) → (is_optimum goal ≡ true) ⊎ (i.last ≡ None) → IsLast g i.solver i.last
+      → (is_optimum goal ≡ true) ⊎ (i.solver.excuses ≡ [])
+  none_before goal (inl optimum) h = inl optimum
+  none_before goal (inr none) h = inr (subst (λ (o : Option PlanOf). IsLast g i.solver o) none h)
+
+  -- where a plan was found: the first, or one of an optimum
+  pub on_found : (answer : Answer) (plan : PlanOf) → answer ≡ Found plan
+      → IsAnswer g.library g.cells g.premises i.solver answer j.solver
+      → (is_optimum i.solver.goal ≡ true) ⊎ (i.last ≡ None) → j.last ≡ Some plan → IsInquiry g j
+  on_found answer plan is h before last = record {
+    search = search;
+    first = first_kept g i.solver j.solver asks inquiry.first;
+    within = cells_kept;
+    last = λ quiet. subst (λ (o : Option PlanOf). IsLast g j.solver o) (sym last)
+        (last_found g i.solver j.solver plan
+        (subst (λ (a : Answer). IsAnswer g.library g.cells g.premises i.solver a j.solver) is h) asks
+        (none_before i.solver.goal before (inquiry.last (was_quiet quiet))) (was_quiet quiet));
+    rows = rows_after g i.solver j.solver answer h asks inquiry.rows;
+  }
+
+  -- where points are to differ
+  pub on_listed : (answer : Answer) → IsAnswer g.library g.cells g.premises i.solver answer j.solver
+      → i.solver.goal ≡ Differing → IsInquiry g j
+  on_listed answer h differing = record {
+    search = search;
+    first = first_kept g i.solver j.solver asks inquiry.first;
+    within = cells_kept;
+    last = λ quiet. absurd (was_quiet quiet differing);
+    rows = rows_after g i.solver j.solver answer h asks inquiry.rows;
+  }
+
+-- where there is none
+pub none_there : {A : Type 0} (o : Option A) → is_some o ≡ false → o ≡ None
+none_there None e = refl
+none_there (Some a) e = cc
+
+-- nothing more is excused by what refutes, or by what is open
+pub refuted_same : (g : Ground) (old new : Search) (answer : Answer) (by : List ℕ) → answer ≡ Refuted by
+    → IsAnswer g.library g.cells g.premises old answer new → new.excuses ≡ old.excuses
+refuted_same g old new answer by is h =
+    (subst (λ (a : Answer). IsAnswer g.library g.cells g.premises old a new) is h).same
+
+pub open_same : (g : Ground) (old new : Search) (answer : Answer) → answer ≡ Unsettled
+    → IsAnswer g.library g.cells g.premises old answer new → new.excuses ≡ old.excuses
+open_same g old new answer is h = subst (λ (a : Answer). IsAnswer g.library g.cells g.premises old a new) is h
+
+-- ---- plans that differ
 
 -- before any plan is found
-pub found_none : (g : Ground) (goal : Goal) (named : List ℕ) (n : ℕ) (before : List (List Literal)) (ps : List Plan)
-    → ps ≡ [] → AreFound g (record { goal = goal; named = named; most = n }) before before ps
-found_none g goal named n before ps none =
-    subst (λ (qs : List Plan). AreFound g (record { goal = goal; named = named; most = n }) before before qs)
-    (sym none) (record { more = []; told = tt; few = omega arith; grown = sym (append-nil before) })
+pub found_none : (g : Ground) (named : List ℕ) (n : ℕ) (before : List (List Literal)) (ps : List Plan)
+    → All (AreOf named) before → ps ≡ [] → AreFound g named n before before ps
+found_none g named n before ps rows none =
+    subst (λ (qs : List Plan). AreFound g named n before before qs) (sym none) (record {
+      fit = All-nil (Fits g.library (state_at g));
+      few = omega arith;
+      grown = sym (append-nil (map row_of before));
+      rows = rows;
+    })
 
 -- and no more than so many are
-pub found_within : (g : Ground) (goal : Goal) (named : List ℕ) (n m : ℕ) (before after : List (List Literal))
-    (ps : List Plan) → n ≤ m → AreFound g (record { goal = goal; named = named; most = n }) before after ps
-    → AreFound g (record { goal = goal; named = named; most = m }) before after ps
-found_within g goal named n m before after ps l h =
-    record { more = h.more; told = h.told; few = omega (arith, l, h.few); grown = h.grown }
+pub found_within : (g : Ground) (named : List ℕ) (n m : ℕ) (before after : List (List Literal)) (ps : List Plan)
+    → n ≤ m → AreFound g named n before after ps → AreFound g named m before after ps
+found_within g named n m before after ps l h =
+    record { fit = h.fit; few = omega (arith, l, h.few); grown = h.grown; rows = h.rows }
 
 -- where nothing more is excused
-pub found_same : (g : Ground) (goal : Goal) (named : List ℕ) (n : ℕ) (before mid after : List (List Literal))
-    (ps : List Plan) → after ≡ mid → AreFound g (record { goal = goal; named = named; most = n }) before mid ps
-    → AreFound g (record { goal = goal; named = named; most = n }) before after ps
-found_same g goal named n before mid after ps same h =
-    record { more = h.more; told = h.told; few = h.few; grown = same ∙ h.grown }
+pub found_same : (g : Ground) (named : List ℕ) (n : ℕ) (before mid after : List (List Literal)) (ps : List Plan)
+    → after ≡ mid → AreFound g named n before mid ps → AreFound g named n before after ps
+found_same g named n before mid after ps same h =
+    subst (λ (x : List (List Literal)). AreFound g named n before x ps) (sym same) h
 
 -- one plan more
-pub found_more : (g : Ground) (goal : Goal) (named : List ℕ) (n : ℕ) (before : List (List Literal)) (ps qs : List Plan)
-    (old new : Search) (plan : PlanOf) → goal ≡ Differing → old.goal ≡ goal → old.named ≡ named
-    → qs ≡ ps ++ plan_of plan ∷ [] → AreFound g (record { goal = goal; named = named; most = n }) before old.excuses ps
+pub found_more : (g : Ground) (named : List ℕ) (n : ℕ) (before : List (List Literal)) (ps qs : List Plan)
+    (old new : Search) (plan : PlanOf) → old.goal ≡ Differing → old.named ≡ named → qs ≡ ps ++ plan_of plan ∷ []
+    → AreFound g named n before old.excuses ps
     → IsFound g.library g.cells g.premises old plan.values.items plan.sides.items new
-    → AreFound g (record { goal = goal; named = named; most = n + 1 }) before new.excuses qs
-found_more g goal named n before ps qs old new plan differing same_goal same_named one_more h f =
-    let excusing : AreExcusing goal named plan.values.items f.facts =
-    subst (λ (P : Type 0). P) (λ i. AreExcusing (same_goal i) (same_named i) plan.values.items f.facts) f.excusing in
-    let told : IsTold g goal named (plan_of plan) f.facts =
-    record { fits = record { sided = f.sided; satisfied = f.satisfied }; excusing = excusing } in
-    record {
-      more = h.more ++ f.facts ∷ [];
-      told = subst (λ (xs : List Plan). AllZip (IsTold g goal named) xs (h.more ++ f.facts ∷ [])) (sym one_more)
-          (all_zipped_more (IsTold g goal named) ps h.more (plan_of plan) f.facts h.told told);
-      few = omega (arith, h.few, length-append ps (plan_of plan ∷ []), ap length one_more);
-      grown = f.excused ∙ ap (λ (x : Goal). excused_then x old.excuses f.facts) (same_goal ∙ differing)
-          ∙ ap (λ e. e ++ f.facts ∷ []) h.grown ∙ append_assoc before h.more (f.facts ∷ []);
-    }
+    → AreFound g named (n + 1) before new.excuses qs
+found_more g named n before ps qs old new plan differing same one_more h f =
+    let more = found_rows g old new plan f differing in
+    let facts = more.0 in
+    let row : Plan → List Info = λ (p : Plan). map p.values named in
+    let of : AllZip (IsValueFact plan.values.items) named facts =
+    subst (λ (cells : List ℕ). AllZip (IsValueFact plan.values.items) cells facts) same more.1 in
+    let told : row_of facts ≡ row (plan_of plan) = rows_of plan.values.items named facts of in
+    let grown : map row_of new.excuses ≡ map row_of before ++ map row (ps ++ plan_of plan ∷ []) =
+    ap (map row_of) more.2 ∙ map-append row_of old.excuses (facts ∷ [])
+    ∙ (λ i. h.grown i ++ told i ∷ []) ∙ append_assoc (map row_of before) (map row ps) (row (plan_of plan) ∷ [])
+    ∙ ap (λ xs. map row_of before ++ xs) (sym (map-append row ps (plan_of plan ∷ []))) in
+    subst (λ (xs : List Plan). AreFound g named (n + 1) before new.excuses xs) (sym one_more) (record {
+      fit = All-push (Fits g.library (state_at g)) ps (plan_of plan) h.fit (found_fits g old new plan f);
+      few = omega (arith, h.few, length-append ps (plan_of plan ∷ []));
+      grown = grown;
+      rows = subst (All (AreOf named)) (sym more.2)
+          (All-push (AreOf named) old.excuses facts h.rows (facts_of plan.values.items named facts of));
+    })

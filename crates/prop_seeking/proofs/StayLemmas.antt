@@ -26,9 +26,8 @@ use Rattle.prop_plans.specs.Plans.{IsUnderWay}
 use Rattle.prop_solve.specs.Searches.{Search, Proposed, IsSearch, IsProposed}
 use Rattle.prop_solve.specs.declared.solver.Plan.{Plan as PlanOf}
 use Rattle.prop_solve.specs.declared.question.Goal.TheVariants.{Differing}
-use Rattle.prop_seeking.specs.Plans.{Ground, ground_at, Fits}
 use Rattle.prop_seeking.specs.declared.inquiry.Inquiry.{Inquiry as InquiryOf}
-use Rattle.prop_seeking.specs.inner.Seekers.{IsInquiry, IsLast}
+use Rattle.prop_seeking.specs.inner.Seekers.{ground_at, IsInquiry, IsLast}
 
 -- the cells, statements, instances and premises are as they were
 pub record Stays (s t : State) : Type 0 where
@@ -163,8 +162,7 @@ moved_search library d contents params premises s h = record {
 moved_last : (library : List Stored) (d : Data) (contents : List (List Entry)) (params : List Param)
     (premises : List Origin) (s : Search) (last : Option PlanOf) → IsLast (ground_at library d premises) s last
     → IsLast (ground_at library (moved d contents params) premises) s last
-moved_last library d contents params premises s (Some p) (fits, rest) =
-    (record { sided = fits.sided; satisfied = fits.satisfied }, rest)
+moved_last library d contents params premises s (Some p) h = h
 moved_last library d contents params premises s None h = h
 
 moved_inquiry : (library : List Stored) (d : Data) (contents : List (List Entry)) (params : List Param)
@@ -172,6 +170,9 @@ moved_inquiry : (library : List Stored) (d : Data) (contents : List (List Entry)
     → IsInquiry (ground_at library (moved d contents params) premises) i
 moved_inquiry library d contents params premises i h = record {
   search = moved_search library d contents params premises i.solver h.search;
+  first = h.first;
+  within = h.within;
+  rows = h.rows;
   last = λ quiet. moved_last library d contents params premises i.solver i.last (h.last quiet);
 }
 

@@ -1,1 +1,2 @@
 pub mod Seekers
+pub mod Pieces

@@ -1,14 +1,13 @@
 //! A question under way.
 
-ghost use Rattle.std.specs.Prelude.{◌≡◌, ◌++◌, ◌≤◌, [], map, length, IfOk, OnOk, IsTrue};
+ghost use Rattle.std.specs.Prelude.{◌≡◌, [], map, IfOk, OnOk, IsTrue};
 ghost use Rattle.std.specs.Prelude.{false, true};
 ghost use Rattle.std.specs.Option.{option_map};
 ghost use Rattle.prop_procedures.specs.Kept.{AllMean, stored_of};
 ghost use Rattle.prop_cells.specs.Data.{IsKept};
 ghost use Rattle.prop_solve.specs.Questions.{is_optimum};
-ghost use Rattle.prop_seeking.specs.Plans.{ground_at};
 ghost use Rattle.prop_seeking.specs.inner.Seekers.{IsInquiry, IsEnd, IsSameQuestion, AreFound};
-ghost use Rattle.prop_seeking.specs.inner.Seekers.{plan_of, asked_in};
+ghost use Rattle.prop_seeking.specs.inner.Seekers.{IsApt, ground_at, plan_of};
 
 use crate::question::Asked;
 use prop_cells::Network;
@@ -43,6 +42,7 @@ impl Inquiry {
     ) -> Result<Inquiry, AllocError>
         requires means { AllMean R.value_of network.now.library.procedures.items }
         requires kept { IsKept (stored_of R.value_of network.now.library) network.now.cells }
+        requires apt { IsApt network.now.cells.kinds asked.now }
         ensures inquiry { IfOk result (IsInquiry
             (ground_at (stored_of R.value_of network.now.library)
             network.now.cells premises.now)) }
@@ -169,8 +169,8 @@ impl Inquiry {
             network.now.cells premises.now)
             self.new.solver.excuses) }
         ensures found { OnOk result (AreFound (ground_at (stored_of R.value_of network.now.library)
-            network.now.cells premises.now)
-            (asked_in self.old plans.old.most) self.old.solver.excuses self.new.solver.excuses
+            network.now.cells premises.now) self.old.solver.named plans.old.most
+            self.old.solver.excuses self.new.solver.excuses
             (map plan_of plans.new.found.items)) }
     {
         let until = self.solver.tally().steps.saturating_add(steps);

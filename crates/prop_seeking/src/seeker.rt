@@ -38,7 +38,7 @@ pub struct Seeker<R, O> {
 }
 
 impl<R: Guarded + Drop, O: Order + Drop> Seeker<R, O> {
-    ghost use Rattle.std.specs.Prelude.{◌≡◌, ◌⊎◌, ℕ, List, cond, IfOk, IfSome, OnOk, OnErr};
+    ghost use Rattle.std.specs.Prelude.{◌≡◌, ◌⊎◌, ℕ, List, cond, IfOk, IfSome, OnOk};
     ghost use Rattle.std.specs.Prelude.{string_bytes, None, true};
     ghost use Rattle.std.specs.Option.{option_map};
     ghost use Rattle.prop_language.specs.Reading.{AsRead};
@@ -50,11 +50,11 @@ impl<R: Guarded + Drop, O: Order + Drop> Seeker<R, O> {
     ghost use Rattle.prop_telling.specs.Telling.{telling};
     ghost use Rattle.prop_telling.specs.inner.Telling.{told_of};
     ghost use Rattle.prop_solve.specs.Questions.{is_optimum};
-    ghost use Rattle.prop_seeking.specs.Asking.{as_value, asked, is_question};
-    ghost use Rattle.prop_seeking.specs.Seeking.{seeking, AreBefore, Seeks};
-    ghost use Rattle.prop_seeking.specs.inner.Seekers.{Answers, Gives, IsInquiry, IsReady};
-    ghost use Rattle.prop_seeking.specs.inner.Seekers.{IsSameQuestion, Replied, asked_in};
-    ghost use Rattle.prop_seeking.specs.inner.Seekers.{asked_of, ground_in, inquiry_of, sought_of};
+    ghost use Rattle.prop_seeking.specs.Asking.{as_value, asked};
+    ghost use Rattle.prop_seeking.specs.Seeking.{seeking, Seeks};
+    ghost use Rattle.prop_seeking.specs.inner.Seekers.{Answers, AreBefore, Gives, IsApt, IsInquiry};
+    ghost use Rattle.prop_seeking.specs.inner.Seekers.{IsReady, IsSameQuestion, Replied, asked_of};
+    ghost use Rattle.prop_seeking.specs.inner.Seekers.{ground_in, inquiry_of, sought_of};
 
     /// A seeker of a session.
     pub fn new(session: Session<R, O>) -> Seeker<R, O>
@@ -139,9 +139,10 @@ impl<R: Guarded + Drop, O: Order + Drop> Seeker<R, O> {
 
     /// What a line asks.
     fn asked(&self, line: &[u8]) -> Result<Asked, Refusal>
-        ensures { (result ≡ Err Refusal.Memory) ⊎ AsRead (as_value line.now) (λ read.
-            Gives asked_of result (asked self.now.teller.session.names
-            self.now.teller.session.live.network.cells.kinds read)) }
+        requires sound { IsSound R.value_of self.now.teller.session }
+        ensures asked { (result ≡ Err Refusal.Memory) ⊎ AsRead (as_value line.now) (λ read.
+            Gives asked_of result (asked (state_of self.now.teller.session) read)) }
+        ensures apt { IfOk result (IsApt self.now.teller.session.live.network.cells.kinds) }
     {
         let session = self.teller.session();
         let alloc = session.alloc();
@@ -160,10 +161,11 @@ impl<R: Guarded + Drop, O: Order + Drop> Seeker<R, O> {
     /// The reply to what is asked, after which it can be gone on with, or want of memory.
     fn reply(&mut self, asked: &Asked) -> Reply
         requires ready { IsReady R.value_of self.old }
+        requires apt { IsApt self.old.teller.session.live.network.cells.kinds asked.now }
         ensures same { self.new.teller ≡ self.old.teller }
         ensures ready { IsReady R.value_of self.new }
         ensures replies { ((answer_of result ≡ Refused Refusal.Memory) × (self.new.inquiry ≡ None))
-            ⊎ ((text : List ℕ) × Replied (ground_in R.value_of self.old.teller.session)
+            ⊎ ((text : List ℕ) × Replied (library_of R.value_of self.old.teller.session)
             (state_of self.old.teller.session) (option_map inquiry_of self.old.inquiry)
             (asked_of asked.now) (option_map inquiry_of self.new.inquiry) text
             × (answer_of result ≡ Text text)) }
@@ -182,11 +184,12 @@ impl<R: Guarded + Drop, O: Order + Drop> Seeker<R, O> {
         requires sound { IsSound R.value_of self.now.teller.session }
         requires inquiry { IfSome before (IsInquiry
             (ground_in R.value_of self.now.teller.session)) }
+        requires apt { IsApt self.now.teller.session.live.network.cells.kinds asked.now }
         ensures inquiry { IfOk result (IsInquiry (ground_in R.value_of self.now.teller.session)) }
         ensures goal { IfOk result (λ i. i.solver.goal ≡ asked.now.goal) }
         ensures named { IfOk result (λ i. i.solver.named ≡ asked.now.named.items) }
         ensures before { IfOk result (λ i. AreBefore (option_map inquiry_of before)
-            (asked_of asked.now) i.solver.excuses) }
+            (asked_of asked.now).0 (inquiry_of i).1) }
     {
         match before {
             Some(inquiry) if inquiry.is_for(asked) => Ok(inquiry),
@@ -202,10 +205,11 @@ impl<R: Guarded + Drop, O: Order + Drop> Seeker<R, O> {
     /// want of memory begins anew.
     fn answered(&mut self, asked: &Asked) -> Result<String, AllocError>
         requires ready { IsReady R.value_of self.old }
+        requires apt { IsApt self.old.teller.session.live.network.cells.kinds asked.now }
         ensures same { self.new.teller ≡ self.old.teller }
         ensures ready { IsReady R.value_of self.new }
         ensures replied { IfOk result (λ text. Replied
-            (ground_in R.value_of self.old.teller.session) (state_of self.old.teller.session)
+            (library_of R.value_of self.old.teller.session) (state_of self.old.teller.session)
             (option_map inquiry_of self.old.inquiry) (asked_of asked.now)
             (option_map inquiry_of self.new.inquiry) (string_bytes text)) }
     {
@@ -227,8 +231,8 @@ impl<R: Guarded + Drop, O: Order + Drop> Seeker<R, O> {
             (ground_in R.value_of self.now.teller.session) inquiry.new) }
         ensures same { OnOk result (IsSameQuestion inquiry.old inquiry.new) }
         ensures answers { IfOk result (λ text. Answers
-            (ground_in R.value_of self.now.teller.session) (state_of self.now.teller.session)
-            (asked_in inquiry.old asked.now.most) inquiry.old.solver.excuses
+            (library_of R.value_of self.now.teller.session) (state_of self.now.teller.session)
+            inquiry.old.solver asked.now.most inquiry.old.solver.excuses
             inquiry.new.solver.excuses (string_bytes text)) }
     {
         match asked.goal {
@@ -248,8 +252,8 @@ impl<R: Guarded + Drop, O: Order + Drop> Seeker<R, O> {
             (ground_in R.value_of self.now.teller.session) inquiry.new) }
         ensures same { OnOk result (IsSameQuestion inquiry.old inquiry.new) }
         ensures answers { IfOk result (λ text. (most : ℕ) → Answers
-            (ground_in R.value_of self.now.teller.session) (state_of self.now.teller.session)
-            (asked_in inquiry.old most) inquiry.old.solver.excuses
+            (library_of R.value_of self.now.teller.session) (state_of self.now.teller.session)
+            inquiry.old.solver most inquiry.old.solver.excuses
             inquiry.new.solver.excuses (string_bytes text)) }
     {
         let session = self.teller.session();
@@ -273,8 +277,8 @@ impl<R: Guarded + Drop, O: Order + Drop> Seeker<R, O> {
             (ground_in R.value_of self.now.teller.session) inquiry.new) }
         ensures same { OnOk result (IsSameQuestion inquiry.old inquiry.new) }
         ensures answers { IfOk result (λ text. (most : ℕ) → Answers
-            (ground_in R.value_of self.now.teller.session) (state_of self.now.teller.session)
-            (asked_in inquiry.old most) inquiry.old.solver.excuses
+            (library_of R.value_of self.now.teller.session) (state_of self.now.teller.session)
+            inquiry.old.solver most inquiry.old.solver.excuses
             inquiry.new.solver.excuses (string_bytes text)) }
     {
         let session = self.teller.session();
@@ -299,8 +303,8 @@ impl<R: Guarded + Drop, O: Order + Drop> Seeker<R, O> {
             (ground_in R.value_of self.now.teller.session) inquiry.new) }
         ensures same { OnOk result (IsSameQuestion inquiry.old inquiry.new) }
         ensures answers { IfOk result (λ text. Answers
-            (ground_in R.value_of self.now.teller.session) (state_of self.now.teller.session)
-            (asked_in inquiry.old asked.now.most) inquiry.old.solver.excuses
+            (library_of R.value_of self.now.teller.session) (state_of self.now.teller.session)
+            inquiry.old.solver asked.now.most inquiry.old.solver.excuses
             inquiry.new.solver.excuses (string_bytes text)) }
     {
         let session = self.teller.session();

@@ -1,9 +1,12 @@
 //! The texts of replies to questions for points. Each is the text that the specs state, or memory
 //! was refused.
-ghost use Rattle.std.specs.Prelude.{◌≡◌, ◌++◌, ◌∷◌, map, IfOk, OnOk, string_bytes};
+ghost use Rattle.std.specs.Prelude.{◌≡◌, ◌<◌, ◌++◌, ◌∷◌, ℕ, codes, length, map, zip, IfOk, OnOk, string_bytes};
+ghost use Rattle.std.specs.List.{join_by};
+ghost use Rattle.prop_premises.specs.ChoiceLists.{hypothetical};
 ghost use Rattle.prop_premises.specs.Origins.{choices_of};
-ghost use Rattle.prop_seeking.specs.Texts.{seen, premise_name, side_text, side_texts};
-ghost use Rattle.prop_seeking.specs.Texts.{lines_text, counted_text, spaced};
+ghost use Rattle.prop_premises.specs.declared.choice.Choice.{Choice as ChoiceOf};
+ghost use Rattle.prop_texts.specs.inner.Listed.{label_at};
+ghost use Rattle.prop_seeking.specs.inner.Pieces.{seen, lines_text, counted_text};
 
 use crate::seeker::Seeker;
 use prop_guards::Guarded;
@@ -28,39 +31,47 @@ fn seen(info: Info) -> Info
     }
 }
 
-/// The name of a premise, which is a side's choice's.
-fn premise_name(premises: &Premises, premise: Premise) -> &str
-    ensures { result.now ≡ premise_name premises.now premise }
+/// The label of a premise: a user's by its name, a side of a choice by the choice's name, `=` and
+/// the side's number.
+fn label_text(alloc: Global, premises: &Premises, premise: Premise) -> Result<String, AllocError>
+    requires { premise < length premises.now }
+    ensures { IfOk result (λ text. string_bytes text ≡ label_at premises.now premise) }
 {
-    if usize::from(premise) < premises.len() {
-        premises.name(premise)
-    } else {
-        ""
+    let name = premises.name(premise);
+    match premises.side(premise) {
+        Some(side) => format!(in alloc; "{name}={side}"),
+        None => String::from_str(alloc, name),
     }
 }
 
-/// A choice, with the side that is taken.
+/// The label of a side of a choice.
 fn side_text(
     alloc: Global,
     premises: &Premises,
     choice: Choice,
     side: u8,
 ) -> Result<String, AllocError>
-    ensures { IfOk result (λ text. string_bytes text ≡ side_text premises.now choice side) }
+    ensures { IfOk result (λ text. string_bytes text
+        ≡ label_at premises.now (hypothetical choice side)) }
 {
-    let name = premise_name(premises, choice.first);
-    format!(in alloc; "{name}={side}")
+    let number = usize::from(choice.first) + usize::from(side).saturating_sub(1);
+    if number < premises.len() {
+        label_text(alloc, premises, number as Premise)
+    } else {
+        Ok(String::new(alloc))
+    }
 }
 
-/// A line for each choice, with its side.
+/// A line for each choice, with the label of its side.
 fn push_sides(
     alloc: Global,
     premises: &Premises,
     sides: &[u8],
     lines: &mut Vec<String>,
 ) -> Result<(), AllocError>
-    ensures { OnOk result (map string_bytes lines.new.items ≡ map string_bytes
-        lines.old.items ++ side_texts premises.now (choices_of premises.now) sides.now) }
+    ensures { OnOk result (map string_bytes lines.new.items ≡ map string_bytes lines.old.items
+        ++ map (λ (c : ChoiceOf × ℕ). label_at premises.now (hypothetical c.0 c.1))
+        (zip (choices_of premises.now) sides.now)) }
 {
     for (choice, side) in premises.choices().iter().zip(sides) {
         lines.push(side_text(alloc, premises, *choice, *side)?)?;
@@ -93,7 +104,7 @@ fn counted_text(alloc: Global, mark: &str, lines: &[String]) -> Result<String, A
 /// Writes texts on a line of their own, with one space between each two.
 fn push_spaced(text: &mut String, texts: &[String]) -> Result<(), AllocError>
     ensures { OnOk result (string_bytes text.new ≡ string_bytes
-        text.old ++ (10 ∷ spaced (map string_bytes texts.now))) }
+        text.old ++ (10 ∷ join_by (λ text. text) (codes " ") (map string_bytes texts.now))) }
 {
     let Some((first, others)) = texts.split_first() else {
         return write!(text, "\n");
@@ -109,15 +120,14 @@ impl<R: Guarded + Drop, O: Order + Drop> Seeker<R, O> {
     ghost use Rattle.std.specs.Prelude.{◌≡◌, ◌++◌, ◌∷◌, map, flat_map, length, codes};
     ghost use Rattle.std.specs.Prelude.{IfOk, IfSome, OnOk, string_bytes};
     ghost use Rattle.std.specs.Option.{option_map};
-    ghost use Rattle.std.specs.List.{range_with_len};
+    ghost use Rattle.std.specs.List.{join_by, range_with_len};
     ghost use Rattle.prop_numbers.specs.Sets.{set_of, IsPart};
     ghost use Rattle.prop_premises.specs.Origins.{believed_in};
     ghost use Rattle.prop_procedures.specs.Fitting.{kind_at};
     ghost use Rattle.prop_texts.specs.Texts.{support_text};
     ghost use Rattle.prop_workbench.specs.Sessions.{state_of};
-    ghost use Rattle.prop_seeking.specs.Texts.{value_text, cell_texts, plan_text, row_text};
-    ghost use Rattle.prop_seeking.specs.Texts.{others_text, end_text, best_text, list_text};
-    ghost use Rattle.prop_seeking.specs.Texts.{none_text};
+    ghost use Rattle.prop_seeking.specs.Texts.{value_text, cell_texts, plan_text, many_text};
+    ghost use Rattle.prop_seeking.specs.inner.Pieces.{best_text, end_text, others_text};
     ghost use Rattle.prop_seeking.specs.inner.Seekers.{plan_of};
 
     /// The kind of a cell.
@@ -234,8 +244,10 @@ impl<R: Guarded + Drop, O: Order + Drop> Seeker<R, O> {
 
     /// Writes the named cells with their values on a line of their own.
     fn push_row(&self, named: &[usize], plan: &Plan, text: &mut String) -> Result<(), AllocError>
-        ensures { OnOk result (string_bytes text.new ≡ string_bytes text.old ++ (10 ∷
-            row_text (state_of self.now.teller.session) named.now (plan_of plan.now))) }
+        ensures { OnOk result (string_bytes text.new ≡ string_bytes text.old ++ (10
+            ∷ join_by (λ text. text) (codes " ")
+            (flat_map (cell_texts (state_of self.now.teller.session) (plan_of plan.now))
+            named.now))) }
     {
         let mut texts = Vec::new(self.teller.session().alloc());
         for cell in named {
@@ -272,7 +284,7 @@ impl<R: Guarded + Drop, O: Order + Drop> Seeker<R, O> {
         requires { IfSome others (λ by. IsPart (set_of by.now)
             (believed_in self.now.teller.session.search.premises)) }
         ensures { IfOk result (λ text. string_bytes text
-            ≡ list_text (state_of self.now.teller.session) named.now (map plan_of plans.now)
+            ≡ many_text (state_of self.now.teller.session) named.now (map plan_of plans.now)
             (option_map (λ by. by.now) others.entry)) }
     {
         let alloc = self.teller.session().alloc();
@@ -290,7 +302,7 @@ impl<R: Guarded + Drop, O: Order + Drop> Seeker<R, O> {
     pub(crate) fn none(&self, by: &PremiseSet) -> Result<String, AllocError>
         requires { IsPart (set_of by.now) (believed_in self.now.teller.session.search.premises) }
         ensures { IfOk result (λ text. string_bytes text
-            ≡ none_text (state_of self.now.teller.session) by.now) }
+            ≡ codes "none:" ++ support_text self.now.teller.session.search.premises by.now) }
     {
         let premises = self.premises(by)?;
         format!(in self.teller.session().alloc(); "none:{premises}")

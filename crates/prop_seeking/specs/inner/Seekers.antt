@@ -1,69 +1,173 @@
 -- A seeker as the machine sees it, and what it keeps.
-use Rattle.std.specs.Prelude.{◌≡◌, ◌⊎◌, ◌≤◌, ℕ, List, [], ◌∷◌, ◌++◌, Option, Some, None, IfSome, ⊤}
-use Rattle.std.specs.Prelude.{Result, Ok, Err, length}
+use Rattle.std.specs.Prelude.{◌≡◌, ◌⊎◌, ◌≤◌, ◌<◌, ℕ, List, [], ◌∷◌, ◌++◌, Option, Some, None, IfSome}
+use Rattle.std.specs.Prelude.{All, Result, Ok, Err, length, map, slice_index, ⊤}
 use Rattle.std.specs.List.{AllZip}
 use Rattle.std.specs.Option.{option_map}
+use Rattle.prop_lattice.specs.Ends.{span_from}
+use Rattle.prop_lattice.specs.Points.{Point}
 use Rattle.prop_lattice.specs.declared.info.Info.{Info}
-use Rattle.prop_premises.specs.Origins.{Origin}
+use Rattle.prop_lattice.specs.declared.info.Info.TheVariants as infos
+use Rattle.prop_numbers.specs.Sets.{IsPart, set_of}
+use Rattle.prop_premises.specs.ChoiceLists.{IsChoiceList, worldview}
+use Rattle.prop_premises.specs.Origins.{Origin, believed_in, choices_of}
+use Rattle.prop_procedures.specs.declared.shape.Kinded.{Kinded}
 use Rattle.prop_procedures.specs.declared.shape.Param.{Param}
 use Rattle.prop_procedures.specs.Stored.{Stored}
+use Rattle.prop_cells.specs.Data.{Data}
+use Rattle.prop_cells.specs.Points.{ArePoints}
+use Rattle.prop_facts.specs.declared.fact.Fact.{Fact}
+use Rattle.prop_facts.specs.declared.fact.Fact.TheVariants.{Is, Among, Same}
 use Rattle.prop_facts.specs.declared.fact.Literal.{Literal}
+use Rattle.prop_plans.specs.Held.{AreHeld, attached_of}
+use Rattle.prop_plans.specs.Plans.{value_in}
+use Rattle.prop_deriving.specs.Known.{IsExcused}
 use Rattle.prop_refusals.specs.declared.refusal.Refusal.{Refusal}
 use Rattle.prop_refusals.specs.declared.refusal.Refusal.TheVariants.{Memory}
-use Rattle.prop_workbench.specs.Machine.{State}
+use Rattle.prop_workbench.specs.Machine.{State, new_state}
 use Rattle.prop_workbench.specs.Sessions.{library_of, IsMeant, IsSound}
 use Rattle.prop_workbench.specs.declared.session.Session.{Session}
 use Rattle.prop_telling.specs.inner.Telling.{told_of}
-use Rattle.prop_solve.specs.Questions.{AreExcusing}
+use Rattle.prop_solve.specs.Questions.{AreExcusing, value_fact}
 use Rattle.prop_solve.specs.Searches.{Search, IsSearch}
 use Rattle.prop_solve.specs.declared.solver.Plan.{Plan as PlanOf}
 use Rattle.prop_solve.specs.declared.question.Goal.{Goal}
-use Rattle.prop_solve.specs.declared.question.Goal.TheVariants.{Any, Least, Greatest, Differing}
-use Rattle.prop_seeking.specs.Asking.{Asked}
-use Rattle.prop_seeking.specs.Plans.{Ground, ground_at, Plan, Fits, IsTold, Refutes}
-use Rattle.prop_seeking.specs.Plans.{Reply, IsReply, MayReply}
-use Rattle.prop_seeking.specs.Texts.{reply_text}
+use Rattle.prop_solve.specs.declared.question.Goal.TheVariants as goals
+use Rattle.prop_seeking.specs.Asking.{Aim, Question, Any, Least, Greatest, Differing}
+use Rattle.prop_seeking.specs.Texts.{Plan}
+use Rattle.prop_seeking.specs.Plans.{Fits, Says}
+use Rattle.prop_seeking.specs.Seeking.{Sought}
+use Rattle.prop_seeking.specs.declared.question.Aim.{Aim as AimOf}
+use Rattle.prop_seeking.specs.declared.question.Aim.TheVariants as aims
 use Rattle.prop_seeking.specs.declared.question.Asked.{Asked as AskedOf}
 use Rattle.prop_seeking.specs.declared.inquiry.End.{End}
 use Rattle.prop_seeking.specs.declared.inquiry.End.TheVariants.{Refuted, Open}
-use Rattle.prop_seeking.specs.Seeking.{Inquiry, Sought, AreBefore}
-use Rattle.prop_seeking.specs.Seeking.{inquiry_of as asking_on}
 use Rattle.prop_seeking.specs.declared.inquiry.Inquiry.{Inquiry as InquiryOf}
 use Rattle.prop_seeking.specs.declared.seeker.Seeker.{Seeker}
 
+-- cells with statements and instances, a library of procedures, and premises
+pub record Ground : Type 0 where
+  pub library : List Stored
+  pub cells : Data
+  pub premises : List Origin
+
+abbrev pub ground_at : List Stored → Data → List Origin → Ground
+ground_at library d premises = record { library = library; cells = d; premises = premises }
+
+-- a state in which that is there, and nothing has a name
+abbrev pub state_at : Ground → State
+state_at g = record (new_state 0) {
+  kinds = g.cells.kinds;
+  premises = g.premises;
+  statements = g.cells.statements;
+  instances = g.cells.instances;
+}
+
 -- a plan, as it is stated
 abbrev pub plan_of : PlanOf → Plan
-plan_of p = record { values = p.values.items; sides = p.sides.items }
+plan_of p = record { values = value_in p.values.items; sides = p.sides.items }
+
+-- ---- what is asked
+
+-- what a search is for, as it is stated
+abbrev pub aim_of : Goal → Aim
+aim_of goals.Any = Any
+aim_of (goals.Least cell) = Least
+aim_of (goals.Greatest cell) = Greatest
+aim_of goals.Differing = Differing
+
+-- what is asked for, as it is stated
+abbrev pub aim_said : AimOf → Aim
+aim_said aims.Any = Any
+aim_said aims.Least = Least
+aim_said aims.Greatest = Greatest
+aim_said aims.Differing = Differing
+
+-- the cell of an end is the first of these
+abbrev pub IsFirst : Goal → List ℕ → Type 0
+IsFirst (goals.Least cell) named = slice_index named 0 ≡ cell
+IsFirst (goals.Greatest cell) named = slice_index named 0 ≡ cell
+IsFirst goal named = ⊤
+
+-- a question, as it is stated
+abbrev pub question_of : Goal → List ℕ → Question
+question_of goal named = record { aim = aim_of goal; named = named }
 
 -- what was asked, as it is stated
-abbrev pub asked_of : AskedOf → Asked
-asked_of a = record { goal = a.goal; named = a.named.items; most = a.most }
+abbrev pub asked_of : AskedOf → Question × ℕ
+asked_of a = (question_of a.goal a.named.items, a.most)
+
+-- the cell of an end is the first of those that were named, and these are cells of these kinds
+pub record IsApt (kinds : List Kinded) (a : AskedOf) : Type 0 where
+  pub first : IsFirst a.goal a.named.items
+  pub within : All (λ cell. cell < length kinds) a.named.items
 
 -- what was made out is what it is to be, or memory was refused
 abbrev pub Gives : {A B : Type 0} → (A → B) → Result A Refusal → Result B Refusal → Type 0
 Gives see (Ok a) is = is ≡ Ok (see a)
 Gives see (Err refusal) is = (refusal ≡ Memory) ⊎ (is ≡ Err refusal)
 
--- a question under way
-abbrev pub inquiry_of : InquiryOf → Inquiry
+-- ---- what is excused
+
+-- what a fact says that a value has, where it tells the value
+abbrev pub info_of : Fact → Info
+info_of (Is n) = span_from n n
+info_of (Among elements) = infos.Set elements
+info_of (Same symbol) = infos.Sym symbol
+info_of fact = infos.Nothing
+
+-- the row of values that facts tell
+abbrev pub row_of : List Literal → List Info
+row_of facts = map (λ (x : Literal). info_of x.fact) facts
+
+-- the rows that were told where points are to differ
+abbrev pub rows_in : Goal → List (List Literal) → List (List Info)
+rows_in goals.Differing excuses = map row_of excuses
+rows_in goal excuses = []
+
+-- the facts tell values of these cells, one by one
+abbrev pub AreOf : List ℕ → List Literal → Type 0
+AreOf named facts = AllZip (λ cell (x : Literal). (x.place ≡ cell)
+    × ((info : Info) × (value_fact info ≡ Some x.fact))) named facts
+
+-- No points satisfy what these believed premises say, with any sides, but those that are excused:
+-- those that have all facts of one of the lists.
+pub record IsAllBut (g : Ground) (excuses : List (List Literal)) (by : List ℕ) : Type 0 where
+  pub believed : IsPart (set_of by) (believed_in g.premises)
+  pub only : (list : List ℕ) (points : ℕ → Point) → IsChoiceList (choices_of g.premises) list
+      → ArePoints (AreHeld g.library) (attached_of g.cells)
+      (worldview (set_of by) (choices_of g.premises) list) points
+      → IsExcused (attached_of g.cells) excuses points list
+
+-- ---- a question under way
+
+abbrev pub inquiry_of : InquiryOf → Question × List (List Info)
 inquiry_of i =
-    record { goal = i.solver.goal; named = i.solver.named; excuses = i.solver.excuses }
+    (question_of i.solver.goal i.solver.named, rows_in i.solver.goal i.solver.excuses)
 
 -- What a plan that was found excuses. Nothing is excused where none was.
 abbrev pub IsLast : Ground → Search → Option PlanOf → Type 0
-IsLast g s (Some p) = Fits g (plan_of p)
+IsLast g s (Some p) = Fits g.library (state_at g) (plan_of p)
     × ((facts : List Literal) × AreExcusing s.goal s.named p.values.items facts
     × (s.excuses ≡ facts ∷ []))
 IsLast g s None = s.excuses ≡ []
 
--- the search is one in what is there, and the last plan fits, where the last is told
+-- The search is one in what is there, by cells that are there. The last plan fits, where the last
+-- is told, and else the excuses are of the named cells.
 pub record IsInquiry (g : Ground) (i : InquiryOf) : Type 0 where
   pub search : IsSearch g.library g.cells g.premises i.solver
-  pub last : (i.solver.goal ≡ Differing → ⊥) → IsLast g i.solver i.last
+  pub first : IsFirst i.solver.goal i.solver.named
+  pub within : All (λ cell. cell < length g.cells.kinds) i.solver.named
+  pub last : (i.solver.goal ≡ goals.Differing → ⊥) → IsLast g i.solver i.last
+  pub rows : i.solver.goal ≡ goals.Differing → All (AreOf i.solver.named) i.solver.excuses
+
+-- what was told as a question begins, or goes on: what was where the same was asked before, and
+-- else nothing
+abbrev pub AreBefore : Option (Question × List (List Info)) → Question → List (List Info) → Type 0
+AreBefore old q rows = (rows ≡ []) ⊎ (old ≡ Some (q, rows))
 
 -- no others fit, by these premises, or that is open
 abbrev pub IsEnd : Ground → List (List Literal) → End → Type 0
-IsEnd g excuses (Refuted by) = Refutes g excuses by
+IsEnd g excuses (Refuted by) = IsAllBut g excuses by
 IsEnd g excuses Open = ⊤
 
 -- the same question
@@ -71,32 +175,31 @@ pub record IsSameQuestion (old new : InquiryOf) : Type 0 where
   pub goal : new.solver.goal ≡ old.solver.goal
   pub named : new.solver.named ≡ old.solver.named
 
--- plans that were found, no more than were asked for, and what is excused with them
-pub record AreFound (g : Ground) (asked : Asked) (before after : List (List Literal))
+-- plans that were found, no more than so many, and what is excused with them
+pub record AreFound (g : Ground) (named : List ℕ) (most : ℕ) (before after : List (List Literal))
     (ps : List Plan) : Type 0 where
-  pub more : List (List Literal)
-  pub told : AllZip (IsTold g asked.goal asked.named) ps more
-  pub few : length ps ≤ asked.most
-  pub grown : after ≡ before ++ more
+  pub fit : All (Fits g.library (state_at g)) ps
+  pub few : length ps ≤ most
+  pub grown : map row_of after ≡ map row_of before ++ map (λ (p : Plan). map p.values named) ps
+  pub rows : All (AreOf named) after
 
--- what an inquiry is for, with so many plans at most
-abbrev pub asked_in : InquiryOf → ℕ → Asked
-asked_in i most = record { goal = i.solver.goal; named = i.solver.named; most = most }
+-- a reply that is so, in these words, with what was excused before and is then
+abbrev pub Answers : List Stored → State → Search → ℕ → (before after : List (List Literal))
+    → List ℕ → Type 0
+Answers library s search most before after text = Says library s
+    (question_of search.goal search.named) most (rows_in search.goal before)
+    (rows_in search.goal after) text
 
--- a reply that may be given, and is so, in these words
-abbrev pub Answers : Ground → State → Asked → (before after : List (List Literal)) → List ℕ → Type 0
-Answers g s asked before after text = (reply : Reply) × MayReply asked.goal reply
-    × IsReply g asked before after reply × (text ≡ reply_text s asked reply)
-
--- A reply in these words to what is asked is so, of what was excused before and is then, and the
+-- A reply in these words to what is asked is so, of what was told before and is then, and the
 -- question can be gone on with.
-pub record Replied (g : Ground) (s : State) (old : Option Inquiry) (asked : Asked)
-    (new : Option Inquiry) (text : List ℕ) : Type 0 where
-  pub before : List (List Literal)
-  pub after : List (List Literal)
-  pub begins : AreBefore old asked before
-  pub answers : Answers g s asked before after text
-  pub goes_on : new ≡ Some (asking_on asked after)
+pub record Replied (library : List Stored) (s : State) (old : Option (Question × List (List Info)))
+    (asked : Question × ℕ) (new : Option (Question × List (List Info))) (text : List ℕ) : Type 0
+  where
+    pub before : List (List Info)
+    pub after : List (List Info)
+    pub begins : AreBefore old asked.0 before
+    pub says : Says library s asked.0 asked.1 before after text
+    pub goes_on : new ≡ Some (asked.0, after)
 
 -- where a seeker stands
 abbrev pub sought_of : {R O : Type 0} {X : Type 0} {F : X → Type 0} {g : _} → Seeker R O X F g

@@ -6,6 +6,7 @@ use Rattle.std.specs.Prelude.{Option, Some, None, Result, Ok, Err, codes, cond, 
 use Rattle.std.specs.Str.Lines.{strip_carriage_return}
 use Rattle.std.proofs.lemmas.Bool.{cases_lt}
 use Rattle.std.proofs.lemmas.List.{length-take, take_all}
+use Rattle.prop_lattice.specs.declared.info.Info.{Info}
 use Rattle.prop_refusals.specs.declared.refusal.Refusal.{Refusal}
 use Rattle.prop_refusals.specs.declared.refusal.Refusal.TheVariants.{Memory, LineTooLong}
 use Rattle.prop_procedures.specs.Stored.{Stored}
@@ -23,8 +24,8 @@ use Rattle.prop_telling.specs.Listing.{SaysList}
 use Rattle.prop_telling.specs.Notes.{Note, is_done, note_read, noted}
 use Rattle.prop_telling.specs.Telling.{DoesAsSession, IsNoted, Own, TellsStep, Told, telling}
 use Rattle.prop_telling.specs.laws.TellingLaws.{lacks_read, memory_works, telling_asks_by_prefix}
-use Rattle.prop_seeking.specs.Asking.{asked, as_value, is_question}
-use Rattle.prop_seeking.specs.Seeking.{Inquiry, Replies, Seeks, Sought, seeking}
+use Rattle.prop_seeking.specs.Asking.{Question, asked, as_value, is_question}
+use Rattle.prop_seeking.specs.Seeking.{Seeks, Sought, seeking}
 
 -- ---- what is kept of a line
 
@@ -78,7 +79,7 @@ kept_reading line read (inr (l, r)) =
 -- ---- lines by what is kept of them
 
 kept_seeks : {O : Type 0} (library : List Stored) (old : Sought O) (line : List ℕ) (answer : Answer)
-    (inquiry : Option Inquiry) → Seeks library old (kept_of line) answer inquiry
+    (inquiry : Option (Question × List (List Info))) → Seeks library old (kept_of line) answer inquiry
     → Seeks library old line answer inquiry
 kept_seeks library old line answer inquiry (inl memory) = inl memory
 kept_seeks library old line answer inquiry (inr (read, is, replies)) =

@@ -1,18 +1,17 @@
-use Rattle.std.proofs.Common.{◌≡◌, ◌∙◌, ap, sym, Ok, arith}
-use Rattle.std.proofs.lemmas.Int.{to_z-of_z}
-use Rattle.std.specs.Prelude.{unsigned_abs}
+use Rattle.std.proofs.Common.{◌≡◌, [], ap, drop, inr, pos, refl, subst, sym}
+use Rattle.std.specs.Prelude.{slice_index_or}
+use Rattle.prop_language.specs.Names.{number_in}
 use Rattle.prop_language.specs.Said.{words}
-use Rattle.prop_solve.specs.declared.question.Goal.TheVariants.{Differing}
-use Rattle.prop_seeking.specs.Asking.{asking, asking_many}
-use Rattle.prop_seeking.proofs.AskLemmas.{some_words, many_asked}
+use Rattle.prop_seeking.specs.Asking.{Differing, asking}
+use Rattle.prop_seeking.specs.inner.Pieces.{named_so}
+use Rattle.prop_seeking.specs.inner.Seekers.{Gives, asked_of}
 use Rattle.prop_seeking.proofs.question.asking_many.Goals as goal
 
-pub returns : goal.returns
-returns c =
-    let cells = c.in-Some.cells.now in
-    let number : unsigned_abs c.in-Some-number_in.most ≡ c.unsigned_abs.result = grind (arith, to_z-of_z) in
-    ap (λ l. asking_many c.args.names.now (words l)) c.in-Some.ensures.cases.0
-    ∙ many_asked c.args.names.now c.in-Some.first.now.now (words cells) c.in-Some-number_in.most
-    c.in_ok-cells_of.field-0.items (some_words cells (sym c.is_empty.ensures ∙ c.if-is_empty.false))
-    (sym c.number_in.ensures ∙ c.in-Some-number_in.is) c.in_ok-cells_of.ensures
-    ∙ ap (λ n. asking Differing n c.in_ok-cells_of.field-0.items) number
+pub returns-clause-asked : goal.returns-clause-asked
+returns-clause-asked c =
+    let s = named_so c.args.names.now c.args.cells.now.kinds in
+    subst (λ l. Gives asked_of c.asking.result (asking s Differing
+    (number_in (pos 1) (pos 1_000_000_000) (slice_index_or (words l) 0 [])) (drop 1 (words l))))
+    (sym c.in-Some.ensures.cases.0)
+    (subst (λ most. Gives asked_of c.asking.result (asking s Differing most (words c.in-Some.others.now)))
+    c.number_in.ensures c.asking.ensures.asked)

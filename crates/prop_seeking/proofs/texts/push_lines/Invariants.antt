@@ -1,5 +1,5 @@
 use Rattle.std.proofs.Common.{◌≡◌, ◌++◌, map, take, string_bytes}
-use Rattle.prop_seeking.specs.Texts.{lines_text}
+use Rattle.prop_seeking.specs.inner.Pieces.{lines_text}
 use Rattle.prop_seeking.proofs.texts.push_lines.Given as goal
 
 abbrev pub invariant-loop-line : goal.invariant-loop-line

@@ -1,7 +1,6 @@
 use Rattle.std.proofs.Common.{◌≡◌}
 use Rattle.prop_procedures.specs.Kept.{stored_of}
-use Rattle.prop_seeking.specs.Plans.{ground_at}
-use Rattle.prop_seeking.specs.inner.Seekers.{IsInquiry, IsSameQuestion}
+use Rattle.prop_seeking.specs.inner.Seekers.{IsInquiry, IsSameQuestion, ground_at}
 use Rattle.prop_seeking.proofs.inquiry.Inquiry.improve.Given as goal
 
 abbrev pub invariant-loop : goal.invariant-loop
