@@ -109,8 +109,8 @@ fn places(
     held: &Cells,
     ins: &[usize],
     out: usize,
-) -> SmallVec<(Shape, Kinded), 9>
-    requires few { length ins.now ≤ 8 }
+) -> SmallVec<(Shape, Kinded), 129>
+    requires few { length ins.now ≤ 128 }
     requires count { length ins.now ≡ length shapes.now }
     requires cells { All (λ c. c < length held.now.kinds) (ins.now ++ out ∷ []) }
     ensures { result.items ≡ zip (shapes.now ++ shape ∷ [])

@@ -16,7 +16,7 @@ use prop_premises::{Premise, Worldview};
 use prop_procedures::{Kinded, Rule};
 
 /// How many inputs a procedure may have.
-const MOST_INPUTS: usize = 8;
+const MOST_INPUTS: usize = 128;
 
 /// Whether an information leaves one point alone: one number, one element or a symbol.
 fn is_single(info: Info) -> bool

@@ -23,7 +23,7 @@ pub slice_bounds-args-end : goal.slice_bounds-args-end
 slice_bounds-args-end g c =
     let at : slice_get c.args.network.now.cells.instances c.args.number ≡ Some c.instance-x.result.now =
     rw c.data.ensures at c.instance-x.ensures.at in
-    let few : length c.inputs.result.now ≤ 8 =
+    let few : length c.inputs.result.now ≤ 128 =
     rw c.inputs.ensures (few_at g.R.Rule.value_of c.args.network.now.library c.args.network.now.cells c.args.number
     c.instance-x.result.now c.requires.kept at) in
     sym (room_for (length c.inputs.result.now) _ few)
@@ -32,7 +32,7 @@ pub gather-requires-clause-places : goal.gather-requires-clause-places
 gather-requires-clause-places g c =
     let at : slice_get c.args.network.now.cells.instances c.args.number ≡ Some c.instance-x.result.now =
     rw c.data.ensures at c.instance-x.ensures.at in
-    let few : length c.inputs.result.now ≤ 8 =
+    let few : length c.inputs.result.now ≤ 128 =
     rw c.inputs.ensures (few_at g.R.Rule.value_of c.args.network.now.library c.args.network.now.cells c.args.number
     c.instance-x.result.now c.requires.kept at) in
     room_for (length c.inputs.result.now) _ few
