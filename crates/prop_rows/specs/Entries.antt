@@ -1,0 +1,56 @@
+-- The entry of a number in a row.
+use Rattle.std.specs.Prelude.{◌≡◌, ◌⊎◌, ℤ, pos, ◌+ℤ◌, int_le, Bool, not, ◌&&◌, List, [], ◌∷◌}
+use Rattle.std.specs.Prelude.{if◌then◌else◌}
+use Rattle.std.specs.Ordering.{int_eq}
+use Rattle.prop_intervals.specs.Clip.{clip}
+use Rattle.prop_lattice.specs.Order.{merge_of, is_contradiction}
+use Rattle.prop_lattice.specs.Points.{Point}
+use Rattle.prop_lattice.specs.declared.info.Info.{Info}
+use Rattle.prop_lattice.specs.declared.info.Info.TheVariants.{Nothing, Contradiction}
+use Rattle.prop_wide.specs.Ends.{low_of, high_of}
+use Rattle.prop_wide.specs.Hulls.{hull_of}
+
+-- the number may be this one
+abbrev pub may_be : Info → ℤ → Bool
+may_be number this = int_le (low_of number) this && int_le this (high_of number)
+
+-- the two may be of one value
+abbrev pub meets : Info → Info → Bool
+meets a b = not (is_contradiction (merge_of a b))
+
+-- what those of these entries leave that the number may pick, of which the first has this one
+abbrev pub picked : Info → ℤ → List Info → Info
+picked number first [] = Contradiction
+picked number first (entry ∷ entries) =
+    hull_of (if may_be number first then entry else Contradiction)
+    (picked number (first +ℤ pos 1) entries)
+
+-- what is known of the entry of the number, counted from 1
+abbrev pub element_of : Info → List Info → Info
+element_of number entries = picked number (pos 1) entries
+
+-- the numbers of those that may have the value
+abbrev pub found : Info → Info → ℤ → List Info → Info
+found value number first [] = Contradiction
+found value number first (entry ∷ entries) =
+    hull_of (if may_be number first && meets entry value then clip first first else Contradiction)
+    (found value number (first +ℤ pos 1) entries)
+
+-- what is known of the number of an entry that has the value
+abbrev pub index_of : Info → Info → List Info → Info
+index_of value number entries = found value number (pos 1) entries
+
+-- both are known, and the same number
+abbrev pub is_known_as : Info → Info → Bool
+is_known_as number this = int_eq (low_of number) (high_of number)
+    && (int_eq (low_of this) (high_of this) && int_eq (low_of number) (low_of this))
+
+-- what is known of the entry of this number where that of a number has the value
+abbrev pub entry_of : Info → Info → Info → Info
+entry_of number this value = if is_known_as number this then value else Nothing
+
+-- the point is the entry of the number, of entries of which the first has this one
+abbrev pub IsEntry : ℤ → ℤ → List Point → Point → Type 0
+IsEntry number first [] point = ⊥
+IsEntry number first (entry ∷ entries) point = ((number ≡ first) × (point ≡ entry))
+    ⊎ IsEntry number (first +ℤ pos 1) entries point

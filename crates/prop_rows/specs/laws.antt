@@ -1,0 +1,3 @@
+pub mod SumLaws
+pub mod EntryLaws
+pub mod RowLaws

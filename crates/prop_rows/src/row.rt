@@ -1,0 +1,135 @@
+//! The rules: their forms and what they answer.
+ghost use Rattle.std.specs.Prelude.{◌≡◌, ◌↔◌, IsTrue, ◌∷◌, []};
+ghost use Rattle.std.specs.List.{list_all};
+ghost use Rattle.prop_procedures.specs.declared.shape.Shape.TheVariants.{Span, Any};
+ghost use Rattle.prop_rows.specs.Row.{FormOf, HasInputs, Related, is_any, is_span, out_of};
+ghost use Rattle.prop_rows.specs.Row.{value_of};
+ghost use Rattle.prop_procedures.specs.declared.shape.Param.TheVariants as params;
+ghost use Rattle.prop_rows.specs.laws.RowLaws.{row_monotone, row_keeps_kind, row_sound};
+
+use crate::entries::{element, entry, index};
+use crate::sums::{addend, sum};
+use prop_lattice::Info;
+use prop_procedures::{Need, Param, Rule, Shape};
+
+/// The rules over rows. A rule works in one direction: from its inputs to its output.
+#[derive(Clone, Copy, Debug, PartialEq, Eq)]
+pub enum Row {
+    /// From pairs c1 x1, c2 x2 and so on to z, where z is the sum of the products.
+    Sum,
+    /// From z, c and pairs c1 x1 and so on to x, where z is the sum of c * x and the products.
+    Addend,
+    /// From i and a row to y, where y is the entry of number i, counted from 1, in any kind.
+    Element,
+    /// From y, what is known of i already, and a row to i, where y is the entry of number i.
+    Index,
+    /// From i, j and y to the entry of number j, where y is the entry of number i, in any kind.
+    Entry,
+}
+
+/// Whether a shape is that of numbers.
+fn is_span(shape: Shape) -> bool
+    ensures { result ≡ is_span shape }
+{
+    matches!(shape, Shape::Span)
+}
+
+/// Whether a shape is that of the values of a row.
+fn is_any(shape: Shape) -> bool
+    ensures { result ≡ is_any shape }
+{
+    matches!(shape, Shape::Any(0))
+}
+
+/// Whether each shape is that of numbers.
+fn are_spans(shapes: &[Shape]) -> bool
+    ensures { result ≡ list_all is_span shapes.now }
+{
+    shapes.iter().all(|shape| is_span(*shape))
+}
+
+/// Whether each shape is that of the values of a row.
+fn are_any(shapes: &[Shape]) -> bool
+    ensures { result ≡ list_all is_any shapes.now }
+{
+    shapes.iter().all(|shape| is_any(*shape))
+}
+
+impl Row {
+    /// Whether the rule may have inputs of these shapes.
+    fn takes(self, ins: &[Shape]) -> bool
+        ensures { IsTrue result ↔ HasInputs self ins.now }
+    {
+        match self {
+            Row::Sum | Row::Addend => are_spans(ins),
+            Row::Element => match ins {
+                [Shape::Span, row @ ..] => are_any(row),
+                _ => false,
+            },
+            Row::Index => match ins {
+                [Shape::Any(0), Shape::Span, row @ ..] => are_any(row),
+                _ => false,
+            },
+            Row::Entry => matches!(ins, [Shape::Span, Shape::Span, Shape::Any(0)]),
+        }
+    }
+
+    /// The shape of its output.
+    pub fn out(self) -> Shape
+        ensures { result ≡ out_of self }
+    {
+        match self {
+            Row::Sum | Row::Addend | Row::Index => Shape::Span,
+            Row::Element | Row::Entry => Shape::Any(0),
+        }
+    }
+
+    /// What the rule answers, `Info::Nothing` where the arguments are none that it takes.
+    pub fn run(self, args: &[Info]) -> Info
+        ensures { result ≡ value_of self params.Plain args.now }
+    {
+        match self {
+            Row::Sum => {
+                if args.len() <= 128 {
+                    sum(args)
+                } else {
+                    Info::Nothing
+                }
+            }
+            Row::Addend => match args {
+                [z, c, pairs @ ..] if pairs.len() <= 126 => addend(*z, *c, pairs),
+                _ => Info::Nothing,
+            },
+            Row::Element => match args {
+                [number, row @ ..] if row.len() <= 127 => element(*number, row),
+                _ => Info::Nothing,
+            },
+            Row::Index => match args {
+                [value, number, row @ ..] if row.len() <= 126 => index(*value, *number, row),
+                _ => Info::Nothing,
+            },
+            Row::Entry => match args {
+                [number, this, value] => entry(*number, *this, *value),
+                _ => Info::Nothing,
+            },
+        }
+    }
+}
+
+impl Rule for Row {
+    ghost form = { FormOf };
+
+    ghost value_of = { value_of };
+
+    ghost related = { Related };
+
+    fn has_form(&self, ins: &[Shape], out: Shape, need: Need) -> bool {
+        self.takes(ins) && out == self.out() && need == Need::Nothing
+    }
+
+    ghost monotone = { row_monotone };
+
+    ghost keeps_kind = { row_keeps_kind };
+
+    ghost sound = { row_sound };
+}
