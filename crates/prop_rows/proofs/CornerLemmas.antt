@@ -8,8 +8,8 @@ use Rattle.prop_lattice.specs.declared.info.Info.{Info}
 use Rattle.prop_lattice.specs.declared.span.TheConstants.{B}
 use Rattle.prop_rows.specs.Sums.{corner, total, shares_of, parts_of, addend_of}
 use Rattle.std.proofs.lemmas.Bool.Decides.{Decides-int_eq}
-use Rattle.std.specs.Prelude.{Bool, true, false, int_lt, if◌then◌else◌}
-use Rattle.prop_lattice.specs.declared.info.Info.TheVariants.{Nothing}
+use Rattle.std.specs.Prelude.{Bool, true, false, int_lt, int_le, ◌&&◌, if◌then◌else◌}
+use Rattle.prop_lattice.specs.declared.info.Info.TheVariants.{Nothing, Contradiction}
 use Rattle.std.proofs.lemmas.List.{take_all, length-take}
 use Rattle.prop_wide.specs.Ends.{low_of, high_of}
 use Rattle.prop_wide.specs.laws.EndLaws.{ends_ordered}
@@ -139,7 +139,8 @@ parts_under a b c l = by (int_lt (pos 0) c) refl (int_lt c (pos 0)) refl
   where
     by : (s : Bool) → int_lt (pos 0) c ≡ s → (t : Bool) → int_lt c (pos 0) ≡ t
         → shares_of (neg_ℤ b) (neg_ℤ a) (neg_ℤ c) ≡ (if s then shares_of a b c
-        else (if t then shares_of (neg_ℤ b) (neg_ℤ a) (neg_ℤ c) else Nothing))
+        else (if t then shares_of (neg_ℤ b) (neg_ℤ a) (neg_ℤ c)
+        else (if int_le a (pos 0) && int_le (pos 0) b then Nothing else Contradiction)))
     by true e t f = absurd (omega (arith, ints))
     by false e true f = refl
     by false e false f = absurd (omega (arith, ints))

@@ -1,1 +1,2 @@
 pub mod CornerLemmas
+pub mod ExactLaws

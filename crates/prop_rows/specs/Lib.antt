@@ -1,4 +1,6 @@
 pub mod Sums
 pub mod Entries
 pub mod Row
+pub mod Exact
+pub mod Guards
 pub mod laws

@@ -1,5 +1,5 @@
 -- The rules: their forms, what they answer, and which points belong together.
-use Rattle.std.specs.Prelude.{◌≡◌, ℕ, Bool, true, false, nat_le, List, [], ◌∷◌, length, ◌+ℤ◌, ◌==◌}
+use Rattle.std.specs.Prelude.{◌≡◌, ◌≤◌, ℕ, Bool, true, false, nat_le, List, [], ◌∷◌, length, ◌+ℤ◌, ◌==◌}
 use Rattle.std.specs.Prelude.{pos, ◌*ℤ◌, if◌then◌else◌}
 use Rattle.std.specs.List.{list_all}
 use Rattle.prop_lattice.specs.Points.{Point, Number}
@@ -40,7 +40,7 @@ Begins shape Rest (s ∷ shapes) = (s ≡ shape) × Rest shapes
 -- the rule may have inputs of these shapes
 abbrev pub HasInputs : rows.Row → List Shape → Type 0
 HasInputs Sum ins = AreSpans ins
-HasInputs Addend ins = AreSpans ins
+HasInputs Addend ins = Begins Span (Begins Span AreSpans) ins
 HasInputs Element ins = Begins Span AreAny ins
 HasInputs Index ins = Begins (Any 0) (Begins Span AreAny) ins
 HasInputs Entry ins = ins ≡ Span ∷ Span ∷ Any 0 ∷ []
@@ -51,10 +51,10 @@ out_of Element = Any 0
 out_of Entry = Any 0
 out_of rule = Span
 
--- the forms of a rule
+-- the forms of a rule, which have up to 128 inputs
 abbrev pub FormOf : rows.Row → List Shape → Shape → Need → Type 0
 FormOf rule ins out need =
-    HasInputs rule ins × (out ≡ out_of rule) × (need ≡ needs.Nothing)
+    HasInputs rule ins × (out ≡ out_of rule) × (need ≡ needs.Nothing) × (length ins ≤ 128)
 
 -- the value where there are no more than so many
 abbrev pub at_most : ℕ → (List Info → Info) → List Info → Info

@@ -1,5 +1,5 @@
 -- Sums of products of numbers, which stand in pairs.
-use Rattle.std.specs.Prelude.{ℤ, pos, neg_ℤ, ◌+ℤ◌, ◌-ℤ◌, ◌*ℤ◌, int_lt, List, ◌∷◌}
+use Rattle.std.specs.Prelude.{ℤ, pos, neg_ℤ, ◌+ℤ◌, ◌-ℤ◌, ◌*ℤ◌, int_lt, int_le, ◌&&◌, List, ◌∷◌}
 use Rattle.std.specs.Prelude.{if◌then◌else◌}
 use Rattle.std.specs.Int.{int_max, int_min, int_div_euclid}
 use Rattle.std.specs.Ordering.{int_eq}
@@ -7,7 +7,7 @@ use Rattle.prop_intervals.specs.Clip.{clip}
 use Rattle.prop_intervals.specs.Quotients.{int_div_ceil}
 use Rattle.prop_lattice.specs.Points.{Point, Number}
 use Rattle.prop_lattice.specs.declared.info.Info.{Info}
-use Rattle.prop_lattice.specs.declared.info.Info.TheVariants.{Nothing}
+use Rattle.prop_lattice.specs.declared.info.Info.TheVariants.{Nothing, Contradiction}
 use Rattle.prop_wide.specs.Ends.{low_of, high_of}
 
 -- of the products of an end of c and an end of x the one that is picked
@@ -28,10 +28,11 @@ sum_of pairs = clip (total int_min pairs) (total int_max pairs)
 abbrev pub shares_of : ℤ → ℤ → ℤ → Info
 shares_of a b c = clip (int_div_ceil a c) (int_div_euclid b c)
 
--- the same of any c but zero
+-- the same of any c: each number, or none, where it is zero
 abbrev pub parts_of : ℤ → ℤ → ℤ → Info
 parts_of a b c = if int_lt (pos 0) c then shares_of a b c
-    else (if int_lt c (pos 0) then shares_of (neg_ℤ b) (neg_ℤ a) (neg_ℤ c) else Nothing)
+    else (if int_lt c (pos 0) then shares_of (neg_ℤ b) (neg_ℤ a) (neg_ℤ c)
+    else (if int_le a (pos 0) && int_le (pos 0) b then Nothing else Contradiction))
 
 -- what is known of the number that times c and with the products of pairs makes up z, where c is
 -- known

@@ -1,3 +1,4 @@
 pub mod SumLaws
 pub mod EntryLaws
 pub mod RowLaws
+pub mod GuardLaws

@@ -7,9 +7,12 @@
 #![tactic(auto)]
 
 pub mod entries;
+mod guards;
+pub mod laws;
 pub mod row;
 pub mod sums;
 
 pub use entries::{element, entry, index};
+pub use laws::rows_are_exact;
 pub use row::Row;
 pub use sums::{addend, sum};

@@ -61,7 +61,11 @@ impl Row {
         ensures { IsTrue result ↔ HasInputs self ins.now }
     {
         match self {
-            Row::Sum | Row::Addend => are_spans(ins),
+            Row::Sum => are_spans(ins),
+            Row::Addend => match ins {
+                [Shape::Span, Shape::Span, pairs @ ..] => are_spans(pairs),
+                _ => false,
+            },
             Row::Element => match ins {
                 [Shape::Span, row @ ..] => are_any(row),
                 _ => false,
@@ -124,7 +128,7 @@ impl Rule for Row {
     ghost related = { Related };
 
     fn has_form(&self, ins: &[Shape], out: Shape, need: Need) -> bool {
-        self.takes(ins) && out == self.out() && need == Need::Nothing
+        ins.len() <= 128 && self.takes(ins) && out == self.out() && need == Need::Nothing
     }
 
     ghost monotone = { row_monotone };

@@ -82,7 +82,7 @@ fn shares(a: i128, b: i128, c: i128) -> Info
     clipped(-(-a).div_euclid(c), b.div_euclid(c))
 }
 
-/// The same of any `c` in range; nothing where it is zero.
+/// The same of any `c` in range: each number, or none, where it is zero.
 fn parts(a: i128, b: i128, c: i128) -> Info
     requires least { (neg_ℤ (pos (2 ^ 126)) ≤ℤ a) × (neg_ℤ (pos (2 ^ 126)) ≤ℤ b) }
     requires greatest { (a ≤ℤ pos (2 ^ 126)) × (b ≤ℤ pos (2 ^ 126)) }
@@ -93,13 +93,15 @@ fn parts(a: i128, b: i128, c: i128) -> Info
         shares(a, b, c)
     } else if c < 0 {
         shares(-b, -a, -c)
-    } else {
+    } else if a <= 0 && 0 <= b {
         Info::Nothing
+    } else {
+        Info::Contradiction
     }
 }
 
 /// What is known of the number that times `c` adds to the products of pairs what `z` lacks; nothing
-/// where `c` isn't known, or zero.
+/// where `c` isn't known.
 pub fn addend(z: Info, c: Info, pairs: &[Info]) -> Info
     requires few { length pairs.now ≤ 126 }
     ensures { result ≡ addend_of z c pairs.now }

@@ -30,7 +30,7 @@ use Rattle.prop_rows.specs.laws.EntryLaws.{AreOfKind, picked_below, picked_kind,
 use Rattle.prop_rows.specs.laws.EntryLaws.{found_below, found_kind, found_holds, entry_below}
 use Rattle.prop_rows.specs.laws.EntryLaws.{entry_kind, entry_holds}
 use Rattle.prop_rows.specs.laws.SumLaws.{sum_below, sum_kind, sum_sound, addend_below, addend_kind}
-use Rattle.prop_rows.specs.laws.SumLaws.{addend_sound, first_is_span, others_are_spans}
+use Rattle.prop_rows.specs.laws.SumLaws.{addend_sound}
 use Rattle.prop_wide.specs.laws.EndLaws.{ends_within}
 use Rattle.prop_wide.specs.laws.TruthLaws.{never}
 
@@ -169,16 +169,13 @@ row_keeps_kind Entry ins out need f any param args c =
 -- ---- answers that hold what belongs to the arguments
 
 addend_sounds : (any : Shape → Kinded) (ins : List Shape) (param : Param) (args : List Info)
-    (points : List Point) (point : Point) → AreSpans ins → ArePointsOf any ins points
-    → IsPointOf kinds.Span 0 point → EachHolds args points → RelatesAddend points point
-    → Holds (value_of Addend param args) point
+    (points : List Point) (point : Point) → Begins Span (Begins Span AreSpans) ins
+    → ArePointsOf any ins points → IsPointOf kinds.Span 0 point → EachHolds args points
+    → RelatesAddend points point → Holds (value_of Addend param args) point
 addend_sounds any (s ∷ t ∷ ins) param (z ∷ c ∷ pairs) (Number v ∷ Number w ∷ points) (Number x) f ps
-    k e r =
-    let rest = others_are_spans s (t ∷ ins) f in
-    at_most_holds 126 (addend_of z c) pairs (Number x)
-    (addend_sound any ins z c pairs points v w x (others_are_spans t ins rest) ps.1.1
-    (rw (first_is_span s (t ∷ ins) f) at ps.0) (rw (first_is_span t ins rest) at ps.1.0) k e.0
-    e.1.0 e.1.1 r)
+    k e r = at_most_holds 126 (addend_of z c) pairs (Number x)
+    (addend_sound any ins z c pairs points v w x f.1.1 ps.1.1 (rw f.0 at ps.0) (rw f.1.0 at ps.1.0)
+    k e.0 e.1.0 e.1.1 r)
 addend_sounds any ins param args points point f ps k e r = search rules
 
 element_sounds : (any : Shape → Kinded) (ins : List Shape) (param : Param) (args : List Info)

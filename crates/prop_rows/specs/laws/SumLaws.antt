@@ -1,10 +1,10 @@
 -- The laws of sums of products.
 use Rattle.std.specs.Prelude.{◌≡◌, ◌≢◌, ℤ, pos, neg_ℤ, ◌+ℤ◌, ◌-ℤ◌, ◌*ℤ◌, ◌≤ℤ◌, int_lt}
-use Rattle.std.specs.Prelude.{Bool, true, false, List, [], ◌∷◌, if◌then◌else◌}
+use Rattle.std.specs.Prelude.{Bool, true, false, int_le, ◌&&◌, List, [], ◌∷◌, if◌then◌else◌}
 use Rattle.std.specs.Int.{int_max, int_min}
 use Rattle.std.specs.List.{list_all}
 use Rattle.std.specs.Ordering.{int_eq}
-use Rattle.std.proofs.Common.{arith, refl, rules, ◌∙◌}
+use Rattle.std.proofs.Common.{arith, refl, rules, ap, ◌∙◌}
 use Rattle.std.proofs.lemmas.Bool.{and_parts}
 use Rattle.std.proofs.lemmas.Int.{ints, clamps}
 use Rattle.prop_intervals.specs.laws.ClipLaws.{clip_below, clip_of_span, clip_holds}
@@ -28,6 +28,7 @@ use Rattle.prop_rows.specs.Row.{AreSpans, is_span, RelatesSum}
 use Rattle.prop_rows.specs.Sums.{corner, total, sum_of, shares_of, parts_of, addend_of, sum_at}
 use Rattle.prop_wide.specs.Ends.{low_of, high_of}
 use Rattle.prop_wide.specs.laws.EndLaws.{ends_ordered, ends_within, held_between, AreWithin}
+use Rattle.prop_wide.specs.laws.EndLaws.{both_le, both_from, both_to}
 use Rattle.prop_wide.specs.laws.TruthLaws.{never}
 use borrow.Author.Differences.{same_in}
 use lib.IntN.{*ℤ_comm}
@@ -155,33 +156,74 @@ sum_sound any ins args points point f ps k e r = search rules
 below_zero : (a b : ℤ) → a ≤ℤ b → neg_ℤ b ≤ℤ neg_ℤ a
 below_zero a b h = omega (arith, ints)
 
+-- a factor of zero
+at_zero : ℤ → ℤ → Info
+at_zero a b = if int_le a (pos 0) && int_le (pos 0) b then Nothing else Contradiction
+
+at_zero_below : (a b a' b' : ℤ) → a ≤ℤ a' → b' ≤ℤ b → Below (at_zero a b) (at_zero a' b')
+unfolding at_zero
+at_zero_below a b a' b' p q = by (both_le a (pos 0) (pos 0) b) (both_le a' (pos 0) (pos 0) b')
+    (λ e. let t = both_to a' (pos 0) (pos 0) b' e in
+    both_from a (pos 0) (pos 0) b (through a a' (pos 0) p t.0) (through (pos 0) b' b t.1 q))
+  where
+    through : (k m n : ℤ) → k ≤ℤ m → m ≤ℤ n → k ≤ℤ n
+    through k m n h i = omega (arith, ints)
+
+    by : (s t : Bool) → (t ≡ true → s ≡ true) → Below (if s then Nothing else Contradiction)
+        (if t then Nothing else Contradiction)
+    by true t h = tt
+    by false true h = absurd (never (h refl))
+    by false false h = tt
+
+at_zero_kind : (a b : ℤ) → IsOf kinds.Span 0 (at_zero a b)
+unfolding at_zero
+at_zero_kind a b = by (both_le a (pos 0) (pos 0) b)
+  where
+    by : (s : Bool) → IsOf kinds.Span 0 (if s then Nothing else Contradiction)
+    by true = tt
+    by false = tt
+
+at_zero_holds : (a b : ℤ) (p : Point) → a ≤ℤ pos 0 → pos 0 ≤ℤ b → Holds (at_zero a b) p
+unfolding at_zero
+at_zero_holds a b p h k = by (both_le a (pos 0) (pos 0) b) (both_from a (pos 0) (pos 0) b h k)
+  where
+    by : (s : Bool) → s ≡ true → Holds (if s then Nothing else Contradiction) p
+    by true e = tt
+    by false e = absurd (never e)
+
 pub parts_below : (a b a' b' c : ℤ) → a ≤ℤ a' → b' ≤ℤ b
     → Below (parts_of a b c) (parts_of a' b' c)
-parts_below a b a' b' c p q = by (int_lt (pos 0) c) refl (int_lt c (pos 0)) refl
+unfolding at_zero
+parts_below a b a' b' c p q =
+    by (int_lt (pos 0) c) refl (int_lt c (pos 0)) refl (at_zero_below a b a' b' p q)
   where
     by : (s : Bool) → int_lt (pos 0) c ≡ s → (t : Bool) → int_lt c (pos 0) ≡ t
+        → Below (at_zero a b) (at_zero a' b')
         → Below (if s then shares_of a b c else (if t then shares_of (neg_ℤ b) (neg_ℤ a) (neg_ℤ c)
-        else Nothing)) (if s then shares_of a' b' c else (if t then shares_of (neg_ℤ b') (neg_ℤ a')
-        (neg_ℤ c) else Nothing))
-    by true e t f = clip_below _ _ _ _ (ceil-below a a' c (omega (arith, ints)) p)
+        else at_zero a b)) (if s then shares_of a' b' c else (if t then shares_of (neg_ℤ b')
+        (neg_ℤ a') (neg_ℤ c) else at_zero a' b'))
+    by true e t f z = clip_below _ _ _ _ (ceil-below a a' c (omega (arith, ints)) p)
         (floor-below b' b c (omega (arith, ints)) q)
-    by false e true f = clip_below _ _ _ _
+    by false e true f z = clip_below _ _ _ _
         (ceil-below (neg_ℤ b) (neg_ℤ b') (neg_ℤ c) (omega (arith, ints)) (below_zero b' b q))
         (floor-below (neg_ℤ a') (neg_ℤ a) (neg_ℤ c) (omega (arith, ints)) (below_zero a a' p))
-    by false e false f = tt
+    by false e false f z = z
 
 pub parts_kind : (a b c : ℤ) → IsOf kinds.Span 0 (parts_of a b c)
-parts_kind a b c = by (int_lt (pos 0) c) (int_lt c (pos 0))
+unfolding at_zero
+parts_kind a b c = by (int_lt (pos 0) c) (int_lt c (pos 0)) (at_zero_kind a b)
   where
-    by : (s t : Bool) → IsOf kinds.Span 0 (if s then shares_of a b c
-        else (if t then shares_of (neg_ℤ b) (neg_ℤ a) (neg_ℤ c) else Nothing))
-    by true t = clip_of_span 0 _ _
-    by false true = clip_of_span 0 _ _
-    by false false = tt
+    by : (s t : Bool) → IsOf kinds.Span 0 (at_zero a b)
+        → IsOf kinds.Span 0 (if s then shares_of a b c
+        else (if t then shares_of (neg_ℤ b) (neg_ℤ a) (neg_ℤ c) else at_zero a b))
+    by true t z = clip_of_span 0 _ _
+    by false true z = clip_of_span 0 _ _
+    by false false z = z
 
 -- a number whose product with the factor lies between
 pub parts_hold : (a b c x : ℤ) → IsInRange x → a ≤ℤ (c *ℤ x) → (c *ℤ x) ≤ℤ b
     → Holds (parts_of a b c) (Number x)
+unfolding at_zero
 parts_hold a b c x r h k = by (int_lt (pos 0) c) refl (int_lt c (pos 0)) refl
   where
     turned : (x *ℤ neg_ℤ c) ≡ neg_ℤ (c *ℤ x)
@@ -190,16 +232,24 @@ parts_hold a b c x r h k = by (int_lt (pos 0) c) refl (int_lt c (pos 0)) refl
     flipped : (a b m n : ℤ) → n ≡ neg_ℤ m → a ≤ℤ m → m ≤ℤ b → (neg_ℤ b ≤ℤ n) × (n ≤ℤ neg_ℤ a)
     flipped a b m n f h i = (omega (arith, ints), omega (arith, ints))
 
+    none : (c : ℤ) → int_lt (pos 0) c ≡ false → int_lt c (pos 0) ≡ false → c ≡ pos 0
+    none c e f = same_in _ _ (omega (arith, ints))
+
     by : (s : Bool) → int_lt (pos 0) c ≡ s → (t : Bool) → int_lt c (pos 0) ≡ t
         → Holds (if s then shares_of a b c else (if t then shares_of (neg_ℤ b) (neg_ℤ a) (neg_ℤ c)
-        else Nothing)) (Number x)
+        else at_zero a b)) (Number x)
     by true e t f = clip_holds _ _ x (ceil-le a c x (omega (arith, ints)) (rw (*ℤ_comm x c) h))
         (le-floor b c x (omega (arith, ints)) (rw (*ℤ_comm x c) k)) r.0 r.1
     by false e true f =
         let g = flipped a b (c *ℤ x) (x *ℤ neg_ℤ c) turned h k in
         clip_holds _ _ x (ceil-le (neg_ℤ b) (neg_ℤ c) x (omega (arith, ints)) g.0)
         (le-floor (neg_ℤ a) (neg_ℤ c) x (omega (arith, ints)) g.1) r.0 r.1
-    by false e false f = tt
+    by false e false f =
+        let zero : (c *ℤ x) ≡ pos 0 = ap (λ t. t *ℤ x) (none c e f) ∙ by_zero x in
+        at_zero_holds a b (Number x) (rw (← zero) h) (rw (← zero) k)
+      where
+        by_zero : (x : ℤ) → (pos 0 *ℤ x) ≡ pos 0
+        by_zero x = omega (arith, ints)
 
 -- a factor that is known stays so
 stays_known : (c c' : Info) → AreWithin c c' → int_eq (low_of c) (high_of c) ≡ true
