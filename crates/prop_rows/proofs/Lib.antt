@@ -1,2 +1,3 @@
 pub mod CornerLemmas
 pub mod ExactLaws
+pub mod TableLemmas

@@ -9,10 +9,14 @@
 pub mod entries;
 mod guards;
 pub mod laws;
+pub mod prelude;
+pub mod procedures;
 pub mod row;
 pub mod sums;
 
 pub use entries::{element, entry, index};
 pub use laws::rows_are_exact;
+pub use prelude::{PRELUDE, prelude_is_stated};
+pub use procedures::{PROCEDURES, ins, procedures_are_stated};
 pub use row::Row;
 pub use sums::{addend, sum};

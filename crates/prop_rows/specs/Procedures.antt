@@ -1,0 +1,55 @@
+-- The procedures.
+use Rattle.std.specs.Prelude.{◌≡◌, ◌≤◌, ℕ, zero, suc, ◌+◌, ◌*◌, ◌/◌, ◌%◌, nat_lt, List, [], ◌∷◌}
+use Rattle.std.specs.Prelude.{◌++◌, codes, map, length, All, replicate, if◌then◌else◌}
+use Rattle.prop_procedures.specs.declared.shape.Shape.{Shape}
+use Rattle.prop_procedures.specs.declared.shape.Shape.TheVariants.{Span, Any}
+use Rattle.prop_procedures.specs.declared.shape.Need.TheVariants as needs
+use Rattle.prop_rows.specs.Row.{FormOf, out_of}
+use Rattle.prop_rows.specs.declared.procedures.TheConstants.{PROCEDURES}
+use Rattle.prop_rows.specs.declared.row.Row.{Row}
+use Rattle.prop_rows.specs.declared.row.Row.TheVariants.{Sum, Addend, Element, Index, Entry}
+
+-- a procedure's name, its rule, and how many pairs or entries it has
+pub record Named : Type 0 where
+  pub name : List ℕ
+  pub rule : Row
+  pub many : ℕ
+
+-- the shapes of its inputs
+abbrev pub ins_of : Row → ℕ → List Shape
+ins_of Sum many = replicate (2 * many) Span
+ins_of Addend many = replicate (2 * many) Span
+ins_of Element many = Span ∷ replicate many (Any 0)
+ins_of Index many = Any 0 ∷ Span ∷ replicate many (Any 0)
+ins_of Entry many = Span ∷ Span ∷ Any 0 ∷ []
+
+-- a number below 100 in digits
+abbrev pub digits : ℕ → List ℕ
+digits n = if nat_lt n 10 then (48 + n) ∷ [] else (48 + n / 10) ∷ (48 + n % 10) ∷ []
+
+-- the procedures of a rule with 1 to so many
+abbrev pub up_to : ℕ → List ℕ → Row → List Named
+up_to zero text rule = []
+up_to (suc n) text rule =
+    up_to n text rule ++ record { name = text ++ digits (suc n); rule = rule; many = suc n } ∷ []
+
+-- the procedures in order
+abbrev pub in_order : List Named
+in_order = up_to 32 (codes "linear_sum") Sum ++ (up_to 32 (codes "linear_term") Addend
+    ++ (up_to 64 (codes "element_value") Element ++ (up_to 64 (codes "element_number") Index
+    ++ record { name = codes "element_entry"; rule = Entry; many = 0 } ∷ [])))
+
+-- the program's own procedures are these
+abbrev pub ProceduresAreStated : Type 0
+ProceduresAreStated =
+    map (λ p. record { name = p.0.now; rule = p.1; many = p.2 }) PROCEDURES ≡ in_order
+
+-- the inputs are some, as the rule may have
+pub record IsFormed (p : Named) : Type 0 where
+  pub some : 1 ≤ length (ins_of p.rule p.many)
+  pub formed : FormOf p.rule (ins_of p.rule p.many) (out_of p.rule) needs.Nothing
+  pub few : p.many ≤ 64
+
+-- each has such inputs
+abbrev pub EachIsFormed : Type 0
+EachIsFormed = All IsFormed in_order
