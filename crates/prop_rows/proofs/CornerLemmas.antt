@@ -11,7 +11,7 @@ use Rattle.std.proofs.lemmas.Bool.Decides.{Decides-int_eq}
 use Rattle.std.specs.Prelude.{Bool, true, false, int_lt, int_le, ◌&&◌, if◌then◌else◌}
 use Rattle.prop_lattice.specs.declared.info.Info.TheVariants.{Nothing, Contradiction}
 use Rattle.std.proofs.lemmas.List.{take_all, length-take}
-use Rattle.prop_wide.specs.Ends.{low_of, high_of}
+use Rattle.prop_wide.specs.Ends.{low_of, high_of, known}
 use Rattle.prop_wide.specs.laws.EndLaws.{ends_ordered}
 
 -- the number is no larger than 10^36 either way
@@ -158,3 +158,6 @@ widened r f v e g h i =
   where
     fits : (v : ℤ) → neg_ℤ B ≤ℤ v → v ≤ℤ B → FitsSigned w64 v
     fits v h i = omega (arith, ints)
+
+pub known_is : (lo hi lo' hi' : ℤ) (r : Info) → r ≡ known lo hi → lo ≡ lo' → hi ≡ hi' → r ≡ known lo' hi'
+known_is lo hi lo' hi' r e p q = e ∙ (λ i. known (p i) (q i))

@@ -35,7 +35,9 @@ use Rattle.prop_rows.specs.Row.{AreSpans, AreAny, Begins, at_most, value_of, Rel
 use Rattle.prop_rows.specs.Sums.{corner, total, sum_of, sum_at, shares_of, parts_of, addend_of}
 use Rattle.prop_rows.specs.declared.row.Row.TheVariants.{Sum, Addend, Element, Index, Entry}
 use Rattle.prop_rows.specs.laws.SumLaws.{first_is_span, others_are_spans}
-use Rattle.prop_wide.specs.Ends.{low_of, high_of}
+use Rattle.prop_wide.specs.Ends.{low_of, high_of, known}
+use Rattle.prop_lattice.specs.declared.span.TheConstants.{B}
+use Rattle.prop_intervals.specs.laws.Relations.{IsInRange}
 use Rattle.prop_wide.specs.Hulls.{hull_of}
 use Rattle.prop_wide.specs.laws.EndLaws.{both_le, both_from, both_to}
 use Rattle.prop_wide.specs.laws.TruthLaws.{never}
@@ -100,19 +102,30 @@ as_long any [] [] o = refl
 as_long any (s ∷ ins) (a ∷ args) o = ap suc (as_long any ins args o.1)
 as_long any ins args o = search rules
 
+known_held : (lo hi v : ℤ) → IsInRange v → Holds (known lo hi) (Number v) → (lo ≤ℤ v) × (v ≤ℤ hi)
+unfolding known
+known_held lo hi v r h = by (both_le lo (neg_ℤ B) B hi) refl h
+  where
+    by : (s : Bool) → both_le lo (neg_ℤ B) B hi ≡ s → Holds (if s then Nothing else clip lo hi) (Number v)
+        → (lo ≤ℤ v) × (v ≤ℤ hi)
+    by true e k =
+        let t = both_to lo (neg_ℤ B) B hi e in
+        (omega (arith, ints, t.0, r.0), omega (arith, ints, t.1, r.1))
+    by false e k = clip_held lo hi v k
+
 -- ---- parts
 
 -- what is left of a factor is that alone whose product is right
-parts_exact : (m c x : ℤ) → Holds (parts_of m m c) (Number x) → (c *ℤ x) ≡ m
-parts_exact m c x = by (int_lt (pos 0) c) refl (int_lt c (pos 0)) refl
+parts_exact : (m c x : ℤ) → IsInRange x → Holds (parts_of m m c) (Number x) → (c *ℤ x) ≡ m
+parts_exact m c x r = by (int_lt (pos 0) c) refl (int_lt c (pos 0)) refl
   where
     turned : (x c : ℤ) → (x *ℤ neg_ℤ c) ≡ neg_ℤ (c *ℤ x)
     turned x c = *ℤ_comm x (neg_ℤ c) ∙ neg-product c x
 
     -- a number between the rounded quotients of one number
-    exact : (m c x : ℤ) → pos 0 <ℤ c → Holds (shares_of m m c) (Number x) → (x *ℤ c) ≡ m
-    exact m c x l h =
-        let held = clip_held (int_div_ceil m c) (int_div_floor m c) x h in
+    exact : (m c x : ℤ) → IsInRange x → pos 0 <ℤ c → Holds (shares_of m m c) (Number x) → (x *ℤ c) ≡ m
+    exact m c x r l h =
+        let held = known_held (int_div_ceil m c) (int_div_floor m c) x r h in
         let up = ceil-parts m c l in
         let down = floor-parts m c l in
         let low = product-le (int_div_ceil m c) x c held.0 (at_least c l) in
@@ -142,20 +155,20 @@ parts_exact m c x = by (int_lt (pos 0) c) refl (int_lt c (pos 0)) refl
     by : (s : Bool) → int_lt (pos 0) c ≡ s → (t : Bool) → int_lt c (pos 0) ≡ t
         → Holds (if s then shares_of m m c else (if t then shares_of (neg_ℤ m) (neg_ℤ m) (neg_ℤ c)
         else (if int_le m (pos 0) && int_le (pos 0) m then Nothing else Contradiction))) (Number x) → (c *ℤ x) ≡ m
-    by true e t f h = *ℤ_comm c x ∙ exact m c x (omega (arith, ints)) h
+    by true e t f h = *ℤ_comm c x ∙ exact m c x r (omega (arith, ints)) h
     by false e true f h =
-        back m (x *ℤ neg_ℤ c) (c *ℤ x) (exact (neg_ℤ m) (neg_ℤ c) x (omega (arith, ints)) h) (turned x c)
+        back m (x *ℤ neg_ℤ c) (c *ℤ x) (exact (neg_ℤ m) (neg_ℤ c) x r (omega (arith, ints)) h) (turned x c)
     by false e false f h =
         ap (λ t. t *ℤ x) (none c e f) ∙ by_zero x ∙ at_none m (both_le m (pos 0) (pos 0) m) refl h
 
-addend_exact : (z c : Info) (pairs : List Info) (v w x s : ℤ) → IsSingle z (Number v) → IsSingle c (Number w)
+addend_exact : (z c : Info) (pairs : List Info) (v w x s : ℤ) → IsInRange x → IsSingle z (Number v) → IsSingle c (Number w)
     → total int_min pairs ≡ s → total int_max pairs ≡ s → Holds (addend_of z c pairs) (Number x)
     → v ≡ s +ℤ (w *ℤ x)
-addend_exact z c pairs v w x s e f g h k =
+addend_exact z c pairs v w x s r e f g h k =
     let a = only_number z v e in
     let b = only_number c w f in
     let known : int_eq (low_of c) (high_of c) ≡ true = (Decides-int_eq _ _).1 (b.0 ∙ sym b.1) in
-    rest v s (w *ℤ x) (parts_exact (v -ℤ s) w x (rw (known, a.0, a.1, b.0, g, h) at k))
+    rest v s (w *ℤ x) (parts_exact (v -ℤ s) w x r (rw (known, a.0, a.1, b.0, g, h) at k))
   where
     rest : (v s p : ℤ) → p ≡ v -ℤ s → v ≡ s +ℤ p
     rest v s p e = omega (arith, ints, e)
@@ -290,13 +303,13 @@ summed : (any : Shape → Kinded) (ins : List Shape) (param : Param) (args : Lis
     → IsPointOf kinds.Span 0 point → Holds (value_of Sum param args) point → Related Sum param points point
 summed any ins param args points point f l o e p h =
     number_out 0 point (λ w. Holds (value_of Sum param args) w → Related Sum param points w) p
-    (λ z i k. by z (subst (λ a. Holds a (Number z)) (not_more 128 sum_of args (omega (arith, l, as_long any ins args o)))
+    (λ z i k. by z i (subst (λ a. Holds a (Number z)) (not_more 128 sum_of args (omega (arith, l, as_long any ins args o)))
     k)) h
   where
-    by : (z : ℤ) → Holds (sum_of args) (Number z) → z ≡ sum_at points
-    by z k =
+    by : (z : ℤ) → IsInRange z → Holds (sum_of args) (Number z) → z ≡ sum_at points
+    by z i k =
         let t = totals any ins args points f o e in
-        let held = clip_held (total int_min args) (total int_max args) z k in
+        let held = known_held (total int_min args) (total int_max args) z i k in
         between (sum_at points) z (rw (← t.0) held.0) (rw (← t.1) held.1)
 
 added : (any : Shape → Kinded) (ins : List Shape) (param : Param) (args : List Info) (points : List Point)
@@ -313,7 +326,7 @@ added any (s ∷ t ∷ ins) param (z ∷ c ∷ pairs) (p ∷ q ∷ points) point
         → Related Addend param (p ∷ q ∷ points) point
     by (Span a) (Span b) (Number v) (Number w) i j g d (Number x) n m =
         let t = totals any ins pairs points f.1.1 o.1.1 e.1.1 in
-        addend_exact (Span a) (Span b) pairs v w x (sum_at points) g d t.0 t.1 m
+        addend_exact (Span a) (Span b) pairs v w x (sum_at points) n g d t.0 t.1 m
     by z c p q i j g d point n m = search rules
 added any ins param args points point f l o e k h = search rules
 

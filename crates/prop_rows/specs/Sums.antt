@@ -3,12 +3,11 @@ use Rattle.std.specs.Prelude.{ℤ, pos, neg_ℤ, ◌+ℤ◌, ◌-ℤ◌, ◌*ℤ
 use Rattle.std.specs.Prelude.{if◌then◌else◌}
 use Rattle.std.specs.Int.{int_max, int_min, int_div_euclid}
 use Rattle.std.specs.Ordering.{int_eq}
-use Rattle.prop_intervals.specs.Clip.{clip}
 use Rattle.prop_intervals.specs.Quotients.{int_div_ceil}
 use Rattle.prop_lattice.specs.Points.{Point, Number}
 use Rattle.prop_lattice.specs.declared.info.Info.{Info}
 use Rattle.prop_lattice.specs.declared.info.Info.TheVariants.{Nothing, Contradiction}
-use Rattle.prop_wide.specs.Ends.{low_of, high_of}
+use Rattle.prop_wide.specs.Ends.{low_of, high_of, known}
 
 -- of the products of an end of c and an end of x the one that is picked
 abbrev pub corner : (ℤ → ℤ → ℤ) → Info → Info → ℤ
@@ -22,11 +21,11 @@ total pick pairs = pos 0
 
 -- what is known of the sum of the products
 abbrev pub sum_of : List Info → Info
-sum_of pairs = clip (total int_min pairs) (total int_max pairs)
+sum_of pairs = known (total int_min pairs) (total int_max pairs)
 
 -- the numbers that times c, which is above zero, lie from a to b
 abbrev pub shares_of : ℤ → ℤ → ℤ → Info
-shares_of a b c = clip (int_div_ceil a c) (int_div_euclid b c)
+shares_of a b c = known (int_div_ceil a c) (int_div_euclid b c)
 
 -- the same of any c: each number, or none, where it is zero
 abbrev pub parts_of : ℤ → ℤ → ℤ → Info

@@ -6,9 +6,8 @@ ghost use Rattle.prop_intervals.specs.Quotients.{int_div_ceil};
 ghost use Rattle.prop_intervals.specs.inner.Parts.{int_div_floor};
 ghost use Rattle.prop_rows.specs.Sums.{corner, total, sum_of, addend_of, parts_of, shares_of};
 
-use prop_intervals::clipped;
 use prop_lattice::Info;
-use prop_wide::ends::{high_of, low_of};
+use prop_wide::ends::{high_of, known, low_of};
 
 /// The product of two numbers in range.
 fn product(a: i64, b: i64) -> i128
@@ -68,7 +67,7 @@ pub fn sum(pairs: &[Info]) -> Info
     ensures { result ≡ sum_of pairs.now }
 {
     let (least, greatest) = ends(pairs);
-    clipped(least, greatest)
+    known(least, greatest)
 }
 
 /// The numbers that times `c`, which is above zero, lie from `a` to `b`.
@@ -79,7 +78,7 @@ fn shares(a: i128, b: i128, c: i128) -> Info
     requires greatest { a ≤ℤ pos (2 ^ 126) }
     ensures { result ≡ shares_of a b c }
 {
-    clipped(-(-a).div_euclid(c), b.div_euclid(c))
+    known(-(-a).div_euclid(c), b.div_euclid(c))
 }
 
 /// The same of any `c` in range: each number, or none, where it is zero.

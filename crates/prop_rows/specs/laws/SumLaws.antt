@@ -7,7 +7,6 @@ use Rattle.std.specs.Ordering.{int_eq}
 use Rattle.std.proofs.Common.{arith, refl, rules, ap, ◌∙◌}
 use Rattle.std.proofs.lemmas.Bool.{and_parts}
 use Rattle.std.proofs.lemmas.Int.{ints, clamps}
-use Rattle.prop_intervals.specs.laws.ClipLaws.{clip_below, clip_of_span, clip_holds}
 use Rattle.prop_intervals.specs.laws.ProductLaws.{product_within}
 use Rattle.prop_intervals.specs.laws.QuotientLaws.{floor-below, ceil-below, ceil-le, le-floor}
 use Rattle.prop_intervals.specs.laws.QuotientLaws.{neg-product}
@@ -28,7 +27,8 @@ use Rattle.prop_rows.specs.Row.{AreSpans, is_span, RelatesSum}
 use Rattle.prop_rows.specs.Sums.{corner, total, sum_of, shares_of, parts_of, addend_of, sum_at}
 use Rattle.prop_wide.specs.Ends.{low_of, high_of}
 use Rattle.prop_wide.specs.laws.EndLaws.{ends_ordered, ends_within, held_between, AreWithin}
-use Rattle.prop_wide.specs.laws.EndLaws.{both_le, both_from, both_to}
+use Rattle.prop_wide.specs.laws.EndLaws.{both_le, both_from, both_to, known_below, known_kind}
+use Rattle.prop_wide.specs.laws.EndLaws.{known_holds}
 use Rattle.prop_wide.specs.laws.TruthLaws.{never}
 use borrow.Author.Differences.{same_in}
 use lib.IntN.{*ℤ_comm}
@@ -94,10 +94,10 @@ pub sum_below : (olds news : List Info) → EachBelow olds news → AreClear new
     → Below (sum_of olds) (sum_of news)
 sum_below olds news p n =
     let t = totals_within olds news p n in
-    clip_below _ _ _ _ t.0 t.1
+    known_below _ _ _ _ t.0 t.1
 
 pub sum_kind : (args : List Info) → IsOf kinds.Span 0 (sum_of args)
-sum_kind args = clip_of_span 0 _ _
+sum_kind args = known_kind 0 _ _
 
 pub first_is_span : (s : Shape) (shapes : List Shape) → AreSpans (s ∷ shapes) → s ≡ Span
 first_is_span s shapes f = by s (and_parts (is_span s) (list_all is_span shapes) f).0
@@ -148,7 +148,7 @@ pub sum_sound : (any : Shape → Kinded) (ins : List Shape) (args : List Info) (
     → EachHolds args points → RelatesSum points point → Holds (sum_of args) point
 sum_sound any ins args points (Number z) f ps k e r =
     let t = total_holds any ins args points f ps e in
-    clip_holds _ _ z (rw r t.0) (rw r t.1) k.0 k.1
+    known_holds _ _ z (rw r t.0) (rw r t.1) k
 sum_sound any ins args points point f ps k e r = search rules
 
 -- ---- back to one number
@@ -202,9 +202,9 @@ parts_below a b a' b' c p q =
         → Below (if s then shares_of a b c else (if t then shares_of (neg_ℤ b) (neg_ℤ a) (neg_ℤ c)
         else at_zero a b)) (if s then shares_of a' b' c else (if t then shares_of (neg_ℤ b')
         (neg_ℤ a') (neg_ℤ c) else at_zero a' b'))
-    by true e t f z = clip_below _ _ _ _ (ceil-below a a' c (omega (arith, ints)) p)
+    by true e t f z = known_below _ _ _ _ (ceil-below a a' c (omega (arith, ints)) p)
         (floor-below b' b c (omega (arith, ints)) q)
-    by false e true f z = clip_below _ _ _ _
+    by false e true f z = known_below _ _ _ _
         (ceil-below (neg_ℤ b) (neg_ℤ b') (neg_ℤ c) (omega (arith, ints)) (below_zero b' b q))
         (floor-below (neg_ℤ a') (neg_ℤ a) (neg_ℤ c) (omega (arith, ints)) (below_zero a a' p))
     by false e false f z = z
@@ -216,8 +216,8 @@ parts_kind a b c = by (int_lt (pos 0) c) (int_lt c (pos 0)) (at_zero_kind a b)
     by : (s t : Bool) → IsOf kinds.Span 0 (at_zero a b)
         → IsOf kinds.Span 0 (if s then shares_of a b c
         else (if t then shares_of (neg_ℤ b) (neg_ℤ a) (neg_ℤ c) else at_zero a b))
-    by true t z = clip_of_span 0 _ _
-    by false true z = clip_of_span 0 _ _
+    by true t z = known_kind 0 _ _
+    by false true z = known_kind 0 _ _
     by false false z = z
 
 -- a number whose product with the factor lies between
@@ -238,12 +238,12 @@ parts_hold a b c x r h k = by (int_lt (pos 0) c) refl (int_lt c (pos 0)) refl
     by : (s : Bool) → int_lt (pos 0) c ≡ s → (t : Bool) → int_lt c (pos 0) ≡ t
         → Holds (if s then shares_of a b c else (if t then shares_of (neg_ℤ b) (neg_ℤ a) (neg_ℤ c)
         else at_zero a b)) (Number x)
-    by true e t f = clip_holds _ _ x (ceil-le a c x (omega (arith, ints)) (rw (*ℤ_comm x c) h))
-        (le-floor b c x (omega (arith, ints)) (rw (*ℤ_comm x c) k)) r.0 r.1
+    by true e t f = known_holds _ _ x (ceil-le a c x (omega (arith, ints)) (rw (*ℤ_comm x c) h))
+        (le-floor b c x (omega (arith, ints)) (rw (*ℤ_comm x c) k)) r
     by false e true f =
         let g = flipped a b (c *ℤ x) (x *ℤ neg_ℤ c) turned h k in
-        clip_holds _ _ x (ceil-le (neg_ℤ b) (neg_ℤ c) x (omega (arith, ints)) g.0)
-        (le-floor (neg_ℤ a) (neg_ℤ c) x (omega (arith, ints)) g.1) r.0 r.1
+        known_holds _ _ x (ceil-le (neg_ℤ b) (neg_ℤ c) x (omega (arith, ints)) g.0)
+        (le-floor (neg_ℤ a) (neg_ℤ c) x (omega (arith, ints)) g.1) r
     by false e false f =
         let zero : (c *ℤ x) ≡ pos 0 = ap (λ t. t *ℤ x) (none c e f) ∙ by_zero x in
         at_zero_holds a b (Number x) (rw (← zero) h) (rw (← zero) k)
