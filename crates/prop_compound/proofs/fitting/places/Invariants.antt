@@ -6,5 +6,5 @@ abbrev pub invariant-loop-i : goal.invariant-loop-i
 invariant-loop-i l = record {
   items : l.places.items ≡ take l.i (zip l.ins (map (kind_at l.kinds) l.instance.inputs.items));
   count : length l.places.items ≡ l.i;
-  room : l.places.capacity ≡ 9;
+  room : l.places.capacity ≡ 129;
 }
