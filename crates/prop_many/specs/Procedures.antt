@@ -1,0 +1,49 @@
+-- The procedures.
+use Rattle.std.specs.Prelude.{◌≡◌, ◌≤◌, ◌+◌, ◌*◌, ◌/◌, ◌%◌, ℕ, zero, suc, nat_lt, List, [], ◌∷◌}
+use Rattle.std.specs.Prelude.{◌++◌, codes, if◌then◌else◌, map, length, All, replicate}
+use Rattle.prop_procedures.specs.declared.shape.Shape.{Shape}
+use Rattle.prop_procedures.specs.declared.shape.Shape.TheVariants.{Span}
+use Rattle.prop_many.specs.Many.{HasInputs}
+use Rattle.prop_many.specs.declared.procedures.TheConstants.{PROCEDURES}
+use Rattle.prop_many.specs.declared.many.Many.{Many}
+use Rattle.prop_many.specs.declared.many.Many.TheVariants.{Cumulative, Disjoint}
+
+-- a procedure's name, its rule and the shapes of its inputs
+pub record Named : Type 0 where
+  pub name : List ℕ
+  pub rule : Many
+  pub ins : List Shape
+
+-- the digits of a number below a hundred
+abbrev pub digits : ℕ → List ℕ
+digits n = if nat_lt n 10 then (48 + n) ∷ [] else (48 + n / 10) ∷ (48 + n % 10) ∷ []
+
+-- a rule's procedures for one other task, for two, and on: so many inputs beside the others', and
+-- so many for each of those
+abbrev pub procedures_of : List ℕ → Many → ℕ → ℕ → ℕ → List Named
+procedures_of name rule own each zero = []
+procedures_of name rule own each (suc n) = procedures_of name rule own each n ++ record {
+  name = name ++ digits (suc n);
+  rule = rule;
+  ins = replicate (own + each * suc n) Span;
+} ∷ []
+
+-- the procedures in order
+abbrev pub in_order : List Named
+in_order = procedures_of (codes "cumulative") Cumulative 4 3 40
+    ++ procedures_of (codes "disjoint") Disjoint 2 2 40
+
+-- the program's own procedures are these
+abbrev pub ProceduresAreStated : Type 0
+ProceduresAreStated =
+    map (λ p. record { name = p.0.now; rule = p.1; ins = p.2.now }) PROCEDURES ≡ in_order
+
+-- the inputs are 1 to 128, as the rule may have
+pub record IsFormed (p : Named) : Type 0 where
+  pub has_inputs : HasInputs p.rule p.ins
+  pub some : 1 ≤ length p.ins
+  pub few : length p.ins ≤ 128
+
+-- each has such inputs
+abbrev pub EachIsFormed : Type 0
+EachIsFormed = All IsFormed in_order

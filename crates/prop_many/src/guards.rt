@@ -1,0 +1,89 @@
+//! The rules, guarded.
+ghost use Rattle.std.specs.Prelude.{◌≡◌, false, None};
+ghost use Rattle.prop_many.specs.Many.{own_of};
+ghost use Rattle.prop_many.specs.laws.GuardLaws.{many_barred, many_own, many_repeated};
+ghost use Rattle.prop_many.specs.laws.GuardLaws.{many_silent};
+
+use crate::many::Many;
+use prop_facts::Changes;
+use prop_guards::Guarded;
+use prop_lattice::Info;
+use prop_procedures::Param;
+
+/// The changes of a number's lower end.
+const LOW: Changes = Changes {
+    low: true,
+    high: false,
+    point: false,
+    hole: false,
+};
+
+/// The changes of a number's upper end.
+const HIGH: Changes = Changes {
+    low: false,
+    high: true,
+    point: false,
+    hole: false,
+};
+
+/// The changes of a number's ends.
+const ENDS: Changes = Changes {
+    low: true,
+    high: true,
+    point: false,
+    hole: false,
+};
+
+impl Guarded for Many {
+    ghost is_silent = { λ rule param args. false };
+
+    ghost is_repeated = { λ rule param args. false };
+
+    ghost own_of = { own_of };
+
+    ghost ruled_out = { λ rule param args place. None };
+
+    fn says_nothing(&self, _param: &Param, _args: &[Info]) -> bool {
+        false
+    }
+
+    fn repeats(&self, _param: &Param, _args: &[Info]) -> bool {
+        false
+    }
+
+    fn own_place(&self) -> Option<usize> {
+        match self {
+            Many::Cumulative => Some(1),
+            Many::Disjoint => Some(0),
+        }
+    }
+
+    fn rules_out(&self, _param: &Param, _args: &[Info], _place: usize) -> Option<i64> {
+        None
+    }
+
+    fn heeds(&self, place: usize, _count: usize) -> Changes {
+        match self {
+            Many::Cumulative if place == 0 => HIGH,
+            Many::Cumulative if place % 3 == 1 => ENDS,
+            Many::Disjoint if place % 2 == 0 => ENDS,
+            _ => LOW,
+        }
+    }
+
+    fn waits_for(&self) -> Option<usize> {
+        None
+    }
+
+    fn is_dear(&self, _count: usize) -> bool {
+        true
+    }
+
+    ghost silent = { many_silent };
+
+    ghost repeated = { many_repeated };
+
+    ghost own = { many_own };
+
+    ghost barred = { many_barred };
+}

@@ -1,0 +1,21 @@
+//! Rules of many cells: what tasks leave to one more that shares a resource with them.
+//!
+//! Each of the rules is its plain function, which is its formula; it is monotone, keeps kinds and
+//! holds every related point (`Many`), and of single numbers those alone (`Many::exact`). Lengths,
+//! demands and capacities are inputs as all others are, so they may be open too.
+//!
+//! The procedures are those that the specification lists, up to 128 inputs each, in a form that its
+//! rule has (`procedures_are_stated`).
+#![tactic(auto)]
+
+pub mod cumulative;
+pub mod disjoint;
+mod guards;
+pub mod loads;
+pub mod many;
+pub mod procedures;
+
+pub use cumulative::start_beside;
+pub use disjoint::start_apart;
+pub use many::Many;
+pub use procedures::{PROCEDURES, procedures_are_stated};

@@ -1,0 +1,90 @@
+//! The rules: their forms and what they answer.
+ghost use Rattle.std.specs.Prelude.{◌≡◌, ◌↔◌, IsTrue};
+ghost use Rattle.std.specs.List.{list_all};
+ghost use Rattle.prop_procedures.specs.declared.shape.Param.{Param};
+ghost use Rattle.prop_many.specs.Many.{FormOf, HasInputs, Related, is_number, least_of};
+ghost use Rattle.prop_many.specs.Many.{value_of};
+ghost use Rattle.prop_many.specs.Exact.{EachIsExact};
+ghost use Rattle.prop_many.specs.laws.ManyLaws.{many_monotone, many_keeps_kind, many_sound};
+
+use crate::cumulative::start_beside;
+use crate::disjoint::start_apart;
+use prop_lattice::Info;
+use prop_procedures::{Need, Rule, Shape};
+
+/// The rules of many numbers. A rule works in one direction: from its inputs to its output.
+#[derive(Clone, Copy, Debug, PartialEq, Eq)]
+pub enum Many {
+    /// From a capacity, the start, length and demand of a task, and those of each other task, to
+    /// its start: while it runs, the demands of those that run are no more than the capacity.
+    Cumulative,
+    /// From the start and length of a task, and those of each other task, to its start: at no time
+    /// does it run beside another.
+    Disjoint,
+}
+
+/// Whether a shape is that of numbers.
+fn is_number(shape: Shape) -> bool
+    ensures { result ≡ is_number shape }
+{
+    matches!(shape, Shape::Span)
+}
+
+/// Whether each shape is that of numbers.
+fn are_numbers(shapes: &[Shape]) -> bool
+    ensures { result ≡ list_all is_number shapes.now }
+{
+    shapes.iter().all(|shape| is_number(*shape))
+}
+
+impl Many {
+    /// How many inputs the rule has at the least.
+    fn least(self) -> usize
+        ensures { result ≡ least_of self }
+    {
+        match self {
+            Many::Cumulative => 4,
+            Many::Disjoint => 2,
+        }
+    }
+
+    /// Whether the rule may have inputs of these shapes.
+    fn takes(self, ins: &[Shape]) -> bool
+        ensures { IsTrue result ↔ HasInputs self ins.now }
+    {
+        are_numbers(ins) && self.least() <= ins.len()
+    }
+
+    /// A law: of single numbers each rule answers those alone that belong to them.
+    pub fn exact()
+        ensures { EachIsExact }
+    {}
+
+    /// What the rule answers, `Info::Nothing` where the arguments are too few.
+    pub fn run(self, args: &[Info]) -> Info
+        ensures { (param : Param) → result ≡ value_of self param args.now }
+    {
+        match self {
+            Many::Cumulative => start_beside(args),
+            Many::Disjoint => start_apart(args),
+        }
+    }
+}
+
+impl Rule for Many {
+    ghost form = { FormOf };
+
+    ghost value_of = { value_of };
+
+    ghost related = { Related };
+
+    fn has_form(&self, ins: &[Shape], out: Shape, need: Need) -> bool {
+        self.takes(ins) && out == Shape::Span && need == Need::Nothing
+    }
+
+    ghost monotone = { many_monotone };
+
+    ghost keeps_kind = { many_keeps_kind };
+
+    ghost sound = { many_sound };
+}
