@@ -4,7 +4,7 @@ ghost use Rattle.std.specs.List.{list_all};
 ghost use Rattle.prop_procedures.specs.declared.shape.Shape.TheVariants.{Span, Any};
 ghost use Rattle.prop_rows.specs.Row.{FormOf, HasInputs, Related, is_any, is_span, out_of};
 ghost use Rattle.prop_rows.specs.Row.{value_of};
-ghost use Rattle.prop_procedures.specs.declared.shape.Param.TheVariants as params;
+ghost use Rattle.prop_procedures.specs.declared.shape.Param.{Param};
 ghost use Rattle.prop_rows.specs.laws.RowLaws.{row_monotone, row_keeps_kind, row_sound};
 
 use crate::entries::{element, entry, index};
@@ -90,7 +90,7 @@ impl Row {
 
     /// What the rule answers, `Info::Nothing` where the arguments are none that it takes.
     pub fn run(self, args: &[Info]) -> Info
-        ensures { result ≡ value_of self params.Plain args.now }
+        ensures { (param : Param) → result ≡ value_of self param args.now }
     {
         match self {
             Row::Sum => {

@@ -1,17 +1,25 @@
 //! What the program comes with: what its procedures are made of, and the lines of its preludes.
-ghost use Rattle.std.specs.Prelude.{◌≡◌, IfOk, map};
+ghost use Rattle.std.specs.Prelude.{◌≡◌, ◌++◌, IfOk, OnOk, map};
 ghost use Rattle.prop_language.specs.Said.{words};
-ghost use Rattle.propwide.specs.Kits.{answer_of, in_order, lines_in_order, shown, wider_of};
+ghost use Rattle.prop_rows.specs.Procedures.{in_order as row_named};
+ghost use Rattle.propwide.specs.Kits.{answer_of, in_order, larger_of, lines_in_order};
+ghost use Rattle.propwide.specs.Kits.{of_rows, shown};
 
 use prop_arith::{KITS, Kit, PRELUDE};
 use prop_hall::{EXCLUDERS, Excluder};
 use prop_lattice::Info;
+use prop_many::{Many, PROCEDURES as MANY_PROCEDURES, procedures_are_stated as many_are_stated};
 use prop_procedures::{Both, Named, Need, Param, Shape};
+use prop_rows::{PRELUDE as ROW_PRELUDE, PROCEDURES as ROW_PROCEDURES, Row};
+use prop_rows::{ins as row_ins, prelude_is_stated, procedures_are_stated as rows_are_stated};
 use prop_wide::{DIFFERENT, PRELUDE as WIDE_PRELUDE, PROCEDURES, Wide, procedures_are_stated};
 use std::alloc::{AllocError, Global};
 
-/// A rule of the kit, a wider one or an excluder.
-pub type Mixed = Both<Kit, Both<Wide, Excluder>>;
+/// An excluder, or a rule of many cells or of rows.
+type Larger = Both<Excluder, Both<Many, Row>>;
+
+/// A rule of the kit, a wider one or a larger one.
+pub type Mixed = Both<Kit, Both<Wide, Larger>>;
 
 /// What a procedure is made of.
 #[derive(Drop)]
@@ -28,12 +36,14 @@ pub struct Entry {
     pub rule: Mixed,
 }
 
-/// The kit, then the wider procedures, then the excluders.
+/// The kit, then the wider procedures, then the excluders, then the procedures of many cells and of
+/// rows.
 pub fn entries(alloc: Global) -> Result<Vec<Entry>, AllocError>
     ensures { IfOk result (λ made. map shown made.items ≡ in_order) }
 {
-    // (so that the table is the one that is stated)
+    // (so that the tables are those that are stated)
     procedures_are_stated();
+    many_are_stated();
     let mut made = Vec::new(alloc);
     for rule in KITS {
         made.push(Entry {
@@ -59,20 +69,53 @@ pub fn entries(alloc: Global) -> Result<Vec<Entry>, AllocError>
             ins: rule.ins(),
             out: rule.out(),
             need: rule.need(),
-            rule: Both::Two(Both::Two(rule)),
+            rule: Both::Two(Both::Two(Both::One(rule))),
         })?;
     }
+    for (name, rule, ins) in MANY_PROCEDURES {
+        made.push(Entry {
+            name,
+            ins,
+            out: Shape::Span,
+            need: Need::Nothing,
+            rule: Both::Two(Both::Two(Both::Two(Both::One(rule)))),
+        })?;
+    }
+    add_rows(&mut made)?;
     Ok(made)
 }
 
-/// The preludes of the kit, of the wider procedures and of the excluders, in this order.
+/// Adds the procedures of rows.
+fn add_rows(made: &mut Vec<Entry>) -> Result<(), AllocError>
+    ensures { OnOk result
+        (map shown made.new.items ≡ map shown made.old.items ++ map of_rows row_named) }
+{
+    // (so that the table is the one that is stated)
+    rows_are_stated();
+    for (name, rule, many) in ROW_PROCEDURES {
+        made.push(Entry {
+            name,
+            ins: row_ins(rule, many),
+            out: rule.out(),
+            need: Need::Nothing,
+            rule: Both::Two(Both::Two(Both::Two(Both::Two(rule)))),
+        })?;
+    }
+    Ok(())
+}
+
+/// The preludes of the kit, of the wider procedures, of the excluders and of the rows, in this
+/// order.
 pub fn lines(alloc: Global) -> Result<Vec<&'static str>, AllocError>
     ensures { IfOk result (λ all. words all.items ≡ lines_in_order) }
 {
+    // (so that the lines are those that are stated)
+    prelude_is_stated();
     let mut all = Vec::new(alloc);
     all.extend_from_slice(&PRELUDE)?;
     all.extend_from_slice(&WIDE_PRELUDE)?;
     all.extend_from_slice(&DIFFERENT)?;
+    all.extend_from_slice(&ROW_PRELUDE)?;
     Ok(all)
 }
 
@@ -82,22 +125,35 @@ pub fn answer(rule: &Mixed, param: &Param, args: &[Info]) -> Info
 {
     match rule {
         Both::One(rule) => rule.run(param, args),
-        Both::Two(rule) => wider(rule, param, args),
+        Both::Two(Both::One(rule)) => rule.run(param, args),
+        Both::Two(Both::Two(rule)) => larger(rule, param, args),
     }
 }
 
-/// What a rule beside the kit's answers to a parameter and arguments.
-fn wider(rule: &Both<Wide, Excluder>, param: &Param, args: &[Info]) -> Info
-    ensures { result ≡ wider_of rule.now param.now args.now }
+/// What a larger rule answers to a parameter and arguments.
+fn larger(rule: &Larger, param: &Param, args: &[Info]) -> Info
+    ensures { result ≡ larger_of rule.now param.now args.now }
 {
     match rule {
         Both::One(rule) => rule.run(param, args),
-        Both::Two(rule) => rule.run(param, args),
+        Both::Two(Both::One(rule)) => rule.run(args),
+        Both::Two(Both::Two(rule)) => rule.run(args),
     }
 }
 
 /// The rule once more.
 pub fn copied(rule: &Mixed) -> Mixed
+    ensures { result ≡ rule.now }
+{
+    match rule {
+        Both::One(rule) => Both::One(*rule),
+        Both::Two(Both::One(rule)) => Both::Two(Both::One(*rule)),
+        Both::Two(Both::Two(rule)) => Both::Two(Both::Two(copied_larger(rule))),
+    }
+}
+
+/// The rule once more.
+fn copied_larger(rule: &Larger) -> Larger
     ensures { result ≡ rule.now }
 {
     match rule {

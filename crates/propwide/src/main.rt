@@ -2,7 +2,7 @@
 //!
 //! By the options that its words give the program holds a dialogue: behind each read, and before
 //! the next, each line that the read ended is answered by a step of the workbench over the kit, the
-//! wider rules, the excluders and their preludes, or, where it is `step`, `how` or `list`, told
+//! wider rules, the excluders, those of many cells and their preludes, or, where it is `step`, `how` or `list`, told
 //! (prop_telling), or, where it asks for points, answered by a search (prop_seeking), with work
 //! behind it in the order that was chosen, from the seed that was given.
 //! The procedures' answers hold the points that belong together; those of a plan in points do so at

@@ -2,18 +2,16 @@
 use Rattle.std.specs.Prelude.{◌≡◌, ◌⊎◌, ◌≤◌, ℤ, pos, neg_ℤ, ◌+ℤ◌, ◌-ℤ◌, ◌≤ℤ◌, ◌<ℤ◌, Bool, true}
 use Rattle.std.specs.Prelude.{false, int_le, int_lt, ◌&&◌, if◌then◌else◌, List, [], ◌∷◌, length}
 use Rattle.std.specs.Int.{int_max, int_min}
-use Rattle.std.proofs.Common.{arith, refl, rules, sym, subst, ap, inl, inr, ◌∙◌}
+use Rattle.std.proofs.Common.{arith, refl, rules, subst, ap, inl, inr}
 use Rattle.std.proofs.lemmas.Int.{ints, clamps}
 use Rattle.prop_intervals.specs.Clip.{clip}
 use Rattle.prop_intervals.specs.laws.Relations.{IsInRange}
 use Rattle.prop_lattice.specs.Ends.{AreEnds, ends_or_not, span_from}
 use Rattle.prop_lattice.specs.inner.Ends.{span_if}
-use Rattle.prop_lattice.specs.Points.{Point, Number, Element, Symbol, Holds, IsPointOf}
+use Rattle.prop_lattice.specs.Points.{Point, Number, Element, Symbol, Holds}
 use Rattle.prop_lattice.specs.declared.info.Info.{Info}
 use Rattle.prop_lattice.specs.declared.info.Info.TheVariants.{Nothing}
-use Rattle.prop_lattice.specs.declared.info.Kind.TheVariants as kinds
 use Rattle.prop_lattice.specs.declared.span.TheConstants.{B}
-use Rattle.prop_procedures.specs.declared.shape.Param.{Param}
 use Rattle.prop_wide.specs.Ends.{low_of, high_of, known}
 use Rattle.prop_many.specs.Cumulative.{RelatesCumulative, cumulative_of, first_of, last_of}
 use Rattle.prop_many.specs.Cumulative.{starts_of}

@@ -1,7 +1,7 @@
 -- Numbers that are known more closely, and numbers that are held.
 use Rattle.std.specs.Prelude.{◌≡◌, ℤ, ◌≤ℤ◌, Bool, true, false, ◌&&◌, int_le, List, [], ◌∷◌}
 use Rattle.std.specs.List.{AllZip, list_all}
-use Rattle.std.proofs.Common.{arith, refl, rules}
+use Rattle.std.proofs.Common.{arith, refl}
 use Rattle.std.proofs.lemmas.Bool.{and_parts}
 use Rattle.std.proofs.lemmas.Int.{ints}
 use Rattle.prop_lattice.specs.Points.{Point, Number, Element, Symbol, Holds, IsPointOf}
