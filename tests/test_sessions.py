@@ -18,7 +18,7 @@ PATH is crates/propbench/out/propbench where it is left out. What is run:
 - each procedure of the kit on small informations, against plain enumeration (tests/rules.py), and
   those beside the kit over propwide, where that is built (tests/wide_rules.py), and values that all
   differ, and Sudokus (tests/wide_puzzles.py), and tasks that share a resource
-  (tests/many_rules.py), and random networks over the former two, and sums as chains
+  (tests/many_rules.py), sums and rows (tests/row_rules.py), and random networks over the former two, and sums as chains
   (tests/wide_sessions.py), and random sessions of steps that are told (tests/telling.py);
 - points that are asked for of random small networks, against all that there are (tests/solving.py),
   and such replies spoiled on purpose, which these networks have to find out
@@ -76,6 +76,7 @@ import prelude
 import pytest
 import reasons
 import refusals
+import row_rules
 import rules
 import scripts
 import searches
@@ -146,6 +147,7 @@ def cases() -> Iterator[Runnable]:
     yield from wide_rules.built()
     yield from wide_puzzles.built()
     yield from many_rules.built()
+    yield from row_rules.built()
     yield from wide_sessions.built()
     yield from solving.built()
     yield from spoiled_solving.built()
