@@ -14,8 +14,8 @@ from itertools import islice
 from typing import Callable, Iterator, Optional
 
 from case import Case, Check
-from wide_rules import BOUND, CLASH, FEW, NUMBERS, PROGRAM, SET, SYMBOL, Compound, Info
-from wide_rules import Points, Rule, over_propwide, some, spans
+from wide_rules import BOUND, FEW, NUMBERS, PROGRAM, SET, SYMBOL, Compound, Info
+from wide_rules import Points, Rule, over_propwide, spans
 
 STEP = 10
 ONE: list[Info] = [frozenset([number]) for number in range(-3, 4)]
@@ -61,7 +61,8 @@ RULES = [
     Rule("linear_term1", "span span span", (spans(6), ONE), shared),
     Rule("element_value1", "span span span", (AT, FEW), picked),
     Rule("element_value2", "span span span span", (AT, FEW, FEW), picked),
-    Rule("element_value3", "span d d d d", (AT, SET, SET, SET), picked),
+    Rule("element_value2", "span d d d", (AT, SET, SET), picked),
+    Rule("element_value3", "span d d d d", (AT, *(SET[:-1],) * 3), picked),
     Rule("element_value2", "span symbol symbol symbol", (AT, SYMBOL, SYMBOL), picked),
     Rule("element_number2", "span span span span span", (FEW, [*AT, None], FEW, FEW), numbered),
     Rule("element_number2", "d span d d span", (SET, AT, SET, SET), numbered),
