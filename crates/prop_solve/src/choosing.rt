@@ -9,6 +9,9 @@ use prop_trail::Trail;
 /// How many numbers are left at the most where the first is tried.
 const FEW: i64 = 1_000_000;
 
+/// How many numbers are left at the most where single ones may be out between them.
+const WITH_HOLES: u64 = 256;
+
 /// A place that is open, by how many values are left of it for what it weighs.
 #[derive(Clone, Copy)]
 struct Candidate {
@@ -25,12 +28,26 @@ impl Candidate {
     }
 }
 
+/// How many values are left of a place. Of numbers of which single ones may be out the trail knows.
+fn values_left(trail: &Trail, present: &Present, place: usize) -> u64 {
+    match present.info(place) {
+        Info::Set(elements) => elements.bits().count_ones() as u64,
+        Info::Span(span) if span.count() > WITH_HOLES => span.count(),
+        _ => trail.values(place),
+    }
+}
+
 /// The place where it is open.
-fn open_place(trail: &Trail, place: usize, weights: &Weights) -> Option<Candidate> {
+fn open_place(
+    trail: &Trail,
+    present: &Present,
+    place: usize,
+    weights: &Weights,
+) -> Option<Candidate> {
     if place >= trail.places() {
         return None;
     }
-    let values = trail.values(place);
+    let values = values_left(trail, present, place);
     if values < 2 || values == u64::MAX {
         return None;
     }
@@ -60,7 +77,7 @@ fn best_named(
     let mut best = None;
     for place in named {
         if present.is_open(*place) {
-            best = better(best, open_place(trail, *place, weights));
+            best = better(best, open_place(trail, present, *place, weights));
         }
     }
     best
@@ -94,7 +111,7 @@ pub(crate) fn pick(
             let place = word
                 .saturating_mul(64)
                 .saturating_add(left.trailing_zeros() as usize);
-            best = better(best, open_place(trail, place, weights));
+            best = better(best, open_place(trail, present, place, weights));
             left &= left.wrapping_sub(1);
         }
     }
@@ -104,13 +121,24 @@ pub(crate) fn pick(
     }
 }
 
-/// What is supposed first of a place: its least value, or its greatest one; where very many are
-/// left the lower half.
-pub(crate) fn first_try(info: Info, is_greatest: bool) -> Option<Fact> {
+/// What is supposed of a place before anything else.
+#[derive(Clone, Copy, Debug, PartialEq, Eq)]
+pub(crate) enum First {
+    /// Its least value.
+    Least,
+    /// Its greatest number, or its first element.
+    Greatest,
+    /// Its least number, or the element that it had when last all was decided.
+    Kept,
+}
+
+/// What is supposed first of a place, of which this was kept; where very many numbers are left it
+/// is the lower half.
+pub(crate) fn first_try(info: Info, kept: Info, first: First) -> Option<Fact> {
     match info {
         Info::Span(span) => {
             let (low, high) = (span.lo(), span.hi());
-            if is_greatest {
+            if first == First::Greatest {
                 return Some(Fact::AtLeast(high));
             }
             let room = high.saturating_sub(low);
@@ -120,10 +148,22 @@ pub(crate) fn first_try(info: Info, is_greatest: bool) -> Option<Fact> {
             Some(Fact::AtMost(low))
         }
         Info::Set(elements) => {
-            let bits = elements.bits();
-            let first = Elements::new(bits & bits.wrapping_neg())?;
-            Some(Fact::Among(first))
+            let kept = if first == First::Kept { kept } else { info };
+            let element = first_element(elements, kept)?;
+            Some(Fact::Among(element))
         }
         _ => None,
     }
+}
+
+/// Of these elements the first that was kept too, or the first at all where none was.
+fn first_element(elements: Elements, kept: Info) -> Option<Elements> {
+    let mut bits = elements.bits();
+    if let Info::Set(before) = kept {
+        let again = bits & before.bits();
+        if again != 0 {
+            bits = again;
+        }
+    }
+    Elements::new(bits & bits.wrapping_neg())
 }

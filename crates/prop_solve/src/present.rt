@@ -8,13 +8,15 @@ use std::alloc::{AllocError, Global};
 /// How many places a word tells of.
 const WORD: usize = 64;
 
-/// What is believed of each place, which places are open, and the entries of each place.
+/// What is believed of each place, which places are open, the entries of each place, and what was
+/// believed of each when last none was open.
 #[derive(Drop)]
 pub(crate) struct Present {
     infos: Vec<Info>,
     /// A bit for each place, which is set where several values are left.
     open: Vec<u64>,
     course: Course,
+    kept: Vec<Info>,
 }
 
 /// Whether something is known, and several values are left.
@@ -33,6 +35,7 @@ impl Present {
             infos: Vec::from_slice(alloc, beliefs)?,
             open: vec![in alloc; 0; beliefs.len() / WORD + 1]?,
             course: Course::new(alloc, beliefs.len())?,
+            kept: Vec::from_slice(alloc, beliefs)?,
         };
         for (place, info) in beliefs.iter().enumerate() {
             present.set(place, *info);
@@ -63,6 +66,25 @@ impl Present {
         match self.open.get(word) {
             Some(bits) => *bits,
             None => 0,
+        }
+    }
+
+    /// What was believed of a place when last no place was open, or at the root where none was yet;
+    /// nothing where there is no such place.
+    pub(crate) fn kept(&self, place: usize) -> Info {
+        match self.kept.get(place) {
+            Some(info) => *info,
+            None => Info::Nothing,
+        }
+    }
+
+    /// Keeps what is believed, where no place is open.
+    pub(crate) fn keep(&mut self) {
+        if !self.open.iter().all(|bits| *bits == 0) {
+            return;
+        }
+        for place in 0..self.kept.len() {
+            self.kept[place] = self.info(place);
         }
     }
 

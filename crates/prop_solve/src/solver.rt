@@ -15,6 +15,7 @@ ghost use Rattle.prop_solve.specs.Questions.{Grow, Imply, excused_then, is_optim
 ghost use Rattle.prop_solve.specs.Searches.{IsSearch, IsProposed, bare};
 ghost use Rattle.prop_solve.specs.Answers.{AreSingle, AsksTheSame, IsAnswer, IsFound, IfFound};
 
+use crate::choosing::First;
 use crate::pace::Pace;
 use crate::present::Present;
 use crate::proposal::Proposal;
@@ -557,9 +558,9 @@ impl Solver {
         }
         match self.next_place() {
             Some(place) => {
-                let is_greatest = self.question.goal == Goal::Greatest(place);
+                let first = self.first(place);
                 self.tally.supposed = self.tally.supposed.saturating_add(1);
-                self.is_lost = !self.spread.suppose(place, is_greatest)?;
+                self.is_lost = !self.spread.suppose(place, first)?;
             }
             None => {
                 self.proposal = self.spread.propose(network, premises)?;
@@ -580,6 +581,16 @@ impl Solver {
         match first {
             Some(place) => Some(place),
             None => self.spread.pick(&self.question.named, &self.weights),
+        }
+    }
+
+    /// What is supposed of a place before anything else. Where the best is asked for, plans near
+    /// the last one are looked at first: it is the best so far.
+    fn first(&self, place: usize) -> First {
+        match self.question.goal {
+            Goal::Greatest(best) if best == place => First::Greatest,
+            Goal::Least(_) | Goal::Greatest(_) => First::Kept,
+            Goal::Any | Goal::Differing => First::Least,
         }
     }
 

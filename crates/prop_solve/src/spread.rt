@@ -9,7 +9,7 @@ ghost use Rattle.prop_cells.specs.Data.{Data, IsKept};
 ghost use Rattle.prop_refuting.specs.Nogoods.{Nogood as NogoodOf};
 ghost use Rattle.prop_learned.specs.Stores.{IsKeptIn};
 
-use crate::choosing::{first_try, pick, pick_named};
+use crate::choosing::{First, first_try, pick, pick_named};
 use crate::present::Present;
 use crate::proposal::Proposal;
 use crate::wiring::Wiring;
@@ -215,13 +215,14 @@ impl Spread {
     }
 
     /// Supposes something of a place that is open; false where nothing can be.
-    pub(crate) fn suppose(&mut self, place: usize, is_greatest: bool) -> Result<bool, AllocError>
+    pub(crate) fn suppose(&mut self, place: usize, first: First) -> Result<bool, AllocError>
         ensures same { self.new ≡ self.old }
     {
         if place >= self.trail.places() {
             return Ok(false);
         }
-        let Some(fact) = first_try(self.trail.info(place), is_greatest) else {
+        let info = self.trail.info(place);
+        let Some(fact) = first_try(info, self.present.kept(place), first) else {
             return Ok(false);
         };
         self.trail.raise()?;
@@ -540,7 +541,10 @@ impl Spread {
         } else {
             match self.waiting.next() {
                 Some(instance) => self.call(network, instance)?,
-                None => return Ok(Quiet::Still),
+                None => {
+                    self.present.keep();
+                    return Ok(Quiet::Still);
+                }
             }
         };
         Ok(if goes_on {
