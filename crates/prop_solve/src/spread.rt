@@ -1,6 +1,6 @@
 //! What follows from what is supposed, one step at a time.
 
-ghost use Rattle.std.specs.Prelude.{◌≡◌, ◌⊎◌, List, OnOk, IfOk, IfSome};
+ghost use Rattle.std.specs.Prelude.{◌≡◌, ◌⊎◌, ◌<◌, List, OnOk, IfOk, IfSome, length};
 ghost use Rattle.prop_premises.specs.Origins.{choices_of};
 ghost use Rattle.prop_procedures.specs.Stored.{Stored};
 ghost use Rattle.prop_solve.specs.Searches.{IsProposed};
@@ -30,8 +30,8 @@ use prop_trail::{Outcome, Source, Trail, Waiting};
 use std::alloc::{AllocError, Global};
 use std::marker::Model;
 
-/// As many inputs as an instance has at the most.
-const MOST: usize = 8;
+/// As many inputs as most instances have at the most, whose arguments take no memory.
+const FEW: usize = 8;
 
 /// How far it is.
 #[derive(Clone, Copy, Debug, PartialEq, Eq)]
@@ -103,10 +103,23 @@ impl Model for Spread {
 }
 
 /// What is believed of the inputs, in their order.
-fn gather(present: &Present, inputs: &[usize], args: &mut [Info; MOST]) {
-    for j in 0..inputs.len().min(MOST) {
+fn gather(present: &Present, inputs: &[usize], args: &mut [Info; FEW]) {
+    for j in 0..inputs.len().min(FEW) {
         args[j] = present.info(inputs[j]);
     }
+}
+
+/// What is believed of these cells, of any count.
+fn gathered(
+    alloc: Global,
+    present: &Present,
+    inputs: &[usize],
+) -> Result<Vec<Info>, AllocError> {
+    let mut args = Vec::new(alloc);
+    for input in inputs {
+        args.push(present.info(*input))?;
+    }
+    Ok(args)
 }
 
 /// Whether it is seen at a glance that a call says nothing new.
@@ -386,9 +399,28 @@ impl Spread {
             return Ok(true);
         }
         let x = network.data().instance(instance);
-        let mut args = [Info::Nothing; MOST];
-        gather(&self.present, x.inputs(), &mut args);
-        let args = &args[..x.inputs().len().min(MOST)];
+        if x.inputs().len() <= FEW {
+            let mut args = [Info::Nothing; FEW];
+            gather(&self.present, x.inputs(), &mut args);
+            return self.call_on(network, instance, &args[..x.inputs().len()]);
+        }
+        let args = gathered(self.alloc, &self.present, x.inputs())?;
+        self.call_on(network, instance, &args)
+    }
+
+    /// Calls an instance on these arguments, and says what it answers; false where that can't be.
+    fn call_on<R: Guarded + Drop>(
+        &mut self,
+        network: &Network<R>,
+        instance: usize,
+        args: &[Info],
+    ) -> Result<bool, AllocError>
+        requires means { AllMean R.value_of network.now.library.procedures.items }
+        requires kept { IsKept (stored_of R.value_of network.now.library) network.now.cells }
+        requires there { instance < length network.now.cells.instances }
+        ensures same { self.new ≡ self.old }
+    {
+        let x = network.data().instance(instance);
         if is_idle(network, x, args) {
             return Ok(true);
         }
