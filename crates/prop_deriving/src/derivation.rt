@@ -228,7 +228,7 @@ impl Derivation {
     {
         match reason.by {
             Source::Call(instance) => self.by_narrowed_call(basis, at, instance, reason.before),
-            Source::Nogood(number) => self.by_nogood(basis, at, number, None),
+            Source::Nogood(number) => self.by_nogood(basis, at, number, reason),
             _ => Ok(false),
         }
     }
@@ -257,7 +257,7 @@ impl Derivation {
         match reason.by {
             Source::Decision => Ok(false),
             Source::Call(instance) => self.by_call(basis, at, instance, asked),
-            Source::Nogood(number) => self.by_nogood(basis, at, number, asked.rest),
+            Source::Nogood(number) => self.by_nogood(basis, at, number, reason),
             Source::Side(number) => self.by_side(basis, at, number, asked),
         }
     }
@@ -378,13 +378,14 @@ impl Derivation {
         self.nogood.by_narrowed_call(basis.network, at, call, place)
     }
 
-    /// What a nogood that is kept said, by the rest of it.
+    /// What a nogood that is kept said, by the rest of it: all that was so but the literal that it
+    /// denied.
     fn by_nogood<R: Rule + Drop>(
         &mut self,
         basis: &Ground<'_, R>,
         at: usize,
         number: usize,
-        rest: Option<Fact>,
+        reason: Reason,
     ) -> Result<bool, AllocError>
         ensures { Stays (stored_of R.value_of basis.now.network.now.library)
             (attached_of basis.now.network.now.cells) basis.now.choices.now basis.now.root.now
@@ -399,8 +400,13 @@ impl Derivation {
         let Some(kind) = basis.kind(literal.place) else {
             return Ok(false);
         };
+        let rest = reason.rest(literal.fact, kind.size);
         for which in 0..other.literals().len() {
-            if self.nogood.by_nogood(at, other, which, rest, kind)? {
+            let denied = other.literals()[which];
+            if denied.place == literal.place
+                && reason.denies(denied.fact, kind.size)
+                && self.nogood.by_nogood(at, other, which, rest, kind)?
+            {
                 return Ok(true);
             }
         }

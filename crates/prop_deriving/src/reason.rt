@@ -50,6 +50,15 @@ impl Reason {
         }
     }
 
+    /// Whether what was said is that a fact isn't so, of a place whose domain has so many elements.
+    pub(crate) fn denies(&self, fact: Fact, size: u8) -> bool {
+        match fact.negation(size) {
+            Some(Fact::Other(number)) => self.out == Some(number),
+            Some(fact) => self.out.is_none() && self.said == fact.info(),
+            None => false,
+        }
+    }
+
     /// Before which entry all is so on which a fact rests that this reason explains. Of a number,
     /// and of an end that moved past numbers that are out, it is the entry after this one: what was
     /// said itself is explained next.
