@@ -28,13 +28,23 @@ impl Candidate {
     }
 }
 
-/// How many values are left of a place. Of numbers of which single ones may be out the trail knows.
+/// How many values are left of a place; none where there is no such place. Where single numbers may
+/// be out the trail counts them.
 fn values_left(trail: &Trail, present: &Present, place: usize) -> u64 {
-    match present.info(place) {
-        Info::Set(elements) => elements.bits().count_ones() as u64,
-        Info::Span(span) if span.count() > WITH_HOLES => span.count(),
-        _ => trail.values(place),
+    if place >= trail.places() {
+        return 0;
     }
+    let info = present.info(place);
+    if let Info::Set(elements) = info {
+        return elements.bits().count_ones() as u64;
+    }
+    if let Info::Span(span) = info {
+        let count = span.count();
+        if count > WITH_HOLES {
+            return count;
+        }
+    }
+    trail.values(place)
 }
 
 /// The place where it is open.
@@ -44,9 +54,6 @@ fn open_place(
     place: usize,
     weights: &Weights,
 ) -> Option<Candidate> {
-    if place >= trail.places() {
-        return None;
-    }
     let values = values_left(trail, present, place);
     if values < 2 || values == u64::MAX {
         return None;
