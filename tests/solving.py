@@ -16,8 +16,8 @@ PROGRAM is a workbench that answers these, as propwide; of networks that are dra
 - the premises that are named are believed, and with them alone nothing fits, or nothing better, or
   no other row;
 - each question comes to its end, by slices of 1, 10 and 1,000 steps in about as many steps as by
-  more; there it is answered the same again; and after a line that is answered `ok` it begins anew;
-- what changes nothing between two `plans` changes nothing of the rows that are told.
+  more; there it is answered the same again; and after another question it begins anew;
+- what changes nothing between two `plans`, a `limit` too, changes nothing of the rows that are told.
 
 A question may stay unsettled for ever where nothing is stated of a symbol, since none is tried, or
 little is stated of a number but by choices (FAR). How many did is told; so is of how many premises that were named nothing is known here, since with them
@@ -340,6 +340,7 @@ ASIDES = [
     "list",
 ]
 ASIDES += ["worldview", "nogoods", "step", "ask n0", "why n0", "how n0", "core n0"]
+ASIDES += [f"limit {FIRST}"]
 
 
 @dataclass
@@ -430,7 +431,7 @@ class Session:
         self.follow(question, FIRST, 1)
         for limit in self.chance.sample(slices, len(slices)):
             again = question.again()
-            self.talk.all([f"limit {limit}"])
+            self.begin_anew(question, limit)
             most = asked * (2 * FIRST // limit + 2) + 20
             if self.follow(again, limit, most, SLICES[limit]) and again.end is None:
                 self.complain(again, f"no end in {most} lines by {limit} steps")
@@ -471,6 +472,7 @@ class Session:
     def turn_aside(self, question: Rows) -> None:
         """Asks for one row at a time, and says between what changes nothing; and then what does."""
         one = Rows(question.truth, "plans", question.cells, most=1)
+        self.begin_anew(question, FIRST)
         for _ in range(LINES):
             (reply,) = self.talk.say(one.line())
             what = one.wrong(reply)
@@ -485,10 +487,17 @@ class Session:
                 break
             self.talk.say(self.chance.choice(ASIDES))
         if len(question.rows) > 1:
-            self.talk.all([f"limit {FIRST}"])
+            self.begin_anew(question, FIRST)
             self.talk.say(one.line())
-            self.talk.all([f"limit {FIRST}"])
+            self.begin_anew(question, FIRST)
             self.follow(question.again(), FIRST, LINES)
+
+    def begin_anew(self, question: Question, limit: int) -> None:
+        """Has a question begin anew, by slices of this size: another one is asked before."""
+        cell = next(iter(question.truth.network.kinds))
+        self.talk.all(["limit 0"])
+        self.talk.say(f"plans 1 {cell}" if question.line() == "solve" else "solve")
+        self.talk.all([f"limit {limit}"])
 
 
 def tried(program: str, seeds: Iterable[int]) -> Tried:
@@ -545,6 +554,8 @@ SAID = [
     ("solve", "unsettled"),
     ("least x", "unsettled"),
     ("plans 1 x", "unsettled"),
+    ("limit 1000", "ok"),
+    ("plans 1 x", "none: no premise"),
 ]
 
 

@@ -270,8 +270,10 @@ def test_a_limit_is_the_most_steps(wide: str) -> None:
         assert session.lines[-3:] == ["limit 10", "solve", "limit 10"]
         # (asked again at once it goes on)
         assert any(isinstance(session.solve(), Points) for _ in range(1000))
+        # (under another limit too, but what is asked first)
         session.send("limit 0")
-        assert isinstance(session.solve(), Unsettled)
+        assert isinstance(session.solve(), Points)
+        assert isinstance(session.least("z"), Unsettled)
         session.send("limit 1000000")
         best = session.least("z")
         assert isinstance(best, Best) and best.value == 12

@@ -2,6 +2,7 @@ pub mod Starting
 pub mod SeekLemmas
 pub mod AskLemmas
 pub mod InquiryLemmas
+pub mod LimitLemmas
 pub mod ExcuseLemmas
 pub mod StayLemmas
 pub mod ReplyLemmas

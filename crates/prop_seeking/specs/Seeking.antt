@@ -1,5 +1,6 @@
 -- What a layer that answers questions for points does, as a machine.
-use Rattle.std.specs.Prelude.{◌≡◌, ◌⊎◌, ℕ, List, [], Option, Some, None, Result, Ok, Err, cond}
+use Rattle.std.specs.Prelude.{◌≡◌, ◌⊎◌, ◌&&◌, ℕ, List, [], Option, Some, None, Result, Ok, Err}
+use Rattle.std.specs.Prelude.{codes, cond, not}
 use Rattle.prop_lattice.specs.declared.info.Info.{Info}
 use Rattle.prop_refusals.specs.declared.refusal.Refusal.{Refusal}
 use Rattle.prop_refusals.specs.declared.refusal.Refusal.TheVariants.{Memory}
@@ -10,7 +11,7 @@ use Rattle.prop_language.specs.Reading.{AsRead}
 use Rattle.prop_workbench.specs.Questions.{Picks}
 use Rattle.prop_telling.specs.Notes.{is_done}
 use Rattle.prop_telling.specs.Telling.{Told, Own, telling, new_told}
-use Rattle.prop_seeking.specs.Asking.{Question, asked, as_value, is_question}
+use Rattle.prop_seeking.specs.Asking.{Question, asked, as_value, begins, is_question}
 use Rattle.prop_seeking.specs.Plans.{Says}
 
 -- where a seeker stands: where its teller does, and the question that the next line may go on with,
@@ -44,9 +45,9 @@ Seeks library old line answer inquiry =
     (λ read. Replies library old (asked old.told.standing.shown.state read) answer inquiry)
 
 -- A line asks for points, and all else stays. Or the teller carries it out: what changes something
--- ends the question.
+-- ends the question, but for the limit.
 abbrev pub seeking : {O : Type 0} → Picks O → List Stored → Machine (Sought O)
 seeking picks library old line answer new = Own (is_question line)
     ((new.told ≡ old.told) × Seeks library old line answer new.inquiry)
-    (telling picks library old.told line answer new.told
-    × (new.inquiry ≡ cond (is_done answer) None old.inquiry))
+    (telling picks library old.told line answer new.told × (new.inquiry
+    ≡ cond (is_done answer && not (begins (codes "limit") line)) None old.inquiry))

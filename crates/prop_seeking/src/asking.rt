@@ -1,5 +1,5 @@
 //! Which lines ask for points.
-ghost use Rattle.std.specs.Prelude.{◌≡◌, IfOk};
+ghost use Rattle.std.specs.Prelude.{◌≡◌, codes, IfOk};
 ghost use Rattle.std.specs.Str.Lines.{strip_carriage_return};
 ghost use Rattle.prop_seeking.specs.Asking.{as_value, begins, is_question};
 
@@ -14,6 +14,13 @@ fn begins(word: &[u8], line: &[u8]) -> bool
         Some(rest) => is_apart(rest),
         None => false,
     }
+}
+
+/// Whether the line sets the limit, where it is carried out.
+pub(crate) fn is_limit(line: &[u8]) -> bool
+    ensures { result ≡ begins (codes "limit") line.now }
+{
+    begins(b"limit".as_slice(), line)
 }
 
 /// Whether the line asks for points.

@@ -1,9 +1,10 @@
 //! A session with a teller around it that answers questions for points.
-ghost use Rattle.std.specs.Prelude.{◌≡◌};
+ghost use Rattle.std.specs.Prelude.{◌≡◌, ◌&&◌, codes, not};
 ghost use Rattle.prop_engine.specs.Answers.{answer_of, is_refusal};
 ghost use Rattle.prop_telling.specs.Notes.{is_done};
+ghost use Rattle.prop_seeking.specs.Asking.{begins};
 
-use crate::asking::{as_value, is_question};
+use crate::asking::{as_value, is_limit, is_question};
 use crate::inquiry::{End, Inquiry, Plans};
 use crate::question::{Asked, question_of};
 use prop_engine::Reply;
@@ -23,6 +24,13 @@ fn is_done(reply: &Reply) -> bool
     matches!(reply, Reply::Done)
 }
 
+/// Whether a line ends the question: it was carried out without a word, and set no limit.
+fn ends(reply: &Reply, line: &[u8]) -> bool
+    ensures { result ≡ (is_done (answer_of reply.now) && not (begins (codes "limit") line.now)) }
+{
+    is_done(reply) && !is_limit(line)
+}
+
 /// Whether a line was refused.
 fn is_refused(reply: &Reply) -> bool
     ensures { result ≡ is_refusal (answer_of reply.now) }
@@ -38,8 +46,8 @@ pub struct Seeker<R, O> {
 }
 
 impl<R: Guarded + Drop, O: Order + Drop> Seeker<R, O> {
-    ghost use Rattle.std.specs.Prelude.{◌≡◌, ◌⊎◌, ℕ, List, cond, IfOk, IfSome, OnOk};
-    ghost use Rattle.std.specs.Prelude.{string_bytes, None, true};
+    ghost use Rattle.std.specs.Prelude.{◌≡◌, ◌⊎◌, ◌&&◌, ℕ, List, codes, cond, not, IfOk, IfSome};
+    ghost use Rattle.std.specs.Prelude.{OnOk, string_bytes, None, true};
     ghost use Rattle.std.specs.Option.{option_map};
     ghost use Rattle.prop_language.specs.Reading.{AsRead};
     ghost use Rattle.prop_language.specs.Said.{words};
@@ -50,7 +58,7 @@ impl<R: Guarded + Drop, O: Order + Drop> Seeker<R, O> {
     ghost use Rattle.prop_telling.specs.Telling.{telling};
     ghost use Rattle.prop_telling.specs.inner.Telling.{told_of};
     ghost use Rattle.prop_solve.specs.Questions.{is_optimum};
-    ghost use Rattle.prop_seeking.specs.Asking.{as_value, asked};
+    ghost use Rattle.prop_seeking.specs.Asking.{as_value, asked, begins};
     ghost use Rattle.prop_seeking.specs.Seeking.{seeking, Seeks};
     ghost use Rattle.prop_seeking.specs.inner.Seekers.{Answers, AreBefore, Gives, IsApt, IsInquiry};
     ghost use Rattle.prop_seeking.specs.inner.Seekers.{IsReady, IsSameQuestion, Replied, asked_of};
@@ -85,7 +93,8 @@ impl<R: Guarded + Drop, O: Order + Drop> Seeker<R, O> {
         }
     }
 
-    /// Carries out a line as its teller does. What changes something ends the question.
+    /// Carries out a line as its teller does. What changes something ends the question, but for the
+    /// limit.
     fn tell(&mut self, line: &[u8]) -> Reply
         requires ready { IsReady R.value_of self.old }
         ensures same { self.new.teller.session.live.network.library
@@ -93,11 +102,11 @@ impl<R: Guarded + Drop, O: Order + Drop> Seeker<R, O> {
         ensures ready { IsReady R.value_of self.new }
         ensures tells { telling O.picks (library_of R.value_of self.old.teller.session)
             (told_of self.old.teller) line.now (answer_of result) (told_of self.new.teller) }
-        ensures inquiry { self.new.inquiry
-            ≡ cond (is_done (answer_of result)) None self.old.inquiry }
+        ensures inquiry { self.new.inquiry ≡ cond (is_done (answer_of result)
+            && not (begins (codes "limit") line.now)) None self.old.inquiry }
     {
         let reply = self.teller.command(line);
-        if is_done(&reply) {
+        if ends(&reply, line) {
             self.inquiry = None;
             return reply;
         }

@@ -17,6 +17,8 @@ from propbench.refusals import CLASSES, Refused
 from propbench.replies import SEVERAL, NotAReply, Reply, lines_in, refusal_in, reply_of
 from propbench.showing import printable
 
+# The question for points that any for plans is told apart from.
+_OTHER = "solve"
 # A line that changes nothing, and what is answered to it.
 _MARK, _MARKED = "mark", "error 3: unknown command"
 # So many characters are shown of a line and of a reply that don't belong together.
@@ -58,8 +60,8 @@ class Conversation:
         # The question for points that the program goes on with where it is asked again at once: what
         # is sought, and behind how many lines.
         self.sought = ("", 0)
-        # Whether the same question for plans would be gone on with by the lines.
-        self._is_listing = False
+        # The cells of the question for plans that would be gone on with by the lines.
+        self._listed: list[str] = []
         self.in_step = True
         self.owed: Owed | None = None
 
@@ -102,16 +104,20 @@ class Conversation:
         if said != "ok":
             raise self.wrong(line, said)
         self.program_limit = steps
-        if self._is_listing:
-            # (what lists plans begins anew: so it does by the lines)
-            self.lines.append(f"limit {self.limit}")
-            self._is_listing = False
         self.in_step = was_in_step
 
-    def tell_limit_anew(self) -> None:
-        """Has the program told its limit before the next line, whatever that is: so a question for
-        points begins anew."""
-        self.program_limit = -1
+    def begin_anew(self, cells: list[str]) -> None:
+        """Has a question for plans that differ at these cells begin anew: another one is asked
+        before, for no steps. So it does by the lines."""
+        self.set_limit(0)
+        was_in_step = self.in_step
+        self.in_step = False
+        self.program.tell(_OTHER)
+        self.hear(_OTHER)
+        if cells and self._listed == cells:
+            self.lines += ["limit 0", _OTHER, f"limit {self.limit}"]
+            self._listed = []
+        self.in_step = was_in_step
 
     def leave(self, line: str, words: list[str], steps: int) -> None:
         """Has a question owed that is under way, under so many steps; or the limit before it."""
@@ -146,8 +152,8 @@ class Conversation:
     def carried(self, line: str, words: list[str]) -> None:
         """Takes in that a line was carried out."""
         self.lines.append(line)
-        if words[0] == "plans" or words[0] not in ASKING:
-            self._is_listing = words[0] == "plans"
+        if words[0] == "plans" or words[0] not in (*ASKING, "limit"):
+            self._listed = words[2:] if words[0] == "plans" else []
         learn = self._learns.get(words[0])
         if learn:
             learn(words, line)

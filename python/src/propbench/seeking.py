@@ -1,8 +1,8 @@
 """Questions for points that fit, in slices of the limit.
 
-propwide goes on with such a question where the same one is asked again, and begins it anew behind a
-line that it answers `ok`, as a `limit`. So the slices of a question have one size. Asked again at
-once, a question goes on; behind any other line it begins anew.
+propwide goes on with such a question where the same one is asked again, until another one is asked
+or it answers a line `ok`, but for `limit`. For plans it is held to less: asked again at once it
+tells others; behind any other line it begins anew.
 """
 
 from dataclasses import dataclass
@@ -36,8 +36,9 @@ class Seeking:
         talk, watch = self.talk, self.watch
         parts = max(1, -(-talk.limit // _STEPS))
         size = talk.limit // parts
-        if talk.sought != self._place() or size != talk.program_limit:
-            talk.tell_limit_anew()
+        words = self.question.words
+        if words[0] == "plans" and talk.sought != self._place():
+            talk.begin_anew(words[2:])
         reply = self._slice(size)
         while not self._is_done(reply):
             watch.taken += size

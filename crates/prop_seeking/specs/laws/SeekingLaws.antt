@@ -1,8 +1,9 @@
 -- A seeker has what the engine asks of a machine.
 use Rattle.std.proofs.Common.{◌≡◌, ◌∙◌, ◌⊎◌, ℕ, ◌≤◌, ◌<◌, ◌+◌, ◌-◌, List, [], ◌∷◌, ◌++◌}
-use Rattle.std.proofs.Common.{Bool, true, false, refl, sym, subst, inl, inr}
+use Rattle.std.proofs.Common.{Bool, true, false, refl, sym, ap, subst, inl, inr}
 use Rattle.std.proofs.Common.{length, take, arith, length-append}
 use Rattle.std.specs.Prelude.{Option, Some, None, Result, Ok, Err, codes, cond, ◌==◌, slice_index}
+use Rattle.std.specs.Prelude.{not, ◌&&◌}
 use Rattle.std.specs.Str.Lines.{strip_carriage_return}
 use Rattle.std.proofs.lemmas.Bool.{cases_lt}
 use Rattle.std.proofs.lemmas.List.{length-take, take_all}
@@ -24,7 +25,7 @@ use Rattle.prop_telling.specs.Listing.{SaysList}
 use Rattle.prop_telling.specs.Notes.{Note, is_done, note_read, noted}
 use Rattle.prop_telling.specs.Telling.{DoesAsSession, IsNoted, Own, TellsStep, Told, telling}
 use Rattle.prop_telling.specs.laws.TellingLaws.{lacks_read, memory_works, telling_asks_by_prefix}
-use Rattle.prop_seeking.specs.Asking.{Question, asked, as_value, is_question}
+use Rattle.prop_seeking.specs.Asking.{Question, asked, as_value, begins, is_question}
 use Rattle.prop_seeking.specs.Seeking.{Seeks, Sought, seeking}
 
 -- ---- what is kept of a line
@@ -41,6 +42,17 @@ kept_is_question (a ∷ b ∷ c ∷ d ∷ e ∷ f ∷ []) = refl
 kept_is_question (a ∷ b ∷ c ∷ d ∷ e ∷ f ∷ g ∷ []) = refl
 kept_is_question (a ∷ b ∷ c ∷ d ∷ e ∷ f ∷ g ∷ h ∷ []) = refl
 kept_is_question (a ∷ b ∷ c ∷ d ∷ e ∷ f ∷ g ∷ h ∷ i ∷ line) = refl
+
+kept_sets_limit : (line : List ℕ)
+    → begins (codes "limit") (kept_of line) ≡ begins (codes "limit") line
+unfolding kept_of
+kept_sets_limit [] = refl
+kept_sets_limit (a ∷ []) = refl
+kept_sets_limit (a ∷ b ∷ []) = refl
+kept_sets_limit (a ∷ b ∷ c ∷ []) = refl
+kept_sets_limit (a ∷ b ∷ c ∷ d ∷ []) = refl
+kept_sets_limit (a ∷ b ∷ c ∷ d ∷ e ∷ []) = refl
+kept_sets_limit (a ∷ b ∷ c ∷ d ∷ e ∷ f ∷ line) = refl
 
 stripped_by : (b : Bool) (line : List ℕ)
     → length line ≤ length (cond b (take (length line - 1) line) line) + 1
@@ -97,8 +109,11 @@ pub seeking_asks_by_prefix : {O : Type 0} (picks : Picks O) (library : List Stor
 seeking_asks_by_prefix picks library old line answer new seeks =
     own_from (is_question (kept_of line)) (is_question line) (kept_is_question line)
     (λ asks. (asks.0, kept_seeks library old line answer new.inquiry asks.1))
-    (λ tells.
-    (telling_asks_by_prefix picks library old.told line answer new.told tells.0, tells.1)) seeks
+    (λ tells. (
+      telling_asks_by_prefix picks library old.told line answer new.told tells.0,
+      tells.1 ∙ ap (λ (b : Bool). cond (is_done answer && not b) None old.inquiry)
+          (kept_sets_limit line),
+    )) seeks
 
 -- ---- some answer
 
@@ -193,8 +208,8 @@ tells_something picks library old line false false false =
 something : {O : Type 0} (picks : Picks O) (library : List Stored) (old : Sought O)
     (line : List ℕ) (b : Bool) → (answer : Answer) × Own b
     ((old.told ≡ old.told) × Seeks library old line answer old.inquiry)
-    (telling picks library old.told line answer old.told
-    × (old.inquiry ≡ cond (is_done answer) None old.inquiry))
+    (telling picks library old.told line answer old.told × (old.inquiry
+    ≡ cond (is_done answer && not (begins (codes "limit") line)) None old.inquiry))
 something picks library old line true = (Refused Memory, (refl, inl (refl, inr refl)))
 something picks library old line false =
     let told =

@@ -3,6 +3,10 @@ use Rattle.prop_procedures.specs.Kept.{stored_of}
 use Rattle.prop_engine.specs.Answers.{answer_of}
 use Rattle.prop_telling.specs.inner.Telling.{told_of}
 use Rattle.std.proofs.Common.{ap}
+use Rattle.std.specs.Prelude.{codes}
+use Rattle.prop_telling.specs.Notes.{is_done}
+use Rattle.prop_seeking.specs.Asking.{begins}
+use Rattle.prop_seeking.proofs.LimitLemmas.{calm_line}
 use Rattle.prop_seeking.proofs.StayLemmas.{telling_stays, stayed_inquiry}
 use Rattle.prop_seeking.proofs.seeker.Seeker.tell.Goals as goal
 
@@ -13,7 +17,9 @@ returns-clause-ready g c =
     let library = stored_of g.R.Rule.value_of old.session.live.network.library in
     let same = c.command-reply.ensures.same in
     let stays = telling_stays g.O.Order.picks library (told_of old) c.args.line.now (answer_of c.command-reply.result)
-    (told_of new) c.command-reply.ensures.tells (sym c.is_done.ensures ∙ c.if-is_done.false) in
+    (told_of new) c.command-reply.ensures.tells
+    (calm_line (is_done (answer_of c.command-reply.result)) (begins (codes "limit") c.args.line.now)
+    (sym c.ends.ensures ∙ c.if-ends.false)) in
     record {
       means = rw same c.requires.ready.means;
       sound = c.command-reply.ensures.sound;
