@@ -401,16 +401,10 @@ impl Derivation {
             return Ok(false);
         };
         let rest = reason.rest(literal.fact, kind.size);
-        for which in 0..other.literals().len() {
-            let denied = other.literals()[which];
-            if denied.place == literal.place
-                && reason.denies(denied.fact, kind.size)
-                && self.nogood.by_nogood(at, other, which, rest, kind)?
-            {
-                return Ok(true);
-            }
-        }
-        Ok(false)
+        let Some(which) = reason.denied_in(other.literals(), literal.place, kind.size) else {
+            return Ok(false);
+        };
+        self.nogood.by_nogood(at, other, which, rest, kind)
     }
 
     /// What a statement under a side said: of its cell, by the side; of its choice, by what was

@@ -1,7 +1,8 @@
 //! Why something is so.
+ghost use Rattle.std.specs.Prelude.{◌<◌, length, IfSome};
 
 use crate::bits::{among, mask};
-use prop_facts::Fact;
+use prop_facts::{Fact, Literal};
 use prop_lattice::{Info, Partial};
 use prop_trail::{Source, Trail};
 
@@ -57,6 +58,19 @@ impl Reason {
             Some(fact) => self.out.is_none() && self.said == fact.info(),
             None => false,
         }
+    }
+
+    /// Which of these literals is one about the place that isn't so by what was said.
+    pub(crate) fn denied_in(&self, literals: &[Literal], place: usize, size: u8) -> Option<usize>
+        ensures { IfSome result (λ which. which < length literals.now) }
+    {
+        for which in 0..literals.len() {
+            let literal = literals[which];
+            if literal.place == place && self.denies(literal.fact, size) {
+                return Some(which);
+            }
+        }
+        None
     }
 
     /// Before which entry all is so on which a fact rests that this reason explains. Of a number,
