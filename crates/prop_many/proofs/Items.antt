@@ -1,5 +1,5 @@
 -- The first items of lists of arguments, and the rest.
-use Rattle.std.proofs.Common.{◌≡◌, ◌∙◌, ℕ, ℤ, ◌-◌, ◌≤◌, List, [], ◌∷◌, length, take, drop, get_or, arith}
+use Rattle.std.proofs.Common.{◌≡◌, ◌-◌, ◌≤◌, List, [], ◌∷◌, length, take, drop, get_or, arith}
 use Rattle.std.proofs.lemmas.List.{take_all}
 use Rattle.prop_lattice.specs.declared.info.Info.{Info}
 

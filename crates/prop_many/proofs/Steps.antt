@@ -1,5 +1,5 @@
 -- One step of the functions that go over tasks.
-use Rattle.std.proofs.Common.{◌≡◌, ◌∙◌, ℕ, ℤ, ◌+ℤ◌, ◌-ℤ◌, ◌-◌, ◌≤◌, ◌<◌, ◌&&◌, Bool, true, false, if◌then◌else◌}
+use Rattle.std.proofs.Common.{◌≡◌, ◌∙◌, ℤ, ◌+ℤ◌, ◌-ℤ◌, ◌-◌, ◌≤◌, ◌&&◌, Bool, true, false, if◌then◌else◌}
 use Rattle.std.proofs.Common.{List, [], ◌∷◌, length, take, drop, get_or, arith, refl, ap}
 use Rattle.std.proofs.lemmas.List.{take_all}
 use Rattle.prop_lattice.specs.declared.info.Info.{Info}

@@ -1,6 +1,6 @@
 -- When a task may start that shares a resource with others.
 use Rattle.std.specs.Prelude.{◌≡◌, Bool, ℤ, pos, neg_ℤ, ◌+ℤ◌, ◌-ℤ◌, int_le, int_lt, ◌<ℤ◌, ◌≤ℤ◌}
-use Rattle.std.specs.Prelude.{◌&&◌, ◌||◌, if◌then◌else◌, List, [], ◌∷◌}
+use Rattle.std.specs.Prelude.{◌&&◌, ◌||◌, if◌then◌else◌, List, ◌∷◌}
 use Rattle.std.specs.Int.{int_max}
 use Rattle.prop_lattice.specs.Points.{Point, Number}
 use Rattle.prop_lattice.specs.declared.info.Info.{Info}

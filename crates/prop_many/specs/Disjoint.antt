@@ -1,6 +1,6 @@
 -- When a task may start that others may not overlap.
 use Rattle.std.specs.Prelude.{◌≡◌, Bool, ℤ, pos, ◌+ℤ◌, ◌-ℤ◌, int_lt, ◌<ℤ◌, ◌≤ℤ◌, ◌&&◌}
-use Rattle.std.specs.Prelude.{if◌then◌else◌, List, [], ◌∷◌, ⊤}
+use Rattle.std.specs.Prelude.{if◌then◌else◌, List, ◌∷◌, ⊤}
 use Rattle.std.specs.Int.{int_max, int_min}
 use Rattle.prop_lattice.specs.Points.{Point, Number}
 use Rattle.prop_lattice.specs.declared.info.Info.{Info}

@@ -1,6 +1,6 @@
 -- What tasks take of a resource for sure, and where they leave room.
 use Rattle.std.specs.Prelude.{Bool, true, ℤ, pos, ◌+ℤ◌, int_le, int_lt, ◌&&◌, ◌||◌}
-use Rattle.std.specs.Prelude.{if◌then◌else◌, List, [], ◌∷◌}
+use Rattle.std.specs.Prelude.{if◌then◌else◌, List, ◌∷◌}
 use Rattle.std.specs.Int.{int_max}
 use Rattle.prop_lattice.specs.Points.{Point, Number}
 use Rattle.prop_lattice.specs.declared.info.Info.{Info}

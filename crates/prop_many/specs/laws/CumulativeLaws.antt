@@ -1,20 +1,20 @@
 -- The laws of starts beside other tasks.
-use Rattle.std.specs.Prelude.{◌≡◌, ◌≢◌, ◌⊎◌, ℕ, ℤ, pos, neg_ℤ, ◌+ℤ◌, ◌-ℤ◌, ◌≤ℤ◌, ◌<ℤ◌, Bool, true, false}
-use Rattle.std.specs.Prelude.{int_le, int_lt, ◌&&◌, ◌||◌, if◌then◌else◌, List, [], ◌∷◌, ⊤}
+use Rattle.std.specs.Prelude.{◌≡◌, ℤ, pos, neg_ℤ, ◌+ℤ◌, ◌-ℤ◌, ◌≤ℤ◌, ◌<ℤ◌, Bool, true, false}
+use Rattle.std.specs.Prelude.{int_le, int_lt, ◌&&◌, ◌||◌, if◌then◌else◌, List, [], ◌∷◌}
 use Rattle.std.specs.Int.{int_max}
 use Rattle.std.proofs.Common.{arith, refl, rules, sym, subst, ◌∙◌}
 use Rattle.std.proofs.lemmas.Bool.{and_parts}
-use Rattle.std.proofs.lemmas.Int.{ints, clamps, by_lt_z}
+use Rattle.std.proofs.lemmas.Int.{ints, by_lt_z}
 use Rattle.prop_lattice.specs.Order.{Below}
-use Rattle.prop_lattice.specs.Points.{Point, Number, Element, Symbol, Holds, IsPointOf}
+use Rattle.prop_lattice.specs.Points.{Point, Number, Holds}
 use Rattle.prop_lattice.specs.Rank.{IsOf}
 use Rattle.prop_lattice.specs.declared.info.Info.{Info}
 use Rattle.prop_lattice.specs.declared.info.Kind.TheVariants as kinds
 use Rattle.prop_lattice.specs.declared.span.TheConstants.{B}
-use Rattle.prop_wide.specs.Ends.{low_of, high_of, known}
+use Rattle.prop_wide.specs.Ends.{low_of, high_of}
 use Rattle.prop_wide.specs.laws.EndLaws.{AreWithin, IsBetween, ends_ordered, known_below, known_kind}
 use Rattle.prop_wide.specs.laws.EndLaws.{known_holds}
-use Rattle.prop_many.specs.Cumulative.{HasRoom, RelatesCumulative, cumulative_of, first_of, fits}
+use Rattle.prop_many.specs.Cumulative.{RelatesCumulative, cumulative_of, first_of, fits}
 use Rattle.prop_many.specs.Cumulative.{is_later, is_sooner, last_of, starts_of}
 use Rattle.prop_many.specs.Loads.{demand_of, end_of, keeps_room, load_at, load_of}
 use Rattle.prop_many.specs.laws.LoadLaws.{AreEndings, AreStarts, IsOpen, by_start, keeps_opens}
@@ -147,12 +147,11 @@ last_end_is (s ∷ l ∷ d ∷ tasks) low time p =
     (λ q r. record {
       above = through low last (end_of s l) rest.above q;
       below = r;
-      none_between =
-          (
-            λ b. same (end_of s l),
-            endings_weaker tasks (λ e. e ≤ℤ time → e ≤ℤ last) (λ e. e ≤ℤ time → e ≤ℤ end_of s l)
-                (λ e k m. through e last (end_of s l) (k m) q) rest.none_between,
-          );
+      none_between = (
+        λ b. same (end_of s l),
+        endings_weaker tasks (λ e. e ≤ℤ time → e ≤ℤ last) (λ e. e ≤ℤ time → e ≤ℤ end_of s l)
+            (λ e k m. through e last (end_of s l) (k m) q) rest.none_between,
+      );
     }) (λ q. record {
       above = rest.above;
       below = rest.below;
@@ -307,13 +306,12 @@ next_is (s ∷ l ∷ d ∷ tasks) length time high p =
     (λ q r. record {
       above = q;
       below = le_before before next high r rest.below;
-      none_between =
-          (
-            λ b. le_same before,
-            starts_weaker tasks (λ b. time ≤ℤ (b -ℤ length) → next ≤ℤ (b -ℤ length))
-                (λ b. time ≤ℤ (b -ℤ length) → before ≤ℤ (b -ℤ length))
-                (λ b k m. le_before before next (b -ℤ length) r (k m)) rest.none_between,
-          );
+      none_between = (
+        λ b. le_same before,
+        starts_weaker tasks (λ b. time ≤ℤ (b -ℤ length) → next ≤ℤ (b -ℤ length))
+            (λ b. time ≤ℤ (b -ℤ length) → before ≤ℤ (b -ℤ length))
+            (λ b k m. le_before before next (b -ℤ length) r (k m)) rest.none_between,
+      );
     }) (λ q. record {
       above = rest.above;
       below = rest.below;

@@ -1,7 +1,7 @@
 -- The laws of what is known of the rules without a call.
-use Rattle.std.specs.Prelude.{◌≡◌, Bool, true, false, List, [], ◌∷◌, Some, None}
+use Rattle.std.specs.Prelude.{false, ◌∷◌, Some, None}
 use Rattle.std.proofs.Common.{ap, rules, sym}
-use Rattle.prop_lattice.specs.Points.{Point, Number, Element, Symbol}
+use Rattle.prop_lattice.specs.Points.{Number}
 use Rattle.prop_guards.specs.Guards.{AreRepeated, AreRuledOut, AreSilent, IsOwn}
 use Rattle.prop_many.specs.Many.{Related, own_of, value_of}
 use Rattle.prop_many.specs.declared.many.Many.{Many}

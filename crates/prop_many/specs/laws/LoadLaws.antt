@@ -1,14 +1,13 @@
 -- The laws of loads.
-use Rattle.std.specs.Prelude.{◌≡◌, ◌⊎◌, ℤ, pos, ◌+ℤ◌, ◌≤ℤ◌, ◌<ℤ◌, Bool, true, false, int_le, int_lt}
+use Rattle.std.specs.Prelude.{◌≡◌, ℤ, pos, ◌+ℤ◌, ◌≤ℤ◌, ◌<ℤ◌, Bool, true, false, int_le, int_lt}
 use Rattle.std.specs.Prelude.{◌&&◌, ◌||◌, if◌then◌else◌, List, [], ◌∷◌, ⊤}
 use Rattle.std.specs.Int.{int_max}
-use Rattle.std.proofs.Common.{arith, refl, rules, inl, inr, ap, ◌∙◌}
+use Rattle.std.proofs.Common.{arith, refl, rules}
 use Rattle.std.proofs.lemmas.Bool.{and_parts}
-use Rattle.std.proofs.lemmas.Int.{ints, clamps, by_lt_z}
-use Rattle.prop_lattice.specs.Points.{Point, Number, Element, Symbol}
+use Rattle.std.proofs.lemmas.Int.{ints, clamps}
+use Rattle.prop_lattice.specs.Points.{Point, Number}
 use Rattle.prop_lattice.specs.declared.info.Info.{Info}
 use Rattle.prop_wide.specs.Ends.{low_of, high_of}
-use Rattle.prop_wide.specs.laws.EndLaws.{AreWithin, IsBetween}
 use Rattle.prop_many.specs.Loads.{demand_of, end_of, is_free, keeps_room, load_at, load_of, part_at}
 use Rattle.prop_many.specs.laws.NumberLaws.{AreCloser, AreKept, both_true, le_true, never}
 
@@ -256,12 +255,11 @@ last_start_is (s ∷ l ∷ d ∷ tasks) from time p =
     (λ q r. record {
       above = through from last (high_of s) rest.above q;
       below = r;
-      none_between =
-          (
-            λ b. same (high_of s),
-            starts_weaker tasks (λ b. b ≤ℤ time → b ≤ℤ last) (λ b. b ≤ℤ time → b ≤ℤ high_of s)
-                (λ b k m. through b last (high_of s) (k m) q) rest.none_between,
-          );
+      none_between = (
+        λ b. same (high_of s),
+        starts_weaker tasks (λ b. b ≤ℤ time → b ≤ℤ last) (λ b. b ≤ℤ time → b ≤ℤ high_of s)
+            (λ b k m. through b last (high_of s) (k m) q) rest.none_between,
+      );
     }) (λ q. record {
       above = rest.above;
       below = rest.below;

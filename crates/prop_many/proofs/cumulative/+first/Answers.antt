@@ -1,4 +1,4 @@
-use Rattle.std.proofs.Common.{◌≡◌, ◌∙◌, ◌-◌, true, false, List, take, drop, length, rules, sym, ap}
+use Rattle.std.proofs.Common.{◌∙◌, ◌-◌, true, false, take, drop, length, rules, sym, ap}
 use mir.Syntax.{w64}
 use mir.Val.{SFits}
 use Rattle.std.proofs.lemmas.Int.{to_z-of_z}

@@ -1,8 +1,7 @@
-use Rattle.std.proofs.Common.{◌≡◌, ◌∙◌, ◌-◌, true, List, take, drop, length, rules, sym, ap}
+use Rattle.std.proofs.Common.{◌∙◌, ◌-◌, take, drop, length, rules, sym}
 use mir.Syntax.{w64, w128}
 use mir.Val.{SFits}
 use Rattle.std.proofs.lemmas.Int.{to_z-of_z}
-use Rattle.prop_wide.specs.Ends.{high_of}
 use Rattle.prop_many.specs.Loads.{is_free, keeps_room}
 use Rattle.prop_many.proofs.Steps.{keeps_room_step}
 use Rattle.prop_many.proofs.loads.+keeps_room.Goals as goal

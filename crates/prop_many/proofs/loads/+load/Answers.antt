@@ -1,4 +1,4 @@
-use Rattle.std.proofs.Common.{◌≡◌, ◌∙◌, ◌-◌, ℤ, ◌+ℤ◌, List, take, drop, length, rules, arith, sym, ap, w64}
+use Rattle.std.proofs.Common.{◌≡◌, ◌∙◌, ◌-◌, ◌+ℤ◌, take, drop, length, arith, ap, w64}
 use Rattle.std.proofs.lemmas.Int.{ints, to_z-of_z}
 use Rattle.prop_many.specs.Loads.{load_of, taken_of}
 use Rattle.prop_many.proofs.Items.{three_and_rest}
