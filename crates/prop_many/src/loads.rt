@@ -60,13 +60,7 @@ fn is_free(tasks: &[Info], room: i128, from: i64, to: i128, time: i64) -> bool
 }
 
 /// Whether the tasks take no more than `room` wherever one of `starting` starts between two times.
-pub(crate) fn keeps_room(
-    tasks: &[Info],
-    starting: &[Info],
-    room: i128,
-    from: i64,
-    to: i128,
-) -> bool
+pub(crate) fn keeps_room(tasks: &[Info], starting: &[Info], room: i128, from: i64, to: i128) -> bool
     ensures { result ≡ keeps_room tasks.now starting.now room from to }
 {
     match starting {

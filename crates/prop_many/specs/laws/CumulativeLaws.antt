@@ -147,12 +147,11 @@ last_end_is (s ∷ l ∷ d ∷ tasks) low time p =
     (λ q r. record {
       above = through low last (end_of s l) rest.above q;
       below = r;
-      none_between =
-          (
-            λ b. same (end_of s l),
-            endings_weaker tasks (λ e. e ≤ℤ time → e ≤ℤ last) (λ e. e ≤ℤ time → e ≤ℤ end_of s l)
-                (λ e k m. through e last (end_of s l) (k m) q) rest.none_between,
-          );
+      none_between = (
+        λ b. same (end_of s l),
+        endings_weaker tasks (λ e. e ≤ℤ time → e ≤ℤ last) (λ e. e ≤ℤ time → e ≤ℤ end_of s l)
+            (λ e k m. through e last (end_of s l) (k m) q) rest.none_between,
+      );
     }) (λ q. record {
       above = rest.above;
       below = rest.below;
@@ -307,13 +306,12 @@ next_is (s ∷ l ∷ d ∷ tasks) length time high p =
     (λ q r. record {
       above = q;
       below = le_before before next high r rest.below;
-      none_between =
-          (
-            λ b. le_same before,
-            starts_weaker tasks (λ b. time ≤ℤ (b -ℤ length) → next ≤ℤ (b -ℤ length))
-                (λ b. time ≤ℤ (b -ℤ length) → before ≤ℤ (b -ℤ length))
-                (λ b k m. le_before before next (b -ℤ length) r (k m)) rest.none_between,
-          );
+      none_between = (
+        λ b. le_same before,
+        starts_weaker tasks (λ b. time ≤ℤ (b -ℤ length) → next ≤ℤ (b -ℤ length))
+            (λ b. time ≤ℤ (b -ℤ length) → before ≤ℤ (b -ℤ length))
+            (λ b k m. le_before before next (b -ℤ length) r (k m)) rest.none_between,
+      );
     }) (λ q. record {
       above = rest.above;
       below = rest.below;
