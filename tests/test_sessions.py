@@ -17,7 +17,8 @@ PATH is crates/propbench/out/propbench where it is left out. What is run:
 - an example of each use in each compound of the prelude (tests/prelude.py);
 - each procedure of the kit on small informations, against plain enumeration (tests/rules.py), and
   those beside the kit over propwide, where that is built (tests/wide_rules.py), and values that all
-  differ, and Sudokus (tests/wide_puzzles.py), and random networks over both, and sums as chains
+  differ, and Sudokus (tests/wide_puzzles.py), and tasks that share a resource
+  (tests/many_rules.py), and random networks over the former two, and sums as chains
   (tests/wide_sessions.py), and random sessions of steps that are told (tests/telling.py);
 - points that are asked for of random small networks, against all that there are (tests/solving.py),
   and such replies spoiled on purpose, which these networks have to find out
@@ -65,6 +66,7 @@ import first_start
 import gate
 import lines
 import made
+import many_rules
 import package
 import pages
 import peers
@@ -143,6 +145,7 @@ def cases() -> Iterator[Runnable]:
         yield from module.cases()
     yield from wide_rules.built()
     yield from wide_puzzles.built()
+    yield from many_rules.built()
     yield from wide_sessions.built()
     yield from solving.built()
     yield from spoiled_solving.built()

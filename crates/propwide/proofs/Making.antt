@@ -34,6 +34,11 @@ use Rattle.prop_hall.specs.Excluder.{need_of as excluder_need, out_of as exclude
 use Rattle.prop_hall.specs.Excluder.{Related as ExcluderRelated, value_of as excluder_value}
 use Rattle.prop_hall.specs.declared.excluder.Excluder.TheVariants.{One, Two, Three, Four, Five, Six, Seven, Eight}
 use Rattle.prop_hall.specs.laws.ExcluderLaws.{excluder_sound}
+use Rattle.prop_many.specs.declared.many.Many.{Many}
+use Rattle.prop_many.specs.Many.{FormOf as ManyForm, Related as ManyRelated, value_of as many_value}
+use Rattle.prop_many.specs.Procedures.{IsFormed as IsManyFormed, Named as ManyNamed, in_order as many_named}
+use Rattle.prop_many.specs.laws.ManyLaws.{many_sound}
+use Rattle.prop_many.proofs.Tables.{each_formed}
 use Rattle.prop_cells.specs.Points.{AreSoundBy}
 use Rattle.prop_points.specs.Networks.{AreExactBy, SinglesSolve}
 use Rattle.prop_points.specs.Singles.{IsExact}
@@ -42,25 +47,31 @@ use Rattle.prop_points.proofs.KitLaws.{kit_is_exact}
 use Rattle.prop_points.proofs.NetworkLaws.{singles_solve}
 use Rattle.prop_points.proofs.WideLaws.{wide_is_exact}
 use Rattle.prop_seeking.specs.Answering.{Stock, stocked}
-use Rattle.propwide.specs.Kits.{Mixed, Made, answer_of, RelatedBy, of_kit, of_wide, of_excluder, in_order, shown}
-use Rattle.propwide.specs.Kits.{wide, wide_related, wide_tells, TellsBy}
+use Rattle.propwide.specs.Kits.{Mixed, Made, answer_of, RelatedBy, of_kit, of_wide, of_excluder, of_many, in_order}
+use Rattle.propwide.specs.Kits.{larger_of, shown, wide, wide_related, wide_tells, wider_of, TellsBy}
 use Rattle.propwide.specs.declared.entries.Entry.{Entry}
+use Rattle.propwide.proofs.Singles.{many_are_exact}
 
 -- the forms of a rule
 abbrev pub FormBy : Mixed → List Shape → Shape → Need → Type 0
-FormBy = either_of KitForm (either_of WideForm ExcluderForm)
+FormBy = either_of KitForm (either_of WideForm (either_of ExcluderForm ManyForm))
 
--- a procedure has one to eight inputs, in a form that its rule has
+-- a procedure has 1 to 128 inputs, in a form that its rule has
 pub record IsFormed (p : Made) : Type 0 where
   pub some : 1 ≤ length p.form.ins
-  pub few : length p.form.ins ≤ 8
+  pub few : length p.form.ins ≤ 128
   pub formed : FormBy p.rule p.form.ins p.form.out p.form.need
 
 kit_made : (rule : Kit) → IsFormed (of_kit rule)
-kit_made rule = record { some = (kit_few rule).0; few = (kit_few rule).1; formed = kit_formed rule }
+kit_made rule =
+    let few = kit_few rule in record { some = few.0; few = omega (arith, few.1); formed = kit_formed rule }
 
 wide_made : (p : Named) → IsWideFormed p → IsFormed (of_wide p)
-wide_made p h = record { some = h.some; few = h.few; formed = (h.has_inputs, refl, refl) }
+wide_made p h = let few = h.few in record {
+  some = h.some;
+  few = omega (arith, few);
+  formed = (h.has_inputs, refl, refl);
+}
 
 wides_formed : All IsWideFormed named
 wides_formed = all_from IsWideFormed named (
@@ -155,7 +166,7 @@ wides_formed = all_from IsWideFormed named (
 excluder_made : (rule : Excluder) → IsFormed (of_excluder rule)
 excluder_made rule = record { some = few.0; few = few.1; formed = (refl, refl, refl) }
   where
-    few_of : (rule : Excluder) → (1 ≤ length (ins_of rule)) × (length (ins_of rule) ≤ 8)
+    few_of : (rule : Excluder) → (1 ≤ length (ins_of rule)) × (length (ins_of rule) ≤ 128)
     few_of One = (omega arith, omega arith)
     few_of Two = (omega arith, omega arith)
     few_of Three = (omega arith, omega arith)
@@ -165,15 +176,21 @@ excluder_made rule = record { some = few.0; few = few.1; formed = (refl, refl, r
     few_of Seven = (omega arith, omega arith)
     few_of Eight = (omega arith, omega arith)
 
-    few : (1 ≤ length (ins_of rule)) × (length (ins_of rule) ≤ 8)
+    few : (1 ≤ length (ins_of rule)) × (length (ins_of rule) ≤ 128)
     few = few_of rule
 
+many_made : (p : ManyNamed) → IsManyFormed p → IsFormed (of_many p)
+many_made p h = record { some = h.some; few = h.few; formed = (h.has_inputs, refl, refl) }
+
 pub all_formed : All IsFormed in_order
-all_formed = All-append IsFormed (map of_kit kits) (map of_wide named ++ map of_excluder excluders)
+all_formed = All-append IsFormed (map of_kit kits)
+    (map of_wide named ++ (map of_excluder excluders ++ map of_many many_named))
     (All-map IsFormed of_kit kits (λ k d l. kit_made (get_or kits k d)))
-    (All-append IsFormed (map of_wide named) (map of_excluder excluders)
+    (All-append IsFormed (map of_wide named) (map of_excluder excluders ++ map of_many many_named)
     (All-map IsFormed of_wide named (λ k d l. wide_made (get_or named k d) (wides_formed k d l)))
-    (All-map IsFormed of_excluder excluders (λ k d l. excluder_made (get_or excluders k d))))
+    (All-append IsFormed (map of_excluder excluders) (map of_many many_named)
+    (All-map IsFormed of_excluder excluders (λ k d l. excluder_made (get_or excluders k d)))
+    (All-map IsFormed of_many many_named (λ k d l. many_made (get_or many_named k d) (each_formed k d l)))))
 
 -- what the program makes a procedure of is formed
 pub entry_formed : (items : List Entry) (i : ℕ) (d : Entry) → map shown items ≡ in_order → i < length items
@@ -197,7 +214,7 @@ wide_shown n i rule o d = rw (o, d) refl
 
 pub excluder_shown : {n : List ℕ} {i : List Shape} {o : Shape} {d : Need} → (rule : Excluder) → n ≡ name_of rule
     → i ≡ ins_of rule → o ≡ excluder_out rule → d ≡ excluder_need rule
-    → made_of n i o d (boths.Two (boths.Two rule)) ≡ of_excluder rule
+    → made_of n i o d (boths.Two (boths.Two (boths.One rule))) ≡ of_excluder rule
 excluder_shown rule n i o d = rw (n, i, o, d) refl
 
 -- what a row of the table is made into
@@ -209,6 +226,23 @@ pub rows_are : (rows : List (Bor (List ℕ) × Wide × Bor (List Shape)))
     → map of_row rows ≡ map of_wide (map (λ p. record { name = p.0.now; rule = p.1; ins = p.2.now }) rows)
 rows_are [] = refl
 rows_are (r ∷ rest) = ap (λ ms. of_row r ∷ ms) (rows_are rest)
+
+-- what a row of the table of procedures of many cells is made into
+abbrev pub of_many_row : Bor (List ℕ) × Many × Bor (List Shape) → Made
+of_many_row row = of_many (record { name = row.0.now; rule = row.1; ins = row.2.now })
+
+many_rows_are : (rows : List (Bor (List ℕ) × Many × Bor (List Shape)))
+    → map of_many_row rows ≡ map of_many (map (λ p. record { name = p.0.now; rule = p.1; ins = p.2.now }) rows)
+many_rows_are [] = refl
+many_rows_are (r ∷ rest) = ap (λ ms. of_many_row r ∷ ms) (many_rows_are rest)
+
+pub from_many_rows : (items : List Entry) (front : List Made) (i : ℕ)
+    (rows : List (Bor (List ℕ) × Many × Bor (List Shape))) (stated : List ManyNamed)
+    → map shown items ≡ front ++ map of_many_row (take i rows) → length rows ≤ i
+    → map (λ p. record { name = p.0.now; rule = p.1; ins = p.2.now }) rows ≡ stated
+    → map shown items ≡ front ++ map of_many stated
+from_many_rows items front i rows stated h l s = h ∙ ap (λ rs. front ++ map of_many_row rs) (take_all i rows l)
+    ∙ ap (λ ms. front ++ ms) (many_rows_are rows ∙ ap (map of_many) s)
 
 -- where each row had its turn, what the specification lists is made
 pub from_rows : (items : List Entry) (front : List Made) (i : ℕ)
@@ -255,9 +289,11 @@ with_stock P library known prelude lines l p h =
 -- each rule's answers hold the points that it relates
 mixed_sound : (rule : Mixed) (ins : List Shape) (out : Shape) (need : Need) → FormBy rule ins out need
     → IsSound (answer_of rule) (RelatedBy rule) ins out need
-mixed_sound = either_sound KitForm (either_of WideForm ExcluderForm) kit_value (either_of wide_value excluder_value)
-    KitRelated (either_of WideRelated ExcluderRelated) kit_sound
-    (either_sound WideForm ExcluderForm wide_value excluder_value WideRelated ExcluderRelated wide_sound excluder_sound)
+mixed_sound = either_sound KitForm (either_of WideForm (either_of ExcluderForm ManyForm)) kit_value wider_of
+    KitRelated (either_of WideRelated (either_of ExcluderRelated ManyRelated)) kit_sound
+    (either_sound WideForm (either_of ExcluderForm ManyForm) wide_value larger_of WideRelated
+    (either_of ExcluderRelated ManyRelated) wide_sound (either_sound ExcluderForm ManyForm excluder_value many_value
+    ExcluderRelated ManyRelated excluder_sound many_sound))
 
 pub wide_is_sound : AreSoundBy wide.library wide_related
 wide_is_sound n p at = by in_order all_formed n p at
@@ -274,7 +310,8 @@ mixed_exact : (rule : Mixed) (ins : List Shape) (out : Shape) (need : Need) → 
     → IsExact (answer_of rule) (TellsBy rule) ins out need
 mixed_exact (boths.One rule) = kit_is_exact rule
 mixed_exact (boths.Two (boths.One rule)) = wide_is_exact rule
-mixed_exact (boths.Two (boths.Two rule)) = excluders_are_exact rule
+mixed_exact (boths.Two (boths.Two (boths.One rule))) = excluders_are_exact rule
+mixed_exact (boths.Two (boths.Two (boths.Two rule))) = many_are_exact rule
 
 wide_exact : AreExactBy wide.library wide_tells
 wide_exact n p at = by in_order all_formed n p at

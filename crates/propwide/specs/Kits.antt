@@ -1,10 +1,13 @@
--- What the program comes with: the kit, the wider procedures, the excluders, and their preludes.
+-- What the program comes with: the kit, the wider procedures, the excluders, the procedures of many
+-- cells, and the preludes.
 use Rattle.std.specs.Prelude.{ℕ, List, ◌++◌, map}
 use Rattle.prop_lattice.specs.Points.{Point}
 use Rattle.prop_lattice.specs.declared.info.Info.{Info}
 use Rattle.prop_procedures.specs.declared.both.Both.{Both}
 use Rattle.prop_procedures.specs.declared.both.Both.TheVariants.{One, Two}
+use Rattle.prop_procedures.specs.declared.shape.Need.TheVariants.{Nothing}
 use Rattle.prop_procedures.specs.declared.shape.Param.{Param}
+use Rattle.prop_procedures.specs.declared.shape.Shape.TheVariants.{Span}
 use Rattle.prop_procedures.specs.Both.{either_of}
 use Rattle.prop_procedures.specs.Forms.{Form, form, library_of, related_in}
 use Rattle.prop_arith.specs.declared.kit.Kit.{Kit}
@@ -22,35 +25,44 @@ use Rattle.prop_hall.specs.declared.excluder.Excluder.{Excluder}
 use Rattle.prop_hall.specs.Excluder.{in_order as excluders, ins_of, name_of}
 use Rattle.prop_hall.specs.Excluder.{need_of as excluder_need, out_of as excluder_out}
 use Rattle.prop_hall.specs.Excluder.{Related as ExcluderRelated, value_of as excluder_value}
+use Rattle.prop_many.specs.declared.many.Many.{Many}
+use Rattle.prop_many.specs.Many.{Related as ManyRelated, value_of as many_value}
+use Rattle.prop_many.specs.Procedures.{Named as ManyNamed, in_order as many_named}
 use Rattle.prop_points.specs.Kit.{KitTells}
 use Rattle.prop_seeking.specs.Answering.{Stock, stocked}
 use Rattle.propwide.specs.declared.entries.Entry as entries
 
--- a rule of the kit, a wider one or an excluder
+-- a rule of the kit, a wider one, an excluder or one of many cells
 abbrev pub Mixed : Type 0
-Mixed = Both Kit (Both Wide Excluder)
+Mixed = Both Kit (Both Wide (Both Excluder Many))
+
+-- what an excluder or a rule of many cells answers
+abbrev pub larger_of : Both Excluder Many → Param → List Info → Info
+larger_of = either_of excluder_value many_value
 
 -- what a rule beside the kit's answers
-abbrev pub wider_of : Both Wide Excluder → Param → List Info → Info
-wider_of = either_of wide_value excluder_value
+abbrev pub wider_of : Both Wide (Both Excluder Many) → Param → List Info → Info
+wider_of = either_of wide_value larger_of
 
 -- what a rule answers, and the points that it relates
 abbrev pub answer_of : Mixed → Param → List Info → Info
 answer_of = either_of kit_value wider_of
 
 abbrev pub RelatedBy : Mixed → Param → List Point → Point → Type 0
-RelatedBy = either_of KitRelated (either_of WideRelated ExcluderRelated)
+RelatedBy =
+    either_of KitRelated (either_of WideRelated (either_of ExcluderRelated ManyRelated))
 
 -- those that are sure to belong together where all are single
 abbrev pub TellsBy : Mixed → Param → List Point → Point → Type 0
-TellsBy = either_of KitTells (either_of WideRelated ExcluderRelated)
+TellsBy = either_of KitTells (either_of WideRelated (either_of ExcluderRelated ManyRelated))
 
 -- a procedure's form, and its rule
 pub record Made : Type 0 where
   pub form : Form
   pub rule : Mixed
 
--- the procedures of a rule of the kit, of a name and inputs of a wider rule, and of an excluder
+-- the procedures of a rule of the kit, of a name and inputs of a wider rule, of an excluder, and of
+-- a name and inputs of a rule of many cells
 abbrev pub of_kit : Kit → Made
 of_kit rule = record { form = form_of rule; rule = One rule }
 
@@ -63,12 +75,17 @@ of_wide p = record {
 abbrev pub of_excluder : Excluder → Made
 of_excluder rule = record {
   form = form (name_of rule) (ins_of rule) (excluder_out rule) (excluder_need rule);
-  rule = Two (Two rule);
+  rule = Two (Two (One rule));
 }
+
+abbrev pub of_many : ManyNamed → Made
+of_many p = record { form = form p.name p.ins Span Nothing; rule = Two (Two (Two p.rule)) }
 
 -- all of them, in order
 abbrev pub in_order : List Made
-in_order = map of_kit kits ++ (map of_wide named ++ map of_excluder excluders)
+in_order =
+    map of_kit kits
+    ++ (map of_wide named ++ (map of_excluder excluders ++ map of_many many_named))
 
 -- the lines of the preludes, in order
 abbrev pub lines_in_order : List (List ℕ)

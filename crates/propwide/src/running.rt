@@ -28,7 +28,7 @@ pub fn run<D: Devices>(alloc: Global, options: Options, devices: &mut D) -> Resu
                 ensures { result ≡ answer_of rule param.now args.now }
             { answer(&rule, param, args) },
         )?;
-        procedures.push(Procedure::new(
+        procedures.push(Procedure::wide(
             entry.name,
             ins,
             entry.out,

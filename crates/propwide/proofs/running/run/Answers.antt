@@ -9,29 +9,29 @@ use Rattle.propwide.specs.Kits.{answer_of, shown, wide}
 use Rattle.propwide.proofs.Making.{stored_made, stored_is, more, all_stored, entry_formed, with_stock}
 use Rattle.propwide.proofs.running.run.Goals as goal
 
-pub new-requires-in-loop-entry-clause-some_inputs : goal.new-requires-in-loop-entry-clause-some_inputs
-new-requires-in-loop-entry-clause-some_inputs g c = rw c.in_ok-ins.ensures.ok
+pub wide-requires-clause-some_inputs : goal.wide-requires-clause-some_inputs
+wide-requires-clause-some_inputs g c = rw c.in_ok-ins.ensures.ok
     (entry_formed _ _ _ (ap (map shown) c.deref-entry-items.ensures.value ∙ c.in_ok-made.ensures)
     c.loop-entry-test.true).some
 
-pub new-requires-in-loop-entry-clause-few_inputs : goal.new-requires-in-loop-entry-clause-few_inputs
-new-requires-in-loop-entry-clause-few_inputs g c = rw c.in_ok-ins.ensures.ok
+pub wide-requires-clause-few_inputs : goal.wide-requires-clause-few_inputs
+wide-requires-clause-few_inputs g c = rw c.in_ok-ins.ensures.ok
     (entry_formed _ _ _ (ap (map shown) c.deref-entry-items.ensures.value ∙ c.in_ok-made.ensures)
     c.loop-entry-test.true).few
 
-pub new-requires-in-loop-entry-clause-formed : goal.new-requires-in-loop-entry-clause-formed
-new-requires-in-loop-entry-clause-formed g c = rw (c.in_ok-ins.ensures.ok, c.copied.ensures)
+pub wide-requires-clause-formed : goal.wide-requires-clause-formed
+wide-requires-clause-formed g c = rw (c.in_ok-ins.ensures.ok, c.copied.ensures)
     (entry_formed _ _ _ (ap (map shown) c.deref-entry-items.ensures.value ∙ c.in_ok-made.ensures)
     c.loop-entry-test.true).formed
 
 pub loop-entry-preserved : goal.loop-entry-preserved
 loop-entry-preserved g c =
-    let p = c.new-in-loop-entry.ensures in
+    let p = c.wide.ensures in
     record {
       means = AllMean-push answer_of _ _ _ c.in_ok-push.ensures.items c.loop-entry.invariant.means p.means;
       listed = more (stored_as answer_of) (λ e. stored_made (shown e)) _ _ _ _ _ _ [] c.in_ok-push.ensures.items
           c.loop-entry-test.true
-          (stored_is c.new-in-loop-entry.result (get_or c.deref-entry-items.result.now c.loop-entry.entry-index _)
+          (stored_is c.wide.result (get_or c.deref-entry-items.result.now c.loop-entry.entry-index _)
           p.name (p.ins ∙ c.in_ok-ins.ensures.ok) p.out p.need (p.rule ∙ c.copied.ensures))
           c.loop-entry.invariant.listed;
     }
