@@ -1,7 +1,7 @@
 //! What tasks take of a resource for sure, and where they leave room.
 //!
-//! A task is three informations in turn: its start, its length and its demand. From its latest start
-//! up to its earliest end it surely runs.
+//! A task is three informations in turn: its start, its length and its demand. From its latest
+//! start up to its earliest end it surely runs.
 ghost use Rattle.std.specs.Prelude.{◌≡◌, ◌≤ℤ◌, ◌*◌, pos, neg_ℤ, length};
 ghost use Rattle.prop_lattice.specs.declared.span.TheConstants.{B};
 ghost use Rattle.prop_many.specs.Loads.{demand_of, end_of, is_free, keeps_room, load_of, taken_of};

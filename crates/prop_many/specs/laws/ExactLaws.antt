@@ -100,7 +100,8 @@ cumulative_exact : (args : List Info) (points : List Point) (z : ℤ) → 4 ≤ 
     → RelatesCumulative points (Number z)
 cumulative_exact (c ∷ s ∷ l ∷ d ∷ tasks) (Number u ∷ Number v ∷ Number w ∷ Number x ∷ points) z some
     e r h =
-    let held = starts_held tasks (high_of c -ℤ demand_of d) (low_of l) s v z e.1.0.0 e.1.0.1 r h in (
+    let room = high_of c -ℤ demand_of d in
+    let held = starts_held tasks room (low_of l) s v z e.1.0.0 e.1.0.1 r h in (
       ap Number held.0,
       λ time p q. under (load_of tasks time) (load_at points time) (int_max x (pos 0)) (demand_of d)
           u (high_of c) (load_just tasks points e.1.1.1.1 time) e.0.1
