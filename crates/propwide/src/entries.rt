@@ -124,7 +124,8 @@ fn add_many(made: &mut Vec<Entry>) -> Result<(), AllocError>
 {
     // (so that the table is the one that is stated)
     many_are_stated();
-    for (name, rule, ins) in MANY_PROCEDURES {
+    for row in &MANY_PROCEDURES {
+        let (name, rule, ins) = *row;
         made.push(Entry {
             name,
             ins,
@@ -143,7 +144,8 @@ fn add_rows(made: &mut Vec<Entry>) -> Result<(), AllocError>
 {
     // (so that the table is the one that is stated)
     rows_are_stated();
-    for (name, rule, many) in ROW_PROCEDURES {
+    for row in &ROW_PROCEDURES {
+        let (name, rule, many) = *row;
         made.push(Entry {
             name,
             ins: row_ins(rule, many),
