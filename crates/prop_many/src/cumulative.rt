@@ -50,13 +50,7 @@ fn first(tasks: &[Info], ending: &[Info], wish: Wish, low: i64) -> i64
                 first
             }
         }
-        _ => {
-            if fits(tasks, wish, low) {
-                low
-            } else {
-                B + 1
-            }
-        }
+        _ => { if fits(tasks, wish, low) { low } else { B + 1 } }
     }
 }
 

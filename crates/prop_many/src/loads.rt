@@ -1,7 +1,7 @@
 //! What tasks take of a resource for sure, and where they leave room.
 //!
-//! A task is three informations in turn: its start, its length and its demand. From its latest start
-//! up to its earliest end it surely runs.
+//! A task is three informations in turn: its start, its length and its demand. From its latest
+//! start up to its earliest end it surely runs.
 ghost use Rattle.std.specs.Prelude.{◌≡◌, ◌≤ℤ◌, ◌*◌, pos, neg_ℤ, length};
 ghost use Rattle.prop_lattice.specs.declared.span.TheConstants.{B};
 ghost use Rattle.prop_many.specs.Loads.{demand_of, end_of, is_free, keeps_room, load_of, taken_of};
@@ -60,13 +60,7 @@ fn is_free(tasks: &[Info], room: i128, from: i64, to: i128, time: i64) -> bool
 }
 
 /// Whether the tasks take no more than `room` wherever one of `starting` starts between two times.
-pub(crate) fn keeps_room(
-    tasks: &[Info],
-    starting: &[Info],
-    room: i128,
-    from: i64,
-    to: i128,
-) -> bool
+pub(crate) fn keeps_room(tasks: &[Info], starting: &[Info], room: i128, from: i64, to: i128) -> bool
     ensures { result ≡ keeps_room tasks.now starting.now room from to }
 {
     match starting {

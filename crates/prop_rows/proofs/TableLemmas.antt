@@ -1,5 +1,5 @@
 -- Tables of procedures by how many pairs or entries they have.
-use Rattle.std.proofs.Common.{◌≡◌, ◌≤◌, ◌+◌, ◌*◌, ℕ, zero, suc, List, [], ◌∷◌, ◌++◌, true, replicate, take, All}
+use Rattle.std.proofs.Common.{◌≡◌, ◌≤◌, ◌+◌, ◌*◌, ℕ, min, zero, suc, List, [], ◌∷◌, ◌++◌, true, replicate, take, All}
 use Rattle.std.proofs.Common.{arith, refl, ap, subst, codes}
 use Rattle.std.specs.Prelude.{Bool}
 use Rattle.std.specs.List.{list_all}
@@ -33,56 +33,52 @@ behind_two many s t l = subst (λ k. take k (s ∷ t ∷ replicate 64 (Any 0)) �
     next : suc (suc many) ≡ many + 2
     next = omega arith
 
--- so many make a form
-formed : (rule : Row) (name : List ℕ) (n : ℕ) → n ≤ 63
-    → IsFormed (record { name = name; rule = rule; many = suc n })
-formed Sum name n l = record {
-  some = omega (arith, length-replicate (2 * suc n) Span);
-  formed = (all_alike is_span Span (2 * suc n) refl, refl, refl, omega (arith, l, length-replicate (2 * suc n) Span));
-  few = omega (arith, l);
+-- 1 and more make a form
+formed : (rule : Row) (name : List ℕ) (n : ℕ) → IsFormed (record { name = name; rule = rule; many = suc n })
+formed Sum name n = record {
+  some = omega (arith, length-replicate (2 * min (suc n) 64) Span);
+  formed = (
+    all_alike is_span Span (2 * min (suc n) 64) refl,
+    refl,
+    refl,
+    omega (arith, length-replicate (2 * min (suc n) 64) Span),
+  );
 }
-formed Addend name n l = record {
-  some = omega (arith, length-replicate (2 * suc n) Span);
-  formed = (two n, refl, refl, omega (arith, l, length-replicate (2 * suc n) Span));
-  few = omega (arith, l);
+formed Addend name n = record {
+  some = omega (arith, length-replicate (2 * min (suc n) 64) Span);
+  formed = (two n, refl, refl, omega (arith, length-replicate (2 * min (suc n) 64) Span));
 }
   where
-    two : (n : ℕ) → Begins Span (Begins Span AreSpans) (replicate (2 * suc n) Span)
+    two : (n : ℕ) → Begins Span (Begins Span AreSpans) (replicate (2 * min (suc n) 64) Span)
     two n = subst (λ k. Begins Span (Begins Span AreSpans) (replicate k Span)) twice
-        (refl, (refl, all_alike is_span Span (2 * n) refl))
+        (refl, (refl, all_alike is_span Span (2 * min n 63) refl))
       where
-        twice : suc (suc (2 * n)) ≡ 2 * suc n
+        twice : suc (suc (2 * min n 63)) ≡ 2 * min (suc n) 64
         twice = omega arith
-formed Element name n l = record {
-  some = omega (arith, length-replicate (suc n) (Any 0));
+formed Element name n = record {
+  some = omega (arith, length-replicate (min (suc n) 64) (Any 0));
   formed = (
-    (refl, all_alike is_any (Any 0) (suc n) refl),
+    (refl, all_alike is_any (Any 0) (min (suc n) 64) refl),
     refl,
     refl,
-    omega (arith, l, length-replicate (suc n) (Any 0)),
+    omega (arith, length-replicate (min (suc n) 64) (Any 0)),
   );
-  few = omega (arith, l);
 }
-formed Index name n l = record {
-  some = omega (arith, length-replicate (suc n) (Any 0));
+formed Index name n = record {
+  some = omega (arith, length-replicate (min (suc n) 64) (Any 0));
   formed = (
-    (refl, (refl, all_alike is_any (Any 0) (suc n) refl)),
+    (refl, (refl, all_alike is_any (Any 0) (min (suc n) 64) refl)),
     refl,
     refl,
-    omega (arith, l, length-replicate (suc n) (Any 0)),
+    omega (arith, length-replicate (min (suc n) 64) (Any 0)),
   );
-  few = omega (arith, l);
 }
-formed Entry name n l = record {
-  some = omega arith;
-  formed = (refl, refl, refl, omega arith);
-  few = omega (arith, l);
-}
+formed Entry name n = record { some = omega arith; formed = (refl, refl, refl, omega arith) }
 
-all_up_to : (most : ℕ) (text : List ℕ) (rule : Row) → most ≤ 64 → All IsFormed (up_to most text rule)
-all_up_to zero text rule l = λ k d h. absurd (omega (arith, h))
-all_up_to (suc n) text rule l = All-append IsFormed (up_to n text rule) _ (all_up_to n text rule (omega (arith, l)))
-    (only (formed rule (text ++ digits (suc n)) n (omega (arith, l))))
+all_up_to : (most : ℕ) (text : List ℕ) (rule : Row) → All IsFormed (up_to most text rule)
+all_up_to zero text rule = λ k d h. absurd (omega (arith, h))
+all_up_to (suc n) text rule =
+    All-append IsFormed (up_to n text rule) _ (all_up_to n text rule) (only (formed rule (text ++ digits (suc n)) n))
   where
     only : {p : Named} → IsFormed p → All IsFormed (p ∷ [])
     only h zero d k = h
@@ -94,13 +90,13 @@ last = record { name = codes "element_entry"; rule = Entry; many = 0 } ∷ []
 last_formed : All IsFormed last
 unfolding last
 last_formed zero d k =
-    record { some = omega arith; formed = (refl, refl, refl, omega arith); few = omega arith }
+    record { some = omega arith; formed = (refl, refl, refl, omega arith) }
 last_formed (suc i) d k = absurd (omega (arith, k))
 
 -- one family before others
-before : (most : ℕ) (text : List ℕ) (rule : Row) (others : List Named) → most ≤ 64 → All IsFormed others
+before : (most : ℕ) (text : List ℕ) (rule : Row) (others : List Named) → All IsFormed others
     → All IsFormed (up_to most text rule ++ others)
-before most text rule others l h = All-append IsFormed (up_to most text rule) others (all_up_to most text rule l) h
+before most text rule others h = All-append IsFormed (up_to most text rule) others (all_up_to most text rule) h
 
 pub all_formed : All IsFormed in_order
 unfolding last
@@ -108,7 +104,7 @@ all_formed =
     let numbers = up_to 64 (codes "element_number") Index ++ last in
     let values = up_to 64 (codes "element_value") Element ++ numbers in
     let terms = up_to 32 (codes "linear_term") Addend ++ values in
-    before 32 (codes "linear_sum") Sum terms (omega arith)
-    (before 32 (codes "linear_term") Addend values (omega arith)
-    (before 64 (codes "element_value") Element numbers (omega arith)
-    (before 64 (codes "element_number") Index last (omega arith) last_formed)))
+    before 32 (codes "linear_sum") Sum terms
+    (before 32 (codes "linear_term") Addend values
+    (before 64 (codes "element_value") Element numbers
+    (before 64 (codes "element_number") Index last last_formed)))

@@ -1,5 +1,5 @@
 -- The procedures.
-use Rattle.std.specs.Prelude.{◌≡◌, ◌≤◌, ℕ, zero, suc, ◌+◌, ◌*◌, ◌/◌, ◌%◌, nat_lt, List, [], ◌∷◌}
+use Rattle.std.specs.Prelude.{◌≡◌, ◌≤◌, ℕ, zero, suc, ◌+◌, ◌*◌, ◌/◌, ◌%◌, min, nat_lt, List, [], ◌∷◌}
 use Rattle.std.specs.Prelude.{◌++◌, codes, map, length, All, replicate, if◌then◌else◌}
 use Rattle.prop_procedures.specs.declared.shape.Shape.{Shape}
 use Rattle.prop_procedures.specs.declared.shape.Shape.TheVariants.{Span, Any}
@@ -15,12 +15,12 @@ pub record Named : Type 0 where
   pub rule : Row
   pub many : ℕ
 
--- the shapes of its inputs
+-- the shapes of its inputs, with 64 pairs or entries at the most
 abbrev pub ins_of : Row → ℕ → List Shape
-ins_of Sum many = replicate (2 * many) Span
-ins_of Addend many = replicate (2 * many) Span
-ins_of Element many = Span ∷ replicate many (Any 0)
-ins_of Index many = Any 0 ∷ Span ∷ replicate many (Any 0)
+ins_of Sum many = replicate (2 * min many 64) Span
+ins_of Addend many = replicate (2 * min many 64) Span
+ins_of Element many = Span ∷ replicate (min many 64) (Any 0)
+ins_of Index many = Any 0 ∷ Span ∷ replicate (min many 64) (Any 0)
 ins_of Entry many = Span ∷ Span ∷ Any 0 ∷ []
 
 -- a number below 100 in digits
@@ -48,7 +48,6 @@ ProceduresAreStated =
 pub record IsFormed (p : Named) : Type 0 where
   pub some : 1 ≤ length (ins_of p.rule p.many)
   pub formed : FormOf p.rule (ins_of p.rule p.many) (out_of p.rule) needs.Nothing
-  pub few : p.many ≤ 64
 
 -- each has such inputs
 abbrev pub EachIsFormed : Type 0

@@ -1,5 +1,5 @@
 //! The procedures: each rule under its name, with as many inputs as it may have.
-ghost use Rattle.std.specs.Prelude.{◌≡◌, ◌≤◌};
+ghost use Rattle.std.specs.Prelude.{◌≡◌};
 ghost use Rattle.prop_rows.specs.Procedures.{EachIsFormed, ProceduresAreStated, ins_of};
 
 use crate::row::Row;
@@ -348,11 +348,11 @@ pub const PROCEDURES: [(&'static str, Row, usize); 193] = [
     ("element_entry", Row::Entry, 0),
 ];
 
-/// The shapes of the inputs of a rule with so many pairs or entries.
+/// The shapes of the inputs of a rule with so many pairs or entries, 64 at the most.
 pub fn ins(rule: Row, many: usize) -> &'static [Shape]
-    requires { many ≤ 64 }
     ensures { result.now ≡ ins_of rule many }
 {
+    let many = many.min(64);
     match rule {
         Row::Sum | Row::Addend => &PAIRS[..2 * many],
         Row::Element => &NUMBER_AND_ROW[..many + 1],

@@ -42,7 +42,9 @@ use Rattle.prop_many.proofs.Tables.{each_formed}
 use Rattle.prop_rows.proofs.ExactLaws.{rows_are_exact}
 use Rattle.prop_rows.proofs.TableLemmas.{all_formed as all_rows_formed}
 use Rattle.prop_rows.specs.Procedures.{IsFormed as IsRowFormed, Named as RowNamed, in_order as row_named}
-use Rattle.prop_rows.specs.Row.{FormOf as RowForm, Related as RowRelated, value_of as row_value}
+use Rattle.prop_rows.specs.Procedures.{ins_of as row_ins}
+use Rattle.prop_rows.specs.Row.{FormOf as RowForm, Related as RowRelated, out_of as row_out, value_of as row_value}
+use Rattle.prop_procedures.specs.declared.shape.Need.TheVariants as needs
 use Rattle.prop_rows.specs.declared.row.Row.{Row}
 use Rattle.prop_rows.specs.laws.RowLaws.{row_sound}
 use Rattle.prop_cells.specs.Points.{AreSoundBy}
@@ -268,6 +270,11 @@ from_many_rows items front i rows stated h l s = h ∙ ap (λ rs. front ++ map o
 abbrev pub of_row_row : Bor (List ℕ) × Row × ℕ → Made
 of_row_row row = of_rows (record { name = row.0.now; rule = row.1; many = row.2 })
 
+pub row_shown : {i : List Shape} {o : Shape} → (n : List ℕ) (rule : Row) (many : ℕ) → i ≡ row_ins rule many
+    → o ≡ row_out rule → made_of n i o needs.Nothing (boths.Two (boths.Two (boths.Two (boths.Two rule))))
+    ≡ of_rows (record { name = n; rule = rule; many = many })
+row_shown n rule many i o = rw (i, o) refl
+
 row_rows_are : (rows : List (Bor (List ℕ) × Row × ℕ))
     → map of_row_row rows ≡ map of_rows (map (λ p. record { name = p.0.now; rule = p.1; many = p.2 }) rows)
 row_rows_are [] = refl
@@ -279,17 +286,6 @@ pub from_row_rows : (items : List Entry) (front : List Made) (i : ℕ) (rows : L
     → map shown items ≡ front ++ map of_rows stated
 from_row_rows items front i rows stated h l s = h ∙ ap (λ rs. front ++ map of_row_row rs) (take_all i rows l)
     ∙ ap (λ ms. front ++ ms) (row_rows_are rows ∙ ap (map of_rows) s)
-
--- an item of the table has so many pairs or entries at the most
-pub row_few : (rows : List (Bor (List ℕ) × Row × ℕ)) (i : ℕ) (d : Bor (List ℕ) × Row × ℕ) → i < length rows
-    → map (λ p. record { name = p.0.now; rule = p.1; many = p.2 }) rows ≡ row_named
-    → (get_or rows i d).2 ≤ 64
-row_few rows i d l s =
-    let at = get_or-map (λ p. record { name = p.0.now; rule = p.1; many = p.2 }) rows i d
-    (record { name = d.0.now; rule = d.1; many = d.2 }) l in
-    let formed = subst (All IsRowFormed) (sym s) all_rows_formed i (record { name = d.0.now; rule = d.1; many = d.2 })
-    (omega (arith, l, length-map rows (λ p. record { name = p.0.now; rule = p.1; many = p.2 }))) in
-    (subst IsRowFormed at formed).few
 
 -- where each row had its turn, what the specification lists is made
 pub from_rows : (items : List Entry) (front : List Made) (i : ℕ)

@@ -1,9 +1,13 @@
 //! What the program comes with: what its procedures are made of, and the lines of its preludes.
-ghost use Rattle.std.specs.Prelude.{◌≡◌, ◌++◌, IfOk, OnOk, map};
+ghost use Rattle.std.specs.Prelude.{◌≡◌, ◌++◌, [], IfOk, OnOk, map};
 ghost use Rattle.prop_language.specs.Said.{words};
+ghost use Rattle.prop_arith.specs.Kit.{in_order as kits};
+ghost use Rattle.prop_hall.specs.Excluder.{in_order as excluders};
+ghost use Rattle.prop_many.specs.Procedures.{in_order as many_named};
 ghost use Rattle.prop_rows.specs.Procedures.{in_order as row_named};
+ghost use Rattle.prop_wide.specs.Procedures.{in_order as named};
 ghost use Rattle.propwide.specs.Kits.{answer_of, in_order, larger_of, lines_in_order};
-ghost use Rattle.propwide.specs.Kits.{of_rows, shown};
+ghost use Rattle.propwide.specs.Kits.{of_excluder, of_kit, of_many, of_rows, of_wide, shown};
 
 use prop_arith::{KITS, Kit, PRELUDE};
 use prop_hall::{EXCLUDERS, Excluder};
@@ -41,10 +45,30 @@ pub struct Entry {
 pub fn entries(alloc: Global) -> Result<Vec<Entry>, AllocError>
     ensures { IfOk result (λ made. map shown made.items ≡ in_order) }
 {
-    // (so that the tables are those that are stated)
-    procedures_are_stated();
-    many_are_stated();
     let mut made = Vec::new(alloc);
+    match add_all(&mut made) {
+        Ok(()) => Ok(made),
+        Err(error) => Err(error),
+    }
+}
+
+/// Adds all procedures, in order.
+fn add_all(made: &mut Vec<Entry>) -> Result<(), AllocError>
+    requires { made.old.items ≡ [] }
+    ensures { OnOk result (map shown made.new.items ≡ in_order) }
+{
+    add_kit(made)?;
+    add_wider(made)?;
+    add_excluders(made)?;
+    add_many(made)?;
+    add_rows(made)
+}
+
+/// Adds the procedures of the kit.
+fn add_kit(made: &mut Vec<Entry>) -> Result<(), AllocError>
+    ensures { OnOk result
+        (map shown made.new.items ≡ map shown made.old.items ++ map of_kit kits) }
+{
     for rule in KITS {
         made.push(Entry {
             name: rule.name(),
@@ -54,6 +78,16 @@ pub fn entries(alloc: Global) -> Result<Vec<Entry>, AllocError>
             rule: Both::One(rule),
         })?;
     }
+    Ok(())
+}
+
+/// Adds the wider procedures.
+fn add_wider(made: &mut Vec<Entry>) -> Result<(), AllocError>
+    ensures { OnOk result
+        (map shown made.new.items ≡ map shown made.old.items ++ map of_wide named) }
+{
+    // (so that the table is the one that is stated)
+    procedures_are_stated();
     for (name, rule, ins) in PROCEDURES {
         made.push(Entry {
             name,
@@ -63,6 +97,14 @@ pub fn entries(alloc: Global) -> Result<Vec<Entry>, AllocError>
             rule: Both::Two(Both::One(rule)),
         })?;
     }
+    Ok(())
+}
+
+/// Adds the excluders.
+fn add_excluders(made: &mut Vec<Entry>) -> Result<(), AllocError>
+    ensures { OnOk result
+        (map shown made.new.items ≡ map shown made.old.items ++ map of_excluder excluders) }
+{
     for rule in EXCLUDERS {
         made.push(Entry {
             name: rule.name(),
@@ -72,7 +114,18 @@ pub fn entries(alloc: Global) -> Result<Vec<Entry>, AllocError>
             rule: Both::Two(Both::Two(Both::One(rule))),
         })?;
     }
-    for (name, rule, ins) in MANY_PROCEDURES {
+    Ok(())
+}
+
+/// Adds the procedures of many cells.
+fn add_many(made: &mut Vec<Entry>) -> Result<(), AllocError>
+    ensures { OnOk result
+        (map shown made.new.items ≡ map shown made.old.items ++ map of_many many_named) }
+{
+    // (so that the table is the one that is stated)
+    many_are_stated();
+    for row in &MANY_PROCEDURES {
+        let (name, rule, ins) = *row;
         made.push(Entry {
             name,
             ins,
@@ -81,8 +134,7 @@ pub fn entries(alloc: Global) -> Result<Vec<Entry>, AllocError>
             rule: Both::Two(Both::Two(Both::Two(Both::One(rule)))),
         })?;
     }
-    add_rows(&mut made)?;
-    Ok(made)
+    Ok(())
 }
 
 /// Adds the procedures of rows.
@@ -92,7 +144,8 @@ fn add_rows(made: &mut Vec<Entry>) -> Result<(), AllocError>
 {
     // (so that the table is the one that is stated)
     rows_are_stated();
-    for (name, rule, many) in ROW_PROCEDURES {
+    for row in &ROW_PROCEDURES {
+        let (name, rule, many) = *row;
         made.push(Entry {
             name,
             ins: row_ins(rule, many),

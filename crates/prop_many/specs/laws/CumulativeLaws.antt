@@ -12,13 +12,14 @@ use Rattle.prop_lattice.specs.declared.info.Info.{Info}
 use Rattle.prop_lattice.specs.declared.info.Kind.TheVariants as kinds
 use Rattle.prop_lattice.specs.declared.span.TheConstants.{B}
 use Rattle.prop_wide.specs.Ends.{low_of, high_of}
-use Rattle.prop_wide.specs.laws.EndLaws.{AreWithin, IsBetween, ends_ordered, known_below, known_kind}
-use Rattle.prop_wide.specs.laws.EndLaws.{known_holds}
+use Rattle.prop_wide.specs.laws.EndLaws.{AreWithin, IsBetween, ends_ordered}
+use Rattle.prop_wide.specs.laws.EndLaws.{known_below, known_holds, known_kind}
 use Rattle.prop_many.specs.Cumulative.{RelatesCumulative, cumulative_of, first_of, fits}
 use Rattle.prop_many.specs.Cumulative.{is_later, is_sooner, last_of, starts_of}
 use Rattle.prop_many.specs.Loads.{demand_of, end_of, keeps_room, load_at, load_of}
 use Rattle.prop_many.specs.laws.LoadLaws.{AreEndings, AreStarts, IsOpen, by_start, keeps_opens}
-use Rattle.prop_many.specs.laws.LoadLaws.{load_kept, load_more, load_since, load_until, max_grows, open_keeps, starts_weaker}
+use Rattle.prop_many.specs.laws.LoadLaws.{load_kept, load_more, load_since, load_until}
+use Rattle.prop_many.specs.laws.LoadLaws.{max_grows, open_keeps, starts_weaker}
 use Rattle.prop_many.specs.laws.NumberLaws.{AreCloser, AreKept, both_true, le_true, never}
 
 -- ---- to fit is to have room all the while
@@ -38,7 +39,8 @@ fits_opens tasks room length start = by (int_le length (pos 0)) refl
     by false e f =
         let parts = and_parts (int_le (load_of tasks start) room)
         (keeps_room tasks tasks room start (start +ℤ length)) f in
-        keeps_opens tasks room start (start +ℤ length) (at_start (load_of tasks start) parts.0) parts.1
+        let here = at_start (load_of tasks start) parts.0 in
+        keeps_opens tasks room start (start +ℤ length) here parts.1
 
 pub open_fits : (tasks : List Info) (room length start : ℤ)
     → IsOpen tasks room start (start +ℤ length) → fits tasks room length start ≡ true
@@ -147,12 +149,11 @@ last_end_is (s ∷ l ∷ d ∷ tasks) low time p =
     (λ q r. record {
       above = through low last (end_of s l) rest.above q;
       below = r;
-      none_between =
-          (
-            λ b. same (end_of s l),
-            endings_weaker tasks (λ e. e ≤ℤ time → e ≤ℤ last) (λ e. e ≤ℤ time → e ≤ℤ end_of s l)
-                (λ e k m. through e last (end_of s l) (k m) q) rest.none_between,
-          );
+      none_between = (
+        λ b. same (end_of s l),
+        endings_weaker tasks (λ e. e ≤ℤ time → e ≤ℤ last) (λ e. e ≤ℤ time → e ≤ℤ end_of s l)
+            (λ e k m. through e last (end_of s l) (k m) q) rest.none_between,
+      );
     }) (λ q. record {
       above = rest.above;
       below = rest.below;
@@ -307,13 +308,12 @@ next_is (s ∷ l ∷ d ∷ tasks) length time high p =
     (λ q r. record {
       above = q;
       below = le_before before next high r rest.below;
-      none_between =
-          (
-            λ b. le_same before,
-            starts_weaker tasks (λ b. time ≤ℤ (b -ℤ length) → next ≤ℤ (b -ℤ length))
-                (λ b. time ≤ℤ (b -ℤ length) → before ≤ℤ (b -ℤ length))
-                (λ b k m. le_before before next (b -ℤ length) r (k m)) rest.none_between,
-          );
+      none_between = (
+        λ b. le_same before,
+        starts_weaker tasks (λ b. time ≤ℤ (b -ℤ length) → next ≤ℤ (b -ℤ length))
+            (λ b. time ≤ℤ (b -ℤ length) → before ≤ℤ (b -ℤ length))
+            (λ b k m. le_before before next (b -ℤ length) r (k m)) rest.none_between,
+      );
     }) (λ q. record {
       above = rest.above;
       below = rest.below;

@@ -11,8 +11,8 @@ use Rattle.prop_lattice.specs.declared.info.Info.{Info}
 use Rattle.prop_lattice.specs.declared.info.Kind.TheVariants as kinds
 use Rattle.prop_lattice.specs.declared.span.TheConstants.{B}
 use Rattle.prop_wide.specs.Ends.{low_of, high_of}
-use Rattle.prop_wide.specs.laws.EndLaws.{AreWithin, IsBetween, ends_ordered, known_below, known_kind}
-use Rattle.prop_wide.specs.laws.EndLaws.{known_holds}
+use Rattle.prop_wide.specs.laws.EndLaws.{AreWithin, IsBetween, ends_ordered}
+use Rattle.prop_wide.specs.laws.EndLaws.{known_below, known_holds, known_kind}
 use Rattle.prop_many.specs.Disjoint.{AreApart, IsApart, RelatesDisjoint, disjoint_of, earliest_of}
 use Rattle.prop_many.specs.Disjoint.{is_behind, latest_of}
 use Rattle.prop_many.specs.Loads.{end_of}

@@ -100,8 +100,8 @@ cumulative_exact : (args : List Info) (points : List Point) (z : ℤ) → 4 ≤ 
     → RelatesCumulative points (Number z)
 cumulative_exact (c ∷ s ∷ l ∷ d ∷ tasks) (Number u ∷ Number v ∷ Number w ∷ Number x ∷ points) z some
     e r h =
-    let held = starts_held tasks (high_of c -ℤ demand_of d) (low_of l) s v z e.1.0.0 e.1.0.1 r h in
-    (
+    let room = high_of c -ℤ demand_of d in
+    let held = starts_held tasks room (low_of l) s v z e.1.0.0 e.1.0.1 r h in (
       ap Number held.0,
       λ time p q. under (load_of tasks time) (load_at points time) (int_max x (pos 0)) (demand_of d)
           u (high_of c) (load_just tasks points e.1.1.1.1 time) e.0.1
@@ -171,8 +171,7 @@ no_more false e x v p = (p, λ h. absurd (never h))
 apart_from : (s l : Info) (v w : ℤ) (others : List Info) (points : List Point) → low_of s ≡ v
     → low_of l ≡ w → AreJust others points → earliest_of s l others ≤ℤ v → IsApart v w points
 apart_from s l v w (o ∷ m ∷ others) (Number u ∷ Number x ∷ points) p q e h =
-    let parts = no_more (is_behind s l o m) (earliest_of s l others) (end_of o m) v h in
-    (
+    let parts = no_more (is_behind s l o m) (earliest_of s l others) (end_of o m) v h in (
       λ time i j k n. over (low_of o) (low_of m) time e.0.0 e.1.0.0 i n
           (parts.1 (behind (low_of s) (low_of l) (high_of o) (low_of m) time p q e.0.1 e.1.0.0 i j k
           n)),
@@ -203,8 +202,7 @@ disjoint_exact (s ∷ l ∷ others) (Number v ∷ Number w ∷ points) z some e 
     let latest = latest_of s l others in
     let held = known_held earliest latest z r h in
     let same = between (low_of s) (high_of s) v earliest z latest e.0.0 e.0.1
-    (earliest_from s l others) held.0 held.1 (latest_to s l others) in
-    (
+    (earliest_from s l others) held.0 held.1 (latest_to s l others) in (
       ap Number same.0,
       apart_from s l v w others points e.0.0 e.1.0.0 e.1.1 (equal earliest same.1),
     )

@@ -255,12 +255,11 @@ last_start_is (s ∷ l ∷ d ∷ tasks) from time p =
     (λ q r. record {
       above = through from last (high_of s) rest.above q;
       below = r;
-      none_between =
-          (
-            λ b. same (high_of s),
-            starts_weaker tasks (λ b. b ≤ℤ time → b ≤ℤ last) (λ b. b ≤ℤ time → b ≤ℤ high_of s)
-                (λ b k m. through b last (high_of s) (k m) q) rest.none_between,
-          );
+      none_between = (
+        λ b. same (high_of s),
+        starts_weaker tasks (λ b. b ≤ℤ time → b ≤ℤ last) (λ b. b ≤ℤ time → b ≤ℤ high_of s)
+            (λ b k m. through b last (high_of s) (k m) q) rest.none_between,
+      );
     }) (λ q. record {
       above = rest.above;
       below = rest.below;

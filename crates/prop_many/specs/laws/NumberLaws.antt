@@ -53,11 +53,10 @@ first_is_number s shapes f = by s (and_parts (is_number s) (list_all is_number s
 pub kept : (any : Shape → Kinded) (ins : List Shape) (args : List Info) (points : List Point)
     → AreNumbers ins → ArePointsOf any ins points → EachHolds args points → AreKept args points
 kept any ins [] [] f ps h = tt
-kept any (s ∷ ins) (a ∷ args) (p ∷ points) f ps h =
-    (
-      by p (rw (first_is_number s ins f) at ps.0) h.0,
-      kept any ins args points (and_parts (is_number s) (list_all is_number ins) f).1 ps.1 h.1,
-    )
+kept any (s ∷ ins) (a ∷ args) (p ∷ points) f ps h = (
+  by p (rw (first_is_number s ins f) at ps.0) h.0,
+  kept any ins args points (and_parts (is_number s) (list_all is_number ins) f).1 ps.1 h.1,
+)
   where
     by : (p : Point) → IsPointOf kinds.Span 0 p → Holds a p → IsKept a p
     by (Number v) r k = held_between a v k r
