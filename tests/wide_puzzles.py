@@ -253,6 +253,7 @@ def sudokus() -> Iterator[Case]:
 def cases() -> Iterator[Case]:
     yield from small()
     yield from sudokus()
+    yield ruler()
 
 
 def over_propwide(case: Case) -> Check:
@@ -261,10 +262,41 @@ def over_propwide(case: Case) -> Check:
     return Check(case.name, lambda _: look(PROGRAM))
 
 
+# ---- a ruler
+
+# Some distances of a ruler with six marks. By going through all marks up to 20, the last one is at
+# 15 or behind. A search over these learned a nogood with two facts about one distance.
+STILL = (
+    "cell m2 span; fix m2 1..20; cell m3 span; cell m4 span; cell m5 span; cell m6 span; "
+    "fix m6 0..20; cell d1 truth; fix d1 no; cell d2 span; cell d3 span; fix d3 1; attach "
+    "sum m2 d3 d2; attach less m3 d2 d1; cell d4 span; attach sum m3 d3 d4; attach less m4 "
+    "d4 d1; cell d5 span; attach sum m4 d3 d5; attach less m5 d5 d1; cell d6 span; attach "
+    "sum m5 d3 d6; attach less m6 d6 d1; cell d7 span; attach sum d7 m2 m3; cell d8 span; "
+    "attach sum d8 m2 m4; cell d9 span; attach sum d9 m2 m5; cell d10 span; cell d11 span; "
+    "attach sum d11 m3 m4; cell d12 span; attach sum d12 m3 m5; cell d13 span; attach sum "
+    "d13 m3 m6; cell d14 span; attach sum d14 m4 m5; cell d15 span; cell d16 span; attach "
+    "sum d16 m5 m6; attach alike m2 d16 d1; attach alike m3 d11 d1; attach alike m3 d14 d1; "
+    "attach alike m3 d16 d1; attach alike d7 d14 d1; attach alike d14 d16 d1; attach "
+    "different8 m2 m3 m4 m5 m6 d7 d8 d9; attach different8 m6 d7 d8 d9 d10 d11 d12 d13; "
+    "attach different7 d10 d11 d12 d13 d14 d15 d16"
+)
+
+
+def ruler() -> Case:
+    """The least that the last mark can be, asked once the network has been run."""
+    lines = STILL.split("; ")
+
+    def wrong(output: bytes) -> Optional[str]:
+        told = output.decode().splitlines()[len(lines) : len(lines) + 2]
+        return None if told == ["settled", "least 15"] else f"{told}"
+
+    return Case("a ruler's last mark", as_bytes(*lines, "settle", "least m6"), wrong)
+
+
 def built() -> Iterator[Check]:
-    """The Sudokus over propwide, where it is built, and one of each STEP small ones."""
+    """The Sudokus and a ruler over propwide, where it is built, and one of each STEP small ones."""
     if os.path.exists(PROGRAM):
-        yield from map(over_propwide, chain(sudokus(), islice(small(), 0, None, STEP)))
+        yield from map(over_propwide, chain(sudokus(), [ruler()], islice(small(), 0, None, STEP)))
 
 
 def instructions(program: str, sent: bytes) -> str:
