@@ -1,24 +1,21 @@
-"""`propdesk`: the command line of the package, `python3 -m propbench` too."""
+"""`propdesk`: the command line of the package, `python3 -m propbench` too.
+
+What a command needs is imported once it is carried out: the others start at once.
+"""
 
 import argparse
 import os
 import sys
 from collections.abc import Sequence
 from contextlib import suppress
-from pathlib import Path
+from typing import TYPE_CHECKING
 
-from propbench.checking import check_file
-from propbench.files import OpenedFile
-from propbench.finding import NoProgram
-from propbench.journal import Journal, left
-from propbench.pictures import NoGraphviz, picture_of
-from propbench.program import OutOfTime, ProgramEnded
-from propbench.refusals import Refused
-from propbench.reports import NoReport
-from propbench.running import Way, lines_of, run_as_json, run_file, told_of
-from propbench.session import ORDERS
-from propbench.showing import printable, said_of, shown
-from propbench.watching import Watched
+from propbench.beginning import ORDERS
+
+if TYPE_CHECKING:
+    from propbench.journal import Journal
+    from propbench.running import Way
+    from propbench.watching import Watched
 
 DESCRIPTION = """\
 A desk for the workbench propbench: runs files of its language, and speaks it with you line by line.
@@ -156,6 +153,12 @@ def main(words: Sequence[str] | None = None) -> int:
     """Does what the words of a command line say, those of this process where none are given, and
     gives the exit status."""
     options = parser().parse_args(words)
+    from propbench.finding import NoProgram
+    from propbench.program import OutOfTime, ProgramEnded
+    from propbench.refusals import Refused
+    from propbench.running import told_of
+    from propbench.showing import printable, said_of
+
     try:
         return _done(options)
     except KeyboardInterrupt:
@@ -169,12 +172,31 @@ def main(words: Sequence[str] | None = None) -> int:
     except Refused as refused:
         print(told_of(refused, printable(options.file)), file=sys.stderr)
         return 1
-    except (NoProgram, NoReport, NoGraphviz, ProgramEnded, OutOfTime, OSError) as error:
-        print(f"propdesk: {said_of(error)}", file=sys.stderr)
-        return 3
+    except (NoProgram, ProgramEnded, OutOfTime, OSError) as error:
+        return _failed(error)
+
+
+def _failed(error: Exception) -> int:
+    """Says what failed, and gives the status of that."""
+    from propbench.showing import said_of
+
+    print(f"propdesk: {said_of(error)}", file=sys.stderr)
+    return 3
+
+
+def _checked(options: argparse.Namespace) -> int:
+    from propbench.checking import check_file
+    from propbench.reports import NoReport
+
+    try:
+        return check_file(options.file, options.program, options.base)
+    except NoReport as error:
+        return _failed(error)
 
 
 def _blamed(options: argparse.Namespace) -> int:
+    from pathlib import Path
+
     from propbench.flatzinc.blame import Asked, blame_file
 
     asked = Asked(
@@ -188,8 +210,10 @@ def _blamed(options: argparse.Namespace) -> int:
 
 
 def _done(options: argparse.Namespace) -> int:
+    from propbench.running import Way, run_as_json, run_file
+
     if options.command == "check":
-        return check_file(options.file, options.program, options.base)
+        return _checked(options)
     if options.command == "blame":
         return _blamed(options)
     begin = {"order": options.order, "seed": options.seed, "limit": options.limit}
@@ -212,6 +236,8 @@ def _done(options: argparse.Namespace) -> int:
 
 def _lines(path: str | None) -> list[str]:
     """The lines of the file that a shell begins with, none where it can't be read."""
+    from propbench.running import lines_of
+
     with suppress(OSError):
         return lines_of(path) if path else []
     return []
@@ -220,13 +246,20 @@ def _lines(path: str | None) -> list[str]:
 _OFFERED = "--resume goes on with it, --forget forgets it."
 
 
-def _journal(options: argparse.Namespace, file: str, checksum: str | None = None) -> Journal | None:
+def _journal(
+    options: argparse.Namespace, file: str, checksum: str | None = None
+) -> "Journal | None":
     """The journal of what these options ask for, None where none is kept."""
+    from propbench.journal import Journal
+
     return None if options.no_journal else Journal(options.command, file, checksum)
 
 
-def _page(options: argparse.Namespace, way: Way) -> int:
+def _page(options: argparse.Namespace, way: "Way") -> int:
+    from propbench.files import OpenedFile
+    from propbench.journal import left
     from propbench.page import serve
+    from propbench.showing import printable, shown
     from propbench.watching.opening import opened
 
     place = options.file if options.file == "-" else os.path.realpath(options.file)
@@ -254,8 +287,14 @@ def _page(options: argparse.Namespace, way: Way) -> int:
     return 0
 
 
-def _draw(watched: Watched, path: str, cell: str | None, out: str | None) -> int:
+def _draw(watched: "Watched", path: str, cell: str | None, out: str | None) -> int:
+    from propbench.pictures import NoGraphviz, picture_of
+    from propbench.showing import printable
+
     where = out if out is not None else f"{os.path.splitext(path)[0]}.svg"
-    picture_of(watched, cell).save(where)
+    try:
+        picture_of(watched, cell).save(where)
+    except NoGraphviz as error:
+        return _failed(error)
     print(f"The picture is in {printable(where)}.")
     return 0

@@ -1,8 +1,6 @@
 """Where the programs are found, and whether they are known to be proved."""
 
-import hashlib
 import os
-import shutil
 from collections.abc import Sequence
 from contextlib import suppress
 from dataclasses import dataclass
@@ -63,6 +61,8 @@ def find_for(lines: Sequence[str], given: str | os.PathLike[str] | None = None) 
 
 def _find(given: str | os.PathLike[str] | None, names: Sequence[str]) -> Found:
     """The program given or found by one of these names, the first that there is."""
+    import shutil
+
     told = [os.environ.get(name.upper()) for name in names]
     named = given if given is not None else next(filter(None, told), "")
     if named:
@@ -117,6 +117,8 @@ def _is_proved(program: Path) -> bool:
             return True
     with suppress(OSError):
         told = (program.parent / _CHECKSUMS).read_text(encoding="utf-8").splitlines()
+        import hashlib
+
         checksum = hashlib.sha256(program.read_bytes()).hexdigest()
         return checksum in (line.partition(" ")[0] for line in told)
     return False

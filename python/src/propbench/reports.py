@@ -9,8 +9,8 @@ import json
 from collections.abc import Iterable, Iterator, Mapping
 from dataclasses import dataclass
 
+from propbench.beginning import MOST_SEED, ORDERS
 from propbench.running import Way, report
-from propbench.session import MOST_SEED, ORDERS
 from propbench.showing import quoted
 from propbench.words import MOST_STEPS
 

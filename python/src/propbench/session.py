@@ -16,15 +16,16 @@ from types import FrameType
 from typing import Literal, overload
 
 from propbench.batch import Batch, as_lines
+from propbench.beginning import MOST_SEED, ORDERS, STEPS
 from propbench.closing import Closing
 from propbench.conversation import Conversation, WrongReply
 from propbench.finding import find_program
 from propbench.given import seconds_given
 from propbench.grammar import ASKING, FORMS, RUNNING, SEEKING
 from propbench.known import Known
+from propbench.points import Best, NoneFits, Points, Several, SoFar
 from propbench.program import OutOfTime, Program, ProgramEnded, StillAtWork
 from propbench.refusals import Refused, UnknownCommand
-from propbench.points import Best, NoneFits, Points, Several, SoFar
 from propbench.replies import DONE, SILENT, How, Listing, Reply, Step, Unsettled
 from propbench.runs import LATE, PATIENCE, Progress, Question, Runner, Watch, is_settled
 from propbench.seeking import Seeking
@@ -33,9 +34,6 @@ from propbench.words import MOST_STEPS, as_line, is_silent
 # How long, in seconds, a program that owes a reply is waited for where it isn't at work: it may be
 # that another process is, which it has begun.
 _GRACE = 3.0
-STEPS = 1_000_000_000
-MOST_SEED = 2**64 - 1
-ORDERS = ("fifo", "lifo", "mixed")
 # (within the class `list` is what it does)
 Texts = list[str]
 Replies = list[Reply]

@@ -1,14 +1,17 @@
 """What a user states, one event a call: all that a workbench is, in order."""
 
 from dataclasses import dataclass
+from typing import TYPE_CHECKING
 
-from propbench.measuring.readings import Reading
 from propbench.model.kinds import MOST, Domain, Plain, Point, point_text
 from propbench.model.meaning import Points, holds
 from propbench.model.measures import text_of_number
 from propbench.model.nodes import Declared, Node
 from propbench.model.writing import text_of
 from propbench.showing import printable
+
+if TYPE_CHECKING:
+    from propbench.measuring.readings import Reading
 
 # What is stated of a cell, or an alternative of it: numbers from a low to a high, some elements of
 # a domain, or one truth or symbol.
@@ -68,7 +71,7 @@ class Told:
 class Read(Told):
     """A reading of a quantity: its cell lies between what it holds for the ends."""
 
-    reading: Reading
+    reading: "Reading"
 
     @property
     def text(self) -> str:

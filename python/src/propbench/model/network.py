@@ -11,6 +11,7 @@ from typing import TypeVar
 
 from propbench.model.either import Either
 from propbench.model.events import ConstraintChoice, Event, Required, ValueChoice
+from propbench.model.first import First
 from propbench.model.kinds import Domain
 from propbench.model.kit import offered, written
 from propbench.model.nodes import Declared, Node
@@ -19,7 +20,6 @@ from propbench.model.record import Index, Record
 from propbench.model.script import Owner, Script
 from propbench.model.vocabulary import Vocabulary
 from propbench.model.writer import YES
-from propbench.questions.model import First
 from propbench.refusals import LimitReached, LineTooLong, NotAName, Refused
 from propbench.session import Session
 

@@ -7,14 +7,14 @@ from collections.abc import Mapping, Sequence
 
 from propbench.model.cells import Cell, gone
 from propbench.model.events import CellMade, DomainMade, Event, Statement, premise_of
+from propbench.model.first import First
 from propbench.model.given import values_of
 from propbench.model.kinds import Domain, Plain, Point
 from propbench.model.meaning import Beyond, Plan
-from propbench.model.nodes import Declared
 from propbench.model.network import Network
+from propbench.model.nodes import Declared
 from propbench.model.script import values_line
 from propbench.model.writing import text_of
-from propbench.questions.model import First
 from propbench.session import Session
 
 

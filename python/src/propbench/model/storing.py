@@ -4,14 +4,12 @@ A saved workbench is a session of the language: its lines make the network, and 
 begins with `#:` tells in the user's words what the lines below it are for.
 """
 
-import json
 import re
 from collections.abc import Iterable, Iterator, Mapping, Sequence
 from dataclasses import dataclass, field, fields
 from fractions import Fraction
-from typing import Any
+from typing import TYPE_CHECKING, Any
 
-from propbench.measuring.readings import Reading
 from propbench.model.events import (
     CellMade,
     ConstraintChoice,
@@ -27,6 +25,9 @@ from propbench.model.kinds import Domain, Kind, Plain
 from propbench.model.measures import Measure
 from propbench.model.nodes import Declared, Node, Op, cell, constant, node
 
+if TYPE_CHECKING:
+    from propbench.measuring.readings import Reading
+
 # A comment begins so, and goes on so where a line is too short for it.
 BEGINS, GOES_ON = "#: ", "#+ "
 _LONGEST = 4000
@@ -40,6 +41,8 @@ Nested = Sequence[Any]
 
 def comments(event: Mapping[str, object]) -> Iterator[str]:
     """A record as comments."""
+    import json
+
     text = json.dumps(event)
     for first in range(0, len(text), _LONGEST):
         yield (GOES_ON if first else BEGINS) + text[first : first + _LONGEST]
@@ -47,6 +50,8 @@ def comments(event: Mapping[str, object]) -> Iterator[str]:
 
 def records(lines: Iterable[str]) -> list[Record]:
     """The records that comments hold. Raises ValueError where one can't be read."""
+    import json
+
     texts: list[str] = []
     for line in lines:
         if line.startswith(BEGINS):
@@ -86,13 +91,15 @@ def _cell_record(declared: Declared) -> dict[str, object]:
     return {declared.kind.value: declared.name}
 
 
-def _reading_record(reading: Reading) -> list[str | None]:
+def _reading_record(reading: "Reading") -> list[str | None]:
     times = reading.coverage
     ends = str(reading.low), str(reading.high)
     return [*ends, reading.written, None if times is None else str(times)]
 
 
-def _reading(parts: Sequence[str | None]) -> Reading:
+def _reading(parts: Sequence[str | None]) -> "Reading":
+    from propbench.measuring.readings import Reading
+
     low, high, written, times = parts
     exact = _fraction(low), _fraction(high)
     return Reading(*exact, str(written), None if times is None else _fraction(times))

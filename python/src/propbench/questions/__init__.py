@@ -1,38 +1,67 @@
 """Questions that take many asks: which premises conflict, what to give up, what is best, what else.
 
 A workbench has these as its methods. Each gives a result that prints well, is a table, says whether
-it is complete, and has a certificate.
+it is complete, and has a certificate. What answers a question is imported once it is asked.
 """
 
-from collections.abc import Iterable, Iterator, Mapping
-from concurrent.futures import Executor
-from contextlib import contextmanager
-from typing import TypeVar
+from __future__ import annotations
 
+from collections.abc import Iterable, Iterator, Mapping
+from contextlib import contextmanager
+from typing import TYPE_CHECKING, TypeVar
+
+from propbench.clock import Clock, Progress
 from propbench.given import count_given
-from propbench.questions.asking import CellLike, Interrupted, NoSuchName
+from propbench.lazily import all_of, names_of
 from propbench.questions.bench import Bench
-from propbench.questions.bounding import GREATEST, LEAST, Optimum
-from propbench.questions.certificate import Certificate
-from propbench.questions.checker import CertificateError
-from propbench.questions.changes import ToldValue, changed, resolved
-from propbench.questions.clock import Clock, Progress
-from propbench.questions.comparing import (
-    Differences,
-    Snapshot,
-    difference_between,
-    difference_to,
-    snapshot_of,
-)
-from propbench.questions.conflicts import Conflicts, Repairs, find_conflicts, find_repairs
-from propbench.questions.critical import Critical, Slack, find_critical, find_slack
-from propbench.questions.ends import find_optimum, find_solution
-from propbench.questions.model import Model, Plan, Point
-from propbench.questions.outcomes import NothingFits
-from propbench.questions.plans import Plans, find_plans
-from propbench.questions.scenarios import Scenario, Scenarios, find_scenarios, sweep
-from propbench.questions.sensitivity import Sensitivity, of_answers, of_optimum
-from propbench.questions.solution import Solution
+from propbench.questions.model import Model as Model
+
+if TYPE_CHECKING:
+    from concurrent.futures import Executor
+
+    from propbench.questions.asking import CellLike
+    from propbench.questions.asking import Interrupted as Interrupted
+    from propbench.questions.asking import NoSuchName as NoSuchName
+    from propbench.questions.bounding import Optimum as Optimum
+    from propbench.questions.certificate import Certificate as Certificate
+    from propbench.questions.changes import ToldValue
+    from propbench.questions.checker import CertificateError as CertificateError
+    from propbench.questions.comparing import Differences as Differences
+    from propbench.questions.comparing import Snapshot as Snapshot
+    from propbench.questions.conflicts import Conflicts as Conflicts
+    from propbench.questions.conflicts import Repairs as Repairs
+    from propbench.questions.critical import Critical as Critical
+    from propbench.questions.critical import Slack as Slack
+    from propbench.questions.model import Plan as Plan
+    from propbench.questions.model import Point as Point
+    from propbench.questions.outcomes import NothingFits as NothingFits
+    from propbench.questions.plans import Plans as Plans
+    from propbench.questions.scenarios import Scenario
+    from propbench.questions.scenarios import Scenarios as Scenarios
+    from propbench.questions.sensitivity import Sensitivity as Sensitivity
+    from propbench.questions.solution import Solution as Solution
+else:
+    _HOMES = {
+        "propbench.questions.asking": "Interrupted NoSuchName",
+        "propbench.questions.bounding": "Optimum",
+        "propbench.questions.certificate": "Certificate",
+        "propbench.questions.checker": "CertificateError",
+        "propbench.questions.comparing": "Differences Snapshot",
+        "propbench.questions.conflicts": "Conflicts Repairs",
+        "propbench.questions.critical": "Critical Slack",
+        "propbench.questions.model": "Plan Point",
+        "propbench.questions.outcomes": "NothingFits",
+        "propbench.questions.plans": "Plans",
+        "propbench.questions.scenarios": "Scenarios",
+        "propbench.questions.sensitivity": "Sensitivity",
+        "propbench.questions.solution": "Solution",
+    }
+    __all__ = ["Model", "Questions", *all_of(_HOMES)]
+    __getattr__ = names_of(__name__, _HOMES)
+
+    def __dir__():
+        return sorted({*globals(), *__all__})
+
 
 SomeBench = TypeVar("SomeBench", bound=Bench)
 
@@ -64,6 +93,8 @@ class Questions:
         Those that are to `keep` are taken as given, and stand in no conflict. The list is empty
         where everything fits. A conflict without any premise says that what always holds can't.
         """
+        from propbench.questions.conflicts import find_conflicts
+
         return find_conflicts(self.model, keep, count_given(most, "most"), seconds, progress)
 
     def repairs(
@@ -80,6 +111,8 @@ class Questions:
         `weight` says what it costs to give up a premise, 1 where it says nothing of it. Those that
         are to `keep` are not given up.
         """
+        from propbench.questions.conflicts import find_repairs
+
         at_most = count_given(most, "most")
         given = {} if weight is None else weight
         return find_repairs(self.model, given, keep, at_most, seconds, progress)
@@ -92,6 +125,8 @@ class Questions:
             plan = w.solve()
             print(plan["days"], plan.choices)
         """
+        from propbench.questions.ends import find_solution
+
         return find_solution(self.model, seconds, progress)
 
     def least(
@@ -102,6 +137,9 @@ class Questions:
         progress: Progress | None = None,
     ) -> Optimum:
         """The least value of a cell in any plan."""
+        from propbench.questions.bounding import LEAST
+        from propbench.questions.ends import find_optimum
+
         return find_optimum(self.model, cell, LEAST, seconds, progress)
 
     def greatest(
@@ -112,6 +150,9 @@ class Questions:
         progress: Progress | None = None,
     ) -> Optimum:
         """The greatest value of a cell in any plan."""
+        from propbench.questions.bounding import GREATEST
+        from propbench.questions.ends import find_optimum
+
         return find_optimum(self.model, cell, GREATEST, seconds, progress)
 
     def plans(
@@ -124,6 +165,8 @@ class Questions:
     ) -> Plans:
         """All plans over the cells that are shown (all but those for symbols where none are named),
         each once, `most` of them at the most."""
+        from propbench.questions.plans import find_plans
+
         return find_plans(self.model, show, count_given(most, "most"), seconds, progress)
 
     def slack(
@@ -135,18 +178,22 @@ class Questions:
     ) -> Slack:
         """How much room a cell has over all plans: its least and its greatest value, or all the
         values that it has in some plan."""
+        from propbench.questions.critical import find_slack
+
         return find_slack(self.model, cell, seconds, progress)
 
     def critical(
         self,
         cell: CellLike,
-        end: str = LEAST,
+        end: str = "least",
         *,
         seconds: float | None = None,
         progress: Progress | None = None,
     ) -> Critical:
         """The premises because of which a number can't be less than its least value in any plan,
         or by `end="greatest"` more than its greatest: a least set of such premises."""
+        from propbench.questions.critical import find_critical
+
         return find_critical(self.model, cell, end, seconds, progress)
 
     def sensitivity(
@@ -160,6 +207,9 @@ class Questions:
         """What each believed premise is worth: the answer for a cell where that is left out, and
         where each range that it tells is half as wide. By `of="least"` or `of="greatest"` it is
         the least or greatest value in any plan that is asked for."""
+        from propbench.questions.bounding import GREATEST, LEAST
+        from propbench.questions.sensitivity import of_answers, of_optimum
+
         if of is None:
             return of_answers(self, cell, seconds, progress)
         if of not in (LEAST, GREATEST):
@@ -176,6 +226,8 @@ class Questions:
     ) -> Scenarios:
         """A table of what-ifs. A row is named, and is a dict of what to `kick`, `bring` and `tell`
         as in `what_if`; the columns are cells, and stand in it as answers."""
+        from propbench.questions.scenarios import find_scenarios
+
         return find_scenarios(self, rows, columns, seconds, progress)
 
     def sweep(
@@ -190,6 +242,8 @@ class Questions:
         """The same table for many scenarios, asked side by side by an executor of
         `concurrent.futures` (processes, or other machines); by threads, each with a program of its
         own, where none is given. Scenarios without names are numbered from 1."""
+        from propbench.questions.scenarios import sweep
+
         return sweep(self, scenarios, show, executor, Clock(seconds, progress))
 
     @contextmanager
@@ -207,6 +261,8 @@ class Questions:
         Behind the `with` the workbench is as it was, its projects and quantities too, whatever was
         stated within: what was made there is gone.
         """
+        from propbench.questions.changes import changed, resolved
+
         change = changed(kick, bring, tell)
         with self._set_aside():
             # (what is wrong with it is said here, and names that it gives are those of the copy)
@@ -225,6 +281,8 @@ class Questions:
         self: Bench, *, seconds: float | None = None, progress: Progress | None = None
     ) -> Snapshot:
         """What is stated and answered now, to be compared later by `diff`. It can be pickled."""
+        from propbench.questions.comparing import snapshot_of
+
         return snapshot_of(self, Clock(seconds, progress))
 
     def diff(
@@ -236,6 +294,8 @@ class Questions:
     ) -> Differences:
         """In what the statements and answers differ from those of a snapshot, and because of what
         premises."""
+        from propbench.questions.comparing import Snapshot, difference_to
+
         if not isinstance(snapshot, Snapshot):
             raise TypeError(f"{snapshot!r} is no snapshot, as `w.snapshot()` gives one")
         return difference_to(snapshot, self, Clock(seconds, progress))
@@ -248,30 +308,8 @@ class Questions:
         progress: Progress | None = None,
     ) -> Differences:
         """In what the statements and answers of another workbench differ from those of this one."""
+        from propbench.questions.comparing import difference_between
+
         if not isinstance(other, Questions):
             raise TypeError(f"{other!r} is no workbench that could be compared")
         return difference_between(self, other, Clock(seconds, progress))
-
-
-__all__ = [
-    "Certificate",
-    "CertificateError",
-    "Conflicts",
-    "Critical",
-    "Differences",
-    "Interrupted",
-    "Model",
-    "NoSuchName",
-    "NothingFits",
-    "Optimum",
-    "Plan",
-    "Plans",
-    "Point",
-    "Questions",
-    "Repairs",
-    "Scenarios",
-    "Sensitivity",
-    "Slack",
-    "Solution",
-    "Snapshot",
-]

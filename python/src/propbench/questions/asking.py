@@ -3,9 +3,9 @@
 from collections.abc import Callable, Collection, Iterable
 from typing import Protocol, TypeVar
 
+from propbench.clock import Clock
 from propbench.nearby import near_names
 from propbench.program import OutOfTime
-from propbench.questions.clock import Clock
 from propbench.questions.model import Model
 from propbench.questions.trial import Trial
 from propbench.showing import quoted

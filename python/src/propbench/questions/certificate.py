@@ -1,7 +1,5 @@
 """Certificates: claims about a network with what shows them, which anyone can ask a program again."""
 
-import hashlib
-import json
 import os
 from collections import Counter
 from collections.abc import Callable, Iterable, Mapping, Sequence
@@ -9,7 +7,6 @@ from dataclasses import dataclass, field
 from functools import partial
 
 from propbench.finding import find_wide
-from propbench.files import write_file
 from propbench.given import path_given
 from propbench.questions import checker
 from propbench.questions.checker import CertificateError
@@ -75,6 +72,8 @@ class Certificate:
     def save(self, path: str | os.PathLike[str]) -> None:
         """Writes the certificate into a file, for `propdesk check`. Raises OSError; and as
         `finished`, where nothing is written."""
+        from propbench.files import write_file
+
         write_file(path_given(path), "".join(f"{line}\n" for line in self.lines))
 
 
@@ -201,6 +200,9 @@ class Evidence:
         claims: Sequence[tuple[str, dict[str, object]]],
         plans: Sequence[tuple[list[str], dict[str, str]]],
     ) -> list[str]:
+        import hashlib
+        import json
+
         evidence = {
             "mark": self.mark,
             "basis": self.basis,

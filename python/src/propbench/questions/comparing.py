@@ -3,11 +3,11 @@
 from collections.abc import Iterable, Mapping, Sequence
 from dataclasses import dataclass
 
+from propbench.clock import Clock
 from propbench.model.answers import Answer
 from propbench.questions.asking import answered
 from propbench.questions.bench import Bench
 from propbench.questions.certificate import Certificate
-from propbench.questions.clock import Clock
 from propbench.questions.scenarios import Asking, Row
 from propbench.questions.shown import Shown, listed, said, shortened
 

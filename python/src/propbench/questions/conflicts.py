@@ -4,9 +4,9 @@ from collections.abc import Callable, Iterable, Iterator, Mapping, Sequence
 from dataclasses import dataclass
 from numbers import Real
 
+from propbench.clock import Clock, Progress
 from propbench.questions.asking import Result, premises_named, tried
 from propbench.questions.certificate import Certificate, Evidence
-from propbench.questions.clock import Clock, Progress
 from propbench.questions.exploring import Exploring, Refuted
 from propbench.questions.hitting import bits_of
 from propbench.questions.model import Model

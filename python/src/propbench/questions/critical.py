@@ -4,10 +4,10 @@ from collections.abc import Sequence
 from contextlib import suppress
 from dataclasses import dataclass
 
+from propbench.clock import Clock, Progress
 from propbench.questions.asking import CellLike, tried, tried_by, whole_named
 from propbench.questions.bounding import GREATEST, LEAST, Bounding, bounding_in
 from propbench.questions.certificate import Certificate, Evidence
-from propbench.questions.clock import Clock, Progress
 from propbench.questions.conflicts import Premises
 from propbench.questions.ends import Ending
 from propbench.questions.exploring import Exploring, Refuted

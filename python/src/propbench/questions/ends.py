@@ -4,11 +4,11 @@ them itself, or else by bounds that close in."""
 from collections.abc import Sequence
 from contextlib import suppress
 
+from propbench.clock import Clock, Progress
 from propbench.points import Best, NoneFits
 from propbench.questions.asking import CellLike, tried, tried_by, whole_named
 from propbench.questions.bounding import Optimum, bounding_in, check_numbers
 from propbench.questions.certificate import Evidence
-from propbench.questions.clock import Clock, Progress
 from propbench.questions.model import Model
 from propbench.questions.outcomes import Cannot, Fits, NothingFits, Outcome
 from propbench.questions.searching import decided

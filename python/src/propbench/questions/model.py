@@ -1,24 +1,15 @@
 """What the questions ask of a workbench: all that they know of one."""
 
 from collections.abc import Mapping, Sequence
-from dataclasses import dataclass
 from typing import Protocol
 
+from propbench.model.first import First
 from propbench.session import Session
 
 # A value told for one of the user's cells: a number, a name, or whether a truth holds.
 Point = int | str | bool
 # Points by the names of cells.
 Plan = dict[str, Point]
-
-
-@dataclass(frozen=True)
-class First:
-    """Cells of which values are tried out, that with the fewest values first; of values the smallest
-    comes first, or the greatest."""
-
-    cells: tuple[str, ...]
-    is_from_top: bool = False
 
 
 class Model(Protocol):

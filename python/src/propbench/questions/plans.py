@@ -4,10 +4,10 @@ from collections.abc import Iterable, Sequence
 from contextlib import suppress
 from dataclasses import dataclass, field
 
+from propbench.clock import Clock, Progress
 from propbench.points import NoneFits, Points, Several
 from propbench.questions.asking import CellLike, tried, tried_by, whole_named
 from propbench.questions.certificate import Certificate, Evidence, Tree, as_json, on_lines
-from propbench.questions.clock import Clock, Progress
 from propbench.questions.model import Model, Plan
 from propbench.questions.outcomes import Cannot, Fits, Open, Outcome
 from propbench.questions.rooms import Names, Room, around, values_of

@@ -5,10 +5,11 @@ A row is a job that can be sent to another process or machine: the lines to send
 
 import os
 from collections.abc import Callable, Iterable, Iterator, Mapping, Sequence
-from concurrent.futures import Executor, Future, ThreadPoolExecutor
 from dataclasses import dataclass, replace
 from functools import partial
+from typing import TYPE_CHECKING
 
+from propbench.clock import Clock, Progress
 from propbench.model.answers import Answer
 from propbench.model.shrinking import shrunk
 from propbench.program import OutOfTime
@@ -16,7 +17,6 @@ from propbench.questions.asking import CellLike, answered, cell_named
 from propbench.questions.bench import Bench
 from propbench.questions.certificate import Certificate, Evidence
 from propbench.questions.changes import Change, resolved
-from propbench.questions.clock import Clock, Progress
 from propbench.questions.conflicts import Premises
 from propbench.questions.model import Model
 from propbench.questions.shown import Shown
@@ -24,6 +24,9 @@ from propbench.questions.trial import mark_for
 from propbench.replies import Contradiction, Value, Worldview, reply_of
 from propbench.session import Session
 from propbench.words import is_silent
+
+if TYPE_CHECKING:
+    from concurrent.futures import Executor, Future
 
 Scenario = Change | Mapping[str, object]
 
@@ -164,10 +167,12 @@ class Asking:
 
     def by_threads(self) -> None:
         """Asks them side by side, each by a program of its own."""
+        from concurrent.futures import ThreadPoolExecutor
+
         with ThreadPoolExecutor(os.cpu_count()) as threads:
             self._by({n: _submitted(threads, self._asked, job) for n, job in self.jobs.items()})
 
-    def by(self, executor: Executor) -> None:
+    def by(self, executor: "Executor") -> None:
         """Has an executor ask all scenarios. One that it has no answer for is asked again here: so
         a worker that dies costs the time of its scenario."""
         self._by({name: _submitted(executor, run_job, job) for name, job in self.jobs.items()})
@@ -248,7 +253,7 @@ def _replies(model: Model, columns: Sequence[str], heard: Heard) -> Iterator[Val
 
 
 def _submitted(
-    executor: Executor, ask: Callable[[Job], Heard | None], job: Job
+    executor: "Executor", ask: Callable[[Job], Heard | None], job: Job
 ) -> "Future[Heard | None] | None":
     """A job on its way, None where the executor takes none any more."""
     try:
@@ -285,7 +290,7 @@ def sweep(
     bench: Bench,
     scenarios: Mapping[str, Scenario] | Iterable[Scenario],
     show: Iterable[CellLike],
-    executor: Executor | None,
+    executor: "Executor | None",
     clock: Clock,
 ) -> Scenarios:
     """The same table, asked by an executor; where that is None, by as many threads as there are

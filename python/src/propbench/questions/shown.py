@@ -1,6 +1,5 @@
 """How results are shown: as text, as a table of a notebook, as a table of pandas where it is there."""
 
-import html
 from collections.abc import Sequence
 from importlib import import_module
 from typing import TYPE_CHECKING, Any
@@ -92,4 +91,6 @@ def listed(names: Sequence[str], joint: str = "and") -> str:
 
 
 def _escaped(value: object) -> str:
+    import html
+
     return html.escape(printable(said(value)))

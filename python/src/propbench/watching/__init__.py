@@ -9,10 +9,10 @@ from collections.abc import Sequence
 from dataclasses import dataclass
 from typing import Protocol
 
-from propbench.questions.clock import Progress as Told
+from propbench.clock import Progress as Told
+from propbench.refusals import UnknownCommand
 from propbench.runs import Progress
 from propbench.session import Session
-from propbench.refusals import UnknownCommand
 from propbench.watching.bearing import Bearing, bearing, resting
 from propbench.watching.claims import Claim, Source, Way
 from propbench.watching.mending import Mending

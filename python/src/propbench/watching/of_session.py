@@ -3,6 +3,8 @@
 from collections.abc import Sequence
 from contextlib import suppress
 
+from propbench.clock import Clock
+from propbench.clock import Progress as Telling
 from propbench.grammar import ASKING
 from propbench.known import Known
 from propbench.listing import Told
@@ -11,8 +13,6 @@ from propbench.program import OutOfTime
 from propbench.questions.asking import so_far
 from propbench.questions.bounding import Optimum
 from propbench.questions.ends import find_optimum
-from propbench.questions.clock import Clock
-from propbench.questions.clock import Progress as Telling
 from propbench.replies import Called, Contradiction, Stated, Value, Worldview
 from propbench.runs import Progress
 from propbench.session import Session

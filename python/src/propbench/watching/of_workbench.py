@@ -2,6 +2,8 @@
 
 from collections.abc import Sequence
 
+from propbench.clock import Clock
+from propbench.clock import Progress as Telling
 from propbench.model.answers import value_text
 from propbench.model.blaming import always
 from propbench.model.choosing import first_name
@@ -19,10 +21,9 @@ from propbench.model.kinds import MOST, Plain, kind_text, point_text
 from propbench.model.nodes import Declared, cells_in
 from propbench.model.reading import Reader
 from propbench.model.saving import saved
+from propbench.plain import PlainWorkbench
 from propbench.questions.asking import so_far
 from propbench.questions.bounding import Optimum
-from propbench.questions.clock import Clock
-from propbench.questions.clock import Progress as Telling
 from propbench.questions.conflicts import Conflicts, Repairs, find_conflicts, find_repairs
 from propbench.replies import Called, Contradiction, Value, Worldview
 from propbench.runs import Progress
@@ -46,7 +47,6 @@ from propbench.watching.network import (
 )
 from propbench.watching.owned import Owned, is_use, wording_of
 from propbench.watching.steps import Call, Reading, Steps
-from propbench.workbench import Workbench
 
 # What is said of a plan.
 PLAN = "Each constraint was evaluated on this plan."
@@ -61,7 +61,7 @@ class WorkbenchWatched:
 
     is_workbench = True
 
-    def __init__(self, workbench: Workbench) -> None:
+    def __init__(self, workbench: PlainWorkbench) -> None:
         self.workbench = workbench
         self._wishes: dict[tuple[str, int], str] = {}
         self._events: list[Event] = []

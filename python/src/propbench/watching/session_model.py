@@ -7,7 +7,8 @@ with one value for each cell: the procedures find nothing against these values.
 from collections.abc import Mapping, Sequence
 
 from propbench.listing import Told
-from propbench.questions.model import First, Point
+from propbench.model.first import First
+from propbench.questions.model import Point
 from propbench.session import Session
 
 
