@@ -103,7 +103,7 @@ def test_a_solver_imports_what_solves_alone(tmp_path: Path) -> None:
     assert len(found) <= 165
 
 
-@pytest.mark.parametrize("package", ["propbench", "propbench.questions"])
+@pytest.mark.parametrize("package", ["propbench", "propbench.errors", "propbench.questions"])
 def test_each_name_is_there(package: str) -> None:
     """What stands for type checkers is what there is: a module's own names, found when asked for."""
     there = importlib.import_module(package)
@@ -112,11 +112,13 @@ def test_each_name_is_there(package: str) -> None:
     told = {}
     for node in block.body:
         assert isinstance(node, ast.ImportFrom)
-        told.update({it.asname: node.module for it in node.names if it.asname})
-    assert told and set(told) <= {*there.__all__, *dir(there)}
-    for name, home in told.items():
-        assert getattr(there, name) is getattr(importlib.import_module(str(home)), name)
-    assert set(there.__all__) - set(told) <= {"Model", "Questions"}
+        home = importlib.import_module(str(node.module))
+        shown = [it.name for it in node.names if it.asname]
+        for name in home.__all__ if node.names[0].name == "*" else shown:
+            told[name] = getattr(home, name)
+    for name, value in told.items():
+        assert getattr(there, name) is value, name
+    assert told and set(there.__all__) <= {*told, "Model", "Questions"}
     with pytest.raises(AttributeError, match="has no attribute 'Unheard'"):
         there.Unheard
     assert set(there.__all__) <= set(dir(there))

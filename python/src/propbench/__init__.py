@@ -4,6 +4,15 @@ A `Workbench` has cells, expressions, and premises; a `Session` is the program a
 follows, and what can't be, is the program's reply. This package works out which lines say a
 constraint, which word of a line is at fault and what to complete; and that a plan fits is said only
 where each constraint holds on it, as it evaluates them (`violated` in model/seam.py).
+
+    >>> w = Workbench()
+    >>> days, price = w.number("days", 0, 60), w.number("price", 0, 9000)
+    >>> w.require(price >= 400 * days)
+    >>> w.require(price <= 2000, under="cheap")
+    >>> print(days.ask())
+    days = 0..5 because of cheap
+
+What is raised stands in `propbench.errors`, what a session replies in `propbench.replies`.
 """
 
 from typing import TYPE_CHECKING
@@ -11,131 +20,80 @@ from typing import TYPE_CHECKING
 from propbench.lazily import all_of, names_of
 
 if TYPE_CHECKING:
-    from propbench.conversation import WrongReply as WrongReply
-    from propbench.finding import (
-        NoProgram as NoProgram,
-        find_program as find_program,
-        find_wide as find_wide,
-    )
-    from propbench.measuring.amounts import NoReading as NoReading
-    from propbench.measuring.bounds import NoBound as NoBound
-    from propbench.measuring.functions import (
-        maximum as maximum,
-        mean as mean,
-        minimum as minimum,
-        total as total,
-    )
-    from propbench.measuring.translation import TooCoarse as TooCoarse
-    from propbench.measuring.units import MixedUnits as MixedUnits, UnknownUnit as UnknownUnit
-    from propbench.model.answers import (
-        Answer as Answer,
-        Conflict as Conflict,
-        NotSettled as NotSettled,
-    )
-    from propbench.model.expressions import (
-        all_different as all_different,
-        count as count,
-        element as element,
-        if_else as if_else,
-        implies as implies,
-        pairs as pairs,
-    )
-    from propbench.model.saving import NotAWorkbench as NotAWorkbench
-    from propbench.points import (
-        Best as Best,
-        NoneFits as NoneFits,
-        Points as Points,
-        Several as Several,
-        SoFar as SoFar,
-    )
-    from propbench.program import OutOfTime as OutOfTime, ProgramEnded as ProgramEnded
-    from propbench.questions import (
-        Certificate as Certificate,
-        CertificateError as CertificateError,
-        Interrupted as Interrupted,
-    )
-    from propbench.refusals import (
-        EmptyValue as EmptyValue,
-        IsAChoice as IsAChoice,
-        LimitReached as LimitReached,
-        LineTooLong as LineTooLong,
-        NameTaken as NameTaken,
-        NoSuchCell as NoSuchCell,
-        NoSuchDomain as NoSuchDomain,
-        NoSuchPremise as NoSuchPremise,
-        NoSuchProcedure as NoSuchProcedure,
-        NoSuchRelation as NoSuchRelation,
-        NotAName as NotAName,
-        NotANumberInRange as NotANumberInRange,
-        NotInTheDomain as NotInTheDomain,
-        NotUtf8 as NotUtf8,
-        OutOfMemory as OutOfMemory,
-        Refused as Refused,
-        UnknownCommand as UnknownCommand,
-        WrongCountOfCells as WrongCountOfCells,
-        WrongForm as WrongForm,
-        WrongKind as WrongKind,
-        WrongParameter as WrongParameter,
-    )
-    from propbench.replies import (
-        Called as Called,
-        Contradiction as Contradiction,
-        Done as Done,
-        How as How,
-        Instance as Instance,
-        Listing as Listing,
-        Moved as Moved,
-        Nogoods as Nogoods,
-        Reply as Reply,
-        Settled as Settled,
-        Silent as Silent,
-        Stand as Stand,
-        Stated as Stated,
-        Step as Step,
-        Unsettled as Unsettled,
-        Value as Value,
-        Worldview as Worldview,
-    )
-    from propbench.session import Session as Session, SessionInUse as SessionInUse
-    from propbench.values import (
-        Elements as Elements,
-        Impossible as Impossible,
-        Nothing as Nothing,
-        Span as Span,
-        Symbol as Symbol,
-    )
+    from propbench import errors as errors
+    from propbench import replies as replies
+    from propbench.errors import *
+    from propbench.finding import find_program as find_program
+    from propbench.finding import find_wide as find_wide
+    from propbench.measuring.functions import maximum as maximum
+    from propbench.measuring.functions import mean as mean
+    from propbench.measuring.functions import minimum as minimum
+    from propbench.measuring.functions import total as total
+    from propbench.measuring.quantities import Quantity as Quantity
+    from propbench.measuring.terms import Law as Law
+    from propbench.model.answers import Answer as Answer
+    from propbench.model.answers import Conflict as Conflict
+    from propbench.model.expressions import all_different as all_different
+    from propbench.model.expressions import count as count
+    from propbench.model.expressions import element as element
+    from propbench.model.expressions import if_else as if_else
+    from propbench.model.expressions import implies as implies
+    from propbench.model.expressions import pairs as pairs
+    from propbench.planning import Project as Project
+    from propbench.planning import Task as Task
+    from propbench.questions.bounding import Optimum as Optimum
+    from propbench.questions.certificate import Certificate as Certificate
+    from propbench.questions.conflicts import Conflicts as Conflicts
+    from propbench.questions.conflicts import Repairs as Repairs
+    from propbench.questions.outcomes import NothingFits as NothingFits
+    from propbench.questions.plans import Plans as Plans
+    from propbench.questions.solution import Solution as Solution
+    from propbench.replies import *
+    from propbench.session import Session as Session
+    from propbench.values import Elements as Elements
+    from propbench.values import Nothing as Nothing
+    from propbench.values import Span as Span
     from propbench.workbench import Workbench as Workbench
 else:
+    # What users name first.
     _HOMES = {
-        "propbench.conversation": "WrongReply",
-        "propbench.finding": "NoProgram find_program find_wide",
-        "propbench.measuring.amounts": "NoReading",
-        "propbench.measuring.bounds": "NoBound",
+        "propbench.errors": "",
+        "propbench.finding": "find_program find_wide",
         "propbench.measuring.functions": "maximum mean minimum total",
-        "propbench.measuring.translation": "TooCoarse",
-        "propbench.measuring.units": "MixedUnits UnknownUnit",
-        "propbench.model.answers": "Answer Conflict NotSettled",
+        "propbench.measuring.quantities": "Quantity",
+        "propbench.measuring.terms": "Law",
+        "propbench.model.answers": "Answer Conflict",
         "propbench.model.expressions": "all_different count element if_else implies pairs",
-        "propbench.model.saving": "NotAWorkbench",
-        "propbench.points": "Best NoneFits Points Several SoFar",
-        "propbench.program": "OutOfTime ProgramEnded",
-        "propbench.questions": "Certificate CertificateError Interrupted",
-        "propbench.refusals": """
-            EmptyValue IsAChoice LimitReached LineTooLong NameTaken NoSuchCell NoSuchDomain
-            NoSuchPremise NoSuchProcedure NoSuchRelation NotAName NotANumberInRange
-            NotInTheDomain NotUtf8 OutOfMemory Refused UnknownCommand WrongCountOfCells
-            WrongForm WrongKind WrongParameter
-        """,
-        "propbench.replies": """
-            Called Contradiction Done How Instance Listing Moved Nogoods Reply Settled
-            Silent Stand Stated Step Unsettled Value Worldview
-        """,
-        "propbench.session": "Session SessionInUse",
-        "propbench.values": "Elements Impossible Nothing Span Symbol",
+        "propbench.planning": "Project Task",
+        "propbench.questions.bounding": "Optimum",
+        "propbench.questions.certificate": "Certificate",
+        "propbench.questions.conflicts": "Conflicts Repairs",
+        "propbench.questions.outcomes": "NothingFits",
+        "propbench.questions.plans": "Plans",
+        "propbench.questions.solution": "Solution",
+        "propbench.replies": "",
+        "propbench.session": "Session",
+        "propbench.values": "Elements Nothing Span",
         "propbench.workbench": "Workbench",
     }
-    __all__ = all_of(_HOMES)
-    __getattr__ = names_of(__name__, _HOMES)
+    # What has a module of its own since, and stays here for who wrote it so.
+    _OLDER = {
+        "propbench.errors": """
+            CertificateError EmptyValue Interrupted IsAChoice LimitReached LineTooLong MixedUnits
+            NameTaken NoBound NoGraphviz NoProgram NoReading NoSuchCell NoSuchDomain NoSuchName
+            NoSuchPremise NoSuchProcedure NoSuchRelation NotAName NotANumberInRange NotAWorkbench
+            NotInTheDomain NotSettled NotUtf8 OutOfMemory OutOfTime ProgramEnded Refused
+            SessionInUse TooCoarse TooLong UnknownCommand UnknownUnit WrongCountOfCells WrongForm
+            WrongKind WrongParameter WrongReply
+        """,
+        "propbench.replies": """
+            Best Called Contradiction Done How Impossible Instance Listing Moved Nogoods NoneFits
+            Points Reply Settled Several Silent SoFar Stand Stated Step Symbol Unsettled Value
+            Worldview
+        """,
+    }
+    __all__ = sorted(["errors", "replies", *all_of(_HOMES)])
+    __getattr__ = names_of(__name__, _HOMES, _OLDER)
 
     def __dir__():
         return sorted({*globals(), *__all__})

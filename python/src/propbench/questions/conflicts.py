@@ -36,7 +36,7 @@ class Premises(frozenset[str]):
         return str(self)
 
 
-class Conflict(Premises):
+class Conflicting(Premises):
     """Premises that can't all hold. `least` says that without any one of them the rest has a plan;
     where no time was left to find these plans, it is False."""
 
@@ -50,12 +50,12 @@ class Repair(Premises):
     cost: float
 
 
-class Conflicts(Shown, list[Conflict]):
+class Conflicts(Shown, list[Conflicting]):
     """Conflicts among the premises that are believed; all there are where it is `complete`."""
 
     def __init__(
         self,
-        found: Iterable[Conflict],
+        found: Iterable[Conflicting],
         complete: bool,
         texts: Mapping[str, str],
         kept: Sequence[str],
@@ -192,7 +192,7 @@ def _conflicts(explored: Exploring, texts: Mapping[str, str], most: int) -> Conf
     """The conflicts that are known, so many at the most."""
     found = []
     for refuted in explored.conflicts[:most]:
-        found.append(Conflict(explored.names(refuted.mask)))
+        found.append(Conflicting(explored.names(refuted.mask)))
         found[-1].least = refuted.least
     complete = explored.complete and len(explored.conflicts) <= most
     certificate = _certificate(explored, explored.conflicts[:most], [], complete)
