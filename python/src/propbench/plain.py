@@ -87,39 +87,77 @@ class PlainWorkbench(Questions, Closing):
         self._cells: WeakValueDictionary[Declared, Cell] = WeakValueDictionary()
 
     def close(self) -> None:
-        """Ends the program. Nothing can be stated or asked after that."""
+        """Ends the program. Nothing can be stated or asked after that.
+
+        >>> w = Workbench()
+        >>> w.close()  # as the end of `with Workbench() as w:` does
+        """
         self._network.close()
 
     @property
     def session(self) -> Session:
-        """The session that the workbench speaks through."""
+        """The session that the workbench speaks through.
+
+        >>> w = Workbench()
+        >>> print(w.session.send("cell by_hand span"))
+        ok
+        """
         return self._network.session
 
     @property
     def network(self) -> Network:
-        """What was stated, and how it stands on lines: what views are made of."""
+        """What was stated, and how it stands on lines: what views are made of.
+
+        >>> w = Workbench()
+        >>> x = w.number("x", 0, 9)
+        >>> list(w.network.cells)
+        ['x']
+        """
         return self._network
 
     @property
     def model(self) -> BenchModel:
-        """The workbench as questions see it, which take many asks."""
+        """The workbench as questions see it, which take many asks.
+
+        >>> w = Workbench()
+        >>> x = w.number("x", 0, 9)
+        >>> w.model.candidates("x")
+        range(0, 10)
+        """
         return BenchModel(self._network)
 
     @property
     def proved(self) -> bool:
-        """Whether the program is known to be built from proofs."""
+        """Whether the program is known to be built from proofs.
+
+        >>> w = Workbench()
+        >>> w.proved in (True, False)
+        True
+        """
         return self._network.session.proved
 
     @property
     def lacks(self) -> tuple[str, ...]:
         """What was written so far for which the program has no procedure of its own. At single
-        values it is decided all the same; before that answers may be wider than propwide's."""
+        values it is decided all the same; before that answers may be wider than propwide's.
+
+        >>> w = Workbench()
+        >>> w.lacks
+        ()
+        """
         return tuple(self._network.lacks)
 
     # --- cells ---
 
     def number(self, name: str, low: int | None = None, high: int | None = None) -> NumberCell:
-        """A cell for a whole number from `low` to `high`, each of which may be left open."""
+        """A cell for a whole number from `low` to `high`, each of which may be left open. Raises
+        ValueError where no number lies between them, and for a name that is taken.
+
+        >>> w = Workbench()
+        >>> days = w.number("days", 1, 30)
+        >>> days.ask().value
+        Span(low=1, high=30)
+        """
         ends = [end if end is None else point_of(end, Plain.NUMBER) for end in (low, high)]
         least, most = (None if end is None else int(end) for end in ends)
         if least is not None and most is not None and least > most:
@@ -127,11 +165,25 @@ class PlainWorkbench(Questions, Closing):
         return self._added(NumberCell(self._declared(name, Plain.NUMBER, least, most), self))
 
     def truth(self, name: str) -> TruthCell:
-        """A cell for a truth."""
+        """A cell for a truth. Raises ValueError for a name that is taken.
+
+        >>> w = Workbench()
+        >>> warm, dry = w.truth("warm"), w.truth("dry")
+        >>> w.require(warm & ~dry)
+        >>> warm.ask().value, dry.ask().value
+        (True, False)
+        """
         return self._added(TruthCell(self._declared(name, Plain.TRUTH), self))
 
     def domain(self, name: str, elements: str | Iterable[str]) -> Domain:
-        """A domain of these elements, given in one text with spaces between or one by one."""
+        """A domain of these elements, given in one text with spaces between or one by one. Raises
+        ValueError for none, for more than 64, and for an element that stands twice.
+
+        >>> w = Workbench()
+        >>> day = w.domain("day", "mon tue wed")
+        >>> day.elements
+        ('mon', 'tue', 'wed')
+        """
         names = words_of(elements)
         if not 1 <= len(names) <= 64:
             raise ValueError(f"a domain has one to 64 elements, and {name!r} {len(names)}")
@@ -144,17 +196,38 @@ class PlainWorkbench(Questions, Closing):
         return made
 
     def element(self, name: str, domain: Domain) -> ElementCell:
-        """A cell for an element of a domain that this workbench has made."""
+        """A cell for an element of a domain that this workbench has made. Raises TypeError for a
+        domain that it hasn't made.
+
+        >>> w = Workbench()
+        >>> review = w.element("review", w.domain("day", "mon tue wed"))
+        >>> w.require(review != "mon")
+        >>> print(review.ask().value)
+        {tue wed}
+        """
         if not isinstance(domain, Domain) or self._network.domains.get(domain.name) is not domain:
             raise TypeError(f"{domain!s} is no domain of this workbench: make one by `w.domain`")
         return self._added(ElementCell(self._declared(name, domain), self))
 
     def symbol(self, name: str) -> SymbolCell:
-        """A cell for a symbol, which is any name."""
+        """A cell for a symbol, which is any name.
+
+        >>> w = Workbench()
+        >>> colour = w.symbol("colour")
+        >>> w.fix(colour, "red")
+        >>> colour.ask().value
+        'red'
+        """
         return self._added(SymbolCell(self._declared(name, Plain.SYMBOL), self))
 
     def cell(self, name: str) -> Cell:
-        """The cell of this name. Raises ValueError where there is none."""
+        """The cell of this name. Raises ValueError where there is none.
+
+        >>> w = Workbench()
+        >>> x = w.number("x", 0, 9)
+        >>> w.cell("x") is x
+        True
+        """
         if not isinstance(name, str):
             raise TypeError(f"a cell is named by a text: {name!r}")
         if name not in self._network.cells:
@@ -165,7 +238,13 @@ class PlainWorkbench(Questions, Closing):
 
     @property
     def cells(self) -> tuple[Cell, ...]:
-        """The cells, in the order in which they were made."""
+        """The cells, in the order in which they were made.
+
+        >>> w = Workbench()
+        >>> x, y = w.number("x", 0, 9), w.number("y", 0, 9)
+        >>> [cell.name for cell in w.cells]
+        ['x', 'y']
+        """
         return tuple(map(self._cell, self._network.cells.values()))
 
     # --- statements ---
@@ -175,6 +254,12 @@ class PlainWorkbench(Questions, Closing):
 
         While the premise is kicked out the constraint has no effect at all, also where it is false
         or can't be worked out; while it is believed it tells as much as one that holds always.
+
+        >>> w = Workbench()
+        >>> x = w.number("x", 0, 9)
+        >>> w.require(2 * x >= 7, under="much")
+        >>> print(x.ask())
+        x = 4..9 because of much
         """
         if isinstance(constraint, Expression) and not isinstance(constraint, Truth):
             raise TypeError(f"`{constraint!r}` is {kind_text(constraint.node.kind)}, no constraint")
@@ -185,12 +270,29 @@ class PlainWorkbench(Questions, Closing):
         self._network.do(Required(node, under))
 
     def fix(self, cell: Cell, value: Given, high: int | None = None) -> None:
-        """States that a cell has a value, always: a number, or the numbers up to `high`; a truth,
-        a name, or a list of elements of which it is one; of a quantity a reading."""
+        """States that a cell has a value, always: a number, or the numbers up to `high`; a truth, a
+        name, or a list of elements of which it is one; of a quantity a reading. Raises TypeError
+        for a value of another kind, ValueError for one that the cell can't hold.
+
+        >>> w = Workbench()
+        >>> x, day = w.number("x", 0, 9), w.element("day", w.domain("days", "mon tue wed"))
+        >>> w.fix(x, 3, 5)
+        >>> w.fix(day, ["mon", "tue"])
+        >>> print(x.ask().value, day.ask().value)
+        3..5 {mon tue}
+        """
         self._tell(None, cell, value, high)
 
     def tell(self, premise: str, cell: Cell, value: Given, high: int | None = None) -> None:
-        """States the same under a premise."""
+        """States the same under a premise. Raises as `fix` does.
+
+        >>> w = Workbench()
+        >>> x = w.number("x", 0, 9)
+        >>> w.tell("Ana", x, 3, 5)
+        >>> w.tell("Ben", x, 5, 8)
+        >>> print(x.ask())
+        x = 5 because of Ana, Ben
+        """
         self._network.premises.check(premise)
         self._tell(premise, cell, value, high)
 
@@ -202,26 +304,71 @@ class PlainWorkbench(Questions, Closing):
 
     @property
     def premises(self) -> tuple[str, ...]:
-        """The premises, in the order of their first mention."""
+        """The premises, in the order of their first mention.
+
+        >>> w = Workbench()
+        >>> x = w.number("x", 0, 9)
+        >>> w.tell("Ana", x, 3)
+        >>> w.kick("Ana")
+        >>> w.premises
+        ('Ana',)
+        """
         return tuple(self._network.premises.believed)
 
     @property
     def believed(self) -> tuple[str, ...]:
-        """The premises that are believed."""
+        """The premises that are believed.
+
+        >>> w = Workbench()
+        >>> x = w.number("x", 0, 9)
+        >>> w.tell("Ana", x, 3)
+        >>> w.tell("Ben", x, 4)
+        >>> w.kick("Ana")
+        >>> w.believed
+        ('Ben',)
+        """
         return tuple(self._network.premises.in_force)
 
     def kick(self, premise: str) -> None:
-        """What is stated under the premise does not count from now on."""
+        """What is stated under the premise does not count from now on. Raises ValueError where
+        there is no such premise.
+
+        >>> w = Workbench()
+        >>> x = w.number("x", 0, 9)
+        >>> w.tell("Ana", x, 3)
+        >>> w.kick("Ana")
+        >>> print(x.ask().value)
+        0..9
+        """
         self._network.premises.check_known(premise)
         self._network.kick(premise)
 
     def bring(self, premise: str) -> None:
-        """What is stated under the premise counts again."""
+        """What is stated under the premise counts again. Raises ValueError where there is no such
+        premise.
+
+        >>> w = Workbench()
+        >>> x = w.number("x", 0, 9)
+        >>> w.tell("Ana", x, 3)
+        >>> w.kick("Ana")
+        >>> w.bring("Ana")
+        >>> x.ask().value
+        3
+        """
         self._network.premises.check_known(premise)
         self._network.bring(premise)
 
     def forget(self, premise: str) -> None:
-        """What is stated under the premise goes for good, and the premise with it."""
+        """What is stated under the premise goes for good, and the premise with it. Raises
+        ValueError where there is no such premise.
+
+        >>> w = Workbench()
+        >>> x = w.number("x", 0, 9)
+        >>> w.tell("Ana", x, 3)
+        >>> w.forget("Ana")
+        >>> w.premises
+        ()
+        """
         self._network.premises.check_known(premise)
         self._network.forget(premise)
 
@@ -250,6 +397,13 @@ class PlainWorkbench(Questions, Closing):
 
         Answers are those of one plan, the first that fits: choices in the order in which they were
         made, alternatives as they stand. A pair of numbers is from the one to the other.
+
+        >>> w = Workbench()
+        >>> days, price = w.number("days", 0, 30), w.number("price", 0, 9000)
+        >>> w.choose("venue", {"hotel": [days == 2, price == 4000], "uni": [days == 5]})
+        >>> w.choose("fee", price, [1400, (2000, 3000)])
+        >>> print(days.ask().value, days.ask().choices)
+        5 {'venue': 'uni', 'fee': 1400}
         """
         self._network.premises.check_choice(name)
         given = cell if isinstance(cell, Mapping) else alternatives
@@ -277,7 +431,15 @@ class PlainWorkbench(Questions, Closing):
         """Has questions that take many asks try out values of these cells before those of others,
         group by group, and in each the cell with the fewest values first. A group is some cells,
         and whether of their values the greatest comes first. It changes no answer, but when it
-        comes."""
+        comes.
+
+        >>> w = Workbench()
+        >>> x, y = w.number("x", 0, 9), w.number("y", 0, 9)
+        >>> w.require(x + y == 9)
+        >>> w.try_first(([x], True))
+        >>> w.solve()["x"] + w.solve()["y"]
+        9
+        """
         self._network.try_first(
             tuple(
                 First(tuple(self._own(cell).name for cell in cells), is_from_top)
@@ -289,6 +451,13 @@ class PlainWorkbench(Questions, Closing):
         """Whether all that follows was found, and nothing speaks against it: False at a conflict.
 
         Raises NotSettled where the run is cut first, and OutOfTime where the program hangs.
+
+        >>> w = Workbench()
+        >>> x = w.number("x", 0, 9)
+        >>> w.require(x >= 3, under="much")
+        >>> w.require(x <= 2, under="little")
+        >>> w.settle()
+        False
         """
         reply = self.session.send("settle", seconds=seconds)
         if isinstance(reply, (Settled, Contradiction)):
@@ -298,7 +467,15 @@ class PlainWorkbench(Questions, Closing):
     def answer(
         self, command: str, cell: Declared, seconds: float | None, over: str | None
     ) -> Answer:
-        """What follows for a cell: by `why`, or by `core`."""
+        """What follows for a cell: by `why`, or by `core`. This is what `x.ask()` and `x.core()`
+        call.
+
+        >>> w = Workbench()
+        >>> x = w.number("x", 0, 9)
+        >>> w.tell("Ana", x, 3, 5)
+        >>> w.answer("core", x.declared, None, None).because
+        ('Ana',)
+        """
         if self._network.cells.get(cell.name) is not cell:
             self._check_there([cell])
         if over is not None:
@@ -328,6 +505,13 @@ class PlainWorkbench(Questions, Closing):
 
         Raises Conflict where what is believed can't all hold, and OutOfTime where values can't be
         asked for in time, as the program is at work yet.
+
+        >>> w = Workbench()
+        >>> x, y = w.number("x", 0, 9), w.number("y", 0, 9)
+        >>> w.tell("Ana", x, 3)
+        >>> w.require(y > x)
+        >>> w.table(x, y).rows
+        [('x', '3', 'Ana'), ('y', '4..9', 'Ana')]
         """
         from propbench.model.tabling import Table
 
@@ -351,7 +535,17 @@ class PlainWorkbench(Questions, Closing):
         return Table(answers, read.choices(plan), tuple(self._notes(answers)))
 
     def show(self, *cells: Cell) -> None:
-        """Prints what follows for these cells, or for all; at a conflict, what can't all hold."""
+        """Prints what follows for these cells, or for all; at a conflict, what can't all hold.
+
+        >>> w = Workbench()
+        >>> x = w.number("x", 0, 9)
+        >>> w.require(x >= 3, under="much")
+        >>> w.require(x <= 2, under="little")
+        >>> w.show(x)
+        CONFLICT: much, little can't all hold
+          much: x >= 3
+          little: x <= 2
+        """
         print(self._shown(*cells))
 
     def _repr_html_(self) -> str:
@@ -370,7 +564,13 @@ class PlainWorkbench(Questions, Closing):
         """A picture of the network, or of what bears on a cell: cells with their values, the
         constraints between them, and premises, those that are out in grey. A notebook shows it;
         `.svg` and `.save(path)` need Graphviz. Of more than 60 cells those that play the same part
-        are drawn as one."""
+        are drawn as one. Raises NoGraphviz where there is no Graphviz to draw it.
+
+        >>> w = Workbench()
+        >>> x = w.number("x", 0, 9)
+        >>> w.picture(x).dot.startswith("digraph")
+        True
+        """
         from propbench.pictures import picture_of
         from propbench.watching.of_workbench import WorkbenchWatched
 
@@ -378,7 +578,17 @@ class PlainWorkbench(Questions, Closing):
         return picture_of(WorkbenchWatched(self), name)
 
     def how(self, cell: Cell, *, seconds: float | None = None) -> Claim:
-        """What makes up what follows for a cell, as `cell.how()` gives it."""
+        """What makes up what follows for a cell, as `cell.how()` gives it. Raises ValueError over a
+        program that doesn't tell.
+
+        >>> w = Workbench()
+        >>> x, y = w.number("x", 0, 9), w.number("y", 0, 9)
+        >>> w.require(y == x + 1)
+        >>> w.tell("Ana", x, 3)
+        >>> print(w.how(y))
+        y = 4, by y == x + 1
+          x = 3, told by Ana
+        """
         from propbench.watching.of_workbench import WorkbenchWatched
 
         declared, clock = self._own(cell), Clock(seconds, None)
@@ -389,7 +599,16 @@ class PlainWorkbench(Questions, Closing):
             raise ValueError(_UNTOLD) from None
 
     def film(self, steps: int = 12) -> Film:
-        """The first steps that change something, of a run from nothing, as a strip of pictures."""
+        """The first steps that change something, of a run from nothing, as a strip of pictures.
+        Raises NoGraphviz where there is no Graphviz to draw it.
+
+        >>> w = Workbench()
+        >>> x, y = w.number("x", 0, 9), w.number("y", 0, 9)
+        >>> w.require(y == x + 1)
+        >>> w.tell("Ana", x, 3)
+        >>> w.film(steps=3).frames[0].number
+        0
+        """
         from propbench.pictures import film_of
         from propbench.watching.of_workbench import WorkbenchWatched
 
@@ -399,6 +618,12 @@ class PlainWorkbench(Questions, Closing):
         """Serves the workbench as a page, on this machine alone, and prints its address; until
         Ctrl-C. Where it is not to `wait`, the page is given at once: `page.address` is where it is,
         and `page.close()` ends it; whoever uses the workbench meanwhile does so `with page.held()`.
+
+        >>> w = Workbench()
+        >>> x = w.number("x", 0, 9)
+        >>> page = w.serve(wait=False)  # doctest: +ELLIPSIS
+        The page is at http://127.0.0.1:...
+        >>> page.close()
         """
         from propbench.page import serve
         from propbench.watching.of_workbench import WorkbenchWatched
@@ -414,6 +639,13 @@ class PlainWorkbench(Questions, Closing):
         ValueError for one that was not required.
 
         Lines may rest on other constraints: where `z == x + y` holds, `z` stands for that sum.
+
+        >>> w = Workbench()
+        >>> x = w.number("x", 0, 9)
+        >>> much = x >= 3
+        >>> w.require(much)
+        >>> w.lines(much)
+        ['fix x 3..1000000000000000000']
         """
         return self._lines(constraint, [node_of(constraint, Plain.TRUTH)])
 
@@ -423,7 +655,14 @@ class PlainWorkbench(Questions, Closing):
         """Writes the workbench to a file, whole or not at all.
 
         It is a session of the language, whose comments tell what its lines are for. Raises OSError;
-        a file that is there stays then."""
+        a file that is there stays then.
+
+        >>> w = Workbench()
+        >>> x = w.number("x", 3, 3)
+        >>> w.save("plan.prop")
+        >>> Workbench.load("plan.prop").cell("x").ask().value
+        3
+        """
         from propbench.files import write_file
         from propbench.model.saving import saved
 
@@ -438,6 +677,12 @@ class PlainWorkbench(Questions, Closing):
         """The workbench of a file that `save` has written; `cell` gives its cells by name.
 
         Raises NotAWorkbench, a ValueError, where the file is none, or its lines were changed.
+
+        >>> w = Workbench()
+        >>> x = w.number("x", 3, 3)
+        >>> w.save("plan.prop")
+        >>> [cell.name for cell in Workbench.load("plan.prop").cells]
+        ['x']
         """
         from propbench.model.saving import read
 

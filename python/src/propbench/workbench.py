@@ -36,14 +36,25 @@ from propbench.questions.asking import CellLike
 class Workbench(PlainWorkbench, Measuring):
     """A network of cells with constraints, some of them under premises, and what follows.
 
-    Cells come from `number`, `truth`, `element` (of a `domain`) and `symbol`. What holds between
-    them is stated by `require`, values by `fix` and `tell`, alternatives by `choose`. With
-    `under=` a statement belongs to a premise, which `kick` takes out, `bring` takes in again, and
-    `forget` removes. Of a cell one asks `x.ask()`, `x.why()` and `x.core()`; `table` and `show`
-    tell of several. Where what is believed can't all hold, a question raises Conflict.
+    What it does, by what it is for:
 
-    Questions that take many asks are methods too: `conflicts`, `repairs`, `least`, `greatest`,
-    `plans`, `what_if` and others. `save` and `load` keep a workbench in a file.
+    - cells: `number`, `truth`, `element` (of a `domain`), `symbol`, `measured` with a unit; `cell`
+      gives one by its name, and `cells` all.
+    - what holds: `require` between cells, `fix` and `tell` for values, `choose` between
+      alternatives; `law` and `read` for quantities; `project` for tasks and people.
+    - premises: with `under=` a statement belongs to one, which `kick` takes out, `bring` takes in
+      again, and `forget` removes; `premises` and `believed` name them.
+    - what follows: `x.ask()`, `x.why()` and `x.core()` of a cell, `table` and `show` of several,
+      `how` as a tree, `settle` for whether all fits. A question raises Conflict where what is
+      believed can't all hold.
+    - what conflicts: `conflicts`, `repairs`, and of readings `outliers`.
+    - what is best: `solve`, `least`, `greatest`, `plans`, `slack`, `critical`; `try_first` says
+      which values come first.
+    - what if: `what_if`, `scenarios`, `sweep`, `sensitivity`, `snapshot`, `diff`, `compare`.
+    - quantities closer: `shave`, `predict`, `improvements`, `room`.
+    - to look at: `picture`, `film`, `serve`.
+    - files and lines: `save`, `load`, `lines`, `close`; `proved` and `lacks` tell of the program.
+    - within: `session`, `network`, `model`, `answer`; and `plan`, an older name of `project`.
 
     Each call is carried out at once and whole. Where it is refused, by ValueError or TypeError, or
     ends by another exception, as at Ctrl-C, nothing of it is stated: answers are as before, but of
@@ -67,7 +78,15 @@ class Workbench(PlainWorkbench, Measuring):
         """What each believed premise is worth: the answer for a cell where that is left out, and
         where each range that it tells is half as wide. By `of="least"` or `of="greatest"` it is
         the least or greatest value in any plan that is asked for. Of a quantity it is told which
-        reading to improve."""
+        reading to improve.
+
+        >>> w = Workbench()
+        >>> x = w.number("x", 0, 100)
+        >>> w.tell("Ana", x, 10, 30)
+        >>> w.tell("Ben", x, 20, 90)
+        >>> [(worth.premise, str(worth.left_out)) for worth in w.sensitivity(x)]
+        [('Ana', '20..90'), ('Ben', '10..30')]
+        """
         if isinstance(cell, Quantity):
             return self.improvements(cell, seconds=seconds, progress=progress)
         return super().sensitivity(cell, of, seconds=seconds, progress=progress)
@@ -78,9 +97,9 @@ class Workbench(PlainWorkbench, Measuring):
         stated = (it.constraint for it in self._laws() if it.law == constraint)
         return self._lines(constraint, stated)
 
-    # --- plans ---
+    # --- projects ---
 
-    def plan(
+    def project(
         self,
         *,
         days: int,
@@ -94,9 +113,33 @@ class Workbench(PlainWorkbench, Measuring):
         Day 0 is the date `start`, where one is given, and weekdays (`off="sat sun"`) and dates that
         are off are no days of it. A date may be a text, as `2026-12-04`. Raises ValueError and
         TypeError for what is none of these.
+
+        >>> w = Workbench()
+        >>> p = w.project(days=30, people="ana ben")
+        >>> venue = p.task("venue", 3, who="ana")
+        >>> review = p.task("review", 5, who="ben", after=[venue])
+        >>> w.least(p.end).value
+        8
         """
         calendar = None if start is None else Calendar.of(start, off)
         return Project(self, days, people, calendar)
+
+    def plan(
+        self,
+        *,
+        days: int,
+        people: str | Sequence[str] = (),
+        start: date | str | None = None,
+        off: str | date | Iterable[str | date] = (),
+    ) -> Project:
+        """The same as `project`, by its older name, which stays until 2.0. (`plans` are others.)
+
+        >>> w = Workbench()
+        >>> p = w.plan(days=30)
+        >>> p.task("venue", 3).days.ask().value
+        3
+        """
+        return self.project(days=days, people=people, start=start, off=off)
 
     # --- within ---
 

@@ -77,7 +77,13 @@ class Questions:
 
     @property
     def model(self) -> Model:
-        """What the questions are asked of."""
+        """What the questions are asked of.
+
+        >>> w = Workbench()
+        >>> x = w.number("x", 0, 9)
+        >>> w.model.candidates("x")
+        range(0, 10)
+        """
         raise NotImplementedError
 
     def conflicts(
@@ -92,6 +98,13 @@ class Questions:
 
         Those that are to `keep` are taken as given, and stand in no conflict. The list is empty
         where everything fits. A conflict without any premise says that what always holds can't.
+
+        >>> w = Workbench()
+        >>> x = w.number("x", 0, 9)
+        >>> for name, most in [("much", 8), ("little", 3), ("less", 2)]:
+        ...     w.require(x >= most if name == "much" else x <= most, under=name)
+        >>> sorted(conflict.names for conflict in w.conflicts())
+        [('much', 'less'), ('much', 'little')]
         """
         from propbench.questions.conflicts import find_conflicts
 
@@ -110,6 +123,13 @@ class Questions:
 
         `weight` says what it costs to give up a premise, 1 where it says nothing of it. Those that
         are to `keep` are not given up.
+
+        >>> w = Workbench()
+        >>> x = w.number("x", 0, 9)
+        >>> for name, most in [("much", 8), ("little", 3), ("less", 2)]:
+        ...     w.require(x >= most if name == "much" else x <= most, under=name)
+        >>> [(repair.names, repair.cost) for repair in w.repairs(weight={"much": 5})]
+        [(('little', 'less'), 2), (('much',), 5)]
         """
         from propbench.questions.conflicts import find_repairs
 
@@ -124,6 +144,13 @@ class Questions:
 
             plan = w.solve()
             print(plan["days"], plan.choices)
+
+        >>> w = Workbench()
+        >>> days, price = w.number("days", 1, 30), w.number("price", 0, 9000)
+        >>> w.require(price == 400 * days)
+        >>> w.require(days > 21)
+        >>> w.solve()["price"]
+        8800
         """
         from propbench.questions.ends import find_solution
 
@@ -136,7 +163,18 @@ class Questions:
         seconds: float | None = None,
         progress: Progress | None = None,
     ) -> Optimum:
-        """The least value of a cell in any plan."""
+        """The least value of a cell in any plan. Raises ValueError where there is no such cell, and
+        TypeError where it holds no numbers. Where nothing fits, `value` is None and `proved` is
+        True.
+
+        >>> w = Workbench()
+        >>> days, price = w.number("days", 1, 30), w.number("price", 0, 9000)
+        >>> w.require(price >= 400 * days)
+        >>> w.require(days >= 3, under="three days")
+        >>> best = w.least(price)
+        >>> best.value, best.proved, best.because
+        (1200, True, ('three days',))
+        """
         from propbench.questions.bounding import LEAST
         from propbench.questions.ends import find_optimum
 
@@ -149,7 +187,14 @@ class Questions:
         seconds: float | None = None,
         progress: Progress | None = None,
     ) -> Optimum:
-        """The greatest value of a cell in any plan."""
+        """The greatest value of a cell in any plan. All else is as in `least`.
+
+        >>> w = Workbench()
+        >>> days, price = w.number("days", 1, 30), w.number("price", 0, 9000)
+        >>> w.require(price >= 400 * days)
+        >>> w.greatest("days").value
+        22
+        """
         from propbench.questions.bounding import GREATEST
         from propbench.questions.ends import find_optimum
 
@@ -164,7 +209,14 @@ class Questions:
         progress: Progress | None = None,
     ) -> Plans:
         """All plans over the cells that are shown (all but those for symbols where none are named),
-        each once, `most` of them at the most."""
+        each once, `most` of them at the most. Raises ValueError where there is no such cell.
+
+        >>> w = Workbench()
+        >>> x, y = w.number("x", 0, 9), w.number("y", 0, 9)
+        >>> w.require(x * y == 6)
+        >>> sorted(plan["x"] for plan in w.plans([x]))
+        [1, 2, 3, 6]
+        """
         from propbench.questions.plans import find_plans
 
         return find_plans(self.model, show, count_given(most, "most"), seconds, progress)
@@ -177,7 +229,15 @@ class Questions:
         progress: Progress | None = None,
     ) -> Slack:
         """How much room a cell has over all plans: its least and its greatest value, or all the
-        values that it has in some plan."""
+        values that it has in some plan.
+
+        >>> w = Workbench()
+        >>> x, y = w.number("x", 0, 9), w.number("y", 0, 9)
+        >>> w.require(x * y == 6)
+        >>> slack = w.slack(x)
+        >>> slack.low, slack.high, slack.room
+        (1, 6, 5)
+        """
         from propbench.questions.critical import find_slack
 
         return find_slack(self.model, cell, seconds, progress)
@@ -190,8 +250,18 @@ class Questions:
         seconds: float | None = None,
         progress: Progress | None = None,
     ) -> Critical:
-        """The premises because of which a number can't be less than its least value in any plan,
-        or by `end="greatest"` more than its greatest: a least set of such premises."""
+        """The premises because of which a number can't be less than its least value in any plan, or
+        by `end="greatest"` more than its greatest: a least set of such premises. Raises NothingFits
+        where nothing fits, and ValueError where the end isn't known in time.
+
+        >>> w = Workbench()
+        >>> days, price = w.number("days", 1, 30), w.number("price", 0, 9000)
+        >>> w.require(price >= 400 * days, under="a day's price")
+        >>> w.require(days >= 3, under="three days")
+        >>> w.require(days >= 2, under="two days")
+        >>> w.critical(price).names
+        ("a day's price", 'three days')
+        """
         from propbench.questions.critical import find_critical
 
         return find_critical(self.model, cell, end, seconds, progress)
@@ -205,8 +275,18 @@ class Questions:
         progress: Progress | None = None,
     ) -> Sensitivity:
         """What each believed premise is worth: the answer for a cell where that is left out, and
-        where each range that it tells is half as wide. By `of="least"` or `of="greatest"` it is
-        the least or greatest value in any plan that is asked for."""
+        where each range that it tells is half as wide. By `of="least"` or `of="greatest"` it is the
+        least or greatest value in any plan that is asked for. Raises ValueError for another `of`.
+
+        >>> w = Workbench()
+        >>> x = w.number("x", 0, 100)
+        >>> w.tell("Ana", x, 10, 30)
+        >>> w.tell("Ben", x, 20, 90)
+        >>> for worth in w.sensitivity(x):
+        ...     print(worth.premise, worth.left_out)
+        Ana 20..90
+        Ben 10..30
+        """
         from propbench.questions.bounding import GREATEST, LEAST
         from propbench.questions.sensitivity import of_answers, of_optimum
 
@@ -225,7 +305,15 @@ class Questions:
         progress: Progress | None = None,
     ) -> Scenarios:
         """A table of what-ifs. A row is named, and is a dict of what to `kick`, `bring` and `tell`
-        as in `what_if`; the columns are cells, and stand in it as answers."""
+        as in `what_if`; the columns are cells, and stand in it as answers.
+
+        >>> w = Workbench()
+        >>> x = w.number("x", 0, 9)
+        >>> w.tell("Ana", x, 3, 5)
+        >>> table = w.scenarios({"now": {}, "without Ana": dict(kick=["Ana"])}, [x])
+        >>> print(table["now"]["x"].value, table["without Ana"]["x"].value)
+        3..5 0..9
+        """
         from propbench.questions.scenarios import find_scenarios
 
         return find_scenarios(self, rows, columns, seconds, progress)
@@ -241,7 +329,15 @@ class Questions:
     ) -> Scenarios:
         """The same table for many scenarios, asked side by side by an executor of
         `concurrent.futures` (processes, or other machines); by threads, each with a program of its
-        own, where none is given. Scenarios without names are numbered from 1."""
+        own, where none is given. Scenarios without names are numbered from 1.
+
+        >>> w = Workbench()
+        >>> x, y = w.number("x", 0, 9), w.number("y", 0, 90)
+        >>> w.require(y == 10 * x)
+        >>> table = w.sweep([dict(tell=[("guess", x, value)]) for value in (2, 5)], [y])
+        >>> {name: row["y"].value for name, row in table.items()}
+        {'1': 20, '2': 50}
+        """
         from propbench.questions.scenarios import sweep
 
         return sweep(self, scenarios, show, executor, Clock(seconds, progress))
@@ -260,6 +356,15 @@ class Questions:
 
         Behind the `with` the workbench is as it was, its projects and quantities too, whatever was
         stated within: what was made there is gone.
+
+        >>> w = Workbench()
+        >>> x = w.number("x", 0, 9)
+        >>> w.tell("Ana", x, 3, 5)
+        >>> with w.what_if(kick=["Ana"], tell=[("Ben", x, 7)]):
+        ...     print(x.ask().value)
+        7
+        >>> print(x.ask().value)
+        3..5
         """
         from propbench.questions.changes import changed, resolved
 
@@ -280,7 +385,15 @@ class Questions:
     def snapshot(
         self: Bench, *, seconds: float | None = None, progress: Progress | None = None
     ) -> Snapshot:
-        """What is stated and answered now, to be compared later by `diff`. It can be pickled."""
+        """What is stated and answered now, to be compared later by `diff`. It can be pickled.
+
+        >>> w = Workbench()
+        >>> x = w.number("x", 0, 9)
+        >>> before = w.snapshot()
+        >>> w.require(x >= 4, under="much")
+        >>> [each.what for each in w.diff(before)]
+        ['premise much', 'x']
+        """
         from propbench.questions.comparing import snapshot_of
 
         return snapshot_of(self, Clock(seconds, progress))
@@ -293,7 +406,15 @@ class Questions:
         progress: Progress | None = None,
     ) -> Differences:
         """In what the statements and answers differ from those of a snapshot, and because of what
-        premises."""
+        premises. Raises TypeError for what is no snapshot.
+
+        >>> w = Workbench()
+        >>> x = w.number("x", 0, 9)
+        >>> before = w.snapshot()
+        >>> w.require(x >= 4, under="much")
+        >>> print(w.diff(before)[-1].before, w.diff(before)[-1].now)
+        0..9 4..9
+        """
         from propbench.questions.comparing import Snapshot, difference_to
 
         if not isinstance(snapshot, Snapshot):
@@ -307,7 +428,14 @@ class Questions:
         seconds: float | None = None,
         progress: Progress | None = None,
     ) -> Differences:
-        """In what the statements and answers of another workbench differ from those of this one."""
+        """In what the statements and answers of another workbench differ from those of this one.
+        Raises TypeError for what is no workbench.
+
+        >>> one, other = Workbench(), Workbench()
+        >>> x, y = one.number("x", 0, 9), other.number("x", 0, 5)
+        >>> [(each.what, str(each.before), str(each.now)) for each in one.compare(other)]
+        [('x', '0..9', '0..5')]
+        """
         from propbench.questions.comparing import difference_between
 
         if not isinstance(other, Questions):

@@ -25,6 +25,13 @@ class Optimum(Shown):
     that the plan takes. `bound` is a number beyond which nothing fits. `proved` says that there is
     nothing better than `value`, or no plan at all where that is None; by what the premises `because`
     say, where the program searches itself.
+
+    >>> w = Workbench()
+    >>> x = w.number("x", 3, 9)
+    >>> print(w.least(x))
+    The least x is 3:
+      cell  value
+      x     3
     """
 
     cell: str
@@ -38,12 +45,24 @@ class Optimum(Shown):
     because: tuple[str, ...] = ()
 
     def shown_by(self, certificate: Certificate | None) -> "Optimum":
-        """The same with a certificate."""
+        """The same with a certificate.
+
+        >>> w = Workbench()
+        >>> x = w.number("x", 3, 9)
+        >>> w.least(x).shown_by(None).value
+        3
+        """
         return replace(self, _certificate=certificate)
 
     @property
     def complete(self) -> bool:  # type: ignore[override]  # (what `proved` says)
-        """Whether that is proved."""
+        """Whether that is proved.
+
+        >>> w = Workbench()
+        >>> x = w.number("x", 3, 9)
+        >>> w.least(x).complete
+        True
+        """
         return self.proved
 
     def headline(self) -> str:

@@ -44,7 +44,15 @@ class Difference:
 
 class Differences(Shown, list[Difference]):
     """What differs: first what was stated, then what follows for the cells. It is `complete` where
-    both are known as far as they are settled. The certificate is of the answers now."""
+    both are known as far as they are settled. The certificate is of the answers now.
+
+    >>> w = Workbench()
+    >>> x = w.number("x", 0, 9)
+    >>> before = w.snapshot()
+    >>> w.require(x >= 3, under="much")
+    >>> print(w.diff(before).headline())
+    2 things that differ:
+    """
 
     def __init__(
         self, found: Iterable[Difference], certificate: Certificate | None, complete: bool

@@ -51,7 +51,18 @@ class Repair(Premises):
 
 
 class Conflicts(Shown, list[Conflicting]):
-    """Conflicts among the premises that are believed; all there are where it is `complete`."""
+    """Conflicts among the premises that are believed; all there are where it is `complete`.
+
+    >>> w = Workbench()
+    >>> x = w.number("x", 0, 9)
+    >>> w.require(x >= 3, under="much")
+    >>> w.require(x <= 2, under="little")
+    >>> print(w.conflicts())
+    1 conflict, no others:
+      conflict  premise  says
+      1         much     x >= 3
+                little   x <= 2
+    """
 
     def __init__(
         self,
@@ -87,7 +98,18 @@ class Conflicts(Shown, list[Conflicting]):
 
 
 class Repairs(Shown, list[Repair]):
-    """Repairs of what is believed, the cheapest first; all there are where it is `complete`."""
+    """Repairs of what is believed, the cheapest first; all there are where it is `complete`.
+
+    >>> w = Workbench()
+    >>> x = w.number("x", 0, 9)
+    >>> w.require(x >= 3, under="much")
+    >>> w.require(x <= 2, under="little")
+    >>> print(w.repairs(weight={"little": 2}))
+    2 repairs, no others:
+      cost  give up
+      1     much
+      2     little
+    """
 
     def __init__(
         self,

@@ -24,7 +24,15 @@ from propbench.questions.trial import Trial
 @dataclass(frozen=True, repr=False)
 class Slack(Shown):
     """The room of a cell over all plans: of a number from `low` to `high`, which plans have; of
-    another cell all `values` that plans have. `room` is how much that is beyond one value."""
+    another cell all `values` that plans have. `room` is how much that is beyond one value.
+
+    >>> w = Workbench()
+    >>> x = w.number("x", 3, 9)
+    >>> print(w.slack(x))
+    Over all plans:
+      cell  least  greatest  room
+      x     3      9         6
+    """
 
     cell: str
     low: int | None
@@ -36,7 +44,13 @@ class Slack(Shown):
     @property
     def room(self) -> int | None:
         """How much a number may move, or how many other values there are; None where nothing
-        fits."""
+        fits.
+
+        >>> w = Workbench()
+        >>> x = w.number("x", 3, 9)
+        >>> w.slack(x).room
+        6
+        """
         if self.low is not None and self.high is not None:
             return self.high - self.low
         return len(self.values) - 1 if self.values else None
@@ -59,7 +73,16 @@ class Slack(Shown):
 
 class Critical(Shown, Premises):
     """Premises that leave a cell no less than `value`, or no more: a least set of them, none of
-    which can be left out. Iterates over their names."""
+    which can be left out. Iterates over their names.
+
+    >>> w = Workbench()
+    >>> x = w.number("x", 0, 9)
+    >>> w.require(x >= 3, under="much")
+    >>> print(w.critical(x))
+    x can't be less than 3 because of:
+      premise  says
+      much     x >= 3
+    """
 
     cell: str
     sort: str

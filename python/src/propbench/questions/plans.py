@@ -38,7 +38,16 @@ class _Branch:
 class Plans(Shown, list[Plan]):
     """Plans over the cells that are shown, each a dict by their names; all there are where it is
     `complete`, by what the premises `because` say, where the program searches itself. In `whole` the
-    same plans have all cells but quantities."""
+    same plans have all cells but quantities.
+
+    >>> w = Workbench()
+    >>> x, y = w.number("x", 0, 9), w.number("y", 0, 9)
+    >>> w.require(x * y == 49)
+    >>> print(w.plans())
+    1 plan, no others:
+      x  y
+      7  7
+    """
 
     def __init__(
         self,

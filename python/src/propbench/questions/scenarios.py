@@ -93,7 +93,17 @@ class Row(dict[str, Answer]):
 
 class Scenarios(Shown, dict[str, Row]):
     """Rows by name, in the order in which they were given, with an answer for each column. Of those
-    for which there was no time there is no row."""
+    for which there was no time there is no row.
+
+    >>> w = Workbench()
+    >>> x = w.number("x", 0, 9)
+    >>> w.require(x >= 3, under="much")
+    >>> print(w.scenarios({"now": {}, "all": dict(kick=["much"])}, [x]))
+    2 scenarios:
+      scenario  x
+      now       3..9
+      all       0..9
+    """
 
     def __init__(
         self,

@@ -34,7 +34,15 @@ class Worth:
 
 
 class Sensitivity(Shown, list[Worth]):
-    """What each believed premise is worth to a cell, whose value now is `now`."""
+    """What each believed premise is worth to a cell, whose value now is `now`.
+
+    >>> w = Workbench()
+    >>> x = w.number("x", 0, 9)
+    >>> w.require(x >= 3, under="much")
+    >>> sensitivity = w.sensitivity(x)
+    >>> print(sensitivity.now, sensitivity[0].left_out)
+    3..9 0..9
+    """
 
     def __init__(
         self,

@@ -10,7 +10,13 @@ from propbench.questions.shown import Shown
 
 class Solution(Shown, dict[str, Point]):
     """A plan: a value of each cell but quantities, by its name. `choices` has for each choice the
-    alternative that it takes."""
+    alternative that it takes.
+
+    >>> w = Workbench()
+    >>> x = w.number("x", 3, 3)
+    >>> w.solve()["x"], w.solve().choices
+    (3, {})
+    """
 
     complete = True
 
