@@ -10,15 +10,19 @@ import pytest
 import propbench
 from propbench import errors, questions, replies
 from propbench.model.cells import ElementCell, NumberCell
-from propbench.plain import PlainWorkbench
+from propbench.model.measured import MeasuredAnswer
 
 # What users hold in their hands, of which each public member has an example.
 CLASSES: list[type] = [
-    PlainWorkbench,
+    propbench.Workbench,
     propbench.Session,
+    propbench.Project,
+    propbench.Task,
+    propbench.Quantity,
     NumberCell,
     ElementCell,
     propbench.Answer,
+    MeasuredAnswer,
     propbench.Certificate,
     propbench.Conflicts,
     propbench.Optimum,

@@ -56,6 +56,12 @@ class Measuring(Questions):
         the unit; where that leaves room for it the cell counts finer steps.
 
         Raises UnknownUnit, and ValueError where an end is missing, or a cell can't count that.
+
+        >>> w = Workbench()
+        >>> height = w.measured("height", "m", 0, 100, step="0.01")
+        >>> w.fix(height, "12 m +- 50 cm")
+        >>> print(height.ask())
+        height = 11.5..12.5 m
         """
         if low is None or high is None:
             raise ValueError(
@@ -71,6 +77,15 @@ class Measuring(Questions):
         No real solution is lost: whichever real numbers fit the law and the readings lie in the
         answers. Raises ValueError where a term has no bound, or a step is too coarse for the law,
         and MixedUnits where a temperature is compared with a difference of two.
+
+        >>> w = Workbench()
+        >>> u, i = w.measured("u", "V", 0, 100), w.measured("i", "mA", 0, 100)
+        >>> r = w.measured("r", "ohm", 0, 10000)
+        >>> w.law(u == r * i)
+        >>> w.read("meter", u, "10 V +- 0.1 V")
+        >>> w.read("clamp", i, "20 mA")
+        >>> print(r.ask())
+        r = 482.92..517.95 ohm because of meter, clamp
         """
         if not isinstance(law, Law):
             raise TypeError(f"{law!r} is no law of measured quantities: `w.require` states others")
@@ -106,6 +121,13 @@ class Measuring(Questions):
 
         What isn't understood to its end is refused, and nothing is stated then. A standard uncertainty (in brackets, or behind `u=`) counts `coverage` times as a bound.
         Raises NoReading, UnknownUnit and MixedUnits, which are ValueErrors.
+
+        >>> w = Workbench()
+        >>> height = w.measured("height", "m", 0, 100, step="0.01")
+        >>> w.read("tape", height, "12.0 m +- 0.5 m")
+        >>> answer = height.ask()
+        >>> print(answer.low, answer.high, answer.because)
+        11.5 12.5 ('tape',)
         """
         if not isinstance(quantity, Quantity):
             raise TypeError(f"`{quantity!r}` is no measured quantity")
@@ -128,6 +150,14 @@ class Measuring(Questions):
         `seconds` are over.
 
         Raises Conflict where what is believed can't all hold.
+
+        >>> w = Workbench()
+        >>> side, area = w.measured("side", "m", 0, 10), w.measured("area", "m^2", 0, 100)
+        >>> w.law(area == side * side)
+        >>> w.read("plan", area, "25 m^2")
+        >>> answer = w.shave(side)
+        >>> answer.low <= 5 <= answer.high
+        True
         """
         self._own(quantity)
         return find_shaved(self, quantity, seconds, progress)
@@ -140,7 +170,16 @@ class Measuring(Questions):
         progress: Progress | None = None,
     ) -> Outliers:
         """The least sets of readings to give up so that nothing speaks against the others, `most` of
-        them at the most: the fewest first, and of as many those that are off by more."""
+        them at the most: the fewest first, and of as many those that are off by more.
+
+        >>> w = Workbench()
+        >>> height = w.measured("height", "m", 0, 100)
+        >>> w.read("tape", height, "12 m +- 1 m")
+        >>> w.read("laser", height, "12.5 m +- 0.1 m")
+        >>> w.read("guess", height, "20 m +- 1 m")
+        >>> [each.names for each in w.outliers()]
+        [('guess',), ('tape', 'laser')]
+        """
         measured_cells = [name for name, it in self._network.cells.items() if it.measure]
         return find_outliers(
             self.model,
@@ -159,7 +198,17 @@ class Measuring(Questions):
         progress: Progress | None = None,
     ) -> Improvements:
         """Which reading to improve: how wide a quantity's answer is where a reading's tolerance is
-        halved, and without the reading. `w.sensitivity(quantity)` is the same."""
+        halved, and without the reading. `w.sensitivity(quantity)` is the same.
+
+        >>> w = Workbench()
+        >>> height = w.measured("height", "m", 0, 100)
+        >>> w.read("tape", height, "12 m +- 1 m")
+        >>> w.read("laser", height, "12.5 m +- 0.1 m")
+        >>> for reading, says, halved, left_out in w.improvements(height).rows():
+        ...     print(reading, halved, left_out)
+        tape 0.1 0.2
+        laser 0.1 2
+        """
         self._own(quantity)
         return find_improvements(self.model, quantity, self._readings(), seconds, progress)
 
@@ -173,7 +222,14 @@ class Measuring(Questions):
     ) -> Prediction:
         """What a further reading of a quantity would have to show, by a tolerance as `+- 0.5 ohm`
         or `2 % + 1 ohm`, so that it doesn't speak against what is believed. Shares are of what it
-        shows. Raises NoReading, UnknownUnit and MixedUnits."""
+        shows. Raises NoReading, UnknownUnit and MixedUnits.
+
+        >>> w = Workbench()
+        >>> height = w.measured("height", "m", 0, 100, step="0.1")
+        >>> w.read("tape", height, "12 m +- 1 m")
+        >>> print(w.predict(height, "+- 0.5 m").shows)
+        10.5..13.5 m
+        """
         self._own(quantity)
         by = expected(tolerance, quantity.unit)
         left = self.shave(quantity, seconds=seconds, progress=progress)
@@ -183,6 +239,13 @@ class Measuring(Questions):
         """What a law that was stated costs in width, since whole numbers stand for the reals.
 
         Raises ValueError for a law that was not stated.
+
+        >>> w = Workbench()
+        >>> side, area = w.measured("side", "m", 0, 10), w.measured("area", "m^2", 0, 100)
+        >>> law = area == side * side
+        >>> w.law(law)
+        >>> sorted(w.room(law).widths)
+        ['area', 'side']
         """
         told = [it for it in self._laws() if it.law == law]
         if not told:

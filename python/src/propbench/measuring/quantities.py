@@ -19,7 +19,14 @@ _FINE, _FINEST, _MOST = 10**8, 10**15, 8 * 10**17
 
 
 class Quantity(Cell, Term):
-    """A measured quantity: a real number in a unit, whose cell counts steps of it."""
+    """A measured quantity: a real number in a unit, whose cell counts steps of it.
+
+    >>> w = Workbench()
+    >>> height = w.measured("height", "m", 0, 100, step="0.1")
+    >>> w.read("tape", height, "12.0 m +- 0.5 m")
+    >>> print(height.ask())
+    height = 11.5..12.5 m because of tape
+    """
 
     def __init__(self, declared: Declared, workbench: Asked) -> None:
         super().__init__(declared, workbench)
@@ -29,12 +36,22 @@ class Quantity(Cell, Term):
 
     @property
     def measure(self) -> Measure:
-        """What the cell counts."""
+        """What the cell counts.
+
+        >>> w = Workbench()
+        >>> w.measured("height", "m", 0, 100).measure.unit
+        'm'
+        """
         return self._measure
 
     @property
     def unit(self) -> Unit:
-        """The unit in which the quantity is told."""
+        """The unit in which the quantity is told.
+
+        >>> w = Workbench()
+        >>> w.measured("height", "km", 0, 100).unit.factor
+        Fraction(1000, 1)
+        """
         return self._unit
 
     @property
@@ -46,6 +63,13 @@ class Quantity(Cell, Term):
 
         A run that isn't done after `seconds` is cut, and the answer says that it isn't settled.
         Raises Conflict where what is believed can't all hold.
+
+        >>> w = Workbench()
+        >>> height = w.measured("height", "m", 0, 100, step="0.1")
+        >>> w.read("tape", height, "12.0 m +- 0.5 m")
+        >>> answer = height.ask()
+        >>> print(answer.low, answer.high, answer.width)
+        11.5 12.5 1.0
         """
         return measured(super().ask(over=over, seconds=seconds))
 

@@ -13,7 +13,15 @@ from propbench.model.measures import Interval, Measure, text_of_number
 class MeasuredAnswer(Answer):
     """What follows for a quantity. `low` and `high` are decimals in its unit, and `value` is the
     Interval from the one to the other. `coverage` has for each reading of a standard uncertainty
-    how many times that was taken."""
+    how many times that was taken.
+
+    >>> w = Workbench()
+    >>> height = w.measured("height", "m", 0, 100, step="0.1")
+    >>> w.read("tape", height, "12.0(5) m", coverage=3)
+    >>> answer = height.ask()
+    >>> print(answer.low, answer.high, dict(answer.coverage))
+    10.5 13.5 {'tape': Fraction(3, 1)}
+    """
 
     # (the ends of other answers are whole numbers)
     low: Decimal | None  # type: ignore[assignment]
@@ -22,7 +30,14 @@ class MeasuredAnswer(Answer):
 
     @property
     def width(self) -> Decimal | None:
-        """How far the ends are from each other."""
+        """How far the ends are from each other.
+
+        >>> w = Workbench()
+        >>> height = w.measured("height", "m", 0, 100, step="0.1")
+        >>> w.read("tape", height, "12.0 m +- 0.5 m")
+        >>> print(height.ask().width)
+        1.0
+        """
         return None if self.low is None or self.high is None else self.high - self.low
 
     def __str__(self) -> str:

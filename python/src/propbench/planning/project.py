@@ -40,6 +40,13 @@ class Project:
     Each fact has a premise of its own (`review takes 5`, `review after venue`, `ana away 5 to 10`),
     so that questions speak of these; `facts` are those of the tasks, as wishes are not. Behind the
     last task `end` is the day by which all is done, and `total_cost` what it costs.
+
+    >>> w = Workbench()
+    >>> p = w.project(days=30, people="ana ben")
+    >>> venue = p.task("venue", 3, who="ana")
+    >>> review = p.task("review", 5, who="ana ben")
+    >>> w.least(p.end).value
+    8
     """
 
     def __init__(
@@ -67,14 +74,28 @@ class Project:
 
     @property
     def tasks(self) -> dict[str, Task]:
-        """The tasks by name, in the order in which they were made."""
+        """The tasks by name, in the order in which they were made.
+
+        >>> w = Workbench()
+        >>> p = w.project(days=30, people="ana")
+        >>> venue = p.task("venue", 3, who="ana")
+        >>> list(p.tasks)
+        ['venue']
+        """
         made = (each for each in self.workbench.network.events if isinstance(each, TaskMade))
         return {each.task.name: each.task for each in made if each.project is self}
 
     @property
     def facts(self) -> tuple[str, ...]:
         """The premises that say what the tasks are: how long they take, what they cost, in which
-        order they come. `w.repairs(keep=p.facts)` gives up none of them."""
+        order they come. `w.repairs(keep=p.facts)` gives up none of them.
+
+        >>> w = Workbench()
+        >>> p = w.project(days=30)
+        >>> venue = p.task("venue", 3)
+        >>> p.facts
+        ('venue takes 3',)
+        """
         found: dict[str, None] = {}
         for each in self.workbench.network.events:
             if isinstance(each, (TaskTold, TaskOrdered)) and each.project is self and each.premise:
@@ -102,6 +123,14 @@ class Project:
         there is such a task, no such person, a task of another workbench before it, or `end` or
         `total_cost` was asked for before, and TypeError for days that are no whole number or an
         `after` that is no list of tasks. Then the plan is as it was.
+
+        >>> w = Workbench()
+        >>> p = w.project(days=30, people="ana ben")
+        >>> ways = {"hotel": dict(days=2, cost=4000), "uni": dict(days=5, cost=1500)}
+        >>> venue = p.task("venue", who="ana", options=ways)
+        >>> review = p.task("review", 5, who="ben", after=[venue])
+        >>> w.least(p.end).value, w.least(p.total_cost).value
+        (7, 1500)
         """
         people = self._checked(name, who)
         ways = checked_ways(name, days, cost, options)
@@ -131,7 +160,16 @@ class Project:
         """A person does nothing from the beginning of one day to the beginning of another; the
         premise of that, which is named `ana away 5 to 10` where no name is given. Days are numbers,
         or dates where the plan has a calendar. A task doesn't pause meanwhile: it ends before, or
-        begins behind. Where all of these days are off anyway, nothing more is stated."""
+        begins behind. Where all of these days are off anyway, nothing more is stated. Raises
+        ValueError for somebody else, and for a return before the leave.
+
+        >>> w = Workbench()
+        >>> p = w.project(days=30, people="ana")
+        >>> trip = p.away("ana", 2, 10)
+        >>> venue = p.task("venue", 3, who="ana")
+        >>> w.least(venue.start).value
+        10
+        """
         self._person(person)
         begin, end = self.day(first), self.day(last)
         if begin == end and _is_before(first, last):
@@ -154,14 +192,29 @@ class Project:
 
     @property
     def returns(self) -> tuple[tuple[str, int], ...]:
-        """Who comes back on which day, by premises that are believed."""
+        """Who comes back on which day, by premises that are believed.
+
+        >>> w = Workbench()
+        >>> p = w.project(days=30, people="ana")
+        >>> trip = p.away("ana", 2, 10)
+        >>> p.returns
+        (('ana', 10),)
+        """
         believed = set(self.workbench.believed)
         return tuple((away.person, away.last) for away in self._aways() if away.premise in believed)
 
     def done_by(
         self, day: int | date | str, under: str | None = None, task: Task | None = None
     ) -> str:
-        """A task, or all, is done before the beginning of a day; the premise of that."""
+        """A task, or all, is done before the beginning of a day; the premise of that.
+
+        >>> w = Workbench()
+        >>> p = w.project(days=30)
+        >>> venue = p.task("venue", 3)
+        >>> wish = p.done_by(9, task=venue)
+        >>> w.greatest(venue.start).value
+        6
+        """
         last, what = self.day(day), "all" if task is None else task.name
         premise = under or f"{what} done by {last}"
 
@@ -174,21 +227,41 @@ class Project:
 
     @property
     def end(self) -> NumberCell:
-        """The day by which all is done. No task can be added once it was asked for."""
+        """The day by which all is done. No task can be added once it was asked for.
+
+        >>> w = Workbench()
+        >>> p = w.project(days=30)
+        >>> venue = p.task("venue", 3)
+        >>> w.least(p.end).value
+        3
+        """
         if self._end is None or not self._has(self._end):
             self._end = self.workbench.network.whole(self._made_end)
         return self._end
 
     @property
     def total_cost(self) -> NumberCell:
-        """What all tasks cost. No task can be added once it was asked for."""
+        """What all tasks cost. No task can be added once it was asked for.
+
+        >>> w = Workbench()
+        >>> p = w.project(days=30)
+        >>> venue, review = p.task("venue", 3, cost=400), p.task("review", 5, cost=100)
+        >>> p.total_cost.ask().value
+        500
+        """
         if self._total is None or not self._has(self._total):
             self._total = self.workbench.network.whole(self._made_total)
         return self._total
 
     def day(self, given: int | date | str) -> int:
         """A day of the plan, by its number, or by a date where the plan has a calendar, as
-        `2026-12-04`. Raises ValueError for one that is none, and TypeError."""
+        `2026-12-04`. Raises ValueError for one that is none, and TypeError.
+
+        >>> w = Workbench()
+        >>> p = w.project(days=30, start="2026-03-02", off="sat sun")
+        >>> p.day("2026-03-09")
+        5
+        """
         if isinstance(given, SupportsIndex):
             return index(given)
         if self.calendar is None:
@@ -196,7 +269,13 @@ class Project:
         return self.calendar.day_of(date_given(given))
 
     def date(self, day: int) -> date:
-        """The date of a day. Raises ValueError where the plan has no calendar."""
+        """The date of a day. Raises ValueError where the plan has no calendar.
+
+        >>> w = Workbench()
+        >>> p = w.project(days=30, start="2026-03-02", off="sat sun")
+        >>> p.date(5).isoformat()
+        '2026-03-09'
+        """
         if self.calendar is None:
             raise ValueError("the plan has no calendar: give w.plan a start")
         return self.calendar.date_of(day)
@@ -211,7 +290,14 @@ class Project:
     ) -> "Chart":
         """A Gantt chart: of this plan, or of the first that ends soonest, and of the room
         that each task has over all plans, as far as `seconds` suffice for these. Raises NothingFits
-        where there is no plan, or none was found."""
+        where there is no plan, or none was found.
+
+        >>> w = Workbench()
+        >>> p = w.project(days=30)
+        >>> venue = p.task("venue", 3)
+        >>> "venue" in p.chart().svg
+        True
+        """
         from propbench.planning.chart import chart_of
 
         return chart_of(self, plan, rooms, seconds, progress)

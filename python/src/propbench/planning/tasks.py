@@ -26,7 +26,15 @@ class Way:
 @dataclass(frozen=True, eq=False)
 class Task:
     """A task. Its cells can be asked, and may stand in constraints as any others: it is done from
-    the beginning of the day `start` to the beginning of the day `end`, `days` later."""
+    the beginning of the day `start` to the beginning of the day `end`, `days` later.
+
+    >>> w = Workbench()
+    >>> p = w.project(days=30)
+    >>> venue = p.task("venue", 3)
+    >>> w.require(venue.start >= 4)
+    >>> w.least(venue.end).value
+    7
+    """
 
     name: str
     people: tuple[str, ...]
@@ -36,7 +44,15 @@ class Task:
     cost: NumberCell | None
 
     def before(self, other: "Task") -> Number:
-        """How many days there are between the end of this task and the start of another."""
+        """How many days there are between the end of this task and the start of another.
+
+        >>> w = Workbench()
+        >>> p = w.project(days=30)
+        >>> venue, review = p.task("venue", 3), p.task("review", 5)
+        >>> w.require(venue.before(review) >= 2)
+        >>> w.least(review.start).value
+        5
+        """
         return other.start - self.end
 
     def __repr__(self) -> str:
