@@ -114,10 +114,6 @@ class Known:
         """Whether a procedure or a definition has the name."""
         return name in KIT or name in self.definitions
 
-    def count_of(self, name: str) -> int:
-        """How many cells the procedure or definition takes."""
-        return len(self.cells_of(name))
-
     def cells_of(self, name: str) -> tuple[str, ...]:
         """The names of the cells that a procedure or definition takes, in order."""
         return KIT[name].cells if name in KIT else self.definitions[name].parameters
