@@ -15,7 +15,7 @@ from weakref import WeakValueDictionary
 from propbench.clock import Clock
 from propbench.closing import Closing
 from propbench.finding import find_wide
-from propbench.given import path_given
+from propbench.given import names_given, path_given
 from propbench.model.answers import Answer, Conflict, NotSettled, ends_of
 from propbench.model.cells import (
     Cell,
@@ -24,7 +24,6 @@ from propbench.model.cells import (
     SymbolCell,
     TruthCell,
     gone,
-    words_of,
 )
 from propbench.model.choosing import MOST_ALTERNATIVES
 from propbench.model.events import (
@@ -184,7 +183,7 @@ class PlainWorkbench(Questions, Closing):
         >>> day.elements
         ('mon', 'tue', 'wed')
         """
-        names = words_of(elements)
+        names = names_given(elements)
         if not 1 <= len(names) <= 64:
             raise ValueError(f"a domain has one to 64 elements, and {name!r} {len(names)}")
         is_there = name in self._network.domains

@@ -56,6 +56,8 @@ class Workbench(PlainWorkbench, Measuring):
     - files and lines: `save`, `load`, `lines`, `close`; `proved` and `lacks` tell of the program.
     - within: `session`, `network`, `model`, `answer`; and `plan`, an older name of `project`.
 
+    Several names may be given as a list, or in one text with spaces between.
+
     Each call is carried out at once and whole. Where it is refused, by ValueError or TypeError, or
     ends by another exception, as at Ctrl-C, nothing of it is stated: answers are as before, but of
     several reasons that are all right others may be named where the program had to begin anew.

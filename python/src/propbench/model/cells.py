@@ -1,6 +1,5 @@
 """Cells: what a user declares, states and asks."""
 
-from collections.abc import Iterable, Mapping
 from typing import TYPE_CHECKING, Protocol
 
 from propbench.model.answers import Answer
@@ -155,14 +154,3 @@ class SymbolCell(Cell, Symbol):
 def gone(name: str) -> ValueError:
     """What is raised for a cell of this name that is not there any more."""
     return ValueError(f"{name!r} was made in a what-if that is over: make it anew")
-
-
-def words_of(given: "str | Iterable[str]") -> tuple[str, ...]:
-    """Names given as one text with spaces between them, or one by one. Raises TypeError for what
-    is neither."""
-    names = given.split() if isinstance(given, str) else given
-    if isinstance(names, Iterable) and not isinstance(names, Mapping):
-        found = tuple(names)
-        if all(isinstance(name, str) for name in found):
-            return found
-    raise TypeError(f"names are one text with spaces between, or a list of texts: {given!r}")

@@ -3,7 +3,7 @@
 from collections.abc import Iterable, Sequence
 from typing import TYPE_CHECKING, Any
 
-from propbench.model.cells import words_of
+from propbench.given import names_given
 from propbench.model.events import Values
 from propbench.model.expressions import point_of
 from propbench.model.kinds import MOST, Domain, Plain
@@ -67,10 +67,10 @@ def alternative_of(cell: Declared, value: object) -> Values:
 
 
 def _several(cell: Declared, value: object) -> Iterable[object]:
-    """The names: one, several in one text with spaces between, or several one by one."""
+    """The names, as they are given."""
     assert isinstance(cell.kind, Domain)
     if isinstance(value, str):
-        return [value] if value in cell.kind.elements else words_of(value)
+        return names_given(value, cell.kind.elements)
     if not isinstance(value, Iterable):
         raise TypeError(f"{value!r} is no element of {cell.kind}: write its name as a text")
     return value

@@ -5,7 +5,8 @@ from datetime import date
 from operator import index
 from typing import TYPE_CHECKING, SupportsIndex
 
-from propbench.model.cells import NumberCell, words_of
+from propbench.given import names_given
+from propbench.model.cells import NumberCell
 from propbench.model.events import Required, Told
 from propbench.model.expressions import Truth, maximum, total
 from propbench.model.given import values_of
@@ -67,7 +68,7 @@ class Project:
                 ' them. Where there are two of a kind, name two, as "hall1 hall2"'
             )
         self.workbench, self.days, self.calendar = workbench, days, calendar
-        self.people = words_of(people)
+        self.people = names_given(people)
         # The cells that were made last for these; the workbench says whether they are there.
         self._end: NumberCell | None = None
         self._total: NumberCell | None = None
@@ -308,7 +309,7 @@ class Project:
             raise ValueError(f"there is a task {name!r}")
         if any(cell is not None and self._has(cell) for cell in (self._end, self._total)):
             raise ValueError(f"{name}: add tasks before the end or the total cost is asked for")
-        people = words_of(who)
+        people = names_given(who, self.people)
         for person in people:
             self._person(person)
         return people

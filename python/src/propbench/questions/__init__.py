@@ -73,6 +73,9 @@ class Questions:
     `seconds` ends a question early, with what is known by then; Ctrl-C does so by `Interrupted`,
     which has that as `so_far`. `progress` is called with a line of text now and then; where it is
     None, a question that takes longer shows that line on the terminal.
+
+    Several names may be given as a list, or in one text with spaces between, as `keep="Ana cheap"`.
+    A name that has spaces itself is one, where there is one of that name.
     """
 
     @property
@@ -202,7 +205,7 @@ class Questions:
 
     def plans(
         self,
-        show: Iterable[CellLike] | None = None,
+        show: str | Iterable[CellLike] | None = None,
         *,
         most: int = 100,
         seconds: float | None = None,
@@ -299,7 +302,7 @@ class Questions:
     def scenarios(
         self: Bench,
         rows: Mapping[str, Scenario],
-        columns: Iterable[CellLike],
+        columns: str | Iterable[CellLike],
         *,
         seconds: float | None = None,
         progress: Progress | None = None,
@@ -321,7 +324,7 @@ class Questions:
     def sweep(
         self: Bench,
         scenarios: Mapping[str, Scenario] | Iterable[Scenario],
-        show: Iterable[CellLike],
+        show: str | Iterable[CellLike],
         executor: Executor | None = None,
         *,
         seconds: float | None = None,
@@ -371,14 +374,14 @@ class Questions:
         change = changed(kick, bring, tell)
         with self._set_aside():
             # (what is wrong with it is said here, and names that it gives are those of the copy)
-            resolved(self.model, change)
-            for premise in change.kick:
+            made = resolved(self.model, change)
+            for premise in made.kicked:
                 self.kick(premise)
-            for premise in change.bring:
+            for premise in made.brought:
                 self.bring(premise)
             for told, cell, *value in change.tell:
                 self.tell(str(told), self.cell(cell) if isinstance(cell, str) else cell, *value)
-                if told not in change.kick:
+                if told not in made.kicked:
                     self.bring(str(told))
             yield self
 

@@ -202,7 +202,7 @@ def find_repairs(
 def _check_weight(model: Model, weight: Mapping[str, float]) -> None:
     if not isinstance(weight, Mapping):
         raise TypeError(f"the weight is a dict of premises and numbers: {weight!r} is none")
-    premises_named(model, weight)
+    premises_named(model, list(weight))
     for premise, value in weight.items():
         if isinstance(value, bool) or not isinstance(value, Real):
             raise TypeError(f"the weight of {premise} is no number: {value!r}")

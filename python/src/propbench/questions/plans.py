@@ -6,7 +6,7 @@ from dataclasses import dataclass, field
 
 from propbench.clock import Clock, Progress
 from propbench.points import NoneFits, Points, Several
-from propbench.questions.asking import CellLike, tried, tried_by, whole_named
+from propbench.questions.asking import CellLike, cells_given, tried, tried_by, whole_named
 from propbench.questions.certificate import Certificate, Evidence, Tree, as_json, on_lines
 from propbench.questions.model import Model, Plan
 from propbench.questions.outcomes import Cannot, Fits, Open, Outcome
@@ -272,7 +272,7 @@ class Listed:
 
 def find_plans(
     model: Model,
-    show: Iterable[CellLike] | None,
+    show: str | Iterable[CellLike] | None,
     most: int,
     seconds: float | None,
     progress: Progress | None,
@@ -280,7 +280,7 @@ def find_plans(
     """All plans with what is believed, over these cells, or over all but quantities and those for
     symbols. Raises ValueError for one for symbols, and TypeError for a quantity."""
     clock = Clock(seconds, progress)
-    names = None if show is None else [whole_named(model, cell) for cell in show]
+    names = None if show is None else [whole_named(model, it) for it in cells_given(model, show)]
     if seeks(model):
         with suppress(Unlike), Seeker(model, clock) as seeker:
             return listed_in_turns(seeker, names, most)

@@ -13,7 +13,7 @@ from propbench.clock import Clock, Progress
 from propbench.model.answers import Answer
 from propbench.model.shrinking import shrunk
 from propbench.program import OutOfTime
-from propbench.questions.asking import CellLike, answered, cell_named
+from propbench.questions.asking import CellLike, answered, cell_named, cells_given
 from propbench.questions.bench import Bench
 from propbench.questions.certificate import Certificate, Evidence
 from propbench.questions.changes import Change, resolved
@@ -144,14 +144,14 @@ class Asking:
         self,
         bench: Bench,
         scenarios: Mapping[str, Scenario],
-        columns: Iterable[CellLike],
+        columns: str | Iterable[CellLike],
         clock: Clock,
     ) -> None:
         """Raises NoSuchName, TypeError and ValueError for a scenario that can't be."""
         model = self._model = bench.model
         self._bench, self._clock = bench, clock
         self._base = tuple(line for line in model.base() if not is_silent(line))
-        self.columns = [cell_named(model, cell) for cell in columns]
+        self.columns = [cell_named(model, it) for it in cells_given(model, columns)]
         self._changes = {n: resolved(model, Change.of(s)) for n, s in scenarios.items()}
         cells = tuple(map(model.cell_name, self.columns))
         self.jobs = {
@@ -285,7 +285,7 @@ def _result(future: "Future[Heard | None] | None", clock: Clock) -> Heard | None
 def find_scenarios(
     bench: Bench,
     rows: Mapping[str, Scenario],
-    columns: Iterable[CellLike],
+    columns: str | Iterable[CellLike],
     seconds: float | None,
     progress: Progress | None,
 ) -> Scenarios:
@@ -299,7 +299,7 @@ def find_scenarios(
 def sweep(
     bench: Bench,
     scenarios: Mapping[str, Scenario] | Iterable[Scenario],
-    show: Iterable[CellLike],
+    show: str | Iterable[CellLike],
     executor: "Executor | None",
     clock: Clock,
 ) -> Scenarios:
