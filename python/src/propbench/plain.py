@@ -57,7 +57,7 @@ if TYPE_CHECKING:
     from propbench.watching import Claim
 
 # What each alternative of a choice states: one constraint or several.
-Stated = Truth | bool | Sequence[Truth | bool]
+Alternative = Truth | bool | Sequence[Truth | bool]
 SomeCell = TypeVar("SomeCell", bound=Cell)
 SomeBench = TypeVar("SomeBench", bound="PlainWorkbench")
 _UNTOLD = "what makes up a value is told by propwide, and this program is another"
@@ -378,13 +378,13 @@ class PlainWorkbench(Questions, Closing):
         ...
 
     @overload
-    def choose(self, name: str, cell: Mapping[str, Stated]) -> None:
+    def choose(self, name: str, cell: Mapping[str, Alternative]) -> None:
         ...
 
     def choose(
         self,
         name: str,
-        cell: Cell | Mapping[str, Stated],
+        cell: Cell | Mapping[str, Alternative],
         alternatives: Sequence[object] | None = None,
     ) -> None:
         """Makes a choice between two to 64 alternatives, the one to be tried first in front.
@@ -848,7 +848,7 @@ class PlainWorkbench(Questions, Closing):
             if known.get(cell.name) is not cell:
                 raise gone(cell.name)
 
-    def _constraints(self, stated: Stated) -> tuple[Node, ...]:
+    def _constraints(self, stated: Alternative) -> tuple[Node, ...]:
         """The constraints of an alternative."""
         if not isinstance(stated, Expression | bool | Iterable):
             raise TypeError(f"an alternative states constraints, and {stated!r} is none")

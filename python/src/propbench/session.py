@@ -27,7 +27,7 @@ from propbench.points import Best, NoneFits, Points, Several, SoFar
 from propbench.program import OutOfTime, Program, ProgramEnded, StillAtWork
 from propbench.refusals import Refused, UnknownCommand
 from propbench.replies import DONE, SILENT, How, Listing, Reply, Step, Unsettled
-from propbench.runs import LATE, PATIENCE, Progress, Question, Runner, Watch, is_settled
+from propbench.runs import LATE, PATIENCE, RunProgress, Question, Runner, Watch, is_settled
 from propbench.seeking import Seeking
 from propbench.words import MOST_STEPS, as_line, is_silent
 
@@ -215,7 +215,7 @@ class Session(Closing):
         line: str | bytes,
         *,
         seconds: float | None = None,
-        progress: Progress | None = None,
+        progress: RunProgress | None = None,
     ) -> Reply:
         """Sends one line, and gives its reply.
 
@@ -398,7 +398,7 @@ class Session(Closing):
         return reply
 
     def solve(
-        self, *cells: str, seconds: float | None = None, progress: Progress | None = None
+        self, *cells: str, seconds: float | None = None, progress: RunProgress | None = None
     ) -> Points | NoneFits | Unsettled:
         """Points that fit, one value for each cell, or the premises that leave none; where the
         program is propwide. The cells that are named get their values first.
@@ -421,7 +421,11 @@ class Session(Closing):
         return reply
 
     def least(
-        self, cell: str, *cells: str, seconds: float | None = None, progress: Progress | None = None
+        self,
+        cell: str,
+        *cells: str,
+        seconds: float | None = None,
+        progress: RunProgress | None = None,
     ) -> Best | NoneFits | SoFar | Unsettled:
         """The least that a number can be, with points at which it is, and the premises because of
         which it can't be less. Where that isn't settled in time the best points so far are given.
@@ -440,7 +444,11 @@ class Session(Closing):
         return self._end("least", cell, cells, seconds, progress)
 
     def greatest(
-        self, cell: str, *cells: str, seconds: float | None = None, progress: Progress | None = None
+        self,
+        cell: str,
+        *cells: str,
+        seconds: float | None = None,
+        progress: RunProgress | None = None,
     ) -> Best | NoneFits | SoFar | Unsettled:
         """The same for the greatest that a number can be.
 
@@ -457,7 +465,7 @@ class Session(Closing):
         cell: str,
         cells: Iterable[str],
         seconds: float | None,
-        progress: Progress | None,
+        progress: RunProgress | None,
     ) -> Best | NoneFits | SoFar | Unsettled:
         """An end of a number."""
         reply = self.send(" ".join([end, cell, *cells]), seconds=seconds, progress=progress)
@@ -469,7 +477,7 @@ class Session(Closing):
         count: int,
         *cells: str,
         seconds: float | None = None,
-        progress: Progress | None = None,
+        progress: RunProgress | None = None,
     ) -> Several | NoneFits | Unsettled:
         """So many points that fit, of which no two are the same at all of these cells; and whether
         there are others. Asked again at once it gives others yet. All else is as in `solve`.

@@ -28,7 +28,7 @@ Found = TypeVar("Found")
 
 
 @dataclass
-class Program:
+class ProgramKnown:
     """What is known of the program: procedures that it offers, and whether it takes words for
     names. It is the same for all copies."""
 
@@ -45,11 +45,11 @@ class Network:
     """
 
     def __init__(
-        self, session: Session, program: Program | None = None, record: Record | None = None
+        self, session: Session, program: ProgramKnown | None = None, record: Record | None = None
     ) -> None:
         """What a record has, or nothing as yet, in a session to which nothing was said."""
         self._session = session
-        self._program = program or Program()
+        self._program = program or ProgramKnown()
         self._record = record or Record()
         self._index = Index(self._record)
         self._script = self.new_script()

@@ -35,7 +35,7 @@ _LONGEST = 4000
 _FRACTION = re.compile(r"-?[0-9]{1,2000}(/[0-9]{1,2000})?", re.ASCII)
 # What JSON gives may be anything: its parts are read by what stands there, and what has another form
 # than an event raises.
-Record = Mapping[str, Any]
+JsonRecord = Mapping[str, Any]
 Nested = Sequence[Any]
 
 
@@ -48,7 +48,7 @@ def comments(event: Mapping[str, object]) -> Iterator[str]:
         yield (GOES_ON if first else BEGINS) + text[first : first + _LONGEST]
 
 
-def records(lines: Iterable[str]) -> list[Record]:
+def records(lines: Iterable[str]) -> list[JsonRecord]:
     """The records that comments hold. Raises ValueError where one can't be read."""
     import json
 
@@ -137,7 +137,7 @@ class Records:
     cells: dict[str, Declared] = field(default_factory=dict)
     domains: dict[str, Domain] = field(default_factory=dict)
 
-    def event(self, record: Record) -> Event:
+    def event(self, record: JsonRecord) -> Event:
         """The event that a record is. Raises KeyError, TypeError or ValueError for what is none."""
         if "domain" in record:
             made = Domain(record["domain"], tuple(record["elements"]))
@@ -156,7 +156,7 @@ class Records:
         self.cells[declared.name] = declared
         return CellMade(declared)
 
-    def _declared(self, record: Record) -> Declared:
+    def _declared(self, record: JsonRecord) -> Declared:
         if "element" in record:
             kind: Kind = self.domains[record["domain_of"]]
             return Declared(record["element"], kind, None, None, self.owner)
@@ -167,7 +167,7 @@ class Records:
         [(plain, name)] = record.items()
         return Declared(name, Plain(plain), None, None, self.owner)
 
-    def _choice(self, record: Record) -> ValueChoice | ConstraintChoice:
+    def _choice(self, record: JsonRecord) -> ValueChoice | ConstraintChoice:
         if "of" in record:
             alternatives = tuple(tuple(values) for values in record["values"])
             return ValueChoice(record["choose"], self.cells[record["of"]], alternatives)

@@ -14,7 +14,7 @@ from propbench.questions.exploring import Exploring, Refuted
 from propbench.questions.hitting import bits_of
 from propbench.questions.model import Model, Point
 from propbench.questions.outcomes import NothingFits
-from propbench.questions.plans import Listing, listed_in_turns
+from propbench.questions.plans import PlanListing, listed_in_turns
 from propbench.questions.rooms import Numbers
 from propbench.questions.seeking import Seeker, Unlike, seeks
 from propbench.questions.shown import NOT_REFUTED, Shown, shortened
@@ -176,7 +176,7 @@ def _slack_by(seeker: Seeker, cell: str) -> Slack:
 
 
 def _slack_of_names(trial: Trial, cell: str) -> Slack:
-    listing = Listing(trial, [cell], len(trial.rooms[cell] or ""))
+    listing = PlanListing(trial, [cell], len(trial.rooms[cell] or ""))
 
     def result() -> Slack:
         plans = listing.result()

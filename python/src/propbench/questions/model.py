@@ -3,11 +3,10 @@
 from collections.abc import Mapping, Sequence
 from typing import Protocol
 
-from propbench.model.first import First
+from propbench.model.first import First as First
+from propbench.model.kinds import Point as Point
 from propbench.session import Session
 
-# A value told for one of the user's cells: a number, a name, or whether a truth holds.
-Point = int | str | bool
 # Points by the names of cells.
 Plan = dict[str, Point]
 

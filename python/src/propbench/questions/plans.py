@@ -76,7 +76,7 @@ class Plans(Shown, list[Plan]):
         return [[plan[cell] for cell in self.show] for plan in self]
 
 
-class Listing:
+class PlanListing:
     """The search for all plans: the tree of cases, as far as it has grown."""
 
     def __init__(self, trial: Trial, show: Sequence[str], most: int) -> None:
@@ -318,5 +318,5 @@ def _by_cases(model: Model, names: Sequence[str] | None, most: int, clock: Clock
     except ValueError:
         trial.close()
         raise
-    listing = Listing(trial, shown, most)
+    listing = PlanListing(trial, shown, most)
     return tried(trial, listing.run, listing.result)
