@@ -238,13 +238,13 @@ BUGS = [
         "planning::what_is_refused_leaves_nothing",
     ),
     Bug(
-        "workbench.py",
+        "plain.py",
         "            copy, self._network = self._network, kept\n",
         "            copy = self._network\n",
         "what_is_left::a_what_if_leaves_nothing",
     ),
     Bug(
-        "workbench.py",
+        "plain.py",
         "            if known.get(cell.name) is not cell:\n",
         "            if cell.name not in known:\n",
         "what_is_left::what_was_made_in_a_what_if_says_that_it_is_gone",
