@@ -24,6 +24,8 @@ HEAVY = {
     "http",
     "json",
     "logging",
+    "pathlib",
+    "random",
     "socket",
     "subprocess",
     "textwrap",
@@ -83,7 +85,7 @@ def test_a_run_imports_no_workbench(tmp_path: Path) -> None:
     )
     assert not HEAVY & found
     assert [name for name in found if name.count(".") > 1 and name.startswith("propbench.")] == []
-    assert len(found) <= 95
+    assert len(found) <= 80
 
 
 def test_a_solver_imports_what_solves_alone(tmp_path: Path) -> None:
@@ -100,7 +102,7 @@ def test_a_solver_imports_what_solves_alone(tmp_path: Path) -> None:
     parts = ("measuring", "planning", "watching", "pictures", "page", "notebook")
     assert [name for name in found if name.startswith(tuple(f"propbench.{x}" for x in parts))] == []
     assert "propbench.questions.scenarios" not in found
-    assert len(found) <= 165
+    assert len(found) <= 145
 
 
 @pytest.mark.parametrize("package", ["propbench", "propbench.errors", "propbench.questions"])
