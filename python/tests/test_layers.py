@@ -16,7 +16,6 @@ import propbench
 SOURCES = Path(propbench.__file__).resolve().parents[1]
 SESSION, READINGS, MODEL, QUESTIONS, BENCHES, WORKBENCH, FRONT = range(7)
 LAYERS = {
-    **dict.fromkeys(["exact", "units", "amounts", "tolerances", "readings"], READINGS),
     "model": MODEL,
     "questions": QUESTIONS,
     **dict.fromkeys(["laboratory", "measuring", "plain", "planning"], BENCHES),
@@ -24,6 +23,13 @@ LAYERS = {
     **dict.fromkeys(["flatzinc", "notebook", "page", "pictures", "watching"], FRONT),
     **dict.fromkeys(["__main__", "checking", "desk", "errors", "helping"], FRONT),
     **dict.fromkeys(["shell", "terminal"], FRONT),
+}
+# Modules of another layer than their package: what readings say, and commands of the desk.
+_SAID = ["exact", "units", "amounts", "tolerances", "readings"]
+_COMMANDS = ["laboratory.command", "planning.command", "planning.planner"]
+BY_THEMSELVES = {
+    **dict.fromkeys([f"propbench.measuring.{name}" for name in _SAID], READINGS),
+    **dict.fromkeys([f"propbench.{name}" for name in _COMMANDS], FRONT),
 }
 # What a workbench shows is imported once it is asked for, and looks at the workbench.
 VIEWS = {"propbench.page", "propbench.pictures", "propbench.watching.of_workbench"}
@@ -39,9 +45,9 @@ MODULES = {named(path): path for path in sorted(SOURCES.glob("propbench/**/*.py"
 
 def layer_of(module: str) -> int:
     """The layer of a module. (Those that stand by themselves are the session's.)"""
+    if module in BY_THEMSELVES:
+        return BY_THEMSELVES[module]
     parts = module.split(".")[1:]
-    if parts[:1] == ["measuring"] and LAYERS.get(parts[-1]) == READINGS:
-        return READINGS
     return LAYERS.get(parts[0], SESSION) if parts else FRONT
 
 
