@@ -112,6 +112,9 @@ class LineModel(Questions):
     def chosen(self, plan: Mapping[str, Point]) -> Mapping[str, object]:
         return {}
 
+    def scheduled(self, plan: Mapping[str, Point]) -> None:
+        return None
+
     def is_measured(self, cell: str) -> bool:
         return False
 

@@ -62,6 +62,7 @@ from propbench.model.tabling import Table
 from propbench.nearby import near_names
 from propbench.overview import UNPROVED
 from propbench.planning import Calendar, Project
+from propbench.planning.schedule import schedule_in
 from propbench.program import OutOfTime
 from propbench.questions import Sensitivity
 from propbench.questions.asking import CellLike
@@ -135,7 +136,7 @@ class Workbench(Measuring, Closing):
     @property
     def model(self) -> BenchModel:
         """The workbench as questions see it, which take many asks."""
-        return BenchModel(self._network)
+        return BenchModel(self._network, schedule_in)
 
     @property
     def proved(self) -> bool:
@@ -208,15 +209,20 @@ class Workbench(Measuring, Closing):
         While the premise is kicked out the constraint has no effect at all, also where it is false
         or can't be worked out; while it is believed it tells as much as one that holds always.
         """
+        node = self.constraint_of(constraint)
+        if under is not None:
+            self._network.premises.check(under)
+        self._network.do(Required(node, under))
+
+    def constraint_of(self, constraint: Truth | bool) -> Node:
+        """What a constraint on cells of this workbench says. Raises TypeError and ValueError."""
         if isinstance(constraint, Law):
             raise TypeError(f"`{constraint!r}` is a law of quantities: state it by `w.law(..)`")
         if isinstance(constraint, Expression) and not isinstance(constraint, Truth):
             raise TypeError(f"`{constraint!r}` is {kind_text(constraint.node.kind)}, no constraint")
         node = node_of(constraint, Plain.TRUTH)
         self._check_own(node)
-        if under is not None:
-            self._network.premises.check(under)
-        self._network.do(Required(node, under))
+        return node
 
     def fix(self, cell: Cell, value: Given, high: int | None = None) -> None:
         """States that a cell has a value, always: a number, or the numbers up to `high`; a truth,

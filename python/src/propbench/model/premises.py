@@ -69,7 +69,8 @@ class Premises:
 
     def text(self, name: str) -> str:
         """What is stated under a premise."""
-        return "; ".join(statement.text for statement in self.statements.get(name, ()))
+        texts = (statement.text for statement in self.statements.get(name, ()))
+        return "; ".join(dict.fromkeys(texts))
 
     @property
     def in_force(self) -> list[str]:

@@ -3,7 +3,7 @@
 This is all that `propbench.questions` uses of a workbench beside what a user does.
 """
 
-from collections.abc import Mapping, Sequence
+from collections.abc import Callable, Mapping, Sequence
 
 from propbench.model.cells import Cell, gone
 from propbench.model.events import CellMade, DomainMade, Event, Statement, premise_of
@@ -15,14 +15,19 @@ from propbench.model.network import Network
 from propbench.model.script import values_line
 from propbench.model.writing import text_of
 from propbench.questions.model import First
+from propbench.questions.planned import Scheduled
 from propbench.session import Session
+
+
+# What makes a schedule of a plan and the alternatives in it, where a network has tasks.
+Scheduling = Callable[[Network, Mapping[str, Point], Mapping[str, object]], "Scheduled | None"]
 
 
 class BenchModel:
     """A network with named premises of the user's, and cells of the user's."""
 
-    def __init__(self, network: Network) -> None:
-        self._network = network
+    def __init__(self, network: Network, scheduling: Scheduling) -> None:
+        self._network, self._scheduling = network, scheduling
         self._last = Plan({})
 
     @property
@@ -136,6 +141,10 @@ class BenchModel:
         return {
             name: choices[name].stands_on(side) for name, side in sides.items() if side is not None
         }
+
+    def scheduled(self, plan: Mapping[str, Point]) -> Scheduled | None:
+        """These points as a schedule, where there are tasks of one project."""
+        return self._scheduling(self._network, plan, self.chosen(plan))
 
     def first(self) -> Sequence[First]:
         """The cells of which values are tried out before those of others."""

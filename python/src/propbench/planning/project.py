@@ -11,9 +11,10 @@ from propbench.model.expressions import Truth, maximum, total
 from propbench.model.given import values_of
 from propbench.model.nodes import TRUE
 from propbench.nearby import near_names
-from propbench.planning.calendar import Calendar, date_given
+from propbench.planning.calendar import Calendar, date_given, date_said
 from propbench.planning.tasks import (
     Away,
+    Deadline,
     KeptOff,
     Option,
     Task,
@@ -21,17 +22,23 @@ from propbench.planning.tasks import (
     TaskOrdered,
     TaskTold,
     Way,
+    aways_of,
     checked_ways,
     tasks_in,
 )
 from propbench.questions.clock import Progress
 from propbench.questions.model import Plan
+from propbench.questions.planned import Planned
+from propbench.showing import printable
 
 if TYPE_CHECKING:
     from propbench.planning.chart import Chart
+    from propbench.planning.schedule import Schedule
     from propbench.workbench import Workbench
 
 MOST_COST = 10**12
+# A day of a plan: its number, or a date where the plan has a calendar.
+Day = int | date | str
 
 
 class Project:
@@ -118,16 +125,15 @@ class Project:
                     self._tell(under or f"{name} costs {cost}", task.cost, cost)
             for other in earlier:
                 before = (other.end <= task.start).node
-                self._state(TaskOrdered(before, under or f"{name} after {other.name}", self))
+                premise = under or f"{name} after {other.name}"
+                self._state(TaskOrdered(before, premise, self, other, task))
             self._keep_apart(task, others)
             self._keep_off([task], [away for away in aways if away.person in people])
             return task
 
         return self.workbench.network.whole(state)
 
-    def away(
-        self, person: str, first: int | date | str, last: int | date | str, under: str | None = None
-    ) -> str:
+    def away(self, person: str, first: Day, last: Day, under: str | None = None) -> str:
         """A person does nothing from the beginning of one day to the beginning of another; the
         premise of that, which is named `ana away 5 to 10` where no name is given. Days are numbers,
         or dates where the plan has a calendar. A task doesn't pause meanwhile: it ends before, or
@@ -135,7 +141,7 @@ class Project:
         self._person(person)
         begin, end = self.day(first), self.day(last)
         if begin == end and _is_before(first, last):
-            premise = under or f"{person} away {date_given(first)} to {date_given(last)}"
+            premise = under or f"{person} away {self._said(first)} to {self._said(last)}"
             self.workbench.require(True, under=premise)
             return premise
         if begin >= end:
@@ -143,7 +149,8 @@ class Project:
                 f"{person} can't be away from {_day_text(first)} to {_day_text(last)}: the second is"
                 " the day of the return"
             )
-        away = Away(person, begin, end, under or f"{person} away {begin} to {end}")
+        written = f"{self._said(first)} to {self._said(last)}"
+        away = Away(person, begin, end, under or f"{person} away {written}", written)
         theirs = [task for task in self.tasks.values() if person in task.people]
         if theirs:
             self.workbench.network.whole(lambda: self._keep_off(theirs, [away]))
@@ -152,24 +159,26 @@ class Project:
             self._state(KeptOff(TRUE, away.premise, away, self))
         return away.premise
 
-    @property
-    def returns(self) -> tuple[tuple[str, int], ...]:
-        """Who comes back on which day, by premises that are believed."""
-        believed = set(self.workbench.believed)
-        return tuple((away.person, away.last) for away in self._aways() if away.premise in believed)
-
-    def done_by(
-        self, day: int | date | str, under: str | None = None, task: Task | None = None
-    ) -> str:
+    def done_by(self, day: Day, under: str | None = None, task: Task | None = None) -> str:
         """A task, or all, is done before the beginning of a day; the premise of that."""
         last, what = self.day(day), "all" if task is None else task.name
-        premise = under or f"{what} done by {last}"
+        premise = under or f"{what} done by {self._said(day)}"
+        written = f"{printable(what)} done before {self._told(last)}"
 
         def state() -> None:
             end = self.end if task is None else task.end
-            self.workbench.require(end <= last, under=premise)
+            self._state(Deadline(self.workbench.constraint_of(end <= last), premise, written))
 
         self.workbench.network.whole(state)
+        return premise
+
+    def not_before(self, day: Day, task: Task, under: str | None = None) -> str:
+        """A task doesn't begin before a day; the premise of that, which is named `review not before
+        2026-03-09` where no name is given."""
+        first = self.day(day)
+        premise = under or f"{task.name} not before {self._said(day)}"
+        written = f"{printable(task.name)} begins on {self._told(first)} or later"
+        self._state(Deadline(self.workbench.constraint_of(task.start >= first), premise, written))
         return premise
 
     @property
@@ -186,7 +195,7 @@ class Project:
             self._total = self.workbench.network.whole(self._made_total)
         return self._total
 
-    def day(self, given: int | date | str) -> int:
+    def day(self, given: Day) -> int:
         """A day of the plan, by its number, or by a date where the plan has a calendar, as
         `2026-12-04`. Raises ValueError for one that is none, and TypeError."""
         if isinstance(given, SupportsIndex):
@@ -201,9 +210,17 @@ class Project:
             raise ValueError("the plan has no calendar: give w.plan a start")
         return self.calendar.date_of(day)
 
+    def schedule(self, plan: Planned | Plan) -> "Schedule":
+        """A plan of the project as a schedule: of what `w.least(p.end)` or `w.solve()` gives, or one
+        of its plans. `w.least(p.end)` prints as one anyway where there is no other project."""
+        from propbench.planning.schedule import schedule_of, values_in
+
+        values, ways = values_in(self.workbench.model, plan)
+        return schedule_of(self.workbench.network, self, values, ways)
+
     def chart(
         self,
-        plan: Plan | None = None,
+        plan: Planned | Plan | None = None,
         *,
         rooms: bool = True,
         seconds: float | None = None,
@@ -234,6 +251,23 @@ class Project:
             if not self._has(task.end):
                 raise ValueError(f"{name}: the task {task.name!r} is none of this workbench")
         return tasks
+
+    def told(self, tasks: Iterable[Task]) -> frozenset[str]:
+        """The cells and choices of which a schedule of these tasks tells the values."""
+        cells = [cell for cell in (self._end, self._total) if cell is not None]
+        for task in tasks:
+            cells += [task.start, task.end, task.days, *([] if task.cost is None else [task.cost])]
+        return frozenset([*(cell.name for cell in cells), *(task.name for task in tasks)])
+
+    def _said(self, day: Day) -> str:
+        """A day as it was given, as names have it."""
+        return str(index(day) if isinstance(day, SupportsIndex) else date_given(day))
+
+    def _told(self, day: int) -> str:
+        """The date of a day, or its number where there is none."""
+        if self.calendar is None or day < 0:
+            return f"day {day}"
+        return date_said(self.calendar.date_of(day))
 
     def _has(self, cell: NumberCell) -> bool:
         """Whether the workbench has the cell: one that was made for a what-if is gone behind it."""
@@ -268,8 +302,7 @@ class Project:
 
     def _aways(self) -> list[Away]:
         """When somebody is away."""
-        kept = (each for each in self.workbench.network.events if isinstance(each, KeptOff))
-        return list(dict.fromkeys(each.away for each in kept if each.project is self))
+        return aways_of(self, self.workbench.network.events)
 
     def _choose(self, task: Task, ways: Mapping[str, Way]) -> None:
         def stated(way: Way) -> list[Truth]:
@@ -314,13 +347,13 @@ class Project:
                 self.workbench.require(total(work) <= end)
 
 
-def _is_before(first: int | date | str, last: int | date | str) -> bool:
+def _is_before(first: Day, last: Day) -> bool:
     """Whether a date comes before another; numbers of days tell nothing of dates."""
     if isinstance(first, int) or isinstance(last, int):
         return False
     return date_given(first) < date_given(last)
 
 
-def _day_text(day: int | date | str) -> str:
+def _day_text(day: Day) -> str:
     """A day as it was given."""
     return f"day {day}" if isinstance(day, int) else str(day)

@@ -5,11 +5,15 @@ What a project knows stands in what was stated to its workbench, and nowhere els
 
 from collections.abc import Iterable, Mapping, Sequence
 from dataclasses import dataclass
-from typing import SupportsIndex
+from typing import TYPE_CHECKING, SupportsIndex
 
 from propbench.model.cells import NumberCell
-from propbench.model.events import Required, Told
+from propbench.model.events import Event, Required, Told
 from propbench.model.expressions import Number
+from propbench.showing import printable
+
+if TYPE_CHECKING:
+    from propbench.planning.project import Project
 
 # An alternative of a task: its days, and maybe its cost.
 Option = Mapping[str, int]
@@ -49,31 +53,60 @@ class TaskMade(Required):
     """There is a task of a project: it ends when its days are over."""
 
     task: Task
-    project: object
+    project: "Project"
 
 
 @dataclass(frozen=True)
 class TaskTold(Told):
     """What a task of a project takes, or costs."""
 
-    project: object
+    project: "Project"
 
 
 @dataclass(frozen=True)
 class TaskOrdered(Required):
     """A task of a project comes after another."""
 
-    project: object
+    project: "Project"
+    earlier: Task
+    later: Task
+
+
+@dataclass(frozen=True)
+class KeptApart(Required):
+    """What somebody does is done one thing at a time."""
+
+    person: str
+    project: "Project"
+
+    @property
+    def text(self) -> str:
+        """What is stated, of all that the person does."""
+        return f"no two tasks of {printable(self.person)} at once"
+
+
+@dataclass(frozen=True)
+class Deadline(Required):
+    """A task, or all, is done before a day, or not begun before one."""
+
+    written: str
+
+    @property
+    def text(self) -> str:
+        """What is stated, as the day was given."""
+        return self.written
 
 
 @dataclass(frozen=True)
 class Away:
-    """Somebody does nothing from the beginning of one day to that of another, under a premise."""
+    """Somebody does nothing from the beginning of one day to that of another, under a premise; these
+    are the days of `written`."""
 
     person: str
     first: int
     last: int
     premise: str
+    written: str
 
 
 @dataclass(frozen=True)
@@ -81,7 +114,18 @@ class KeptOff(Required):
     """Somebody is away: that a task is not done then, or nothing more, where there is none."""
 
     away: Away
-    project: object
+    project: "Project"
+
+    @property
+    def text(self) -> str:
+        """What is stated, of all that the person does."""
+        return f"no task of {printable(self.away.person)} {self.away.written}"
+
+
+def aways_of(project: object, events: Iterable[Event]) -> list[Away]:
+    """When somebody of a project is away."""
+    kept = (each for each in events if isinstance(each, KeptOff))
+    return list(dict.fromkeys(each.away for each in kept if each.project is project))
 
 
 def checked_ways(

@@ -4,6 +4,7 @@ from collections.abc import Mapping, Sequence
 from dataclasses import dataclass
 from typing import Protocol
 
+from propbench.questions.planned import Scheduled
 from propbench.session import Session
 
 # A value told for one of the user's cells: a number, a name, or whether a truth holds.
@@ -90,6 +91,10 @@ class Model(Protocol):
 
     def chosen(self, plan: Mapping[str, Point]) -> Mapping[str, object]:
         """For each choice the alternative that holds at these points, as the user wrote it."""
+        ...
+
+    def scheduled(self, plan: Mapping[str, Point]) -> Scheduled | None:
+        """These points as a schedule, where they are those of one project's tasks."""
         ...
 
     def is_measured(self, cell: str) -> bool:

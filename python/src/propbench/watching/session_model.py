@@ -97,6 +97,10 @@ class SessionModel:
         """Nothing: what a choice of a session takes is a value of a cell."""
         return {}
 
+    def scheduled(self, plan: Mapping[str, Point]) -> None:
+        """A session has no tasks."""
+        return None
+
     def is_measured(self, cell: str) -> bool:
         """No cell of a session has a unit."""
         return False
