@@ -17,4 +17,4 @@ def test_the_page(
 ) -> None:
     monkeypatch.setenv("PROPBENCH", wide)
     monkeypatch.chdir(tmp_path)
-    carried_out(PAGE.read_text(encoding="utf-8"), 2, capsys)
+    carried_out(PAGE.read_text(encoding="utf-8"), 3, capsys)

@@ -1,7 +1,7 @@
 """A Gantt chart as SVG: a bar for each task, and behind it the room that it has over all plans."""
 
 import os
-from collections.abc import Mapping
+from collections.abc import Collection, Mapping
 from dataclasses import dataclass
 from html import escape
 from typing import TYPE_CHECKING
@@ -57,7 +57,7 @@ def chart_of(
     clock = Clock(seconds, progress)
     shown, is_best = (plan, True) if plan is not None else _soonest(project, has_rooms, clock)
     schedule = project.schedule(shown)
-    rooms = rooms_of(project, clock) if has_rooms else {}
+    rooms = rooms_of(project, clock, project.tasks) if has_rooms else {}
     is_all = is_best and (not has_rooms or len(rooms) == len(schedule.entries))
     return Chart(drawn(schedule, rooms, project.days), is_all)
 
@@ -94,8 +94,10 @@ def drawn(schedule: Schedule, rooms: Mapping[str, tuple[int, int]], days: int) -
     )
 
 
-def rooms_of(project: "Project", clock: Clock) -> dict[str, tuple[int, int]]:
-    """For each task the first day on which it starts in any plan, and the last on which it ends, as
+def rooms_of(
+    project: "Project", clock: Clock, tasks: Collection[str]
+) -> dict[str, tuple[int, int]]:
+    """For each of these tasks the first day on which it starts in any plan, and the last on which it ends, as
     far as there is time to find both."""
     model = project.workbench.model
     rooms: dict[str, tuple[int, int]] = {}
@@ -110,11 +112,12 @@ def rooms_of(project: "Project", clock: Clock) -> dict[str, tuple[int, int]]:
         return bounding.value if bounding.proved else None
 
     def run(trial: Trial) -> None:
-        for name, task in project.tasks.items():
+        for name in tasks:
+            task = project.tasks[name]
             ends = best(trial, task.start.name, LEAST), best(trial, task.end.name, GREATEST)
             if ends[0] is not None and ends[1] is not None:
                 rooms[name] = ends[0], ends[1]
-            clock.tell(f"the rooms of {len(rooms)} of {len(project.tasks)} tasks")
+            clock.tell(f"the rooms of {len(rooms)} of {len(tasks)} tasks")
 
     trial = Trial(model, model.believed(), clock)
     return tried(trial, lambda: run(trial), lambda: rooms)

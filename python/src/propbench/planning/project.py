@@ -15,6 +15,7 @@ from propbench.planning.calendar import Calendar, date_given, date_said
 from propbench.planning.tasks import (
     Away,
     Deadline,
+    KeptApart,
     KeptOff,
     Option,
     Task,
@@ -32,6 +33,7 @@ from propbench.questions.planned import Planned
 from propbench.showing import printable
 
 if TYPE_CHECKING:
+    from propbench.planning.chain import Chain
     from propbench.planning.chart import Chart
     from propbench.planning.schedule import Schedule
     from propbench.workbench import Workbench
@@ -87,6 +89,13 @@ class Project:
             if isinstance(each, (TaskTold, TaskOrdered)) and each.project is self and each.premise:
                 found[each.premise] = None
         return tuple(found)
+
+    @property
+    def limits(self) -> tuple[str, ...]:
+        """The premises that people do one thing at a time, of whoever has two tasks: as `ana does
+        one thing at a time`. Where one is given up, somebody has to help her."""
+        kept = (each for each in self.workbench.network.events if isinstance(each, KeptApart))
+        return tuple(dict.fromkeys(each.premise for each in kept if each.project is self))
 
     def task(
         self,
@@ -167,7 +176,9 @@ class Project:
 
         def state() -> None:
             end = self.end if task is None else task.end
-            self._state(Deadline(self.workbench.constraint_of(end <= last), premise, written))
+            self._state(
+                Deadline(self.workbench.constraint_of(end <= last), premise, written, None, None)
+            )
 
         self.workbench.network.whole(state)
         return premise
@@ -178,7 +189,8 @@ class Project:
         first = self.day(day)
         premise = under or f"{task.name} not before {self._said(day)}"
         written = f"{printable(task.name)} begins on {self._told(first)} or later"
-        self._state(Deadline(self.workbench.constraint_of(task.start >= first), premise, written))
+        constraint = self.workbench.constraint_of(task.start >= first)
+        self._state(Deadline(constraint, premise, written, task.name, first))
         return premise
 
     @property
@@ -217,6 +229,16 @@ class Project:
 
         values, ways = values_in(self.workbench.model, plan)
         return schedule_of(self.workbench.network, self, values, ways)
+
+    def critical(
+        self, *, seconds: float | None = None, progress: Progress | None = None
+    ) -> "Chain":
+        """Why all ends no sooner: the chain of tasks, people and absences that makes the end, in
+        order, with what each task waits for, and the days that the other tasks can move. Raises
+        NothingFits where there is no plan, or none was found."""
+        from propbench.planning.chain import chain_of
+
+        return chain_of(self, seconds, progress)
 
     def chart(
         self,
@@ -314,9 +336,9 @@ class Project:
     def _keep_apart(self, task: Task, others: Iterable[Task]) -> None:
         """Its people do one thing at a time."""
         for other in others:
-            if set(other.people) & set(task.people):
+            for person in (each for each in task.people if each in other.people):
                 apart = (other.end <= task.start) | (task.end <= other.start)
-                self.workbench.require(apart)
+                self._state(KeptApart(apart.node, limit_of(person), person, self))
 
     def _keep_off(self, tasks: Iterable[Task], aways: Sequence[Away]) -> None:
         """Nothing of these tasks is done while somebody is away."""
@@ -344,7 +366,13 @@ class Project:
         for person in self.people:
             work = [task.days for task in self.tasks.values() if person in task.people]
             if len(work) > 1:
-                self.workbench.require(total(work) <= end)
+                bound = (total(work) <= end).node
+                self._state(KeptApart(bound, limit_of(person), person, self))
+
+
+def limit_of(person: str) -> str:
+    """The premise that a person does one thing at a time."""
+    return f"{person} does one thing at a time"
 
 
 def _is_before(first: Day, last: Day) -> bool:

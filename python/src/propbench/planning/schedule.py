@@ -82,6 +82,12 @@ class Schedule(Shown):
         """What all tasks cost."""
         return sum(entry.cost or 0 for entry in self.entries)
 
+    def end_said(self) -> str:
+        """When all is done, in words."""
+        if self.calendar is None:
+            return f"by day {self.end}"
+        return f"on {date_said(self.calendar.last_date(0, self.end))}"
+
     def by_date(self) -> list[Entry]:
         """The entries by their first days."""
         return sorted(self.entries, key=lambda entry: (entry.start, entry.end))
@@ -110,7 +116,7 @@ class Schedule(Shown):
     def rows(self) -> Sequence[Sequence[object]]:
         return [
             (
-                *self._ends(entry),
+                *self.ends(entry),
                 *self._rest_of(_said_of(entry)),
             )
             for entry in self.by_date()
@@ -124,7 +130,8 @@ class Schedule(Shown):
             if is_there:
                 yield column
 
-    def _ends(self, entry: Entry) -> tuple[object, object]:
+    def ends(self, entry: Entry) -> tuple[object, object]:
+        """The first and the last date of a task in words, or its days where there are no dates."""
         if self.calendar is None:
             return entry.start, entry.end
         first, last = map(date_said, self.dates(entry))

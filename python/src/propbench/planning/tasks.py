@@ -76,6 +76,7 @@ class TaskOrdered(Required):
 class KeptApart(Required):
     """What somebody does is done one thing at a time."""
 
+    premise: str
     person: str
     project: "Project"
 
@@ -87,9 +88,11 @@ class KeptApart(Required):
 
 @dataclass(frozen=True)
 class Deadline(Required):
-    """A task, or all, is done before a day, or not begun before one."""
+    """A task, or all, is done before a day, or not begun before the day `first`."""
 
     written: str
+    task: str | None
+    first: int | None
 
     @property
     def text(self) -> str:
