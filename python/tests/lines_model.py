@@ -157,6 +157,9 @@ class LineModel(Questions):
     def text(self, premise: str) -> str:
         return ", ".join(map(str, self.told.premises[premise]))
 
+    def exactly(self, premise: str) -> str:
+        return self.text(premise)
+
     def all_plans(self, believed: Sequence[str]) -> Iterator[dict[str, Point]]:
         """All plans with these premises, by going through all points."""
         rooms = {cell: self.candidates(cell) or () for cell in self.cells()}

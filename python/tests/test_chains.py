@@ -182,3 +182,16 @@ def test_a_wish_is_told_beside_the_chain() -> None:
         assert "and of good work." in told and p.critical().tasks == ("a", "b")
         with pytest.raises(NothingFits, match="no plan was found"):
             p.critical(seconds=0)
+
+
+def test_what_is_the_same_does_not_differ() -> None:
+    """However it is told: a project's statements, and the same by hand."""
+    with Workbench() as w, Workbench() as other:
+        p = w.plan(days=9, people="ana")
+        p.task("a", 2, who="ana")
+        p.away("ana", 3, 5, under="ill")
+        start, end, days = (other.number(f"a {it}", 0, 9) for it in ("start", "end", "days"))
+        other.require(end == start + days)
+        other.tell("a takes 2", days, 2)
+        other.require((end <= 3) | (start >= 5), under="ill")
+        assert not w.compare(other)

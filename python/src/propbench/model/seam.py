@@ -165,6 +165,10 @@ class BenchModel:
         """What the premise states, for people."""
         return self._network.premises.text(premise)
 
+    def exactly(self, premise: str) -> str:
+        """All that the premise states, by its cells."""
+        return self._network.premises.exactly(premise)
+
     def _points(self, plan: Mapping[str, Point]) -> Plan:
         """The points of a plan; of the one that was looked at last, with what was worked out."""
         cells = self._network.cells

@@ -11,7 +11,7 @@ from propbench.model.expressions import Truth, maximum, total
 from propbench.model.given import values_of
 from propbench.model.nodes import TRUE
 from propbench.nearby import near_names
-from propbench.planning.calendar import Calendar, date_given, date_said
+from propbench.planning.calendar import Calendar, date_given, date_said, dates_said
 from propbench.planning.tasks import (
     Away,
     Deadline,
@@ -158,8 +158,8 @@ class Project:
                 f"{person} can't be away from {_day_text(first)} to {_day_text(last)}: the second is"
                 " the day of the return"
             )
-        written = f"{self._said(first)} to {self._said(last)}"
-        away = Away(person, begin, end, under or f"{person} away {written}", written)
+        premise = under or f"{person} away {self._said(first)} to {self._said(last)}"
+        away = Away(person, begin, end, premise, self._span(begin, end))
         theirs = [task for task in self.tasks.values() if person in task.people]
         if theirs:
             self.workbench.network.whole(lambda: self._keep_off(theirs, [away]))
@@ -284,6 +284,12 @@ class Project:
     def _said(self, day: Day) -> str:
         """A day as it was given, as names have it."""
         return str(index(day) if isinstance(day, SupportsIndex) else date_given(day))
+
+    def _span(self, begin: int, end: int) -> str:
+        """The days from one to the beginning of another, by their dates where there are such."""
+        if self.calendar is None or begin < 0:
+            return f"{begin} to {end}"
+        return dates_said(self.calendar.date_of(begin), self.calendar.last_date(begin, end))
 
     def _told(self, day: int) -> str:
         """The date of a day, or its number where there is none."""

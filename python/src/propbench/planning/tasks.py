@@ -81,7 +81,7 @@ class KeptApart(Required):
     project: "Project"
 
     @property
-    def text(self) -> str:
+    def told(self) -> str:
         """What is stated, of all that the person does."""
         return f"no two tasks of {printable(self.person)} at once"
 
@@ -95,7 +95,7 @@ class Deadline(Required):
     first: int | None
 
     @property
-    def text(self) -> str:
+    def told(self) -> str:
         """What is stated, as the day was given."""
         return self.written
 
@@ -120,7 +120,7 @@ class KeptOff(Required):
     project: "Project"
 
     @property
-    def text(self) -> str:
+    def told(self) -> str:
         """What is stated, of all that the person does."""
         return f"no task of {printable(self.away.person)} {self.away.written}"
 

@@ -111,6 +111,10 @@ class Model(Protocol):
         """What the premise states, for people."""
         ...
 
+    def exactly(self, premise: str) -> str:
+        """All that the premise states, the same wherever the same is stated."""
+        ...
+
     def first(self) -> Sequence[First]:
         """The cells of which values are tried out before those of others, group by group; a cell
         that stands twice counts where it stands first."""

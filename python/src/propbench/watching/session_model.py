@@ -89,6 +89,10 @@ class SessionModel:
         """What the premise states."""
         return "; ".join(map(str, self._told.premises.get(premise, ())))
 
+    def exactly(self, premise: str) -> str:
+        """The same."""
+        return self.text(premise)
+
     def first(self) -> Sequence[First]:
         """None that are known."""
         return ()
