@@ -8,7 +8,7 @@ from typing import TYPE_CHECKING
 from propbench.model.network import Network
 from propbench.planning.chart import rooms_of
 from propbench.planning.schedule import Entry, Schedule
-from propbench.planning.tasks import Away, Deadline, KeptApart, KeptOff, TaskOrdered, TaskTold
+from propbench.planning.tasks import Away, KeptApart, KeptOff, TaskOrdered, TaskTold, Wished
 from propbench.questions.clock import Clock, Progress
 from propbench.questions.critical import Critical
 from propbench.questions.outcomes import NothingFits
@@ -196,7 +196,7 @@ class _Walk:
             days = self._schedule.days_said(away.first, away.last)
             words.append(f"{printable(away.person)}, away {days}")
         for each in self._stated:
-            if isinstance(each, Deadline) and each.task == entry.task and each.first == entry.start:
+            if isinstance(each, Wished) and each.task == entry.task and each.first == entry.start:
                 words.append(printable(str(each.premise)))
         return "; ".join(dict.fromkeys(words)), before
 

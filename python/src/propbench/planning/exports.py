@@ -15,6 +15,8 @@ from propbench.planning.schedule import Entry, Schedule
 from propbench.questions.shown import said
 from propbench.showing import printable
 
+# How the files end that schedules are written as, by what they are.
+ENDINGS = {"csv": (".csv",), "ics": (".ics",), "html": (".html", ".htm"), "svg": (".svg",)}
 # A line of a calendar has so many bytes at the most, its end not counted.
 _LINE = 75
 # A cell that begins so is a formula to a spreadsheet.
@@ -26,12 +28,16 @@ def written(text: str, path: str | os.PathLike[str] | None, endings: Sequence[st
     """The text, written to a file where one is named, whole or not at all. Raises OSError, and
     ValueError for a name that ends as if it were something else."""
     if path is not None:
-        given = path_given(path)
-        ending = os.path.splitext(given)[1]
-        if ending and ending.lower() not in endings:
-            raise ValueError(f"this is written as {endings[0]}, and not as {printable(ending)}")
-        write_file(given, text)
+        check_ending(path, endings)
+        write_file(path, text)
     return text
+
+
+def check_ending(path: str | os.PathLike[str], endings: Sequence[str]) -> None:
+    """Raises ValueError for the name of a file that ends as if it were something else."""
+    ending = os.path.splitext(path_given(path))[1]
+    if ending and ending.lower() not in endings:
+        raise ValueError(f"this is written as {endings[0]}, and not as {printable(ending)}")
 
 
 # --- for spreadsheets ---

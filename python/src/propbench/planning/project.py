@@ -14,7 +14,6 @@ from propbench.nearby import near_names
 from propbench.planning.calendar import Calendar, date_given, date_said, dates_said
 from propbench.planning.tasks import (
     Away,
-    Deadline,
     KeptApart,
     KeptOff,
     Option,
@@ -23,6 +22,7 @@ from propbench.planning.tasks import (
     TaskOrdered,
     TaskTold,
     Way,
+    Wished,
     aways_of,
     checked_ways,
     tasks_in,
@@ -176,9 +176,7 @@ class Project:
 
         def state() -> None:
             end = self.end if task is None else task.end
-            self._state(
-                Deadline(self.workbench.constraint_of(end <= last), premise, written, None, None)
-            )
+            self.wish(end <= last, premise, written)
 
         self.workbench.network.whole(state)
         return premise
@@ -190,8 +188,13 @@ class Project:
         premise = under or f"{task.name} not before {self._said(day)}"
         written = f"{printable(task.name)} begins on {self._told(first)} or later"
         constraint = self.workbench.constraint_of(task.start >= first)
-        self._state(Deadline(constraint, premise, written, task.name, first))
+        self._state(Wished(constraint, premise, written, task.name, first))
         return premise
+
+    def wish(self, constraint: Truth, under: str, says: str) -> None:
+        """States a constraint under a premise, which is told in these words where somebody asks what
+        it says."""
+        self._state(Wished(self.workbench.constraint_of(constraint), under, says))
 
     @property
     def end(self) -> NumberCell:

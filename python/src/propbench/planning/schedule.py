@@ -147,6 +147,11 @@ class Schedule(Shown):
         for start, end, what in sorted(when):
             yield f"{self.days_said(start, end)} {what}"
 
+    def told_in_short(self, entry: Entry) -> str:
+        """When a task is done, and how where there are several ways."""
+        way = "" if entry.way is None else f", {entry.way}"
+        return f"{self.days_said(entry.start, entry.end)}{way}"
+
     def days_said(self, start: int, end: int) -> str:
         """The days from one to another, in short."""
         if self.calendar is None:
@@ -164,9 +169,9 @@ class Schedule(Shown):
     def to_csv(self, path: str | os.PathLike[str] | None = None) -> str:
         """The schedule for a spreadsheet, a row for each task, written to a file where one is named;
         and its text."""
-        from propbench.planning.exports import csv_of, written
+        from propbench.planning.exports import ENDINGS, csv_of, written
 
-        return written(csv_of(self), path, (".csv",))
+        return written(csv_of(self), path, ENDINGS["csv"])
 
     def to_ics(
         self,
@@ -177,24 +182,24 @@ class Schedule(Shown):
     ) -> str:
         """The schedule for a calendar (iCalendar), all of it, or what one person does. Raises
         ValueError where the plan has no dates, and where nobody is called so."""
-        from propbench.planning.exports import ics_of, written
+        from propbench.planning.exports import ENDINGS, ics_of, written
 
-        return written(ics_of(self, who, now), path, (".ics",))
+        return written(ics_of(self, who, now), path, ENDINGS["ics"])
 
     def to_html(self, path: str | os.PathLike[str] | None = None, title: str = "Schedule") -> str:
         """The schedule as one page for a browser and a printer: chart, days, people."""
-        from propbench.planning.exports import written
+        from propbench.planning.exports import ENDINGS, written
         from propbench.planning.paper import page_of
 
-        return written(page_of(self, title), path, (".html", ".htm"))
+        return written(page_of(self, title), path, ENDINGS["html"])
 
     def to_svg(self, path: str | os.PathLike[str] | None = None) -> str:
         """The schedule as a Gantt chart."""
         from propbench.planning.chart import drawn
-        from propbench.planning.exports import written
+        from propbench.planning.exports import ENDINGS, written
 
         days = min(self.end + _BEHIND, max(self.end, self.staff.days))
-        return written(f"{drawn(self, {}, days)}\n", path, (".svg",))
+        return written(f"{drawn(self, {}, days)}\n", path, ENDINGS["svg"])
 
 
 def _said_of(entry: Entry) -> tuple[object, ...]:

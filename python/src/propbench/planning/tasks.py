@@ -87,12 +87,13 @@ class KeptApart(Required):
 
 
 @dataclass(frozen=True)
-class Deadline(Required):
-    """A task, or all, is done before a day, or not begun before the day `first`."""
+class Wished(Required):
+    """What is wished for of a plan, in words: that something is done before a day, or that a task
+    doesn't begin before the day `first`."""
 
     written: str
-    task: str | None
-    first: int | None
+    task: str | None = None
+    first: int | None = None
 
     @property
     def told(self) -> str:
