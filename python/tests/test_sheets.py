@@ -198,17 +198,17 @@ def test_what_ifs(ran: Ran, tmp_path: Path) -> None:
     path.write_text("task,days,who,after,cost\nfloor,3,Ben,,\npaint,2,Ana,floor,70\n")
     days = ["--start", "2026-03-06", "--off", "weekends"]
     told = {
-        "ben ill 9-10 March": "on Tue 17 Mar 2026: 3 days of work later.",
-        "Floor takes 1": "on Tue 10 Mar 2026: 2 days of work sooner.",
-        "floor takes 3 days": "on Thu 12 Mar 2026: as soon.",
-        "paint not before 12 March": "on Fri 13 Mar 2026: 1 day of work later.",
-        "without paint after floor": "on Tue 10 Mar 2026: 2 days of work sooner.",
+        "ben ill 9-10 March": "on Tue 17 Mar 2026.\n2 tasks moved, and all is done 3 days of work la",
+        "Floor takes 1": "on Tue 10 Mar 2026.\n2 tasks moved, and all is done 2 days of work sooner:",
+        "floor takes 3 days": "on Thu 12 Mar 2026.\nNothing moved.",
+        "paint not before 12 March": "on Fri 13 Mar 2026.\n1 task moved, and all is done 1 day of wo",
+        "without paint after floor": "on Tue 10 Mar 2026.\n1 task moved, and all is done 2 days of",
     }
     for text, says in told.items():
         status, out, err = ran(path, *days, "--what-if", text)
         assert (status, err) == (0, "") and f"What if {text}?\nAll is done {says}" in out
     assert "ben ill 1" not in ran(path, "--what-if", "ben ill 1-3")[1].partition("What if")[0]
-    assert "by day 8: 3 days later." in ran(path, "--what-if", "ben ill 1-3")[1]
+    assert "  floor  0 to 3  3 to 6  3\n" in ran(path, "--what-if", "ben ill 1-3")[1]
     wrong = {
         "bem ill 9 March": "nothing in the plan is called `bem`. Did you mean Ben?",
         "floor takes long": "can't be read: say `ana ill 3-7 March`",

@@ -15,7 +15,6 @@ from propbench.planning.what_ifs import suppose
 from propbench.questions.bounding import Optimum
 from propbench.questions.shown import listed
 from propbench.showing import printable, shown
-from propbench.tables import table
 from propbench.workbench import Workbench
 
 
@@ -116,28 +115,7 @@ def _suppose(project: Project, before: Schedule, text: str, seconds: float | Non
                 print(shown(str(w.conflicts(keep=project.facts, seconds=seconds))))
             return
         behind = project.schedule(best)
-    days = behind.end - before.end
-    work = " of work" if behind.calendar else ""
-    later = f"{abs(days)} day{'' if abs(days) == 1 else 's'}{work}"
-    later += " later" if days > 0 else " sooner"
     cost = behind.cost - before.cost
-    more = f", at {abs(cost)} {'more' if cost > 0 else 'less'}" if cost else ""
-    print(f"All is done {behind.end_said()}: {later if days else 'as soon'}{more}.")
-    if moved := list(_moved(before, behind)):
-        print(table(("task", "before", "then", "who"), moved, "  "))
-
-
-def _moved(before: Schedule, behind: Schedule) -> list[tuple[str, str, str, str]]:
-    """The tasks that are done at another time, or in another way."""
-    old = {entry.task: entry for entry in before.entries}
-    return [
-        (
-            entry.task,
-            before.told_in_short(old[entry.task]),
-            behind.told_in_short(entry),
-            ", ".join(entry.people),
-        )
-        for entry in behind.by_date()
-        if (entry.start, entry.end, entry.way)
-        != (old[entry.task].start, old[entry.task].end, old[entry.task].way)
-    ]
+    more = f" It costs {abs(cost)} {'more' if cost > 0 else 'less'}." if cost else ""
+    print(f"All is done {behind.end_said()}.{more}")
+    print(shown(str(behind.since(before))))

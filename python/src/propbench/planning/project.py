@@ -125,7 +125,7 @@ class Project:
         others, aways = self.tasks.values(), self._aways()
 
         def state() -> Task:
-            task = self._made(name, people, any(way.cost for way in ways.values()))
+            task = self._made(name, people, list(ways.values()))
             if options is not None:
                 self._choose(task, ways)
             else:
@@ -189,6 +189,26 @@ class Project:
         written = f"{printable(task.name)} begins on {self._told(first)} or later"
         constraint = self.workbench.constraint_of(task.start >= first)
         self._state(Wished(constraint, premise, written, task.name, first))
+        return premise
+
+    def done(self, task: Task, first: Day, end: Day, under: str | None = None) -> str:
+        """A task was done, from the beginning of one day to that of another, however long it was to
+        take; the premise of that, which is one of `facts`, and named `venue done 2 to 5` where no
+        name is given. Of a task with several ways one has to take so long: else ValueError."""
+        from propbench.planning.progress import state_done
+
+        self._check_there(task)
+        premise = under or f"{task.name} done {self._said(first)} to {self._said(end)}"
+        state_done(self, task, (self.day(first), self.day(end)), premise)
+        return premise
+
+    def today(self, day: Day, under: str | None = None) -> str:
+        """What isn't done begins today or later; the premise of that, in place of that of an earlier
+        day. Say first what was done."""
+        from propbench.planning.progress import state_today
+
+        premise = under or f"today is {self._said(day)}"
+        state_today(self, self.day(day), premise)
         return premise
 
     def wish(self, constraint: Truth, under: str, says: str) -> None:
@@ -294,6 +314,14 @@ class Project:
             return f"{begin} to {end}"
         return dates_said(self.calendar.date_of(begin), self.calendar.last_date(begin, end))
 
+    def day_said(self, day: int) -> str:
+        """A day in a sentence: `on Fri 6 Mar 2026`, `on day 4`."""
+        return f"on {self._told(day)}"
+
+    def _check_there(self, task: Task) -> None:
+        """Raises ValueError for a task of another workbench, or one that is gone."""
+        self.workbench.constraint_of(task.start >= 0)
+
     def _told(self, day: int) -> str:
         """The date of a day, or its number where there is none."""
         if self.calendar is None or day < 0:
@@ -310,15 +338,17 @@ class Project:
             hint = f" Did you mean {near[0]}?" if near else ""
             raise ValueError(f"nobody in the plan is called {person!r}.{hint}")
 
-    def _made(self, name: str, people: tuple[str, ...], has_cost: bool) -> Task:
+    def _made(self, name: str, people: tuple[str, ...], ways: Sequence[Way]) -> Task:
         """The cells of a task, and that it ends when its days are over."""
         number = self.workbench.number
         start, end, days = (
             number(f"{name} {what}", 0, self.days) for what in ("start", "end", "days")
         )
+        has_cost = any(way.cost for way in ways)
         cost = number(f"{name} cost", 0, MOST_COST) if has_cost else None
         task = Task(name, people, start, end, days, cost)
-        self._state(TaskMade((end == start + days).node, None, task, self))
+        takes = tuple(way.days for way in ways)
+        self._state(TaskMade((end == start + days).node, None, task, self, takes))
         return task
 
     def _tell(self, premise: str, cell: NumberCell, value: int) -> None:

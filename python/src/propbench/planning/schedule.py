@@ -19,6 +19,7 @@ from propbench.showing import printable
 from propbench.tables import table
 
 if TYPE_CHECKING:
+    from propbench.planning.moves import Moves
     from propbench.planning.project import Project
 
 Value = TypeVar("Value")
@@ -163,6 +164,12 @@ class Schedule(Shown):
         if doings := self.doings():
             lines.append(table(("who", "does"), doings, "  ", _WIDE))
         return "\n".join(lines)
+
+    def since(self, before: "Schedule") -> "Moves":
+        """What moved since an earlier schedule of the plan."""
+        from propbench.planning.moves import Moves
+
+        return Moves(before, self)
 
     # --- for others ---
 

@@ -50,10 +50,11 @@ class Task:
 
 @dataclass(frozen=True)
 class TaskMade(Required):
-    """There is a task of a project: it ends when its days are over."""
+    """There is a task of a project: it ends when its days are over, in each of its ways so many."""
 
     task: Task
     project: "Project"
+    ways: tuple[int, ...]
 
 
 @dataclass(frozen=True)
@@ -61,6 +62,27 @@ class TaskTold(Told):
     """What a task of a project takes, or costs."""
 
     project: "Project"
+
+
+@dataclass(frozen=True)
+class TaskDone(TaskTold):
+    """When a task was done: its first day, or the day by which it was over."""
+
+    task: str
+
+
+@dataclass(frozen=True)
+class NotYet(Required):
+    """A task that isn't done yet doesn't begin before today."""
+
+    project: "Project"
+    written: str
+    day: int
+
+    @property
+    def told(self) -> str:
+        """What is stated, of all such tasks."""
+        return self.written
 
 
 @dataclass(frozen=True)
