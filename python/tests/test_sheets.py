@@ -23,6 +23,7 @@ from odf.text import P
 from test_texts import BAD, is_clean
 
 from propbench.desk import main
+from propbench.planning import Calendar
 from propbench.planning.brief import Given
 from propbench.planning.days import date_in, days_in
 from propbench.planning.reading import brief_of
@@ -163,6 +164,18 @@ def test_a_schedule_of_a_file(ran: Ran, tmp_path: Path) -> None:
     assert (status, err) == (1, "") and "1     cheap\n" in out and "With --give-up" in out
     conflicts = "venue done before 2026-03-16", "Ana holiday 5 March to 2026-03-09", "cheap"
     assert all(name in out for name in conflicts)
+
+
+def test_empty_sheets_are_none(tmp_path: Path) -> None:
+    """A new file has some; and what the only one that isn't is called doesn't matter."""
+    tables: Tables = {"Sheet1": [["task", "days"], ["a", 2]], "Sheet2": [], "Sheet3": [[None]]}
+    for path in (as_xlsx(tables, tmp_path / "x.xlsx"), as_ods(tables, tmp_path / "x.ods")):
+        brief = brief_of(sheets_of(path), Given())
+        assert list(brief.jobs) == ["a"] and not brief.unread
+    more: Tables = {**SPRING, "colours": [["red"]]}
+    brief = brief_of(sheets_of(as_xlsx(more, tmp_path / "x.xlsx")), Given("2026-03-03", "sun", 70))
+    assert brief.unread == ["colours"] and brief.days == 70
+    assert brief.calendar == Calendar.of("2026-03-03", "sun")
 
 
 def test_one_table_is_enough(ran: Ran, tmp_path: Path) -> None:
@@ -363,6 +376,8 @@ WRONG = [
     ("tasks.csv", HEAD + "a,1,Ana,,,,,x\na,2,Ben,,,,,y\n", "row 3, column C (who): another row of"),
     ("tasks.csv", HEAD + "a,1,,,3 March\n", "`3 March` is not a day of the plan, as 5; dates need"),
     ("plan.csv", "start\nsoon\n", "row 2, column A (start): `soon` is no date: write it as 2026"),
+    ("plan.csv", "start\n2 March\n", "(start): `2 March` names no year: write it as 2026-03-02"),
+    ("tasks.csv", "", "there is nothing in these sheets: write tasks, with their days"),
     ("plan.csv", "start,off\n2026-03-02,moonday\n", "column B (off): `moonday` is no date"),
     ("plan.csv", "off\nsat\n", "row 2, column A (off): days off need a start of the plan"),
     (

@@ -171,7 +171,13 @@ def _add_plan(to: argparse.ArgumentParser) -> None:
     to.add_argument("--why", action="store_true", help="tell why it ends no sooner")
     for ending, what in _WRITTEN.items():
         to.add_argument(f"--{ending}", metavar="FILE", help=f"write the schedule {what}")
-    to.add_argument("--seconds", type=_seconds, metavar="N", help="how long each question may take")
+    to.add_argument(
+        "--seconds",
+        type=_seconds,
+        default=60.0,
+        metavar="N",
+        help="how long each question may take (60)",
+    )
 
 
 def _add_begin(to: argparse.ArgumentParser) -> None:

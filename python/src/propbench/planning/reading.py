@@ -11,8 +11,16 @@ from propbench.nearby import near_names
 from propbench.planning.brief import HELP, LEAVE, WISH, Brief, Given, Job, Leave, Way, Wish
 from propbench.planning.calendar import Calendar, date_said
 from propbench.planning.days import date_in
-from propbench.planning.headings import ABSENCES, PEOPLE, PLAN, SORTS, TASKS, WISHES
-from propbench.planning.sheets import Field, Sheet, SheetError, rows_of
+from propbench.planning.headings import (
+    ABSENCES,
+    PEOPLE,
+    PLAN,
+    SORTS,
+    TASKS,
+    WISHES,
+    rows_of,
+)
+from propbench.planning.sheets import Field, Sheet, SheetError
 from propbench.questions.shown import listed
 from propbench.showing import cut, printable
 
@@ -20,6 +28,8 @@ from propbench.showing import cut, printable
 Row = dict[str, Field]
 # So many names are listed for somebody who has written another.
 _MOST = 12
+# A date before that names no year.
+_FIRST_YEAR = 1900
 _WEEKDAYS = ("mon", "tue", "wed", "thu", "fri", "sat", "sun")
 _BETWEEN = re.compile(r"[,;\n]")
 _WHOLE = re.compile(r"\n")
@@ -28,8 +38,13 @@ _BETWEEN_PEOPLE = re.compile(r"[,;\n&+]|\band\b")
 
 def brief_of(sheets: Sequence[Sheet], given: Given) -> Brief:
     """What the tables say. Raises SheetError where something can't be taken."""
-    sorts = _sorted(sheets)
-    reader = _Reader(Brief(unread=[s.name for s in sheets if s not in sorts.values()]))
+    # (a new file has empty sheets, which nobody has written)
+    written = [sheet for sheet in sheets if sheet.rows]
+    if not written:
+        raise SheetError("there is nothing in these sheets: write tasks, with their days")
+    sorts = _sorted(written)
+    unread = [sheet.name for sheet in written if sheet not in sorts.values()]
+    reader = _Reader(Brief(unread=unread))
     reader.read_plan(sorts.get("plan"), given)
     reader.read_people(sorts.get("people"))
     reader.read_tasks(sorts["tasks"])
@@ -76,16 +91,18 @@ class _Reader:
         off = [row["off"] for row in rows if "off" in row and given.off is None]
         if starts[1:]:
             raise starts[1].wrong("the plan begins once: there is a start above")
-        start = date_in(given.start, date.min) if given.start else None
+        start = _start(given.start) if given.start else None
         if start is None and starts:
-            start = _judged(starts[0], lambda text: date_in(text, date.min))
+            start = _judged(starts[0], _start)
         if start is not None:
             self.brief.calendar = _calendar(start, given.off, off)
         elif off:
             raise off[0].wrong("days off need a start of the plan: add a column `start`")
         elif given.off:
             raise ValueError("days off need a start of the plan: --start 2026-03-02")
-        self.brief.days = given.days or (days[0] if days else None)
+        self.brief.days = given.days
+        if given.days is None and days:
+            self.brief.days = days[0]
 
     def _day(self, given: Field, is_within: bool = False) -> int:
         """The number of a day; of a date that is within, that of the day behind it."""
@@ -299,6 +316,14 @@ def _judged(given: Field, read: Callable[[str], date]) -> date:
         return read(given.text)
     except ValueError as error:
         raise given.wrong(str(error)) from None
+
+
+def _start(text: str) -> date:
+    """When a plan begins, with the year."""
+    found = date_in(text, date.min)
+    if found.year < _FIRST_YEAR:
+        raise ValueError(f"`{text}` names no year: write it as 2026-03-02")
+    return found
 
 
 def _calendar(start: date, given: str | None, off: Sequence[Field]) -> Calendar:

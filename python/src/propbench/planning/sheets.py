@@ -6,15 +6,14 @@ The last two are read by Debian's python3-odf and python3-openpyxl, where these 
 import csv
 import io
 import os
-from collections.abc import Iterable, Iterator
+import warnings
+from collections.abc import Callable, Iterable, Iterator
 from dataclasses import dataclass
 from datetime import date, datetime
 from importlib import import_module
 from pathlib import Path
 from typing import Any
 
-from propbench.nearby import near_names
-from propbench.questions.shown import listed
 from propbench.showing import cut, printable
 
 # More of a sheet than this is no plan that somebody wrote.
@@ -48,7 +47,8 @@ class Field:
 
     def wrong(self, says: str) -> SheetError:
         """That it can't be taken, and what would do."""
-        return SheetError(f"{printable(self.sheet)}, row {self.row}, column {self.column}: {says}")
+        where = f"{printable(self.sheet)}, row {self.row}, column {printable(self.column)}"
+        return SheetError(f"{where}: {says}")
 
 
 # --- files ---
@@ -68,20 +68,29 @@ def sheets_of(path: str) -> list[Sheet]:
     readers = {".xlsx": _xlsx_sheets, ".ods": _ods_sheets}
     if ending not in readers:
         raise SheetError(f"{printable(path)}: a plan is a folder, or a file .csv, .ods or .xlsx")
+    data = _bytes_of(path)
+    try:
+        # (what is said of parts that aren't read, as of colours, is nothing to a planner)
+        with warnings.catch_warnings():
+            warnings.simplefilter("ignore")
+            return list(readers[ending](path, data))
+    except (SheetError, NoSheetReader):
+        raise
+    except Exception as error:  # (of several libraries, whatever the file may be)
+        raise SheetError(f"{printable(path)} is no {ending} file: {cut(str(error))}") from None
+
+
+def _bytes_of(path: str) -> bytes:
     with open(path, "rb") as file:
         data = file.read(MOST_BYTES + 1)
     if len(data) > MOST_BYTES:
         raise SheetError(f"{printable(path)}: more than {MOST_BYTES:,} bytes are no plan")
-    return list(readers[ending](path, data))
+    return data
 
 
 def _csv_sheet(path: str) -> Sheet:
     """The table of a CSV file, with commas, semicolons or tabs."""
-    with open(path, "rb") as file:
-        data = file.read(MOST_BYTES + 1)
-    if len(data) > MOST_BYTES:
-        raise SheetError(f"{printable(path)}: more than {MOST_BYTES:,} bytes are no plan")
-    text = data.decode("utf-8-sig")
+    text = _bytes_of(path).decode("utf-8-sig")
     head = text.split("\n", 1)[0]
     comma = max((",", ";", "\t"), key=head.count)
     try:
@@ -93,11 +102,8 @@ def _csv_sheet(path: str) -> Sheet:
 
 def _xlsx_sheets(path: str, data: bytes) -> Iterator[Sheet]:
     openpyxl = _module("openpyxl", "python3-openpyxl", path)
-    try:
-        # (a formula counts as what it came to when the file was saved)
-        book = openpyxl.load_workbook(io.BytesIO(data), read_only=True, data_only=True)
-    except Exception as error:  # (of several libraries, whatever the file may be)
-        raise SheetError(f"{printable(path)} is no .xlsx file: {cut(str(error))}") from None
+    # (a formula counts as what it came to when the file was saved)
+    book = openpyxl.load_workbook(io.BytesIO(data), read_only=True, data_only=True)
     for sheet in book.worksheets:
         rows = sheet.iter_rows(max_row=MOST_ROWS + 1, max_col=MOST_COLUMNS + 1, values_only=True)
         yield _sheet(sheet.title, rows)
@@ -106,17 +112,13 @@ def _xlsx_sheets(path: str, data: bytes) -> Iterator[Sheet]:
 def _ods_sheets(path: str, data: bytes) -> Iterator[Sheet]:
     load = _module("odf.opendocument", "python3-odf", path).load
     table = _module("odf.table", "python3-odf", path)
-    try:
-        book = load(io.BytesIO(data))
-    except Exception as error:  # (as above)
-        raise SheetError(f"{printable(path)} is no .ods file: {cut(str(error))}") from None
-    for sheet in book.spreadsheet.getElementsByType(table.Table):
-        yield _sheet(sheet.getAttribute("name"), _ods_rows(sheet, table))
+    for sheet in load(io.BytesIO(data)).spreadsheet.getElementsByType(table.Table):
+        yield _sheet(sheet.getAttribute("name"), _ods_rows(sheet.getElementsByType(table.TableRow)))
 
 
-def _ods_rows(sheet: Any, table: Any) -> Iterator[list[object]]:
+def _ods_rows(rows: Iterable[Any]) -> Iterator[list[object]]:
     """The rows of a sheet, of which several that are alike stand once."""
-    for row in sheet.getElementsByType(table.TableRow):
+    for row in rows:
         cells: list[object] = []
         for cell in row.childNodes:
             times = int(cell.getAttribute("numbercolumnsrepeated") or 1)
@@ -135,8 +137,9 @@ def _ods_value(cell: Any) -> object:
         return str(cell.getAttribute("datevalue")).partition("T")[0]
     if kind in ("float", "currency"):
         return float(cell.getAttribute("value"))
-    texts = [str(part) for part in cell.childNodes if part.qname[1] == "p"]
-    return "\n".join(texts)
+    text: Callable[[Any], str] = import_module("odf.teletype").extractText
+    parts = [part for part in cell.childNodes if getattr(part, "qname", ("", ""))[1] == "p"]
+    return "\n".join(map(text, parts))
 
 
 def _module(name: str, package: str, path: str) -> Any:
@@ -173,69 +176,3 @@ def _text(value: object) -> str:
     if isinstance(value, float) and value.is_integer() and abs(value) < 1e15:
         return str(int(value))
     return str(value).strip()
-
-
-# --- columns ---
-
-
-@dataclass(frozen=True)
-class Columns:
-    """The headings of a sort of table: what each is called, and other names for it. Of those in
-    `needed` one has to be there; what stands under `unread` is for people."""
-
-    names: dict[str, tuple[str, ...]]
-    needed: tuple[str, ...]
-    unread: tuple[str, ...] = ("notes", "note", "comment", "comments", "remark", "remarks")
-
-    def known(self, head: str) -> str | None:
-        """The column that a heading names."""
-        plain = " ".join(head.lower().replace("_", " ").split())
-        return next((name for name, others in self.names.items() if plain in (name, *others)), None)
-
-
-def rows_of(sheet: Sheet, columns: Columns) -> Iterator[dict[str, Field]]:
-    """The rows of a sheet under its headings, each with the fields in which something stands.
-    Raises SheetError for a heading that isn't known, and for one that is missing."""
-    if not sheet.rows:
-        return
-    (number, heads), *rows = sheet.rows
-    places: dict[int, tuple[str, str]] = {}
-    for place, head in enumerate(heads):
-        letter = _letter(place)
-        field = Field(head, sheet.name, number, letter)
-        name = columns.known(head)
-        if name is not None and name in [known for known, _ in places.values()]:
-            raise field.wrong(f"the heading `{cut(head)}` says the same as one before it")
-        if name is not None:
-            places[place] = name, f"{letter} ({printable(head)})"
-        elif head and head.lower() not in columns.unread:
-            near = near_names(head, columns.names)
-            hint = f" Did you mean {near[0]}?" if near else ""
-            others = listed([*columns.names, "notes"], "or")
-            raise field.wrong(f"the heading `{cut(head)}` isn't known: write {others}.{hint}")
-    for needed in columns.needed:
-        if needed not in (name for name, _ in places.values()):
-            raise Field("", sheet.name, number, "A").wrong(f"there is no heading `{needed}`")
-    for number, row in rows:
-        for place, text in enumerate(row):
-            if text and not (place < len(heads) and heads[place]):
-                raise Field(text, sheet.name, number, _letter(place)).wrong(
-                    f"`{cut(text)}` stands under no heading"
-                )
-        found = {
-            name: Field(row[place], sheet.name, number, column)
-            for place, (name, column) in places.items()
-            if place < len(row) and row[place]
-        }
-        # (a row of notes alone is for people)
-        if found:
-            yield found
-
-
-def _letter(place: int) -> str:
-    """A column as spreadsheets call it: A, B, .. Z, AA."""
-    letters = ""
-    while place >= 0:
-        letters = chr(ord("A") + place % 26) + letters
-        place = place // 26 - 1
-    return letters
