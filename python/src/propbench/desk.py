@@ -17,6 +17,13 @@ if TYPE_CHECKING:
     from propbench.running import Way
     from propbench.watching import Watched
 
+# What a schedule is written as, by the endings of files.
+_WRITTEN = {
+    "html": "as a page to read and print",
+    "csv": "as a table",
+    "ics": "for calendars",
+    "svg": "as a chart",
+}
 DESCRIPTION = """\
 A desk for the workbench propbench: runs files of its language, and speaks it with you line by line.
 Every answer is a reply of the program, which is the one that --program or $PROPBENCH names, else
@@ -25,9 +32,9 @@ For what a workbench has saved it is propwide, found in the same way, where ther
 """
 
 STATUS = """\
-The exit status is 0 where all went well, 1 where a line was refused or a report is not what the
-program says, 2 for wrong arguments, 3 where a file could not be read or the program was not found
-or ended, and 130 at Ctrl-C.
+The exit status is 0 where all went well, 1 where a line was refused, a report is not what the
+program says or no plan fits, 2 for wrong arguments and tables, 3 where a file could not be read or
+the program was not found or ended, and 130 at Ctrl-C.
 """
 
 
@@ -95,6 +102,14 @@ def parser() -> argparse.ArgumentParser:
     blame.add_argument("--seconds", type=_seconds, metavar="N", help="how long it may take")
     blame.add_argument("--picture", metavar="FILE", help="draw the conflicts: .svg, .png or .dot")
     blame.add_argument("--certificate", metavar="FILE", help="save what `propdesk check` checks")
+    plan = commands.add_parser(
+        "plan",
+        help="make a schedule of the tables of a spreadsheet",
+        description="Reads tables of tasks, people, absences and wishes, and tells a schedule that"
+        " ends as soon as can be, or what stands in the way: then the status is 1. One table alone,"
+        " or that called `tasks`, has the columns task, days, who, after, earliest, latest, cost.",
+    )
+    _add_plan(plan)
     page = commands.add_parser(
         "page",
         help="show a file in a browser",
@@ -117,7 +132,7 @@ def parser() -> argparse.ArgumentParser:
     draw.add_argument(
         "--out", metavar="PICTURE", help="where to, as SVG or .dot (beside the file, as .svg)"
     )
-    for each in (run, shell, check, blame, page, draw):
+    for each in (run, shell, check, blame, plan, page, draw):
         each.add_argument("--program", metavar="PATH", help="the program that answers")
     page.add_argument(
         "--resume", action="store_true", help="go on with what a page of the file did that was cut"
@@ -130,6 +145,35 @@ def parser() -> argparse.ArgumentParser:
     for each in (run, shell, page, draw):
         _add_begin(each)
     return top
+
+
+def _add_plan(to: argparse.ArgumentParser) -> None:
+    to.add_argument(
+        "file", metavar="FILE", help="a folder of .csv files, or a file .csv, .ods or .xlsx"
+    )
+    to.add_argument("--start", metavar="DATE", help="when the plan begins, as 2026-03-02")
+    to.add_argument("--off", metavar="DAYS", help="days off, as `sat sun, 3 April`")
+    to.add_argument("--days", type=int, metavar="N", help="how many days it has at the most")
+    to.add_argument(
+        "--give-up", action="store_true", help="where nothing fits, give up what costs the least"
+    )
+    to.add_argument(
+        "--what-if",
+        metavar="TEXT",
+        action="append",
+        default=[],
+        help="tell what becomes of it then: `ana ill 3-7 March`, `review takes 8`",
+    )
+    to.add_argument("--why", action="store_true", help="tell why it ends no sooner")
+    for ending, what in _WRITTEN.items():
+        to.add_argument(f"--{ending}", metavar="FILE", help=f"write the schedule {what}")
+    to.add_argument(
+        "--seconds",
+        type=_seconds,
+        default=60.0,
+        metavar="N",
+        help="how long each question may take (60)",
+    )
 
 
 def _add_begin(to: argparse.ArgumentParser) -> None:
@@ -209,6 +253,25 @@ def _blamed(options: argparse.Namespace) -> int:
     return blame_file(Path(options.file), list(map(Path, options.data)), asked, options.program)
 
 
+def _planned(options: argparse.Namespace) -> int:
+    from propbench.planning.brief import Given
+    from propbench.planning.command import Asked, plan_file
+    from propbench.planning.sheets import NoSheetReader
+
+    asked = Asked(
+        Given(options.start, options.off, options.days),
+        options.give_up,
+        options.what_if,
+        options.why,
+        {it: getattr(options, it) for it in _WRITTEN if getattr(options, it) is not None},
+        options.seconds,
+    )
+    try:
+        return plan_file(options.file, asked, options.program)
+    except NoSheetReader as error:
+        return _failed(error)
+
+
 def _done(options: argparse.Namespace) -> int:
     from propbench.running import Way, run_as_json, run_file
 
@@ -216,6 +279,8 @@ def _done(options: argparse.Namespace) -> int:
         return _checked(options)
     if options.command == "blame":
         return _blamed(options)
+    if options.command == "plan":
+        return _planned(options)
     begin = {"order": options.order, "seed": options.seed, "limit": options.limit}
     if options.command in ("page", "draw"):
         if options.command == "page":

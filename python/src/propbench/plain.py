@@ -260,13 +260,24 @@ class PlainWorkbench(Questions, Closing):
         >>> print(x.ask())
         x = 4..9 because of much
         """
+        node = self.constraint_of(constraint)
+        if under is not None:
+            self._network.premises.check(under)
+        self._network.do(Required(node, under))
+
+    def constraint_of(self, constraint: Truth | bool) -> Node:
+        """What a constraint on cells of this workbench says. Raises TypeError and ValueError.
+
+        >>> w = Workbench()
+        >>> x = w.number("x", 0, 9)
+        >>> w.constraint_of(x >= 3).op.name
+        'AT_LEAST'
+        """
         if isinstance(constraint, Expression) and not isinstance(constraint, Truth):
             raise TypeError(f"`{constraint!r}` is {kind_text(constraint.node.kind)}, no constraint")
         node = node_of(constraint, Plain.TRUTH)
         self._check_own(node)
-        if under is not None:
-            self._network.premises.check(under)
-        self._network.do(Required(node, under))
+        return node
 
     def fix(self, cell: Cell, value: Given, high: int | None = None) -> None:
         """States that a cell has a value, always: a number, or the numbers up to `high`; a truth, a

@@ -26,9 +26,11 @@ from propbench.model.answers import Answer
 from propbench.model.cells import Cell
 from propbench.model.expressions import Truth
 from propbench.model.given import Given, given_of
-from propbench.model.nodes import Declared
+from propbench.model.nodes import Declared, Node
+from propbench.model.seam import BenchModel
 from propbench.plain import PlainWorkbench
 from propbench.planning import Calendar, Project
+from propbench.planning.schedule import schedule_in
 from propbench.questions import Sensitivity
 from propbench.questions.asking import CellLike
 
@@ -54,7 +56,7 @@ class Workbench(PlainWorkbench, Measuring):
     - quantities closer: `shave`, `predict`, `improvements`, `room`.
     - to look at: `picture`, `film`, `serve`.
     - files and lines: `save`, `load`, `lines`, `close`; `proved` and `lacks` tell of the program.
-    - within: `session`, `network`, `model`, `answer`; and `plan`, an older name of `project`.
+    - within: `session`, `network`, `model`, `answer`, `constraint_of`; and `plan`, an older name of `project`.
 
     Several names may be given as a list, or in one text with spaces between.
 
@@ -63,10 +65,14 @@ class Workbench(PlainWorkbench, Measuring):
     several reasons that are all right others may be named where the program had to begin anew.
     """
 
-    def require(self, constraint: Truth | bool, under: str | None = None) -> None:
+    @property
+    def model(self) -> BenchModel:
+        return BenchModel(self._network, schedule_in)
+
+    def constraint_of(self, constraint: Truth | bool) -> Node:
         if isinstance(constraint, Law):
             raise TypeError(f"`{constraint!r}` is a law of quantities: state it by `w.law(..)`")
-        super().require(constraint, under)
+        return super().constraint_of(constraint)
 
     # (of a quantity there is another table)
     def sensitivity(  # type: ignore[override]

@@ -44,6 +44,11 @@ class Required:
         """What is stated."""
         return text_of(self.constraint)
 
+    @property
+    def told(self) -> str:
+        """What is stated, as somebody reads it who asks what a premise says."""
+        return self.text
+
     def is_met(self, points: Points) -> bool:
         """Whether the points fit it. Raises Beyond."""
         return holds(self.constraint, points)
@@ -61,6 +66,11 @@ class Told:
     def text(self) -> str:
         """What is stated."""
         return f"{printable(self.cell.name)} = {values_text(self.cell, self.values)}"
+
+    @property
+    def told(self) -> str:
+        """What is stated, as somebody reads it who asks what a premise says."""
+        return self.text
 
     def is_met(self, points: Points) -> bool:
         """Whether the point of the cell is one of the values."""

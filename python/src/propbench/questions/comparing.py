@@ -109,7 +109,7 @@ def _snapshot(bench: Bench, asking: Asking) -> Snapshot:
     """The snapshot of what was asked."""
     model, table = bench.model, asking.result()
     row = table.get("now", Row())
-    says = {premise: model.text(premise) for premise in model.premises()}
+    says = {premise: model.exactly(premise) for premise in model.premises()}
     conflict = None if row.conflict is None else row.conflict.names
     believed = frozenset(model.believed())
     return Snapshot(says, believed, dict(row), conflict, table._certificate, table.complete)

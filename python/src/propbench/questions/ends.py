@@ -69,8 +69,8 @@ class Ending:
             return Optimum(cell, sort, None, None, bound, proved, None, {}, because)
         value, plan = fits.plan[cell], seeker.shown(fits.plan)
         assert isinstance(value, int)
-        chosen = seeker.model.chosen(fits.plan)
-        return Optimum(cell, sort, value, plan, bound, proved, None, chosen, because)
+        found = Optimum(cell, sort, value, plan, bound, proved, None, because=because)
+        return found.seen_by(seeker.model, fits.plan)
 
     def optimum(self) -> Optimum:
         """What is known by now. Raises Unlike."""

@@ -5,6 +5,7 @@ from typing import Protocol
 
 from propbench.model.first import First as First
 from propbench.model.kinds import Point as Point
+from propbench.questions.planned import Scheduled
 from propbench.session import Session
 
 # Points by the names of cells.
@@ -82,6 +83,10 @@ class Model(Protocol):
         """For each choice the alternative that holds at these points, as the user wrote it."""
         ...
 
+    def scheduled(self, plan: Mapping[str, Point]) -> Scheduled | None:
+        """These points as a schedule, where they are those of one project's tasks."""
+        ...
+
     def is_measured(self, cell: str) -> bool:
         """Whether the cell counts steps of a measured quantity."""
         ...
@@ -94,6 +99,10 @@ class Model(Protocol):
 
     def text(self, premise: str) -> str:
         """What the premise states, for people."""
+        ...
+
+    def exactly(self, premise: str) -> str:
+        """All that the premise states, the same wherever the same is stated."""
         ...
 
     def first(self) -> Sequence[First]:
