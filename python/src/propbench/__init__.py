@@ -8,9 +8,11 @@ where each constraint holds on it, as it evaluates them (`violated` in model/sea
 
 from propbench.conversation import WrongReply
 from propbench.finding import NoProgram, find_program, find_wide
+from propbench.laboratory.sheets import BadTable
 from propbench.measuring.amounts import NoReading
 from propbench.measuring.bounds import NoBound
 from propbench.measuring.functions import maximum, mean, minimum, total
+from propbench.measuring.law_texts import NotALaw
 from propbench.measuring.translation import TooCoarse
 from propbench.measuring.units import MixedUnits, UnknownUnit
 from propbench.model.answers import Answer, Conflict, NotSettled
@@ -74,6 +76,7 @@ from propbench.workbench import Workbench
 
 __all__ = [
     "Answer",
+    "BadTable",
     "Best",
     "Called",
     "Certificate",
@@ -106,6 +109,7 @@ __all__ = [
     "NoneFits",
     "NotAName",
     "NotAWorkbench",
+    "NotALaw",
     "NotANumberInRange",
     "NotInTheDomain",
     "NotSettled",

@@ -5,6 +5,7 @@ import os
 import sys
 from collections.abc import Sequence
 from contextlib import suppress
+from decimal import Decimal, InvalidOperation
 from pathlib import Path
 
 from propbench.checking import check_file
@@ -28,10 +29,13 @@ For what a workbench has saved it is propwide, found in the same way, where ther
 """
 
 STATUS = """\
-The exit status is 0 where all went well, 1 where a line was refused or a report is not what the
-program says, 2 for wrong arguments, 3 where a file could not be read or the program was not found
-or ended, and 130 at Ctrl-C.
+The exit status is 0 where all went well, 1 where a line was refused, readings conflict, or a report
+is not what the program says, 2 for wrong arguments, 3 where a file could not be read or the program
+was not found or ended, and 130 at Ctrl-C.
 """
+
+# The columns of tables by which readings may stand or fall together.
+_TOGETHER = ("quantity", "premise", "device", "taken at")
 
 
 def parser() -> argparse.ArgumentParser:
@@ -98,6 +102,41 @@ def parser() -> argparse.ArgumentParser:
     blame.add_argument("--seconds", type=_seconds, metavar="N", help="how long it may take")
     blame.add_argument("--picture", metavar="FILE", help="draw the conflicts: .svg, .png or .dot")
     blame.add_argument("--certificate", metavar="FILE", help="save what `propdesk check` checks")
+    measure = commands.add_parser(
+        "measure",
+        help="say what follows from tables of readings",
+        description="Reads a bench (quantities, devices and laws, in TOML) and tables of readings,"
+        " and tells what follows for each quantity, which readings conflict, which to give up, and"
+        " which to improve. Ends with status 1 where readings conflict.",
+    )
+    measure.add_argument("file", metavar="BENCH", help="the bench, .toml")
+    measure.add_argument("readings", metavar="READINGS", nargs="+", help="tables, .csv")
+    measure.add_argument(
+        "--decimal", choices=(".", ","), default=".", help="what stands before decimals (.)"
+    )
+    measure.add_argument(
+        "--under",
+        choices=_TOGETHER,
+        help="the column by which readings stand or fall together (each stands by itself)",
+    )
+    measure.add_argument(
+        "--coverage",
+        type=_coverage,
+        default=Decimal(3),
+        metavar="K",
+        help="how many times a standard uncertainty is taken for a bound (3)",
+    )
+    measure.add_argument(
+        "--improve",
+        metavar="QUANTITY",
+        action="append",
+        default=[],
+        help="tell which reading to improve for this one (for three that nothing was read of)",
+    )
+    measure.add_argument("--csv", metavar="FILE", help="write the results down as a table")
+    measure.add_argument(
+        "--seconds", type=_seconds, default=60.0, metavar="N", help="how long it may take (60)"
+    )
     page = commands.add_parser(
         "page",
         help="show a file in a browser",
@@ -120,7 +159,7 @@ def parser() -> argparse.ArgumentParser:
     draw.add_argument(
         "--out", metavar="PICTURE", help="where to, as SVG or .dot (beside the file, as .svg)"
     )
-    for each in (run, shell, check, blame, page, draw):
+    for each in (run, shell, check, blame, measure, page, draw):
         each.add_argument("--program", metavar="PATH", help="the program that answers")
     page.add_argument(
         "--resume", action="store_true", help="go on with what a page of the file did that was cut"
@@ -150,6 +189,13 @@ def _seconds(text: str) -> float:
     if not seconds >= 0:
         raise argparse.ArgumentTypeError("seconds are a number from 0 on")
     return seconds
+
+
+def _coverage(text: str) -> Decimal:
+    try:
+        return Decimal(text)
+    except InvalidOperation:
+        raise argparse.ArgumentTypeError("a coverage is a number, as 2") from None
 
 
 def main(words: Sequence[str] | None = None) -> int:
@@ -187,11 +233,27 @@ def _blamed(options: argparse.Namespace) -> int:
     return blame_file(Path(options.file), list(map(Path, options.data)), asked, options.program)
 
 
+def _measured(options: argparse.Namespace) -> int:
+    from propbench.laboratory.command import Asked, Tables, measure_files
+
+    asked = Asked(
+        Path(options.file),
+        list(map(Path, options.readings)),
+        Tables(options.decimal, options.under, options.coverage),
+        options.seconds,
+        options.improve,
+        Path(options.csv) if options.csv else None,
+    )
+    return measure_files(asked, options.program)
+
+
 def _done(options: argparse.Namespace) -> int:
     if options.command == "check":
         return check_file(options.file, options.program, options.base)
     if options.command == "blame":
         return _blamed(options)
+    if options.command == "measure":
+        return _measured(options)
     begin = {"order": options.order, "seed": options.seed, "limit": options.limit}
     if options.command in ("page", "draw"):
         if options.command == "page":

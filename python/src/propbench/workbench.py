@@ -21,7 +21,7 @@ from propbench.closing import Closing
 from propbench.files import write_file
 from propbench.finding import find_wide
 from propbench.given import path_given
-from propbench.measuring.bench import Measuring
+from propbench.laboratory.bench import Laboratory
 from propbench.measuring.quantities import Quantity, coverage_of
 from propbench.measuring.sensitivity import Improvements
 from propbench.measuring.readings import reading_of
@@ -84,7 +84,7 @@ _MAY_BE_FEWER = "there was no time to find out whether fewer of these are in con
 _LACKS = "The program has no rule of its own for {}: answers may be wider than those of propwide."
 
 
-class Workbench(Measuring, Closing):
+class Workbench(Laboratory, Closing):
     """A network of cells with constraints, some of them under premises, and what follows.
 
     Cells come from `number`, `truth`, `element` (of a `domain`) and `symbol`. What holds between
