@@ -353,8 +353,9 @@ class Measuring(Questions):
 
     def _shown_by(self, device: Device, cell: Declared) -> Declared:
         """What stands for that which a device shows of a quantity, made where it is not there."""
-        if not isinstance(device, Device) or self.devices.get(device.name) is None:
-            raise TypeError(f"{device!r} is no device of this workbench: make one by `w.device`")
+        if not isinstance(device, Device):
+            raise TypeError(f"{device!r} is no device: make one by `w.device`")
+        self._check_there(device.parts.values())
         known = shown_in(self._network.events).get(device.name, {})
         if cell not in known:
             name = self._free_name(f"{cell.name} by {device.name}")
