@@ -135,6 +135,9 @@ def parser() -> argparse.ArgumentParser:
     )
     measure.add_argument("--csv", metavar="FILE", help="write the results down as a table")
     measure.add_argument(
+        "--report", metavar="FILE", help="write a report: .html, which prints, or .txt"
+    )
+    measure.add_argument(
         "--seconds", type=_seconds, default=60.0, metavar="N", help="how long it may take (60)"
     )
     page = commands.add_parser(
@@ -243,6 +246,7 @@ def _measured(options: argparse.Namespace) -> int:
         options.seconds,
         options.improve,
         Path(options.csv) if options.csv else None,
+        Path(options.report) if options.report else None,
     )
     return measure_files(asked, options.program)
 

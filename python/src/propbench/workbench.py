@@ -72,6 +72,7 @@ from propbench.replies import Contradiction, Settled, Value, Worldview
 from propbench.session import Session
 
 if TYPE_CHECKING:
+    from propbench.laboratory.report import Report
     from propbench.page import Page
     from propbench.pictures import Film, Picture
     from propbench.watching import Claim
@@ -458,6 +459,23 @@ class Workbench(Laboratory, Closing):
         from propbench.watching.of_workbench import WorkbenchWatched
 
         return serve(WorkbenchWatched(self), "a workbench", port=port, wait=wait)
+
+    def report(
+        self,
+        title: str = "Report",
+        *,
+        seconds: float | None = None,
+        progress: Progress | None = None,
+    ) -> "Report":
+        """What was read of quantities, what follows, and what shows it: `.save("report.html")`
+        writes a page that prints, and `.text` is the same as text. Where readings conflict, the
+        results are those without the ones that `outliers` gives up first.
+
+        Raises OutOfTime where values can't be asked for in time.
+        """
+        from propbench.laboratory.report import report_of
+
+        return report_of(self, title, Clock(seconds, progress))
 
     # --- lines ---
 

@@ -1,7 +1,6 @@
 """What a workbench does for a laboratory: it has these methods beside those of measured quantities."""
 
 import os
-
 from propbench.given import path_given
 from propbench.laboratory.results import Results, results_of
 from propbench.laboratory.sheets import Sheet, rows_of, rows_of_file
@@ -65,7 +64,18 @@ class Laboratory(Measuring):
     def results(self, *, seconds: float | None = None) -> Results:
         """What follows for each quantity that was made by `w.measured`, as a table that can be
         written down. Raises Conflict and OutOfTime as `table`."""
-        return results_of(self.table(*self._asked_for(), seconds=seconds))
+        return results_of(self.table(*self.quantities, seconds=seconds))
+
+    @property
+    def quantities(self) -> tuple[Quantity, ...]:
+        """The quantities that were made by `w.measured`."""
+        found = self._quantities()
+        inner = (DevicePart, ShownMade, RootMade)
+        return tuple(
+            found[each.cell.name]
+            for each in self._network.events
+            if isinstance(each, CellMade) and not isinstance(each, inner) and each.cell.measure
+        )
 
     @property
     def sought(self) -> tuple[Quantity, ...]:
@@ -73,21 +83,11 @@ class Laboratory(Measuring):
         of = {each.cell: each.of for each in self._network.events if isinstance(each, ShownMade)}
         read_of = (each.cell for each in self._network.events if isinstance(each, Read))
         were_read = {of.get(cell, cell) for cell in read_of}
-        return tuple(each for each in self._asked_for() if each.declared not in were_read)
+        return tuple(each for each in self.quantities if each.declared not in were_read)
 
     def table(self, *cells: Cell, seconds: float | None = None) -> Table:
         """What follows for cells, as a table."""
         raise NotImplementedError
-
-    def _asked_for(self) -> list[Quantity]:
-        """The quantities that a user made."""
-        found = self._quantities()
-        inner = (DevicePart, ShownMade, RootMade)
-        return [
-            found[each.cell.name]
-            for each in self._network.events
-            if isinstance(each, CellMade) and not isinstance(each, inner) and each.cell.measure
-        ]
 
     def _state_laws(self, path: str | os.PathLike[str]) -> int:
         with open(path, encoding="utf-8-sig") as file:
@@ -112,7 +112,7 @@ class Laboratory(Measuring):
             name: frozenset(of.get(it.cell, it.cell).name for it in premises.readings(name))
             for name in premises.believed
         }
-        made = {each.name: each for each in self._asked_for()}
+        made = {each.name: each for each in self.quantities}
         known = Known(made, dict(self.devices), stated, premises.choices)
         readings = readings_in(sheet, known, together_of(under), coverage)
 

@@ -40,6 +40,7 @@ class Asked:
     seconds: float
     improve: Sequence[str]
     csv: Path | None
+    report: Path | None = None
 
 
 def measure_files(asked: Asked, program: str | None) -> int:
@@ -51,6 +52,9 @@ def measure_files(asked: Asked, program: str | None) -> int:
         count = sum(_read(w, path, asked) for path in asked.readings)
         print(_begun(bench, count))
         clock = Clock(asked.seconds, None)
+        if asked.report is not None:
+            w.report(bench.title, seconds=clock.seconds_left()).save(asked.report)
+            print(f"The report is in {printable(str(asked.report))}.")
         try:
             results = w.results(seconds=clock.seconds_left())
         except Conflict as conflict:
