@@ -11,7 +11,7 @@ from page_examples import OUTPUT, carried_out, examples, without_notes
 from propbench.desk import main
 
 PAGE = (REPOSITORY / "docs/LABORATORY.md").read_text(encoding="utf-8")
-END = "## A report"
+END = "## Tables"
 
 
 def files() -> Iterator[tuple[str, str]]:

@@ -135,6 +135,11 @@ def parser() -> argparse.ArgumentParser:
     )
     measure.add_argument("--csv", metavar="FILE", help="write the results down as a table")
     measure.add_argument(
+        "--estimates",
+        action="store_true",
+        help="estimates by least squares too, which are tested and not proved",
+    )
+    measure.add_argument(
         "--report", metavar="FILE", help="write a report: .html, which prints, or .txt"
     )
     measure.add_argument(
@@ -218,7 +223,15 @@ def main(words: Sequence[str] | None = None) -> int:
     except Refused as refused:
         print(told_of(refused, printable(options.file)), file=sys.stderr)
         return 1
-    except (NoProgram, NoReport, NoGraphviz, ProgramEnded, OutOfTime, OSError) as error:
+    except (
+        ImportError,
+        NoProgram,
+        NoReport,
+        NoGraphviz,
+        ProgramEnded,
+        OutOfTime,
+        OSError,
+    ) as error:
         print(f"propdesk: {said_of(error)}", file=sys.stderr)
         return 3
 
@@ -247,6 +260,7 @@ def _measured(options: argparse.Namespace) -> int:
         options.improve,
         Path(options.csv) if options.csv else None,
         Path(options.report) if options.report else None,
+        options.estimates,
     )
     return measure_files(asked, options.program)
 

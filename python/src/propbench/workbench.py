@@ -72,6 +72,7 @@ from propbench.replies import Contradiction, Settled, Value, Worldview
 from propbench.session import Session
 
 if TYPE_CHECKING:
+    from propbench.laboratory.adjustment import Adjustment
     from propbench.laboratory.report import Report
     from propbench.page import Page
     from propbench.pictures import Film, Picture
@@ -418,6 +419,25 @@ class Workbench(Laboratory, Closing):
         if isinstance(cell, Quantity):
             return self.improvements(cell, seconds=seconds, progress=progress)
         return super().sensitivity(cell, of, seconds=seconds, progress=progress)
+
+    def adjust(
+        self, *, k: float = 2, shape: str = "rectangular", seconds: float | None = None
+    ) -> "Adjustment":
+        """Estimates of quantities by weighted least squares over the same laws and readings, with
+        standard uncertainties u and U = k u, beside the bounds; `tests` of each reading and of all.
+        What is a bound is taken as `rectangular`, `triangular` or `normal` (three u). This is
+        tested and not proved. Laws with `<=` don't count.
+
+        Needs SciPy, else raises ImportError; raises ValueError where no estimate is found.
+        """
+        from propbench.laboratory.adjustment import adjustment_of
+
+        return adjustment_of(self, k, shape, seconds)
+
+    def _suspects_first(self, names: Sequence[str]) -> list[str]:
+        from propbench.laboratory.adjustment import suspects_first
+
+        return suspects_first(self, names)
 
     # --- views ---
 

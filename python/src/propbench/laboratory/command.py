@@ -41,6 +41,7 @@ class Asked:
     improve: Sequence[str]
     csv: Path | None
     report: Path | None = None
+    estimates: bool = False
 
 
 def measure_files(asked: Asked, program: str | None) -> int:
@@ -60,6 +61,8 @@ def measure_files(asked: Asked, program: str | None) -> int:
         except Conflict as conflict:
             return _in_conflict(w, conflict, asked, clock)
         _tell(results, asked)
+        if asked.estimates:
+            print(shown(str(w.adjust(seconds=clock.seconds_left()))))
         for quantity in _to_improve(w, asked):
             print(shown(str(w.improvements(quantity, seconds=clock.seconds_left()))))
     return 0
@@ -88,6 +91,8 @@ def _in_conflict(w: Workbench, conflict: Conflict, asked: Asked, clock: Clock) -
     """Tells which readings conflict and which to give up, and what follows without the first of
     these ways."""
     print(f"CONFLICT: {shown(str(conflict))}")
+    if asked.estimates:
+        print(shown(str(w.adjust(seconds=clock.seconds_left()))))
     outliers = w.outliers(seconds=clock.seconds_left())
     print(shown(str(outliers)))
     given_up = _first(outliers)

@@ -4,6 +4,7 @@ import os
 import textwrap
 from base64 import b64encode
 from collections.abc import Iterator, Sequence
+from contextlib import suppress
 from dataclasses import dataclass, replace
 from datetime import date
 from typing import TYPE_CHECKING
@@ -27,6 +28,10 @@ _BOUNDS = (
     "Each quantity lies between its bounds, if the readings named with it are right: the half width "
     "is a bound, and no coverage factor belongs to it. It is rounded up, so that value and half "
     "width hold all that is between the bounds."
+)
+_ESTIMATES = (
+    "An estimate is another statement than the bounds: there errors add up, and here by their "
+    "squares; a bound is taken for a rectangular distribution."
 )
 _PROVED = (
     "That readings conflict, and the bounds in whole numbers, are answers of a proved program."
@@ -103,6 +108,10 @@ class Report:
             yield html.table(heads, map(_result, self.found.results), kinds)
             yield f'<p class="small">{html.said(_BOUNDS)}</p>'
             yield from (f'<p class="small">{html.said(each)}</p>' for each in self._notes())
+        if self.found.estimates is not None:
+            yield "<h2>Estimates, which are tested and not proved</h2>"
+            yield _as_html(self.found.estimates)
+            yield f'<p class="small">{html.said(_ESTIMATES)}</p>'
         if self.found.outliers is not None:
             yield "<h2>Conflict</h2>"
             yield _as_html(self.found.outliers)
@@ -145,6 +154,8 @@ class Report:
             rows = [_plain(each) for each in self.found.results]
             yield table(("result", "half width", "bounds", "because of"), rows, most=_WIDE)
             yield from ("", *_filled(_BOUNDS), *self._notes(), "")
+        if self.found.estimates is not None:
+            yield from (shown(str(self.found.estimates)), *_filled(_ESTIMATES), "")
         if self.found.outliers is not None:
             yield from (shown(str(self.found.outliers)), "")
         yield from ("laws", *(f"  {printable(_law(*each))}" for each in self.stated.laws), "")
@@ -176,7 +187,11 @@ def _found(w: "Workbench", clock: Clock, given_up: Sequence[str] = ()) -> Found:
     """What follows. Raises Conflict."""
     results = w.results(seconds=clock.seconds_left())
     bars = bars_of(w, w.network.events, given_up, clock)
-    return Found(results, bars, certificate_of(w.model, results, clock))
+    estimates = None
+    with suppress(ImportError, ValueError):
+        estimates = w.adjust(seconds=clock.seconds_left())
+    certificate = certificate_of(w.model, results, clock)
+    return Found(results, bars, certificate, estimates=estimates)
 
 
 def _result(each: Result) -> tuple[str, str, str, str]:

@@ -5,8 +5,9 @@ from dataclasses import dataclass
 from enum import Enum
 from typing import Protocol
 
+from propbench.laboratory.adjustment import Adjustment
 from propbench.laboratory.results import Results
-from propbench.measuring.devices import DeviceLaw, DevicePart, ShownMade
+from propbench.measuring.devices import Corrected, DeviceLaw, DevicePart, ShownMade
 from propbench.measuring.narrowing import Impossible, Narrowing
 from propbench.measuring.outliers import Outliers
 from propbench.measuring.quantities import Quantity
@@ -85,6 +86,7 @@ class Found:
     conflict: Conflict | None = None
     outliers: Outliers | None = None
     given_up: Sequence[str] = ()
+    estimates: Adjustment | None = None
 
 
 def stated_in(events: Sequence[Event], model: Model) -> Stated:
@@ -108,7 +110,8 @@ def stated_in(events: Sequence[Event], model: Model) -> Stated:
                 )
             )
     told: list[LawStated] = [each for each in events if isinstance(each, LawTold)]
-    stated = [it for it in events if isinstance(it, LawStated) and not isinstance(it, DeviceLaw)]
+    inner = (DeviceLaw, Corrected)
+    stated = [it for it in events if isinstance(it, LawStated) and not isinstance(it, inner)]
     laws = [(each.text, each.premise or "") for each in told or stated]
     return Stated(laws, devices, readings)
 

@@ -212,13 +212,10 @@ class Measuring(Questions):
         """The least sets of readings to give up so that nothing speaks against the others, `most` of
         them at the most: the fewest first, and of as many those that are off by more."""
         measured_cells = [name for name, it in self._network.cells.items() if it.measure]
+        readings = self._readings()
+        ordered = {name: readings[name] for name in self._suspects_first(list(readings))}
         return find_outliers(
-            self.model,
-            self._readings(),
-            self._unread_first(measured_cells),
-            most,
-            seconds,
-            progress,
+            self.model, ordered, self._unread_first(measured_cells), most, seconds, progress
         )
 
     def improvements(
@@ -293,6 +290,10 @@ class Measuring(Questions):
             for name, readings in found.items()
             if len(readings) == len(premises.statements.get(name, ()))
         }
+
+    def _suspects_first(self, names: Sequence[str]) -> list[str]:
+        """Readings by name, those in front that `outliers` tries to give up first."""
+        return list(names)
 
     def _told(self, quantity: Quantity, room: Numbers, names: Sequence[str]) -> MeasuredAnswer:
         """What a cell that holds one of these numbers says, because of these premises."""

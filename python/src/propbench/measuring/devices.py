@@ -66,7 +66,14 @@ class ShownMade(CellMade):
 
 @dataclass(frozen=True)
 class DeviceLaw(LawStated):
-    """What holds between what a device shows and what is measured, or follows from that."""
+    """What holds between what a device shows and what is measured."""
+
+    law: Law = field(compare=False)
+
+
+@dataclass(frozen=True)
+class Corrected(LawStated):
+    """What follows for what a device shows of several quantities."""
 
 
 @dataclass(frozen=True)
@@ -312,12 +319,13 @@ def _law(left: Real, right: Real) -> Law:
 
 def _told(law: Law, root_of: RootOf) -> list[Event]:
     found, _ = stated(law, (), None, root_of)
-    return [DeviceLaw(found.constraint, None, law.text)]
+    return [DeviceLaw(found.constraint, None, law.text, law)]
 
 
 def told_if_possible(law: Law, root_of: RootOf) -> list[Event]:
     """The events of a law that follows anyway: none where it can't be told."""
     try:
-        return _told(law, root_of)
+        found, _ = stated(law, (), None, root_of)
     except ValueError:
         return []
+    return [Corrected(found.constraint, None, law.text)]
