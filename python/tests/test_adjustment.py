@@ -12,6 +12,7 @@ import pytest
 from propbench import Workbench
 from propbench.laboratory.adjustment import Adjustment, Estimate
 from propbench.laboratory.least_squares import NoScipy
+from propbench.questions.trial import Seen, Trial
 
 pytest.importorskip("scipy")
 
@@ -97,10 +98,10 @@ def test_a_net_of_levels_as_the_normal_equations_have_it(w: Workbench) -> None:
         spread = sum(s * v for s, v in zip(signs, solved(rows, signs)))
         deviation = sqrt(Fraction(u) ** 2 - spread)
         residuals[f"{begin} to {end} {number}"] = float(off), float(off) / deviation
-    assert (found.degrees, found.chi_square) == (3, pytest.approx(float(square), rel=1e-6))
+    assert found.degrees == 3 and found.chi_square == pytest.approx(float(square), rel=1e-6)
     for test in found.tests:
-        off, ratio = residuals[test.premise]
-        assert test.residual == pytest.approx(off, abs=1e-9)
+        wanted, ratio = residuals[test.premise]
+        assert test.residual == pytest.approx(wanted, abs=1e-9)
         assert test.w == pytest.approx(ratio, rel=1e-5)
     # (97.5 in 100 of three degrees are below 9.348, 95 below 7.815: tables of chi-square)
     assert found.limit == pytest.approx(7.815, abs=0.001)
@@ -215,9 +216,40 @@ def test_random_nets_beside_exact_fractions() -> None:
 def test_where_scipy_is_not_there(w: Workbench, monkeypatch: pytest.MonkeyPatch) -> None:
     """Statistics say what is missing; what is proved doesn't need it."""
     levelled(w, LEVELS)
-    hidden: dict[str, Any] = {"scipy": None, "scipy.linalg": None, "scipy.stats": None}
-    for name in hidden:
-        monkeypatch.setitem(sys.modules, name, None)
+    modules: dict[str, Any] = sys.modules
+    for name in ("scipy", "scipy.linalg", "scipy.stats"):
+        monkeypatch.setitem(modules, name, None)
     with pytest.raises(NoScipy, match="sudo apt install python3-scipy"):
         w.adjust()
     assert list(w.outliers(seconds=60)) == [frozenset()]
+
+
+def test_the_most_suspect_are_tried_first(monkeypatch: pytest.MonkeyPatch) -> None:
+    """Of forty lines one is wrong: it is found, and by fewer looks than in the order of reading."""
+    looks: list[int] = []
+    look = Trial.look
+
+    def counted(trial: Trial, *given: Any) -> Seen:
+        looks[-1] += 1
+        return look(trial, *given)
+
+    monkeypatch.setattr(Trial, "look", counted)
+    draw = random.Random(3)
+    heights = [draw.randint(50_000, 99_000) for _ in range(16)]
+    pairs = [(k, k + 1) for k in range(15)] + [tuple(draw.sample(range(16), 2)) for _ in range(25)]
+    for is_ordered in (True, False):
+        if not is_ordered:
+            monkeypatch.setattr(Workbench, "_suspects_first", lambda w, names: list(names))
+        with Workbench() as w:
+            marks = [
+                w.measured(f"P{k}", unit="m", low=0, high=100, step="0.001") for k in range(16)
+            ]
+            w.read("mark", marks[0], Fraction(heights[0], 1000))
+            for number, (begin, end) in enumerate(pairs):
+                line = w.measured(f"line {number}", unit="m", low=-99, high=99, step="0.001")
+                w.law(line == marks[end] - marks[begin])
+                shown = heights[end] - heights[begin] + draw.randint(-4, 4) + 100 * (number == 20)
+                w.read(f"l{number}", line, f"{shown / 1000:.3f} +- 0.005 m")
+            looks.append(0)
+            assert list(w.outliers(most=1, seconds=100)) == [frozenset(["l20"])]
+    assert looks[0] < looks[1]

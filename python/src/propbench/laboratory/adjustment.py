@@ -38,6 +38,8 @@ SHAPES = {"rectangular": sqrt(3), "triangular": sqrt(6), "normal": 3.0}
 # A reading is suspect from here on: of honest ones one in a thousand is. The sum of all squares is
 # one in twenty times beyond its limit.
 SUSPECT, _SURE = 3.29, 0.95
+# Of fewer readings, and of more, it isn't looked for which to try first.
+_FEW, _MANY = 8, 1000
 
 
 @dataclass(frozen=True)
@@ -239,7 +241,9 @@ def _estimate(quantity: Quantity, found: Estimates, bounds: Interval | None, k: 
 
 def suspects_first(w: "Workbench", names: Sequence[str]) -> list[str]:
     """Readings by name, the most suspect by least squares in front; as they are, where SciPy isn't
-    there or no estimate is found."""
+    there, no estimate is found, or it isn't worth it."""
+    if not _FEW <= len(names) <= _MANY:
+        return list(names)
     try:
         _, tests = estimates_of(w, {}, SHAPES["rectangular"])
     except (ImportError, ValueError):
