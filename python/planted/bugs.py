@@ -648,4 +648,29 @@ BUGS = [
         "self._is_closed:",
         "page_server::what_a_page_asked_ends_with_it",
     ),
+    # What a laboratory reads.
+    Bug(
+        "measuring/devices.py",
+        "_times_gain(factored(part), device, degree - lowest)",
+        "_times_gain(factored(part), device, 0)",
+        "devices::a_difference_keeps_no_offset_and_a_ratio_no_scale",
+    ),
+    Bug(
+        "laboratory/rounding.py",
+        "wide = ceil(max(",
+        "wide = round(max(",
+        "tables::nothing_is_lost_by_rounding",
+    ),
+    Bug(
+        "laboratory/tabled.py",
+        "        if quantity in before:\n",
+        "        if name in before:\n",
+        "tables::bad_rows",
+    ),
+    Bug(
+        "laboratory/least_squares.py",
+        "len(self._observations) - rank,",
+        "len(self._observations) - rank - 1,",
+        "adjustment::a_net_of_levels_as_the_normal_equations_have_it",
+    ),
 ]

@@ -79,9 +79,9 @@ else:
     # What has a module of its own since, and stays here for who wrote it so.
     _OLDER = {
         "propbench.errors": """
-            CertificateError EmptyValue Interrupted IsAChoice LimitReached LineTooLong MixedUnits
+            BadTable CertificateError EmptyValue Interrupted IsAChoice LimitReached LineTooLong MixedUnits
             NameTaken NoBound NoGraphviz NoProgram NoReading NoSuchCell NoSuchDomain NoSuchName
-            NoSuchPremise NoSuchProcedure NoSuchRelation NotAName NotANumberInRange NotAWorkbench
+            NoSuchPremise NoSuchProcedure NoSuchRelation NotALaw NotAName NotANumberInRange NotAWorkbench
             NotInTheDomain NotSettled NotUtf8 OutOfMemory OutOfTime ProgramEnded Refused
             SessionInUse TooCoarse TooLong UnknownCommand UnknownUnit WrongCountOfCells WrongForm
             WrongKind WrongParameter WrongReply

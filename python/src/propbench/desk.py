@@ -13,6 +13,8 @@ from typing import TYPE_CHECKING
 from propbench.beginning import ORDERS
 
 if TYPE_CHECKING:
+    from decimal import Decimal
+
     from propbench.journal import Journal
     from propbench.running import Way
     from propbench.watching import Watched
@@ -32,10 +34,13 @@ For what a workbench has saved it is propwide, found in the same way, where ther
 """
 
 STATUS = """\
-The exit status is 0 where all went well, 1 where a line was refused, a report is not what the
-program says or no plan fits, 2 for wrong arguments and tables, 3 where a file could not be read or
-the program was not found or ended, and 130 at Ctrl-C.
+The exit status is 0 where all went well, 1 where a line was refused, readings conflict, a report is
+not what the program says or no plan fits, 2 for wrong arguments and tables, 3 where a file could
+not be read or the program was not found or ended, and 130 at Ctrl-C.
 """
+
+# The columns of tables by which readings may stand or fall together.
+_TOGETHER = ("quantity", "premise", "device", "taken at")
 
 
 def parser() -> argparse.ArgumentParser:
@@ -110,6 +115,49 @@ def parser() -> argparse.ArgumentParser:
         " or that called `tasks`, has the columns task, days, who, after, earliest, latest, cost.",
     )
     _add_plan(plan)
+    measure = commands.add_parser(
+        "measure",
+        help="say what follows from tables of readings",
+        description="Reads a bench (quantities, devices and laws, in TOML) and tables of readings,"
+        " and tells what follows for each quantity, which readings conflict, which to give up, and"
+        " which to improve. Ends with status 1 where readings conflict.",
+    )
+    measure.add_argument("file", metavar="BENCH", help="the bench, .toml")
+    measure.add_argument("readings", metavar="READINGS", nargs="+", help="tables, .csv")
+    measure.add_argument(
+        "--decimal", choices=(".", ","), default=".", help="what stands before decimals (.)"
+    )
+    measure.add_argument(
+        "--under",
+        choices=_TOGETHER,
+        help="the column by which readings stand or fall together (each stands by itself)",
+    )
+    measure.add_argument(
+        "--coverage",
+        type=_coverage,
+        default="3",
+        metavar="K",
+        help="how many times a standard uncertainty is taken for a bound (3)",
+    )
+    measure.add_argument(
+        "--improve",
+        metavar="QUANTITY",
+        action="append",
+        default=[],
+        help="tell which reading to improve for this one (for three that nothing was read of)",
+    )
+    measure.add_argument("--csv", metavar="FILE", help="write the results down as a table")
+    measure.add_argument(
+        "--estimates",
+        action="store_true",
+        help="estimates by least squares too, which are tested and not proved",
+    )
+    measure.add_argument(
+        "--report", metavar="FILE", help="write a report: .html, which prints, or .txt"
+    )
+    measure.add_argument(
+        "--seconds", type=_seconds, default=60.0, metavar="N", help="how long it may take (60)"
+    )
     page = commands.add_parser(
         "page",
         help="show a file in a browser",
@@ -132,7 +180,7 @@ def parser() -> argparse.ArgumentParser:
     draw.add_argument(
         "--out", metavar="PICTURE", help="where to, as SVG or .dot (beside the file, as .svg)"
     )
-    for each in (run, shell, check, blame, plan, page, draw):
+    for each in (run, shell, check, blame, measure, plan, page, draw):
         each.add_argument("--program", metavar="PATH", help="the program that answers")
     page.add_argument(
         "--resume", action="store_true", help="go on with what a page of the file did that was cut"
@@ -193,6 +241,15 @@ def _seconds(text: str) -> float:
     return seconds
 
 
+def _coverage(text: str) -> "Decimal":
+    from decimal import Decimal, InvalidOperation
+
+    try:
+        return Decimal(text)
+    except InvalidOperation:
+        raise argparse.ArgumentTypeError("a coverage is a number, as 2") from None
+
+
 def main(words: Sequence[str] | None = None) -> int:
     """Does what the words of a command line say, those of this process where none are given, and
     gives the exit status."""
@@ -216,7 +273,7 @@ def main(words: Sequence[str] | None = None) -> int:
     except Refused as refused:
         print(told_of(refused, printable(options.file)), file=sys.stderr)
         return 1
-    except (NoProgram, ProgramEnded, OutOfTime, OSError) as error:
+    except (ImportError, NoProgram, ProgramEnded, OutOfTime, OSError) as error:
         return _failed(error)
 
 
@@ -272,6 +329,24 @@ def _planned(options: argparse.Namespace) -> int:
         return _failed(error)
 
 
+def _measured(options: argparse.Namespace) -> int:
+    from pathlib import Path
+
+    from propbench.laboratory.command import Asked, Tables, measure_files
+
+    asked = Asked(
+        Path(options.file),
+        list(map(Path, options.readings)),
+        Tables(options.decimal, options.under, options.coverage),
+        options.seconds,
+        options.improve,
+        Path(options.csv) if options.csv else None,
+        Path(options.report) if options.report else None,
+        options.estimates,
+    )
+    return measure_files(asked, options.program)
+
+
 def _done(options: argparse.Namespace) -> int:
     from propbench.running import Way, run_as_json, run_file
 
@@ -281,6 +356,8 @@ def _done(options: argparse.Namespace) -> int:
         return _blamed(options)
     if options.command == "plan":
         return _planned(options)
+    if options.command == "measure":
+        return _measured(options)
     begin = {"order": options.order, "seed": options.seed, "limit": options.limit}
     if options.command in ("page", "draw"):
         if options.command == "page":

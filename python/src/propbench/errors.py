@@ -13,9 +13,11 @@ from propbench.lazily import all_of, names_of
 if TYPE_CHECKING:
     from propbench.conversation import WrongReply as WrongReply
     from propbench.finding import NoProgram as NoProgram
+    from propbench.laboratory.sheets import BadTable as BadTable
     from propbench.measuring.amounts import NoReading as NoReading
     from propbench.measuring.bounds import NoBound as NoBound
     from propbench.measuring.exact import TooLong as TooLong
+    from propbench.measuring.law_texts import NotALaw as NotALaw
     from propbench.measuring.translation import TooCoarse as TooCoarse
     from propbench.measuring.units import MixedUnits as MixedUnits
     from propbench.measuring.units import UnknownUnit as UnknownUnit
@@ -55,9 +57,11 @@ else:
     _HOMES = {
         "propbench.conversation": "WrongReply",
         "propbench.finding": "NoProgram",
+        "propbench.laboratory.sheets": "BadTable",
         "propbench.measuring.amounts": "NoReading",
         "propbench.measuring.bounds": "NoBound",
         "propbench.measuring.exact": "TooLong",
+        "propbench.measuring.law_texts": "NotALaw",
         "propbench.measuring.translation": "TooCoarse",
         "propbench.measuring.units": "MixedUnits UnknownUnit",
         "propbench.model.answers": "Conflict NotSettled",

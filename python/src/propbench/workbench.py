@@ -14,10 +14,11 @@ from __future__ import annotations
 
 from collections.abc import Iterable, Iterator, Sequence
 from datetime import date
+from typing import TYPE_CHECKING
 
-from propbench.clock import Progress
+from propbench.clock import Clock, Progress
+from propbench.laboratory.bench import Laboratory
 from propbench.measuring import stating
-from propbench.measuring.bench import Measuring
 from propbench.measuring.quantities import Quantity, coverage_of
 from propbench.measuring.readings import reading_of
 from propbench.measuring.sensitivity import Improvements
@@ -34,8 +35,12 @@ from propbench.planning.schedule import schedule_in
 from propbench.questions import Sensitivity
 from propbench.questions.asking import CellLike
 
+if TYPE_CHECKING:
+    from propbench.laboratory.adjustment import Adjustment
+    from propbench.laboratory.report import Report
 
-class Workbench(PlainWorkbench, Measuring):
+
+class Workbench(PlainWorkbench, Laboratory):
     """A network of cells with constraints, some of them under premises, and what follows.
 
     What it does, by what it is for:
@@ -53,7 +58,9 @@ class Workbench(PlainWorkbench, Measuring):
     - what is best: `solve`, `least`, `greatest`, `plans`, `slack`, `critical`; `try_first` says
       which values come first.
     - what if: `what_if`, `scenarios`, `sweep`, `sensitivity`, `snapshot`, `diff`, `compare`.
-    - quantities closer: `shave`, `predict`, `improvements`, `room`.
+    - quantities closer: `quantities`, `sought`, `device`, `devices`, `read_csv`,
+      `read_table`, `read_laws`, `results`, `shave`, `predict`, `improvements`, `room`,
+      `adjust`, `report`.
     - to look at: `picture`, `film`, `serve`.
     - files and lines: `save`, `load`, `lines`, `close`; `proved` and `lacks` tell of the program.
     - within: `session`, `network`, `model`, `answer`, `constraint_of`; and `plan`, an older name of `project`.
@@ -98,6 +105,54 @@ class Workbench(PlainWorkbench, Measuring):
         if isinstance(cell, Quantity):
             return self.improvements(cell, seconds=seconds, progress=progress)
         return super().sensitivity(cell, of, seconds=seconds, progress=progress)
+
+    def adjust(
+        self, *, k: float = 2, shape: str = "rectangular", seconds: float | None = None
+    ) -> "Adjustment":
+        """Estimates of quantities by weighted least squares over the same laws and readings, with
+        standard uncertainties u and U = k u, beside the bounds; `tests` of each reading and of all.
+        What is a bound is taken as `rectangular`, `triangular` or `normal` (three u). This is
+        tested and not proved. Laws with `<=` don't count.
+
+        Needs SciPy, else raises ImportError; raises ValueError where no estimate is found.
+
+        >>> w = Workbench()
+        >>> height = w.measured("height", "m", 0, 100, step="0.1")
+        >>> w.read("tape", height, "12.0 m +- 0.5 m")
+        >>> w.read("laser", height, "12.2 m +- 0.5 m")
+        >>> w.adjust()  # doctest: +SKIP
+        """
+        from propbench.laboratory.adjustment import adjustment_of
+
+        return adjustment_of(self, k, shape, seconds)
+
+    def _suspects_first(self, names: Sequence[str]) -> list[str]:
+        from propbench.laboratory.adjustment import suspects_first
+
+        return suspects_first(self, names)
+
+    def report(
+        self,
+        title: str = "Report",
+        *,
+        seconds: float | None = None,
+        progress: Progress | None = None,
+    ) -> "Report":
+        """What was read of quantities, what follows, and what shows it: `.save("report.html")`
+        writes a page that prints, and `.text` is the same as text. Where readings conflict, the
+        results are those without the ones that `outliers` gives up first.
+
+        Raises OutOfTime where values can't be asked for in time.
+
+        >>> w = Workbench()
+        >>> height = w.measured("height", "m", 0, 100, step="0.1")
+        >>> w.read("tape", height, "12.0 m +- 0.5 m")
+        >>> "height" in w.report("The house").text
+        True
+        """
+        from propbench.laboratory.report import report_of
+
+        return report_of(self, title, Clock(seconds, progress))
 
     def lines(self, constraint: Truth | Law) -> list[str]:
         if not isinstance(constraint, Law):

@@ -149,7 +149,9 @@ class Weeding:
     def _outlier(self, hit: int) -> Outlier:
         """What is known of readings that are given up, against the others of which nothing
         speaks."""
-        made = Outlier(self.premises(hit))
+        # (named as the user first named them, in whatever order they are tried)
+        named = self.premises(hit)
+        made = Outlier(name for name in self.trial.premises if name in named)
         rest = self.premises((1 << len(self.names)) - 1 & ~hit)
         off: dict[str, Off] = {}
         share = Fraction(0)
