@@ -8,7 +8,15 @@ from typing import TYPE_CHECKING
 from propbench.model.network import Network
 from propbench.planning.chart import rooms_of
 from propbench.planning.schedule import Entry, Schedule
-from propbench.planning.tasks import Away, KeptApart, KeptOff, TaskOrdered, TaskTold, Wished
+from propbench.planning.tasks import (
+    Away,
+    KeptApart,
+    KeptOff,
+    NotYet,
+    TaskOrdered,
+    TaskTold,
+    Wished,
+)
 from propbench.questions.clock import Clock, Progress
 from propbench.questions.critical import Critical
 from propbench.questions.outcomes import NothingFits
@@ -111,10 +119,11 @@ def chain_of(project: "Project", seconds: float | None, progress: Progress | Non
         raise NothingFits(f"no end can be explained: {best.headline()}")
     critical = w.critical(project.end, seconds=_part(clock, 2), progress=progress)
     schedule = project.schedule(best)
-    links = list(_Walk(w.network, project, schedule, set(critical)).links())
+    links = list(_Walk(w.network, project, schedule, tuple(critical)).links())
     on_it = {link.entry.task for link in links}
     left = [entry.task for entry in schedule.entries if entry.task not in on_it]
-    with w.what_if(tell=[("ends as soon", project.end, 0, critical.value)]):
+    name = project.unused("all ends as soon")
+    with w.what_if(tell=[(name, project.end, 0, critical.value)]):
         rooms = rooms_of(project, clock, left)
     others = [premise for premise in critical if not _is_own(w.network, project, premise)]
     return Chain(schedule, links, critical, others, rooms)
@@ -138,7 +147,7 @@ class _Walk:
     these premises say."""
 
     def __init__(
-        self, network: Network, project: "Project", schedule: Schedule, premises: set[str]
+        self, network: Network, project: "Project", schedule: Schedule, premises: Sequence[str]
     ) -> None:
         self._stated = [
             each for name in premises for each in network.premises.statements.get(name, ())
@@ -196,8 +205,9 @@ class _Walk:
             days = self._schedule.days_said(away.first, away.last)
             words.append(f"{printable(away.person)}, away {days}")
         for each in self._stated:
-            if isinstance(each, Wished) and each.task == entry.task and each.first == entry.start:
-                words.append(printable(str(each.premise)))
+            if isinstance(each, NotYet) or isinstance(each, Wished) and each.task == entry.task:
+                if each.first == entry.start:
+                    words.append(printable(str(each.premise)))
         return "; ".join(dict.fromkeys(words)), before
 
     def _take(

@@ -112,6 +112,7 @@ def best_of(project: Project, seconds: float | None) -> Optimum:
     if soonest.value is None or is_free or clock.is_over():
         return soonest
     cost = project.total_cost
-    with w.what_if(tell=[("as soon", project.end, 0, soonest.value)]):
+    name = project.unused("all ends as soon")
+    with w.what_if(tell=[(name, project.end, 0, soonest.value)]):
         cheapest = w.least(cost, seconds=clock.seconds_left())
     return soonest if cheapest.plan is None else cheapest

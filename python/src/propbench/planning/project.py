@@ -297,7 +297,14 @@ class Project:
                 raise ValueError(f"{name}: the task {task.name!r} is none of this workbench")
         return tasks
 
-    def told(self, tasks: Iterable[Task]) -> frozenset[str]:
+    def unused(self, name: str) -> str:
+        """A name for a premise that is that of no other, nor of a choice."""
+        known = self.workbench.network.premises
+        while name in known.believed or name in known.choices:
+            name += "'"
+        return name
+
+    def cells_told(self, tasks: Iterable[Task]) -> frozenset[str]:
         """The cells and choices of which a schedule of these tasks tells the values."""
         cells = [cell for cell in (self._end, self._total) if cell is not None]
         for task in tasks:
