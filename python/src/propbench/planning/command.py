@@ -79,7 +79,7 @@ def _tell(project: Project, best: Optimum, title: str, asked: Asked) -> None:
         writers[what](file)
         print(f"The schedule is in {printable(file)}.")
     if asked.why:
-        print(shown(str(project.critical(seconds=asked.seconds))))
+        print(shown(str(project.critical(best, seconds=asked.seconds))))
 
 
 def _is_mended(plan: Plan, best: Optimum, asked: Asked) -> bool:

@@ -27,8 +27,9 @@ from propbench.planning.tasks import (
     checked_ways,
     tasks_in,
 )
-from propbench.questions.clock import Progress
+from propbench.questions.clock import Clock, Progress
 from propbench.questions.model import Plan
+from propbench.questions.outcomes import NothingFits
 from propbench.questions.planned import Planned
 from propbench.showing import printable
 
@@ -254,14 +255,30 @@ class Project:
         return schedule_of(self.workbench.network, self, values, ways)
 
     def critical(
-        self, *, seconds: float | None = None, progress: Progress | None = None
+        self,
+        plan: Planned | Plan | None = None,
+        *,
+        seconds: float | None = None,
+        progress: Progress | None = None,
     ) -> "Chain":
         """Why all ends no sooner: the chain of tasks, people and absences that makes the end, in
-        order, with what each task waits for, and the days that the other tasks can move. Raises
-        NothingFits where there is no plan, or none was found."""
+        order, with what each task waits for, and the days that the other tasks can move; in this
+        plan, or in one that ends soonest. Raises NothingFits where there is no plan, or none was
+        found, and ValueError for one that doesn't end as soon as can be."""
         from propbench.planning.chain import chain_of
 
-        return chain_of(self, seconds, progress)
+        clock = Clock(seconds, progress)
+        shown = self._soonest(clock) if plan is None else plan
+        return chain_of(self, self.schedule(shown), clock)
+
+    def _soonest(self, clock: Clock) -> Planned:
+        """A plan that ends as soon as can be. Raises NothingFits."""
+        left = clock.seconds_left()
+        seconds = None if left is None else left / 4
+        best = self.workbench.least(self.end, seconds=seconds, progress=clock.progress)
+        if best.value is None or not best.proved:
+            raise NothingFits(f"no end can be explained: {best.headline().rstrip(':')}")
+        return best
 
     def chart(
         self,
