@@ -110,7 +110,7 @@ def test_a_chain_is_the_reason(case: Case) -> None:
             return
         end = soonest(case, w.premises)
         chain = p.critical()
-        assert chain.complete and chain.critical.value == end == chain.schedule.end
+        assert chain.complete and chain.reasons.value == end == chain.schedule.end
         assert soonest(case, chain.premises) == end
         for premise in chain.premises:
             assert soonest(case, {*chain.premises} - {premise}) < end
@@ -180,8 +180,12 @@ def test_a_wish_is_told_beside_the_chain() -> None:
         w.forget("b not before 9")
         told = str(p.critical())
         assert "and of good work." in told and p.critical().tasks == ("a", "b")
-        with pytest.raises(NothingFits, match="no plan was found"):
-            p.critical(seconds=0)
+        late = w.greatest(p.end)
+        with pytest.raises(ValueError, match="there is a plan that ends before day 20: ask why of"):
+            p.critical(late)
+        w.kick("good work")
+        assert p.critical(w.least(p.end)).premises == p.critical().premises
+        assert p.critical().rooms == {} and p.critical().schedule.end == 3
 
 
 def test_what_is_the_same_does_not_differ() -> None:

@@ -34,6 +34,7 @@ def test_a_plan_that_is_late(p: Project) -> None:
     assert p.done(venue, "2026-03-02", "2026-03-09") == "venue done 2026-03-02 to 2026-03-09"
     assert p.done(call, 6, 10) == "call done 6 to 10"
     assert p.today("2026-03-17") == "today is 2026-03-17"
+    assert "ben  today is 2026-03-17\n" in f"{p.critical()}\n"
     best = w.least(p.end)
     assert (best.value, best.choices) == (11 + 4, {"venue": "uni"})
     assert {"venue done 2026-03-02 to 2026-03-09", "call done 6 to 10"} <= {*p.facts}
@@ -92,6 +93,14 @@ def test_what_cannot_have_been(p: Project) -> None:
     with pytest.raises(ValueError, match="'team' says more than how long team takes: forget it"):
         p.done(team, 0, 3)
     assert p.done(team, 0, 2) == "team done 0 to 2"
+    with pytest.raises(ValueError, match="team was done already: forget the premise of that first"):
+        p.done(team, 0, 2)
+    with pytest.raises(ValueError, match="'team' says more than what day it is"):
+        p.today(1, under="team")
+    p.today(1, under="now")
+    w.tell("now", call.start, 3)
+    with pytest.raises(ValueError, match="'now' says more than what day it is"):
+        p.today(2)
     with Workbench() as other:
         with pytest.raises(ValueError, match="is a cell of another workbench"):
             p.done(other.plan(days=9).task("call", 3), 0, 3)

@@ -239,6 +239,24 @@ def plain(names: frozenset[str]) -> frozenset[str]:
     return frozenset(name.removesuffix(" 5 to 15") for name in names)
 
 
+def test_a_plan_goes_on(ran: Ran, tmp_path: Path) -> None:
+    """Floor was to take 3 days and took the 6th to the 11th; it is the 13th, a Friday."""
+    path = tmp_path / "work.csv"
+    path.write_text(
+        "task,days,who,after,started,finished\n"
+        "floor,3,Ben,,6 March,11 March\npaint,2,Ana,floor,,\ntidy,1,Ben,,,\n"
+    )
+    words = ["--start", "2026-03-06", "--off", "weekends", "--csv", tmp_path / "out.csv"]
+    told = {"2026-03-13": ("2026-03-13", "2026-03-16"), None: ("2026-03-12", "2026-03-13")}
+    for today, days in told.items():
+        assert ran(path, *words, *(["--today", today] if today else []))[0] == 0
+        found = csv.DictReader(io.StringIO((tmp_path / "out.csv").read_text(), newline=""))
+        rows = {row["task"]: (row["from"], row["to"], row["days"]) for row in found}
+        assert rows["floor"] == ("2026-03-06", "2026-03-11", "4")
+        assert rows["paint"] == (*days, "2")
+    assert ran(path, "--today", "soon")[0] == 2
+
+
 @pytest.mark.parametrize("name", ["release", "conference.ods"])
 def test_the_examples(ran: Ran, name: str) -> None:
     """The sheets have the conflicts and repairs of the scripts, which are held to plain search."""
@@ -377,6 +395,12 @@ WRONG = [
     ("tasks.csv", HEAD + "a,1,,,3 March\n", "`3 March` is not a day of the plan, as 5; dates need"),
     ("plan.csv", "start\nsoon\n", "row 2, column A (start): `soon` is no date: write it as 2026"),
     ("plan.csv", "start\n2 March\n", "(start): `2 March` names no year: write it as 2026-03-02"),
+    ("tasks.csv", "task,days,started\na,1,2\n", "(started): say `finished` too; a task under way"),
+    (
+        "tasks.csv",
+        "task,days,started,finished\na,1,3,2\n",
+        "(finished): it was over before it began",
+    ),
     ("tasks.csv", "", "there is nothing in these sheets: write tasks, with their days"),
     ("plan.csv", "start,off\n2026-03-02,moonday\n", "column B (off): `moonday` is no date"),
     ("plan.csv", "off\nsat\n", "row 2, column A (off): days off need a start of the plan"),

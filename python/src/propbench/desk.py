@@ -201,6 +201,7 @@ def _add_plan(to: argparse.ArgumentParser) -> None:
     )
     to.add_argument("--start", metavar="DATE", help="when the plan begins, as 2026-03-02")
     to.add_argument("--off", metavar="DAYS", help="days off, as `sat sun, 3 April`")
+    to.add_argument("--today", metavar="DATE", help="what isn't done begins then or later")
     to.add_argument("--days", type=int, metavar="N", help="how many days it has at the most")
     to.add_argument(
         "--give-up", action="store_true", help="where nothing fits, give up what costs the least"
@@ -316,7 +317,7 @@ def _planned(options: argparse.Namespace) -> int:
     from propbench.planning.sheets import NoSheetReader
 
     asked = Asked(
-        Given(options.start, options.off, options.days),
+        Given(options.start, options.off, options.days, options.today),
         options.give_up,
         options.what_if,
         options.why,

@@ -21,7 +21,8 @@ class Way:
 
 @dataclass(frozen=True)
 class Job:
-    """A task of a table. It begins on the day `earliest` or later, and ends before `latest`."""
+    """A task of a table. It begins on the day `earliest` or later, and ends before `latest`; `done`
+    are its first day and that by which it was over, where it was done."""
 
     name: str
     ways: tuple[Way, ...]
@@ -29,6 +30,7 @@ class Job:
     after: tuple[str, ...]
     earliest: int | None
     latest: int | None
+    done: tuple[int, int] | None = None
 
 
 @dataclass(frozen=True)
@@ -62,6 +64,7 @@ class Given:
     start: str | None = None
     off: str | None = None
     days: int | None = None
+    today: str | None = None
 
 
 @dataclass
@@ -70,6 +73,7 @@ class Brief:
 
     calendar: Calendar | None = None
     days: int | None = None
+    today: int | None = None
     people: dict[str, float] = field(default_factory=dict)
     jobs: dict[str, Job] = field(default_factory=dict)
     leaves: list[Leave] = field(default_factory=list)

@@ -6,11 +6,17 @@ from dataclasses import dataclass
 from typing import TYPE_CHECKING
 
 from propbench.model.network import Network
-from propbench.planning.chart import rooms_of
 from propbench.planning.schedule import Entry, Schedule
-from propbench.planning.tasks import Away, KeptApart, KeptOff, TaskOrdered, TaskTold, Wished
-from propbench.questions.clock import Clock, Progress
-from propbench.questions.critical import Critical
+from propbench.planning.tasks import (
+    Away,
+    KeptApart,
+    KeptOff,
+    NotYet,
+    TaskOrdered,
+    TaskTold,
+    Wished,
+)
+from propbench.questions.clock import Clock
 from propbench.questions.outcomes import NothingFits
 from propbench.questions.shown import NOT_REFUTED, Shown, listed
 from propbench.showing import printable
@@ -28,6 +34,16 @@ class Link:
     waits: str
 
 
+@dataclass(frozen=True)
+class Reasons:
+    """Premises because of which nothing ends before the day `value`; none of them can be left out
+    where they are `least`."""
+
+    value: int
+    premises: tuple[str, ...]
+    least: bool
+
+
 class Chain(Shown):
     """What makes the end of a plan: `links` in order, and `premises` because of which nothing ends
     sooner, none of which can be left out where it is `complete`. `rooms` are the days that each
@@ -39,20 +55,20 @@ class Chain(Shown):
         self,
         schedule: Schedule,
         links: Sequence[Link],
-        critical: Critical,
+        reasons: Reasons,
         others: Sequence[str],
         rooms: Mapping[str, tuple[int, int]],
     ) -> None:
         """The chain in a schedule, with premises that are no task's and nobody's."""
         self.schedule, self.links = schedule, tuple(links)
-        self.critical, self.others = critical, tuple(others)
+        self.reasons, self.others = reasons, tuple(others)
         self._windows = dict(rooms)
-        self.complete = critical.complete and len(rooms) == len(self._left())
+        self.complete = reasons.least and len(rooms) == len(self._left())
 
     @property
     def premises(self) -> tuple[str, ...]:
         """Because of which the plan ends no sooner."""
-        return tuple(self.critical)
+        return self.reasons.premises
 
     @property
     def tasks(self) -> tuple[str, ...]:
@@ -76,7 +92,7 @@ class Chain(Shown):
 
     def headline(self) -> str:
         when = self.schedule.end_said()
-        why = "" if self.critical.complete else f" (that less would do is {NOT_REFUTED})"
+        why = "" if self.reasons.least else f" (that less would do is {NOT_REFUTED})"
         return f"All is done {when}, and no sooner because of{why}:"
 
     def heads(self) -> Sequence[str]:
@@ -102,28 +118,75 @@ class Chain(Shown):
             yield task, str(room), self.schedule.days_said(*self._windows[task])
 
 
-def chain_of(project: "Project", seconds: float | None, progress: Progress | None) -> Chain:
-    """What makes the end of the plan that ends soonest, as far as there is time; half of it is for
-    the rooms. Raises NothingFits where there is no plan, or none was found."""
-    clock, w = Clock(seconds, progress), project.workbench
-    best = w.least(project.end, seconds=_part(clock, 4), progress=progress)
-    if best.value is None:
-        raise NothingFits(f"no end can be explained: {best.headline()}")
-    critical = w.critical(project.end, seconds=_part(clock, 2), progress=progress)
-    schedule = project.schedule(best)
-    links = list(_Walk(w.network, project, schedule, set(critical)).links())
+def chain_of(project: "Project", schedule: Schedule, clock: Clock) -> Chain:
+    """What makes the end of a schedule that ends soonest, as far as there is time; half of it is for
+    the rooms. Raises ValueError where there is one that ends sooner."""
+    w, left = project.workbench, clock.seconds_left()
+    half = Clock(None if left is None else left / 2, clock.progress)
+    reasons = reasons_of(project, schedule.end, half)
+    links = list(_Walk(w.network, project, schedule, reasons.premises).links())
     on_it = {link.entry.task for link in links}
-    left = [entry.task for entry in schedule.entries if entry.task not in on_it]
-    with w.what_if(tell=[("ends as soon", project.end, 0, critical.value)]):
-        rooms = rooms_of(project, clock, left)
-    others = [premise for premise in critical if not _is_own(w.network, project, premise)]
-    return Chain(schedule, links, critical, others, rooms)
+    others = [entry.task for entry in schedule.entries if entry.task not in on_it]
+    rooms = _rooms(project, others, schedule.end, clock)
+    wishes = [it for it in reasons.premises if not _is_own(w.network, project, it)]
+    return Chain(schedule, links, reasons, wishes, rooms)
 
 
-def _part(clock: Clock, parts: int) -> float | None:
-    """One of so many parts of the time that is left."""
-    left = clock.seconds_left()
-    return None if left is None else left / parts
+def reasons_of(project: "Project", value: int, clock: Clock) -> Reasons:
+    """Premises because of which nothing ends before a day: each is tried to be left out in turn, as
+    far as there is time. Raises ValueError where something does."""
+    if value == 0:
+        return Reasons(value, (), True)
+    w, name = project.workbench, project.unused("all ends sooner")
+    with w.what_if(tell=[(name, project.end, 0, value - 1)]):
+        kept, is_least = _clash(project, clock, w.believed), True
+        if kept is None:
+            raise ValueError(f"there is a plan that ends before day {value}: ask why of that")
+        _keep(project, kept)
+        for premise in kept:
+            if premise not in w.believed or premise == name:
+                continue
+            w.kick(premise)
+            found = _clash(project, clock, ())
+            if found:
+                _keep(project, found)
+            else:
+                w.bring(premise)
+                is_least = is_least and found is None
+        return Reasons(value, tuple(it for it in w.believed if it != name), is_least)
+
+
+def _clash(project: "Project", clock: Clock, unknown: tuple[str, ...]) -> tuple[str, ...] | None:
+    """Premises that can't all hold, None where all fit, and `unknown` where there was no time."""
+    try:
+        project.workbench.solve(seconds=clock.seconds_left(), progress=clock.progress)
+    except NothingFits as none:
+        return unknown if none.premises is None else none.premises
+    return None
+
+
+def _keep(project: "Project", premises: Sequence[str]) -> None:
+    """Believes these premises alone."""
+    w = project.workbench
+    for premise in w.believed:
+        if premise not in premises:
+            w.kick(premise)
+
+
+def _rooms(
+    project: "Project", tasks: Sequence[str], value: int, clock: Clock
+) -> dict[str, tuple[int, int]]:
+    """For each of these tasks the first day on which it starts in a plan that ends by a day, and the
+    last on which it ends, as far as there is time to find both."""
+    w, name = project.workbench, project.unused("all ends as soon")
+    rooms: dict[str, tuple[int, int]] = {}
+    with w.what_if(tell=[(name, project.end, 0, value)]):
+        for task in (project.tasks[it] for it in tasks):
+            first = w.least(task.start, seconds=clock.seconds_left(), progress=clock.progress)
+            last = w.greatest(task.end, seconds=clock.seconds_left(), progress=clock.progress)
+            if first.proved and last.proved and first.value is not None and last.value is not None:
+                rooms[task.name] = first.value, last.value
+    return rooms
 
 
 def _is_own(network: Network, project: "Project", premise: str) -> bool:
@@ -138,7 +201,7 @@ class _Walk:
     these premises say."""
 
     def __init__(
-        self, network: Network, project: "Project", schedule: Schedule, premises: set[str]
+        self, network: Network, project: "Project", schedule: Schedule, premises: Sequence[str]
     ) -> None:
         self._stated = [
             each for name in premises for each in network.premises.statements.get(name, ())
@@ -196,8 +259,9 @@ class _Walk:
             days = self._schedule.days_said(away.first, away.last)
             words.append(f"{printable(away.person)}, away {days}")
         for each in self._stated:
-            if isinstance(each, Wished) and each.task == entry.task and each.first == entry.start:
-                words.append(printable(str(each.premise)))
+            if isinstance(each, NotYet) or isinstance(each, Wished) and each.task == entry.task:
+                if each.first == entry.start:
+                    words.append(printable(str(each.premise)))
         return "; ".join(dict.fromkeys(words)), before
 
     def _take(

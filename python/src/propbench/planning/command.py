@@ -17,7 +17,6 @@ from propbench.questions.shown import listed
 from propbench.showing import printable, shown
 from propbench.workbench import Workbench
 
-
 # A plan has so many days more where something is to be supposed, by which it may end later.
 _SPARE = 400
 
@@ -70,8 +69,6 @@ def _tell(project: Project, best: Optimum, title: str, asked: Asked) -> None:
     print(shown(str(schedule)))
     if not best.proved:
         print("That there is a better plan is not refuted: there was no time.")
-    if asked.why:
-        print(shown(str(project.critical(seconds=asked.seconds))))
     writers: dict[str, Callable[[str], str]] = {
         "html": lambda file: schedule.to_html(file, title),
         "csv": schedule.to_csv,
@@ -81,6 +78,8 @@ def _tell(project: Project, best: Optimum, title: str, asked: Asked) -> None:
     for what, file in asked.files.items():
         writers[what](file)
         print(f"The schedule is in {printable(file)}.")
+    if asked.why:
+        print(shown(str(project.critical(best, seconds=asked.seconds))))
 
 
 def _is_mended(plan: Plan, best: Optimum, asked: Asked) -> bool:

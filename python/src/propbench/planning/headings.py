@@ -36,6 +36,8 @@ TASKS = Columns(
         "latest": ("deadline", "due", "done by", "to", "until"),
         "cost": ("costs", "price"),
         "way": ("option", "how", "alternative"),
+        "started": ("begun", "began"),
+        "finished": ("ended", "done"),
     },
     ("task", "days"),
 )
@@ -67,6 +69,7 @@ PLAN = Columns(
         "start": ("begins", "first day", "from"),
         "off": ("days off", "holidays", "weekend", "closed"),
         "days": ("at most", "length"),
+        "today": ("now",),
     },
     (),
 )

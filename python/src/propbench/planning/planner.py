@@ -31,6 +31,11 @@ def plan_of(workbench: Workbench, brief: Brief, spare: int = 0) -> Plan:
     project = Project(workbench, _days(brief, spare), list(brief.people), brief.calendar)
     for job in brief.jobs.values():
         _add(project, job)
+    for job in brief.jobs.values():
+        if job.done is not None:
+            project.done(project.tasks[job.name], *job.done, f"{job.name} was done")
+    if brief.today is not None:
+        project.today(brief.today, f"today is {_told(project, brief.today)}")
     for leave in brief.leaves:
         if leave.first < leave.back:
             name = project.away(leave.person, leave.first, leave.back, leave.name)
@@ -51,6 +56,8 @@ def _days(brief: Brief, spare: int) -> int:
     late = [job.earliest or 0 for job in brief.jobs.values()]
     late += [wish.earliest or 0 for wish in brief.wishes]
     late += [leave.back for leave in brief.leaves]
+    late += [job.done[1] for job in brief.jobs.values() if job.done is not None]
+    late.append(brief.today or 0)
     return max(1, work + away + max(late, default=0)) + spare
 
 
@@ -105,6 +112,7 @@ def best_of(project: Project, seconds: float | None) -> Optimum:
     if soonest.value is None or is_free or clock.is_over():
         return soonest
     cost = project.total_cost
-    with w.what_if(tell=[("as soon", project.end, 0, soonest.value)]):
+    name = project.unused("all ends as soon")
+    with w.what_if(tell=[(name, project.end, 0, soonest.value)]):
         cheapest = w.least(cost, seconds=clock.seconds_left())
     return soonest if cheapest.plan is None else cheapest

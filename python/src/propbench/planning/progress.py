@@ -18,6 +18,10 @@ def state_done(project: "Project", task: Task, days: tuple[int, int], premise: s
     _check(project, first, last)
     if last < first:
         raise ValueError(f"{task.name}: it can't be over before it begins")
+    if task.name in tasks_done(project):
+        raise ValueError(
+            f"{printable(task.name)} was done already: forget the premise of that first"
+        )
     w, today = project.workbench, today_of(project)
     planned = _planned(project, task, last - first)
     try:
@@ -67,7 +71,7 @@ def today_of(project: "Project") -> tuple[int, str] | None:
     w = project.workbench
     for each in w.network.events:
         if isinstance(each, NotYet) and each.project is project and each.premise in w.believed:
-            return each.day, str(each.premise)
+            return each.first, str(each.premise)
     return None
 
 
@@ -76,8 +80,10 @@ def state_today(project: "Project", day: int, premise: str) -> None:
     w, before = project.workbench, today_of(project)
     _check(project, day)
     w.network.premises.check(premise)
-    if before is not None:
-        w.forget(before[1])
+    for name in {premise, *([before[1]] if before else [])}:
+        stated = w.network.premises.statements.get(name, ())
+        if not all(isinstance(each, NotYet) and each.project is project for each in stated):
+            raise ValueError(f"{name!r} says more than what day it is: give that a name of its own")
     done = tasks_done(project)
     written = f"what isn't done begins {project.day_said(day)} or later"
 
@@ -87,7 +93,11 @@ def state_today(project: "Project", day: int, premise: str) -> None:
                 node = (task.start >= day).node
                 w.network.do(NotYet(node, premise, project, written, day))
 
+    if before is not None and before[1] == premise:
+        w.forget(premise)
     w.network.whole(state)
+    if before is not None and before[1] != premise:
+        w.forget(before[1])
 
 
 def _check(project: "Project", *days: int) -> None:

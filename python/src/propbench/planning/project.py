@@ -28,8 +28,9 @@ from propbench.planning.tasks import (
     checked_ways,
     tasks_in,
 )
-from propbench.questions.clock import Progress
+from propbench.questions.clock import Clock, Progress
 from propbench.questions.model import Plan
+from propbench.questions.outcomes import NothingFits
 from propbench.questions.planned import Planned
 from propbench.showing import printable
 
@@ -381,11 +382,16 @@ class Project:
         return schedule_of(self.workbench.network, self, values, ways)
 
     def critical(
-        self, *, seconds: float | None = None, progress: Progress | None = None
+        self,
+        plan: Planned | Plan | None = None,
+        *,
+        seconds: float | None = None,
+        progress: Progress | None = None,
     ) -> "Chain":
         """Why all ends no sooner: the chain of tasks, people and absences that makes the end, in
-        order, with what each task waits for, and the days that the other tasks can move. Raises
-        NothingFits where there is no plan, or none was found.
+        order, with what each task waits for, and the days that the other tasks can move; in this
+        plan, or in one that ends soonest. Raises NothingFits where there is no plan, or none was
+        found, and ValueError for one that doesn't end as soon as can be.
 
         >>> w = Workbench()
         >>> p = w.project(days=30, start="2026-03-02", off="sat sun", people="ana")
@@ -395,7 +401,18 @@ class Project:
         """
         from propbench.planning.chain import chain_of
 
-        return chain_of(self, seconds, progress)
+        clock = Clock(seconds, progress)
+        shown = self._soonest(clock) if plan is None else plan
+        return chain_of(self, self.schedule(shown), clock)
+
+    def _soonest(self, clock: Clock) -> Planned:
+        """A plan that ends as soon as can be. Raises NothingFits."""
+        left = clock.seconds_left()
+        seconds = None if left is None else left / 4
+        best = self.workbench.least(self.end, seconds=seconds, progress=clock.progress)
+        if best.value is None or not best.proved:
+            raise NothingFits(f"no end can be explained: {best.headline().rstrip(':')}")
+        return best
 
     def chart(
         self,
@@ -438,13 +455,27 @@ class Project:
                 raise ValueError(f"{name}: the task {task.name!r} is none of this workbench")
         return tasks
 
-    def told(self, tasks: Iterable[Task]) -> frozenset[str]:
+    def unused(self, name: str) -> str:
+        """A name for a premise that is that of no other, nor of a choice.
+
+        >>> w = Workbench()
+        >>> p = w.project(days=30)
+        >>> venue = p.task("venue", 3)
+        >>> p.unused("venue takes 3")
+        "venue takes 3'"
+        """
+        known = self.workbench.network.premises
+        while name in known.believed or name in known.choices:
+            name += "'"
+        return name
+
+    def cells_told(self, tasks: Iterable[Task]) -> frozenset[str]:
         """The cells and choices of which a schedule of these tasks tells the values.
 
         >>> w = Workbench()
         >>> p = w.project(days=30, start="2026-03-02", off="sat sun", people="ana")
         >>> venue, review = p.task("venue", 3, who="ana"), p.task("review", 5, who="ana")
-        >>> "venue" in p.told([venue])
+        >>> "venue" in p.cells_told([venue])
         True
         """
         cells = [cell for cell in (self._end, self._total) if cell is not None]

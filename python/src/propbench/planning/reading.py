@@ -89,6 +89,7 @@ class _Reader:
         starts = [row["start"] for row in rows if "start" in row]
         days = [_whole(row["days"], 1) for row in rows if "days" in row]
         off = [row["off"] for row in rows if "off" in row and given.off is None]
+        today = [row["today"] for row in rows if "today" in row]
         if starts[1:]:
             raise starts[1].wrong("the plan begins once: there is a start above")
         start = _start(given.start) if given.start else None
@@ -100,6 +101,10 @@ class _Reader:
             raise off[0].wrong("days off need a start of the plan: add a column `start`")
         elif given.off:
             raise ValueError("days off need a start of the plan: --start 2026-03-02")
+        if given.today is not None:
+            self.brief.today = self._day(Field(given.today, "the command line", 1, "--today"))
+        elif today:
+            self.brief.today = self._day(today[0])
         self.brief.days = given.days
         if given.days is None and days:
             self.brief.days = days[0]
@@ -151,7 +156,23 @@ class _Reader:
             tuple(_split(after, _BETWEEN)),
             None if earliest is None else self._day(earliest),
             None if latest is None else self._day(latest, True),
+            self._done(_once(rows, "started"), _once(rows, "finished")),
         )
+
+    def _done(self, started: Field | None, finished: Field | None) -> tuple[int, int] | None:
+        """When a task was done, where both its ends are told."""
+        if started is None or finished is None:
+            told = started or finished
+            if told is not None:
+                other = "finished" if started else "started"
+                raise told.wrong(
+                    f"say `{other}` too; a task under way has its days left, and neither"
+                )
+            return None
+        first, back = self._day(started), self._day(finished, True)
+        if back < first:
+            raise finished.wrong("it was over before it began")
+        return first, back
 
     def _people(self, given: Field | None) -> list[str]:
         if self._is_closed:

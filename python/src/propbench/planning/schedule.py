@@ -240,7 +240,7 @@ def schedule_of(
     believed = set(network.premises.in_force)
     aways = [away for away in aways_of(project, network.events) if away.premise in believed]
     staff = Staff(project.people, project.days, project.calendar, tuple(aways))
-    return Schedule(entries, staff, project.told(tasks))
+    return Schedule(entries, staff, project.cells_told(tasks))
 
 
 def values_in(

@@ -89,11 +89,11 @@ class TaskDone(TaskTold):
 
 @dataclass(frozen=True)
 class NotYet(Required):
-    """A task that isn't done yet doesn't begin before today."""
+    """A task that isn't done yet doesn't begin before today, which is the day `first`."""
 
     project: "Project"
     written: str
-    day: int
+    first: int
 
     @property
     def told(self) -> str:

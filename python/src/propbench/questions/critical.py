@@ -210,7 +210,9 @@ def find_critical(
 
     def result() -> Critical:
         if not found or bounding.value is None:
-            raise NothingFits(f"there is no {sort} {name} to be explained: {bounding.result()}")
+            raise NothingFits(
+                f"there is no {sort} {name} to be explained: {bounding.result().headline()}"
+            )
         explored, refuted = found[0]
         made = Critical(explored.names(refuted.mask))
         made.cell, made.sort, made.value = name, sort, bounding.value
