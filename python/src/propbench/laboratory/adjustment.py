@@ -39,7 +39,7 @@ SHAPES = {"rectangular": sqrt(3), "triangular": sqrt(6), "normal": 3.0}
 # one in twenty times beyond its limit.
 SUSPECT, _SURE = 3.29, 0.95
 # Of fewer readings, and of more, it isn't looked for which to try first.
-_FEW, _MANY = 8, 1000
+_FEW, _MANY = 8, 400
 
 
 @dataclass(frozen=True)

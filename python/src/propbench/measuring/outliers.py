@@ -217,7 +217,12 @@ def find_outliers(
             claims.append(("fails", {"given": evidence.lines_of(premises), "told": []}))
         certificate = evidence.certificate(claims)
         texts = {name: model.text(name) for name in readings}
-        ordered = sorted(weeding.found, key=lambda each: (len(each), -each.share))
+        # (where two are as good, in the order of the user's premises, however they were tried)
+        place = {name: number for number, name in enumerate(trial.premises)}
+        ordered = sorted(
+            weeding.found,
+            key=lambda each: (len(each), -each.share, [place[name] for name in each]),
+        )
         return Outliers(ordered, weeding.complete, texts, certificate)
 
     return tried(trial, run, result)
