@@ -44,7 +44,7 @@ class Optimum(Planned):
     _certificate: Certificate | None
     choices: Mapping[str, object] = field(default_factory=dict)
     because: tuple[str, ...] = ()
-    schedule: Scheduled | None = None
+    schedule: Scheduled | None = field(default=None, compare=False)
 
     def shown_by(self, certificate: Certificate | None) -> "Optimum":
         """The same with a certificate.
