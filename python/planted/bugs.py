@@ -238,13 +238,13 @@ BUGS = [
         "planning::what_is_refused_leaves_nothing",
     ),
     Bug(
-        "workbench.py",
+        "plain.py",
         "            copy, self._network = self._network, kept\n",
         "            copy = self._network\n",
         "what_is_left::a_what_if_leaves_nothing",
     ),
     Bug(
-        "workbench.py",
+        "plain.py",
         "            if known.get(cell.name) is not cell:\n",
         "            if cell.name not in known:\n",
         "what_is_left::what_was_made_in_a_what_if_says_that_it_is_gone",
@@ -647,5 +647,30 @@ BUGS = [
         "self._is_closed or self._is_gone():",
         "self._is_closed:",
         "page_server::what_a_page_asked_ends_with_it",
+    ),
+    # What a laboratory reads.
+    Bug(
+        "measuring/devices.py",
+        "_times_gain(factored(part), device, degree - lowest)",
+        "_times_gain(factored(part), device, 0)",
+        "devices::a_difference_keeps_no_offset_and_a_ratio_no_scale",
+    ),
+    Bug(
+        "laboratory/rounding.py",
+        "wide = ceil(max(",
+        "wide = round(max(",
+        "tables::nothing_is_lost_by_rounding",
+    ),
+    Bug(
+        "laboratory/tabled.py",
+        "        if quantity in before:\n",
+        "        if name in before:\n",
+        "tables::bad_rows",
+    ),
+    Bug(
+        "laboratory/least_squares.py",
+        "len(self._observations) - rank,",
+        "len(self._observations) - rank - 1,",
+        "adjustment::a_net_of_levels_as_the_normal_equations_have_it",
     ),
 ]

@@ -32,7 +32,7 @@ from propbench.model.expressions import (
     element,
 )
 from propbench.model.kinds import Domain
-from propbench.workbench import Workbench
+from propbench.plain import PlainWorkbench
 
 # Definitions lie so deep within one another at the most; then a cell has the value.
 _DEEPEST = 30
@@ -41,7 +41,7 @@ _DEEPEST = 30
 class Built:
     """A model in a workbench."""
 
-    def __init__(self, flat: Flat, workbench: Workbench) -> None:
+    def __init__(self, flat: Flat, workbench: PlainWorkbench) -> None:
         """States all of the model. Raises NotSupported, and ValueError where there is no room."""
         check(flat)
         self.flat, self.workbench = flat, workbench

@@ -11,9 +11,9 @@ from propbench.flatzinc.grammar import read
 from propbench.flatzinc.solving import ALL, solve
 from propbench.flatzinc.terms import NotSupported
 from propbench.flatzinc.writing import statistics, written
+from propbench.plain import PlainWorkbench
 from propbench.program import OutOfTime, ProgramEnded
 from propbench.showing import said_of
-from propbench.workbench import Workbench
 
 DESCRIPTION = """\
 Solves a model in FlatZinc by the proved workbench: MiniZinc calls it, by `minizinc --solver
@@ -50,7 +50,7 @@ def _solved(options: argparse.Namespace) -> int:
     began = time.monotonic()
     flat = read(_text(options.file))
     most = ALL if options.all and options.n is None else options.n or 1
-    with Workbench(options.program) as workbench:
+    with PlainWorkbench(options.program) as workbench:
         built = Built(flat, workbench)
         read_at = time.monotonic()
         if options.verbose:

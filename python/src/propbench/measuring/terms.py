@@ -80,11 +80,26 @@ class Term:
 
     @property
     def real(self) -> Real:
-        """The term as data."""
+        """The term as data.
+
+        >>> w = Workbench()
+        >>> side = w.measured("side", "m", 0, 10)
+        >>> (side * side).real.sort.name
+        'PRODUCT'
+        """
         raise NotImplementedError
 
     def sqrt(self) -> "Term":
-        """The square root, which is not negative."""
+        """The square root, which is not negative.
+
+        >>> w = Workbench()
+        >>> side, area = w.measured("side", "m", 0, 10), w.measured("area", "m^2", 0, 100)
+        >>> w.law(side == area.sqrt())
+        >>> w.read("plan", area, "25 m^2 +- 0 m^2")
+        >>> answer = side.ask()
+        >>> float(round(answer.low, 3)), float(round(answer.high, 3))
+        (5.0, 5.0)
+        """
         return Made(power_of(self.real, Fraction(1, 2)))
 
     def __add__(self, other: "Term | Exact | str") -> "Term":

@@ -9,7 +9,7 @@ import re
 from collections.abc import Mapping
 from dataclasses import dataclass
 from fractions import Fraction
-from functools import cache
+from functools import cache, lru_cache
 from importlib import import_module
 from math import isqrt
 
@@ -77,7 +77,13 @@ def unit_of(text: str) -> Unit:
     """The unit that a text names. Raises UnknownUnit, and TypeError for what is no text."""
     if not isinstance(text, str):
         raise TypeError(f"a unit is a text, as `mm` and `1`: {text!r}")
-    written = text.strip()
+    return _unit_of(text.strip())
+
+
+# (tables name few units many times)
+@lru_cache(maxsize=1000)
+def _unit_of(written: str) -> Unit:
+    """The unit that a text names, without spaces around it."""
     if written in _OFFSETS:
         factor, offset = _OFFSETS[written]
         return Unit(written, _base("K"), factor, offset)

@@ -4,11 +4,11 @@ them itself, or else by bounds that close in."""
 from collections.abc import Sequence
 from contextlib import suppress
 
+from propbench.clock import Clock, Progress
 from propbench.points import Best, NoneFits
 from propbench.questions.asking import CellLike, tried, tried_by, whole_named
 from propbench.questions.bounding import Optimum, bounding_in, check_numbers
 from propbench.questions.certificate import Evidence
-from propbench.questions.clock import Clock, Progress
 from propbench.questions.model import Model
 from propbench.questions.outcomes import Cannot, Fits, NothingFits, Outcome
 from propbench.questions.searching import decided
@@ -69,8 +69,8 @@ class Ending:
             return Optimum(cell, sort, None, None, bound, proved, None, {}, because)
         value, plan = fits.plan[cell], seeker.shown(fits.plan)
         assert isinstance(value, int)
-        chosen = seeker.model.chosen(fits.plan)
-        return Optimum(cell, sort, value, plan, bound, proved, None, chosen, because)
+        found = Optimum(cell, sort, value, plan, bound, proved, None, because=because)
+        return found.seen_by(seeker.model, fits.plan)
 
     def optimum(self) -> Optimum:
         """What is known by now. Raises Unlike."""

@@ -8,12 +8,12 @@ stated says more than its lines), nothing is said, and the search of this packag
 from collections.abc import Iterable, Mapping, Sequence
 from contextlib import suppress
 
+from propbench.clock import Clock
 from propbench.closing import Closing
 from propbench.points import Best, NoneFits, Points, Several, SoFar
 from propbench.program import OutOfTime
 from propbench.questions.bounding import LEAST
 from propbench.questions.certificate import Certificate, Evidence
-from propbench.questions.clock import Clock
 from propbench.questions.model import Model, Plan
 from propbench.questions.outcomes import Fits
 from propbench.questions.trial import mark_for
