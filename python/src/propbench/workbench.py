@@ -344,9 +344,11 @@ class Workbench(Measuring, Closing):
             if over != "all plans":
                 raise ValueError(f'an answer may be over="all plans", and not over={over!r}')
             return self._over_all_plans(cell, seconds)
+        clock = Clock(seconds, None)
+        self._sharpen([cell], clock)
         # (these take a while each to be looked at, and cells are asked often)
         session, names = self._network.session, self._network.vocabulary
-        premises, clock = self._network.premises, Clock(seconds, None)
+        premises, seconds = self._network.premises, clock.seconds_left()
         reply = session.send(f"{command} {names.cells.line(cell.name)}", seconds=seconds)
         if not isinstance(reply, Value):
             assert isinstance(reply, Contradiction)
@@ -370,7 +372,8 @@ class Workbench(Measuring, Closing):
         """
         declared = [self._own(cell) for cell in cells] or list(self._network.cells.values())
         clock = Clock(seconds, None)
-        reply = self.session.send("settle", seconds=seconds)
+        self._sharpen(declared, clock)
+        reply = self.session.send("settle", seconds=clock.seconds_left())
         if isinstance(reply, Contradiction):
             raise self._conflict(reply, clock.seconds_left())
         names = self._network.vocabulary.cells

@@ -8,14 +8,18 @@ from propbench.measuring.outliers import Outliers, find_outliers
 from propbench.measuring.predict import Prediction, expected, predicted
 from propbench.measuring.quantities import MeasuredAnswer, Quantity, measure_of, measured
 from propbench.measuring.readings import COVERAGE, Given, reading_of
+from propbench.measuring.refining import ANSWERED, SHAVED, Sharpening
 from propbench.measuring.rooms import Room, find_room
 from propbench.measuring.sensitivity import Improvements, find_improvements
 from propbench.measuring.shaving import Shaved, find_shaved
+from propbench.measuring.bends import Bend
 from propbench.measuring.stating import (
+    BendTold,
     LawTold,
     RootMade,
     Stated,
     declared,
+    pieces,
     quantities_in,
     read,
     stated,
@@ -32,7 +36,7 @@ from propbench.model.reading import Reader
 from propbench.questions import Questions
 from propbench.questions.clock import Clock, Progress
 from propbench.questions.rooms import Numbers
-from propbench.replies import Contradiction, Value
+from propbench.replies import Contradiction, Settled, Value
 from propbench.values import Span
 
 
@@ -41,6 +45,8 @@ class Measuring(Questions):
 
     _network: Network
     _owner: object
+    # Whether a law was stated in which a function stands.
+    _has_bends: bool = False
 
     # --- what is stated ---
 
@@ -88,13 +94,15 @@ class Measuring(Questions):
 
         try:
             check_zeros(law)
-            found, roots = stated(law, self._equations(under), under, root_of)
+            found, defined = stated(law, self._equations(under), under, root_of)
         except RecursionError:
             raise ValueError("a law is nested too deeply: name parts of it by quantities") from None
+        self._has_bends = self._has_bends or bool(defined.bends)
         self._network.do(
             *(RootMade(cell, root) for root, cell in made.items()),
             LawTold(found.constraint, under, law.text, found),
-            *(LawStated(each.constraint, under, each.law.text) for each in roots),
+            *(LawStated(each.constraint, under, each.law.text) for each in defined.laws),
+            *self._new_pieces(defined.bends, under),
         )
 
     def read(
@@ -129,8 +137,9 @@ class Measuring(Questions):
 
         Raises Conflict where what is believed can't all hold.
         """
-        self._own(quantity)
-        return find_shaved(self, quantity, seconds, progress)
+        clock = Clock(seconds, None)
+        self._sharpen([self._own(quantity)], clock, SHAVED)
+        return find_shaved(self, quantity, clock.seconds_left(), progress)
 
     def outliers(
         self,
@@ -191,9 +200,38 @@ class Measuring(Questions):
 
     # --- within ---
 
-    def _related(self, quantity: Quantity) -> list[str]:
+    def _sharpen(
+        self, cells: Iterable[Declared], clock: Clock, share: int = ANSWERED
+    ) -> None:
+        """Tells curves of functions by finer pieces where what is believed leaves quantities that
+        these hang on, as long as that narrows answers and there is time."""
+        if not self._has_bends:
+            return
+        names = {name for cell in cells for name in self._related(cell)}
+        believed = self._network.premises.in_force
+        sharpening = Sharpening.of(self._network.events, names, believed, share)
+        while sharpening.places and not clock.is_over():
+            left = self._left_for(sharpening.cells, clock)
+            finer = sharpening.finer(left) if left else ()
+            if not finer:
+                return
+            self._network.do(*finer)
+
+    def _left_for(self, cells: Sequence[Declared], clock: Clock) -> dict[Declared, Numbers]:
+        """What is left for cells; nothing where that isn't settled, or there is a conflict."""
+        session, names = self._network.session, self._network.vocabulary.cells
+        if not isinstance(session.send("settle", seconds=clock.seconds_left()), Settled):
+            return {}
+        asks = [f"ask {names.line(cell.name)}" for cell in cells]
+        found: dict[Declared, Numbers] = {}
+        for cell, reply in zip(cells, session.look(asks, until=clock.last)):
+            held = reply.value if isinstance(reply, Value) else None
+            found[cell] = Numbers(held.low, held.high) if isinstance(held, Span) else _whole(cell)
+        return found
+
+    def _related(self, cell: Declared) -> list[str]:
         """The quantities that laws tie to this one, by name, those without readings in front."""
-        found = {quantity.declared}
+        found = {cell}
         groups = [
             cells_in(each.constraint)
             for each in self._network.events
@@ -265,6 +303,16 @@ class Measuring(Questions):
             name += "'"
         return name
 
+    def _new_pieces(self, bends: Iterable[Bend], under: str | None) -> list[BendTold]:
+        """What is told of curves at first, where it isn't told yet."""
+        told = {
+            each.bend
+            for each in self._network.events
+            if isinstance(each, BendTold) and each.premise in (None, under)
+        }
+        fresh = [bend for bend in dict.fromkeys(bends) if bend not in told]
+        return [piece for bend in fresh for piece in pieces(bend, bend.first_places(), under)]
+
     def _equations(self, under: str | None) -> list[Polynomial]:
         """The equations that hold always, with which one that does may be combined."""
         if under is not None:
@@ -275,3 +323,9 @@ class Measuring(Questions):
     def _laws(self) -> list[Stated]:
         """The laws, as they are told, in the order in which they were stated."""
         return [each.stated for each in self._network.events if isinstance(each, LawTold)]
+
+
+def _whole(cell: Declared) -> Numbers:
+    """All that a quantity's cell may be."""
+    assert cell.low is not None and cell.high is not None
+    return Numbers(cell.low, cell.high)

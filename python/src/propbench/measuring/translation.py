@@ -57,10 +57,11 @@ class Told:
 
 
 class Translator:
-    """Makes parts of terms. `hidden` gives the quantity that stands for a root within a term."""
+    """Makes parts of terms. `hidden` gives the quantity that stands for a root or a function within
+    a term."""
 
-    def __init__(self, hidden: Callable[[Real, Bounds], Real]) -> None:
-        self.bounds = BoundsOf()
+    def __init__(self, bounds: BoundsOf, hidden: Callable[[Real], Real]) -> None:
+        self.bounds = bounds
         self._hidden = hidden
         self._atoms: dict[Real, Part] = {}
 
@@ -88,9 +89,11 @@ class Translator:
             assert measure is not None
             bounds = measure.low, measure.high
             return Part(cell(atom.quantity), measure.step, Radius(HALF), bounds)
-        if atom.sort is Sort.ROOT:
-            return self._atom(self._hidden(atom, self.bounds(atom)))
         bounds = self.bounds(atom)
+        if _is_known(atom):
+            return _known(bounds)
+        if atom.sort in (Sort.ROOT, Sort.FUNCTION):
+            return self._atom(self._hidden(atom))
         if atom.sort is Sort.QUOTIENT:
             above, below = (self._sum(linear_of(arg), MOST_DIVIDED) for arg in atom.args)
             return divided(above, below, bounds, text_of(atom))
@@ -145,7 +148,7 @@ def multiplied(one: Part, other: Part, bounds: Bounds) -> Part:
     """The product: with x and y rounded by at most r and s, xy is off by |x|s + |y|r + rs."""
     radius = _times_size(other.radius, one).plus(_times_size(one.radius, other))
     radius = radius.plus(Radius(one.radius.most * other.radius.most))
-    node = (Number(one.node) * Number(other.node)).node
+    node = one.node if other.node is number(1) else (Number(one.node) * Number(other.node)).node
     return Part(node, one.step * other.step, radius, bounds)
 
 
@@ -210,6 +213,20 @@ def extreme(sort: Sort, parts: list[Part], bounds: Bounds) -> Part:
     else:
         radius = max(radii, key=lambda each: each.constant)
     return smaller(Part(found.node, step, radius, bounds), MOST_FACTOR)
+
+
+def _is_known(atom: Real) -> bool:
+    """Whether no quantity stands in a term, so that it is one number, which no fraction need be."""
+    return atom.sort is not Sort.QUANTITY and all(map(_is_known, atom.args))
+
+
+def _known(bounds: Bounds) -> Part:
+    """One number that lies between these: one step of its own size, almost."""
+    middle = (bounds[0] + bounds[1]) / 2
+    if not middle:
+        return Part(number(0), Fraction(1), Radius(bounds[1]), bounds)
+    off = (bounds[1] - bounds[0]) / 2 / abs(middle)
+    return Part(number(1 if middle > 0 else -1), abs(middle), Radius(off), bounds)
 
 
 def _constant(value: Fraction) -> Part:
