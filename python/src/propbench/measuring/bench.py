@@ -8,7 +8,7 @@ from propbench.measuring.outliers import Outliers, find_outliers
 from propbench.measuring.predict import Prediction, expected, predicted
 from propbench.measuring.quantities import MeasuredAnswer, Quantity, measure_of, measured
 from propbench.measuring.readings import COVERAGE, Given, reading_of
-from propbench.measuring.refining import ANSWERED, SHAVED, Sharpening
+from propbench.measuring.refining import SHAVED, Sharpening
 from propbench.measuring.rooms import Room, find_room
 from propbench.measuring.sensitivity import Improvements, find_improvements
 from propbench.measuring.shaving import Shaved, find_shaved
@@ -19,10 +19,10 @@ from propbench.measuring.stating import (
     RootMade,
     Stated,
     declared,
-    pieces,
     quantities_in,
     read,
     stated,
+    told_pieces,
 )
 from propbench.measuring.terms import Law, Real, text_of
 from propbench.measuring.units import unit_of
@@ -200,17 +200,16 @@ class Measuring(Questions):
 
     # --- within ---
 
-    def _sharpen(
-        self, cells: Iterable[Declared], clock: Clock, share: int = ANSWERED
-    ) -> None:
-        """Tells curves of functions by finer pieces where what is believed leaves quantities that
-        these hang on, as long as that narrows answers and there is time."""
+    def _sharpen(self, cells: Iterable[Declared], clock: Clock, parts: int = 0) -> None:
+        """Tells curves of functions by finer pieces where what is believed leaves the quantities that
+        these cells hang on, in so many parts too, as long as that narrows answers and there is
+        time."""
         if not self._has_bends:
             return
         names = {name for cell in cells for name in self._related(cell)}
         believed = self._network.premises.in_force
-        sharpening = Sharpening.of(self._network.events, names, believed, share)
-        while sharpening.places and not clock.is_over():
+        sharpening = Sharpening.of(self._network.events, names, believed, parts)
+        while sharpening.pieces and not clock.is_over():
             left = self._left_for(sharpening.cells, clock)
             finer = sharpening.finer(left) if left else ()
             if not finer:
@@ -306,12 +305,13 @@ class Measuring(Questions):
     def _new_pieces(self, bends: Iterable[Bend], under: str | None) -> list[BendTold]:
         """What is told of curves at first, where it isn't told yet."""
         told = {
-            each.bend
+            each.piece.bend
             for each in self._network.events
             if isinstance(each, BendTold) and each.premise in (None, under)
         }
         fresh = [bend for bend in dict.fromkeys(bends) if bend not in told]
-        return [piece for bend in fresh for piece in pieces(bend, bend.first_places(), under)]
+        found = (bend.piece(place) for bend in fresh for place in bend.first_places())
+        return list(told_pieces(found, under))
 
     def _equations(self, under: str | None) -> list[Polynomial]:
         """The equations that hold always, with which one that does may be combined."""

@@ -7,14 +7,15 @@ pieces can be halved, and told beside those that are there. docs/MEASURING.md ha
 from collections.abc import Iterator
 from dataclasses import dataclass
 from fractions import Fraction
+from functools import lru_cache
 from math import ceil, floor
 
 from propbench.measuring.curves import Curve, Segments
 from propbench.measuring.enclosing import Ends
-from propbench.measuring.shapes import clipped
+from propbench.measuring.shapes import clipped, range_of
 from propbench.model.expressions import Number, maximum, minimum
 from propbench.model.measures import HALF, Measure
-from propbench.model.nodes import Declared, Node, cell
+from propbench.model.nodes import TRUE, Declared, Node, cell
 
 # Both products of a piece may be so large.
 _MOST = 4 * 10**17
@@ -23,8 +24,17 @@ _FIRST = 8
 # More than what pi, rounded, adds at a turn of a sine.
 _TINY = Fraction(1, 10**60)
 
+# So many values of curves are kept.
+_KEPT = 1000
+
 # The first and the last number of the argument's cell in a piece.
 Place = tuple[int, int]
+
+
+@lru_cache(_KEPT)
+def _value_at(curve: Curve, at: Fraction) -> Ends:
+    """The value of a curve, which is kept for a while: a piece ends where the next one begins."""
+    return curve.value(at)
 
 
 @dataclass(frozen=True)
@@ -65,6 +75,13 @@ class Bend:
         cuts = sorted({low + (high - low) * each // _FIRST for each in range(_FIRST + 1)})
         yield from zip(cuts, cuts[1:])
 
+    def guess(self, value: int) -> int:
+        """About what the argument's cell holds where the value's cell holds this."""
+        argument, measure = self._measures
+        low, high = range_of(self.curve, (argument.low, argument.high))
+        found = self.curve.guess(min(max(value * measure.step, low), high))
+        return round(found / argument.step)
+
     def piece(self, place: Place) -> "Piece | None":
         """What is told of a piece; None where the curve rises or falls by less than a step."""
         ends = self._value(place[0]), self._value(place[1])
@@ -72,8 +89,10 @@ class Bend:
         low, high = ceil(lowest[1]), floor(highest[0])
         if low >= high or place[0] >= place[1]:
             return None
+        if high - low > _MOST:
+            return Piece(self, place, (low, high), Lines(1, 0, 0, high - low))
         length = place[1] - place[0]
-        slope = (sum(ends[1]) - sum(ends[0])) / 2 / length
+        slope = (ends[1][0] + ends[1][1] - ends[0][0] - ends[0][1]) / 2 / length
         of_value = max(1, min(_MOST // (high - low), floor(_MOST / abs(slope) / length)))
         of_argument = round(slope * of_value)
         below, above = self._between(place, ends, Fraction(of_argument, of_value))
@@ -83,13 +102,15 @@ class Bend:
         below = of_value * (below - (highest[1] - high) - off) - more
         above = of_value * (above + (low - lowest[0]) + off) + more
         shift = of_argument * place[0] - of_value * low
-        lines = Lines(of_value, of_argument, floor(below) + shift, ceil(above) + shift)
-        return Piece(self, place, (low, high), lines)
+        # (no more is told than what cutting off leaves anyway)
+        least = max(floor(below) + shift, min(0, -of_argument * length))
+        most = min(ceil(above) + shift, of_value * (high - low) + max(0, -of_argument * length))
+        return Piece(self, place, (low, high), Lines(of_value, of_argument, least, most))
 
     def _value(self, at: int) -> Ends:
         """Between what the value lies where the argument's cell is a number, in steps."""
         argument, value = self._measures
-        low, high = self.curve.value(at * argument.step)
+        low, high = _value_at(self.curve, at * argument.step)
         return low / value.step, high / value.step
 
     def _between(self, place: Place, ends: tuple[Ends, Ends], slope: Fraction) -> Ends:
@@ -140,6 +161,8 @@ class Piece:
     def constraint(self) -> Node:
         """What is told of it."""
         value = _cut_off(self.bend.value, self.values) * self.lines.of_value
+        if not self.lines.of_argument:
+            return TRUE
         argument = _cut_off(self.bend.argument, self.place) * abs(self.lines.of_argument)
         found = value - argument if self.lines.of_argument > 0 else value + argument
         return ((found >= self.lines.low) & (found <= self.lines.high)).node

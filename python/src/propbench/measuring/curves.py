@@ -20,7 +20,10 @@ _OFF, _FARTHER, _TRIES = Fraction(1, 2**160), 2**12, 12
 
 
 class Curve(Protocol):
-    """A function that rises or falls throughout its domain."""
+    """A function that rises or falls throughout its domain; equal ones are the same."""
+
+    def __hash__(self) -> int:
+        ...
 
     @property
     def rises(self) -> bool:

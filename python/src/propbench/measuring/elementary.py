@@ -18,7 +18,7 @@ from propbench.measuring.terms import (
     real_of,
     text_of,
 )
-from propbench.measuring.units import BARE, unit_of
+from propbench.measuring.units import BARE, MixedUnits, UnknownUnit, dimension_text, unit_of
 
 # A term, or a constant as a text or a number.
 Given = Term | Exact | str
@@ -128,7 +128,7 @@ def atan2(above: Given, beside: Given) -> Term:
     )
 
 
-def table(
+def curve(
     name: str,
     points: Iterable[tuple[Exact | str, Exact | str]],
     *,
@@ -137,7 +137,7 @@ def table(
     within: Exact | str = 0,
 ) -> "Callable[[Given], Term]":
     """A function by its points, as a curve of calibration: straight lines between them, from which
-    it is off by no more than `within`. An argument is told in the unit `of`, a value in `unit`.
+    it is off by no more than `within`. An argument is in the unit `of`, a value in `unit`.
 
     Raises ValueError where the points are too few, out of order, or two have one argument.
     """
@@ -148,14 +148,55 @@ def table(
     )
     for (first, _), (second, _) in zip(made, made[1:]):
         if first == second:
-            raise ValueError(f"the table {name!r} has two points at one argument")
+            raise ValueError(f"the curve {name!r} has two points at one argument")
     if len(made) < 2:
-        raise ValueError(f"the table {name!r} has {len(made)} points, and needs two or more")
+        raise ValueError(f"the curve {name!r} has {len(made)} points, and needs two or more")
     off = _exact(within) * value.factor
     if off < 0:
-        raise ValueError(f"the table {name!r} is off by 0 or more, and not by {within}")
+        raise ValueError(f"the curve {name!r} is off by 0 or more, and not by {within}")
     known = Table(name, tuple(made), off, argument.dimension, value.dimension)
     return partial(_of_table, known)
+
+
+def level(term: Given) -> Term:
+    """So many decibels: of a ratio of powers, of a power above 1 W, or of a voltage above 1 V."""
+    real = real_of(term)
+    for of, tenths in _LEVELS.items():
+        unit = unit_of(of)
+        if real.dimension == unit.dimension:
+            one = Made(constant(unit.factor, unit.dimension, f'"1 {of}"'))
+            return log10(Made(real) / one if of != "1" else Made(real)) * _decibels(tenths)
+    raise MixedUnits(
+        f"`{text_of(real)}` is in {dimension_text(real.dimension)}: a level is that of a ratio of "
+        "powers, of a power, or of a voltage"
+    )
+
+
+def at_level(decibels: Given, of: str = "1") -> Term:
+    """What has so many decibels: a ratio of powers, a power (`of="W"`), or a voltage (`of="V"`)."""
+    if of not in _LEVELS:
+        raise UnknownUnit(f'a level is that of "1", of "W" or of "V", and not of {of!r}')
+    unit = unit_of(of)
+    one = Made(constant(unit.factor, unit.dimension, f'"1 {of}"'))
+    return one * exp10(Made(real_of(decibels)) / _decibels(_LEVELS[of]))
+
+
+def pH(activity: Given) -> Term:
+    """How acid something is, by the hydrogen ions in it: `pH("0.01 mol/L")` is 2."""
+    return log10(Made(real_of(activity)) / "1 mol/L") * "-1 pH"
+
+
+def at_pH(acid: Given) -> Term:
+    """The hydrogen ions of what is so acid, in mol/L."""
+    return exp10(Made(real_of(acid)) / "-1 pH") * "1 mol/L"
+
+
+# How many decibels ten times as much is: of a ratio of powers, of a power, of a voltage.
+_LEVELS = {"1": 10, "W": 10, "V": 20}
+
+
+def _decibels(count: int) -> Term:
+    return Made(real_of(f"{count} dB"))
 
 
 def _of_table(known: Table, term: Given) -> Term:

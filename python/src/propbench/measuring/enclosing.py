@@ -46,10 +46,10 @@ def enclosed(function: Callable[[Any, Any], Any], low: Fraction, high: Fraction)
     """Between what the values of a function lie, for all numbers from `low` to `high`. It is given
     the intervals of mpmath, and the numbers as one of them."""
     intervals = _intervals()
-    first = intervals.mpf(low.numerator) / low.denominator
-    last = intervals.mpf(high.numerator) / high.denominator
-    found = function(intervals, intervals.mpf([first.a, last.b]))
-    below, above = found._mpi_
+    ratio = import_module("mpmath.libmp").from_rational
+    first = ratio(low.numerator, low.denominator, _DIGITS, "f")
+    last = ratio(high.numerator, high.denominator, _DIGITS, "c")
+    below, above = function(intervals, intervals.make_mpf((first, last)))._mpi_
     return _fraction(below), _fraction(above)
 
 
@@ -59,6 +59,7 @@ def guessed(function: Callable[[Any, Any], Any], at: Fraction) -> Fraction:
     return _fraction(function(numbers, numbers.mpf(at.numerator) / at.denominator)._mpf_)
 
 
+@cache
 def pi_ends() -> Ends:
     """Two numbers between which pi lies."""
     return enclosed(lambda intervals, zero: zero + intervals.pi, Fraction(0), Fraction(0))
@@ -69,5 +70,5 @@ def _fraction(number: Any) -> Fraction:
     sign, digits, exponent, length = number
     if digits == 0 and exponent != 0:
         raise OverflowError("a value has no end")
-    whole = -int(digits) if sign else int(digits)
-    return Fraction(whole) * Fraction(2) ** int(exponent)
+    whole, power = -int(digits) if sign else int(digits), int(exponent)
+    return Fraction(whole << power) if power >= 0 else Fraction(whole, 1 << -power)

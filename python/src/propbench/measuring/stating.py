@@ -4,7 +4,7 @@ from collections.abc import Iterable, Iterator, Sequence
 from dataclasses import dataclass, field, replace
 from fractions import Fraction
 
-from propbench.measuring.bends import Bend, Place
+from propbench.measuring.bends import Bend, Piece
 from propbench.measuring.bounds import BoundsOf
 from propbench.measuring.combining import combined
 from propbench.measuring.defining import Definitions, RootOf
@@ -46,8 +46,7 @@ class LawTold(LawStated):
 class BendTold(LawStated):
     """A piece of a curve between two quantities is told."""
 
-    bend: Bend = field(compare=False)
-    place: Place
+    piece: Piece = field(compare=False)
 
 
 @dataclass(frozen=True)
@@ -101,12 +100,11 @@ def _stated(
     return found, Defined(laws, bends)
 
 
-def pieces(bend: Bend, places: Iterable[Place], under: str | None) -> Iterator[BendTold]:
-    """Pieces of a curve, as they are told."""
-    for place in places:
-        piece = bend.piece(place)
+def told_pieces(pieces: Iterable[Piece | None], under: str | None) -> Iterator[BendTold]:
+    """Pieces of curves, as they are told; None stands for one of which there is nothing to tell."""
+    for piece in pieces:
         if piece is not None:
-            yield BendTold(piece.constraint, under, bend.written, bend, place)
+            yield BendTold(piece.constraint, under, piece.bend.written, piece)
 
 
 def _what_would_do(law: Law) -> str:

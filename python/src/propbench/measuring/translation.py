@@ -32,6 +32,8 @@ from propbench.model.nodes import Node, cell, number
 # A part that has more steps than this may be made coarser in a sum; a quotient has as many as make
 # its radius this.
 _FINE, _SMALL = 10**9, 30
+# A part of a sum may be made coarser by ten whose steps are so small a part of how far another is off.
+_FINER = 50
 # A radius grows with a number that may be so many times as large as it is at least.
 _WIDE = 16
 
@@ -250,7 +252,14 @@ def _common_step(
         for each in (exact, step):
             if size <= MOST_WHOLE * each:
                 return each, made
-        fine = [place for place, (part, _) in enumerate(made) if part.size > _FINE]
+        # (what is told much finer than another part is needs no more steps)
+        off = max(abs(coefficient) * part.step * part.radius.most for part, coefficient in made)
+        enough = off / _FINER
+        fine = [
+            place
+            for place, (part, coefficient) in enumerate(made)
+            if part.size > _FINE or abs(coefficient) * part.step <= enough
+        ]
         if not fine:
             return size / MOST_WHOLE, made
         place = min(fine, key=lambda at: abs(made[at][1]) * made[at][0].step)
