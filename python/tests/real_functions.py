@@ -270,7 +270,7 @@ def unmet(case: Case, *, is_read: bool = True) -> list[str]:
     """What is stated that does not hold where each cell holds what it does for its real, with what
     `is_read` or without: worked out in whole numbers, without the program."""
     points: dict[Declared, Point] = {}
-    for each in case.w.network.events:
+    for each in case.w._network.events:
         if isinstance(each, RootMade):
             assert each.cell.measure is not None
             real = fraction_of(value_of(case, each.root, case.reals))
@@ -278,7 +278,7 @@ def unmet(case: Case, *, is_read: bool = True) -> list[str]:
     for name, quantity in case.quantities.items():
         points[quantity.declared] = quantity.measure.count(fraction_of(case.reals[name]))
     sorts = (Required, Told) if is_read else Required
-    events = [it for it in case.w.network.events if isinstance(it, sorts)]
+    events = [it for it in case.w._network.events if isinstance(it, sorts)]
     return [it.text for it in events if not it.is_met(points)]
 
 

@@ -284,9 +284,10 @@ def lost(case: Case) -> list[str]:
     return found
 
 
-def unmet(case: Case) -> list[str]:
-    """What is stated that does not hold where each cell holds what it does for its real: worked out
-    in whole numbers, without the program. Raises Unfit for a root that is no fraction."""
+def unmet(case: Case, *, is_read: bool = True) -> list[str]:
+    """What is stated that does not hold where each cell holds what it does for its real, with what
+    `is_read` or without: worked out in whole numbers, without the program. Raises Unfit for a root
+    that is no fraction."""
     points: dict[Declared, Point] = {}
     for cell in case.w._network.cells.values():
         if cell.name not in case.reals and not case.roots:
@@ -296,7 +297,8 @@ def unmet(case: Case) -> list[str]:
         assert cell.measure is not None
         found = value_of(case.roots[cell.name], case.reals) if real is None else real
         points[cell] = cell.measure.count(found)
-    events = [it for it in case.w._network.events if isinstance(it, Required | Told)]
+    sorts = (Required, Told) if is_read else Required
+    events = [it for it in case.w._network.events if isinstance(it, sorts)]
     return [it.text for it in events if not it.is_met(points)]
 
 

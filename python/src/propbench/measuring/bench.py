@@ -3,7 +3,7 @@
 from collections.abc import Iterable, Sequence
 
 from propbench.measuring.exact import Exact
-from propbench.measuring.forms import Polynomial
+from propbench.measuring.polynomials import Polynomial
 from propbench.measuring.outliers import Outliers, find_outliers
 from propbench.measuring.predict import Prediction, expected, predicted
 from propbench.measuring.quantities import MeasuredAnswer, Quantity, measure_of, measured

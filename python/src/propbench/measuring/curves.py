@@ -15,6 +15,8 @@ from propbench.measuring.enclosing import Ends, enclosed, guessed, pi_ends
 Domain = tuple[Fraction | None, Fraction | None]
 Points = tuple[tuple[Fraction, Fraction], ...]
 ZERO, HALF = Fraction(0), Fraction(1, 2)
+# What is taken of an exponential is so much at the most.
+MOST_EXPONENT = 400
 # How far a guess is off at first, as a part of it, and how much farther with each try.
 _OFF, _FARTHER, _TRIES = Fraction(1, 2**160), 2**12, 12
 
@@ -95,20 +97,23 @@ class Exponential:
     reach: Domain = (None, None)
 
     def value(self, at: Fraction) -> Ends:
+        # (so little that no digits tell it apart from nothing)
+        if at < -MOST_EXPONENT:
+            return ZERO, Exponential(self.base).value(Fraction(-MOST_EXPONENT))[1]
         return enclosed(self._of, at, at)
 
     def bend(self, low: Fraction, high: Fraction) -> Ends | None:
-        return enclosed(self._bent, low, high)
+        factor = enclosed(lambda its, x: its.log(x) ** 2, *(Fraction(self.base or 1),) * 2)
+        least, most = factor if self.base else (Fraction(1), Fraction(1))
+        return self.value(low)[0] * least, self.value(high)[1] * most
 
     def guess(self, value: Fraction) -> Fraction:
+        if value <= 0:
+            return Fraction(-MOST_EXPONENT)
         return guessed(lambda its, x: its.ln(x) / (its.ln(self.base) if self.base else 1), value)
 
     def _of(self, its: Any, x: Any) -> Any:
         return its.exp(x * its.log(its.mpf(self.base)) if self.base else x)
-
-    def _bent(self, its: Any, x: Any) -> Any:
-        factor = its.log(its.mpf(self.base)) ** 2 if self.base else 1
-        return self._of(its, x) * factor
 
 
 @dataclass(frozen=True)

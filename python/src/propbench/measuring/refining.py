@@ -94,8 +94,9 @@ def _at_ends(bend: Bend, ends: Iterable[int], told: Told, near: int) -> Iterator
         return
     low, high = bend.whole
     for at in ends:
-        finest = min((each for each in told if each[0] <= at <= each[1]), key=_size)
-        piece, power = told[finest], _power(high - low, _size(finest))
+        around = [each for each in told if each[0] <= at <= each[1]]
+        finest = min(around, key=_size, default=(at, at))
+        piece, power = told.get(finest), _power(high - low, _size(finest))
         if piece is None or _size(finest) < 2:
             continue
         if piece.lines.width > near:

@@ -12,6 +12,7 @@ from math import ceil, floor
 
 from propbench.measuring.curves import (
     HALF,
+    MOST_EXPONENT,
     ZERO,
     Curve,
     Exponential,
@@ -148,10 +149,9 @@ def shape_of(function: Function, argument: Ends) -> Shape:
     no value."""
     low, high = argument
     name, in_degrees = function.name, function.in_degrees
-    if name is Name.EXP:
-        return Shape((Exponential(),))
-    if name is Name.EXP10:
-        return Shape((Exponential(10),))
+    if name in (Name.EXP, Name.EXP10):
+        _check(high <= MOST_EXPONENT, f"told where that is above {MOST_EXPONENT}", low, high)
+        return Shape((Exponential(10 if name is Name.EXP10 else None),))
     if name in (Name.LN, Name.LOG10):
         _check(low > 0, "where that is 0 or less", low, high)
         return Shape((Exponential(10 if name is Name.LOG10 else None),), is_inverse=True)

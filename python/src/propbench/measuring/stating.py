@@ -8,7 +8,9 @@ from propbench.measuring.bends import Bend, Piece
 from propbench.measuring.bounds import BoundsOf
 from propbench.measuring.combining import combined
 from propbench.measuring.defining import Definitions, RootOf
-from propbench.measuring.forms import Form, Polynomial, forms_of, polynomial_of
+from propbench.measuring.forms import Form, forms_of
+from propbench.measuring.logarithms import by_logarithm
+from propbench.measuring.polynomials import Polynomial, polynomial_of
 from propbench.measuring.readings import Reading
 from propbench.measuring.terms import Law, Real, Sort, text_of
 from propbench.measuring.translation import Told, TooCoarse, Translator
@@ -85,7 +87,7 @@ def _stated(
     bounds = BoundsOf()
     defined = Definitions(root_of, bounds)
     translator = Translator(bounds, defined.quantity)
-    first, *forms = forms_of(law, bounds)
+    first, *forms = forms_of(by_logarithm(law, bounds), bounds)
     written = translator.told(first.sum, first.is_equation)
     equation = polynomial_of(first.sum) if law.is_equation else None
     if before and equation:

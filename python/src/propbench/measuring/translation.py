@@ -97,8 +97,9 @@ class Translator:
         if atom.sort in (Sort.ROOT, Sort.FUNCTION):
             return self._atom(self._hidden(atom))
         if atom.sort is Sort.QUOTIENT:
-            above, below = (self._sum(linear_of(arg), MOST_DIVIDED) for arg in atom.args)
-            return divided(above, below, bounds, text_of(atom))
+            # (the fewer steps a divisor has, the more there is room for in the quotient)
+            above = self._sum(linear_of(atom.args[0]), MOST_DIVIDED)
+            return divided(above, self.part(atom.args[1]), bounds, text_of(atom))
         if atom.sort is Sort.PRODUCT:
             one, other = (self._sum(linear_of(arg), MOST_DIVIDED) for arg in atom.args)
             return multiplied(*fitted(one, other), bounds)
