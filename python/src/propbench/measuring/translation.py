@@ -7,7 +7,7 @@ from zero than all radii together. docs/MEASURING.md has the proof of each rule.
 from collections.abc import Callable
 from dataclasses import dataclass
 from fractions import Fraction
-from math import ceil, gcd
+from math import ceil, gcd, isqrt
 
 from propbench.measuring.bounds import Bounds, BoundsOf, power, product
 from propbench.measuring.linear import Linear, linear_of
@@ -97,9 +97,9 @@ class Translator:
         if atom.sort in (Sort.ROOT, Sort.FUNCTION):
             return self._atom(self._hidden(atom))
         if atom.sort is Sort.QUOTIENT:
-            # (the fewer steps a divisor has, the more there is room for in the quotient)
             above = self._sum(linear_of(atom.args[0]), MOST_DIVIDED)
-            return divided(above, self.part(atom.args[1]), bounds, text_of(atom))
+            below = self._sum(linear_of(atom.args[1]), self._most_of_divisor(atom.args[1]))
+            return divided(above, below, bounds, text_of(atom))
         if atom.sort is Sort.PRODUCT:
             one, other = (self._sum(linear_of(arg), MOST_DIVIDED) for arg in atom.args)
             return multiplied(*fitted(one, other), bounds)
@@ -110,6 +110,12 @@ class Translator:
             [inner] = parts
             return Part(absolute(inner.node), inner.step, inner.radius, bounds)
         return extreme(atom.sort, parts, bounds)
+
+    def _most_of_divisor(self, divisor: Real) -> int:
+        """How large a divisor is at the most: the fewer steps it has, the more there is room for in
+        the quotient, and where it may be small, it needs enough for that."""
+        low, high = sorted(abs(end) for end in self.bounds(divisor))
+        return min(MOST_DIVIDED, MOST_FACTOR * max(1, isqrt(ceil(high / low))))
 
     def _powered(self, atom: Real, base: Part) -> Part:
         """A power: the square of half of it, and times the base where it is odd."""
