@@ -48,6 +48,8 @@ class Case:
     laws: list[Law] = field(default_factory=list)
     # By how much of what it may be a table is off, for what it is taken of.
     off: dict[Real, Fraction] = field(default_factory=dict)
+    # What quantities that stand for terms in laws are, by name.
+    roots: dict[str, Real] = field(default_factory=dict)
 
     def quantity(self, low: Fraction, high: Fraction, unit: str = "1") -> Quantity:
         """A quantity between two ends."""
@@ -270,11 +272,12 @@ def unmet(case: Case, *, is_read: bool = True) -> list[str]:
     """What is stated that does not hold where each cell holds what it does for its real, with what
     `is_read` or without: worked out in whole numbers, without the program."""
     points: dict[Declared, Point] = {}
-    for each in case.w._network.events:
-        if isinstance(each, RootMade):
-            assert each.cell.measure is not None
-            real = fraction_of(value_of(case, each.root, case.reals))
-            points[each.cell] = each.cell.measure.count(real)
+    made = [each for each in case.w._network.events if isinstance(each, RootMade)]
+    case.roots = {each.cell.name: each.root for each in made}
+    for each in made:
+        assert each.cell.measure is not None
+        real = fraction_of(value_of(case, each.root, case.reals))
+        points[each.cell] = each.cell.measure.count(real)
     for name, quantity in case.quantities.items():
         points[quantity.declared] = quantity.measure.count(fraction_of(case.reals[name]))
     sorts = (Required, Told) if is_read else Required
@@ -295,7 +298,8 @@ def _exact(number: Fraction) -> Number:
 def value_of(case: Case, real: Real, reals: dict[str, Number]) -> Number:
     """What a term is, in base units."""
     if real.sort is Sort.QUANTITY:
-        return reals[real.quantity.name]
+        name = real.quantity.name
+        return reals[name] if name in reals else value_of(case, case.roots[name], reals)
     if real.sort is Sort.CONSTANT:
         return _exact(real.number)
     values = [value_of(case, arg, reals) for arg in real.args]
