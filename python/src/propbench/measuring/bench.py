@@ -8,7 +8,7 @@ from propbench.measuring.outliers import Outliers, find_outliers
 from propbench.measuring.predict import Prediction, expected, predicted
 from propbench.measuring.quantities import MeasuredAnswer, Quantity, measure_of, measured
 from propbench.measuring.readings import COVERAGE, Given, reading_of
-from propbench.measuring.refining import SHAVED, Sharpening
+from propbench.measuring.refining import SHAVED, Sharp, Sharpening
 from propbench.measuring.rooms import Room, find_room
 from propbench.measuring.sensitivity import Improvements, find_improvements
 from propbench.measuring.shaving import Shaved, find_shaved
@@ -47,6 +47,8 @@ class Measuring(Questions):
     _owner: object
     # Whether a law was stated in which a function stands.
     _has_bends: bool = False
+    # For what the pieces of curves are as fine as need be.
+    _sharp: Sharp | None = None
 
     # --- what is stated ---
 
@@ -204,15 +206,20 @@ class Measuring(Questions):
         """Tells curves of functions by finer pieces where what is believed leaves the quantities that
         these cells hang on, in so many parts too, as long as that narrows answers and there is
         time."""
-        if not self._has_bends:
+        wanted = list(cells)
+        record = self._network.record
+        if not self._has_bends or self._sharp and self._sharp.covers(record, wanted, parts):
             return
-        names = {name for cell in cells for name in self._related(cell)}
+        tied = self._tied(wanted)
         believed = self._network.premises.in_force
-        sharpening = Sharpening.of(self._network.events, names, believed, parts)
+        sharpening = Sharpening.of(self._network.events, tied, believed, parts)
         while sharpening.pieces and not clock.is_over():
             left = self._left_for(sharpening.cells, clock)
-            finer = sharpening.finer(left) if left else ()
+            if not left:
+                return
+            finer = sharpening.finer(left)
             if not finer:
+                self._sharp = Sharp(self._network.record, frozenset(tied), parts)
                 return
             self._network.do(*finer)
 
@@ -230,21 +237,27 @@ class Measuring(Questions):
 
     def _related(self, cell: Declared) -> list[str]:
         """The quantities that laws tie to this one, by name, those without readings in front."""
-        found = {cell}
-        groups = [
-            cells_in(each.constraint)
-            for each in self._network.events
-            if isinstance(each, LawStated)
-        ]
+        found = self._tied([cell])
+        return self._unread_first(
+            [cell.name for cell in self._network.cells.values() if cell in found]
+        )
+
+    def _tied(self, cells: Iterable[Declared]) -> set[Declared]:
+        """These cells, and all that laws tie to them."""
+        found = set(cells)
+        stated = (each for each in self._network.events if isinstance(each, LawStated))
+        # (a curve has many pieces)
+        groups = {
+            each.cells if isinstance(each, BendTold) else tuple(cells_in(each.constraint))
+            for each in stated
+        }
         count = 0
         while count < len(found):
             count = len(found)
             for group in groups:
                 if not found.isdisjoint(group):
                     found.update(group)
-        return self._unread_first(
-            [cell.name for cell in self._network.cells.values() if cell in found]
-        )
+        return found
 
     def _unread_first(self, names: Sequence[str]) -> list[str]:
         """Quantities by name, those without readings in front."""

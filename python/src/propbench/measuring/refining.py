@@ -29,6 +29,20 @@ _GAIN = 0.002
 Told = dict[Place, Piece | None]
 
 
+@dataclass(frozen=True)
+class Sharp:
+    """That no finer pieces are needed of curves among some cells, for so many parts, as long as what
+    is stated and believed is this."""
+
+    record: object
+    cells: frozenset[Declared]
+    parts: int
+
+    def covers(self, record: object, cells: Collection[Declared], parts: int) -> bool:
+        """Whether it says so of these cells too."""
+        return record is self.record and self.cells.issuperset(cells) and parts <= self.parts
+
+
 @dataclass
 class Sharpening:
     """The curves among some quantities, and the pieces of each that are told, under which premises:
@@ -41,7 +55,7 @@ class Sharpening:
 
     @staticmethod
     def of(
-        events: Sequence[Event], cells: Collection[str], believed: Collection[str], parts: int
+        events: Sequence[Event], cells: Collection[Declared], believed: Collection[str], parts: int
     ) -> "Sharpening":
         """That of curves which hold among these cells, with what is believed."""
         found = Sharpening(parts)
@@ -50,7 +64,7 @@ class Sharpening:
                 continue
             piece, bend = each.piece, each.piece.bend
             is_in = each.premise is None or each.premise in believed
-            if is_in and bend.argument.name in cells and bend.value.name in cells:
+            if is_in and bend.argument in cells and bend.value in cells:
                 found.pieces.setdefault((bend, each.premise), {})[piece.place] = piece
         return found
 

@@ -50,6 +50,11 @@ class BendTold(LawStated):
 
     piece: Piece = field(compare=False)
 
+    @property
+    def cells(self) -> tuple[Declared, Declared]:
+        """The cells between which it lies."""
+        return self.piece.bend.argument, self.piece.bend.value
+
 
 @dataclass(frozen=True)
 class RootMade(CellMade):
