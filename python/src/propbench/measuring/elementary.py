@@ -222,3 +222,26 @@ def _of(name: Name, term: Given) -> Term:
 def _of_angle(name: Name, angle: Given) -> Term:
     real = real_of(angle)
     return Made(function_of(Function(name, in_degrees=real.dimension == DEGREES), real))
+
+
+# The functions of terms by name, for laws that are written as texts.
+FUNCTIONS: dict[str, Callable[..., Term]] = {
+    "exp": exp,
+    "ln": ln,
+    "exp10": exp10,
+    "log10": log10,
+    "sin": sin,
+    "cos": cos,
+    "tan": tan,
+    "asin": asin,
+    "acos": acos,
+    "atan": atan,
+    "atan2": atan2,
+    "hypot": hypot,
+    "degrees": degrees,
+    "radians": radians,
+    "level": level,
+    "at_level": at_level,
+    "pH": pH,
+    "at_pH": at_pH,
+}

@@ -34,22 +34,23 @@ def _expanded(real: Real) -> Polynomial | None:
             return {((base, int(real.number)),): Fraction(1)}
         made: Polynomial | None = inner
         for _ in range(int(real.number) - 1):
-            made = _times(made, inner)
+            made = multiplied_out(made, inner)
         return made
     if real.sort is Sort.PRODUCT:
         left, right = (polynomial_of(linear_of(arg)) for arg in real.args)
-        return _times(left, right)
+        return multiplied_out(left, right)
     if real.sort is Sort.QUOTIENT:
         above, below = (polynomial_of(linear_of(arg)) for arg in real.args)
         if below is None or len(below) != 1:
             return None
         [(monomial, coefficient)] = below.items()
         inverse = tuple((atom, -exponent) for atom, exponent in monomial)
-        return _times(above, {inverse: 1 / coefficient})
+        return multiplied_out(above, {inverse: 1 / coefficient})
     return {((real, 1),): Fraction(1)}
 
 
-def _times(left: Polynomial | None, right: Polynomial | None) -> Polynomial | None:
+def multiplied_out(left: Polynomial | None, right: Polynomial | None) -> Polynomial | None:
+    """The product of two sums of products; None where one is, or it would have too many."""
     if left is None or right is None or len(left) * len(right) > _MOST_PRODUCTS:
         return None
     found: Polynomial = {}
