@@ -4,7 +4,8 @@
 usage: measure/reals.py [--functions] [--points N] [--each N] [--seed N] [--seconds S]
 
 A law is stated, and some quantities are read as is true at a point that fits it. Then the program is
-asked for all: each real has to lie in its answer. At `each` more points that fit the law, all that
+asked for all: each real has to lie in its answer. Of each tenth case answers are shaved too, and no
+reading may have to be given up. At `each` more points that fit the law, all that
 was told of it is worked out in whole numbers. The reals are exact fractions; with --functions the
 laws have functions, and the reals 80 digits. What is lost is printed, and makes the status 1.
 """
@@ -50,7 +51,7 @@ def main() -> None:
         import real_functions as kind
     else:
         import real_laws as kind  # type: ignore[no-redef]
-    began, looked, laws, asked, cases, refused = time.monotonic(), 0, 0, 0, 0, 0
+    began, looked, laws, asked, shaved, cases, refused = time.monotonic(), 0, 0, 0, 0, 0, 0
     while looked < given.points and time.monotonic() - began < given.seconds:
         draw = random.Random(given.seed * 10**9 + cases + refused)
         with Workbench() as w:
@@ -62,18 +63,22 @@ def main() -> None:
                 continue
             kind.read_some(case)
             found += kind.lost(case)
+            if cases % 10 == 0:
+                shaved += len(case.quantities)
+                found += kind.lost(case, is_shaved=True)
+                found += [f"{each} is convicted" for each in w.outliers(seconds=2)[:1] if each]
             if found:
                 sys.exit(f"LOST: {case}: {found}")
             laws += len(case.laws)
             cases += 1
             asked += len(case.quantities)
             looked += len(case.laws) * points(kind, case, given.each)
-        if cases % 1000 == 0:
+        if cases % 200 == 0:
             print(f"{looked} points, {laws} laws, {asked} answers", flush=True)
     took = time.monotonic() - began
     print(
-        f"{looked} points of {laws} laws ({refused} had no bound or no fraction), {asked} answers: "
-        f"none was lost, in {took:.0f} s"
+        f"{looked} points of {laws} laws ({refused} had no bound or no fraction), {asked} answers "
+        f"and {shaved} that were shaved: none was lost, in {took:.0f} s"
     )
 
 

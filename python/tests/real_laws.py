@@ -272,11 +272,11 @@ def read_some(case: Case) -> None:
             case.w.read(f"read {name}", quantity, (number - width * below, number + width * above))
 
 
-def lost(case: Case) -> list[str]:
+def lost(case: Case, *, is_shaved: bool = False) -> list[str]:
     """The quantities whose real does not lie in their answer."""
     found = []
     for name, quantity in case.quantities.items():
-        answer = quantity.ask(seconds=2)
+        answer = case.w.shave(quantity, seconds=2) if is_shaved else quantity.ask(seconds=2)
         number = case.reals[name] / case.units[name]
         if answer.low is not None and answer.high is not None:
             if not Fraction(answer.low) <= number <= Fraction(answer.high):

@@ -178,6 +178,8 @@ def test_a_curve_that_is_none() -> None:
         p.curve("short", [(1, 2)])
     with pytest.raises(ValueError, match="two points at one argument"):
         p.curve("twice", [(1, 2), (1, 3)])
+    with pytest.raises(TypeError, match="is an argument and a value: .1, 2, 3."):
+        p.curve("three", [(1, 2, 3)])  # type: ignore[list-item]
     with pytest.raises(ValueError, match="off by 0 or more, and not by -1"):
         p.curve("off", [(1, 2), (2, 3)], within=-1)
 
@@ -270,8 +272,12 @@ def test_where_a_function_has_no_value(w: Workbench) -> None:
         (y == p.asin(x / 100), "beyond -1..1, and it may be 0..5"),
         (y == p.tan(angle), "at 90 deg and each half turn from there, and it may be 0..90"),
         (y == y ** Fraction(1, 3), "where that is less than 0, and it may be -5..5"),
-        (y == p.sin(x), "over more than 16 half turns"),
+        (
+            y == p.sin(x),
+            "`sin(x)` can't be told for `x` over more than 16 half turns, and it may be 0..500: give",
+        ),
         (y == steps(x), "beyond its points"),
+        (y == p.exp(x), "`exp(x)` can't be told for `x` above 400, and it may be 0..500: give its"),
     ):
         with pytest.raises(Undefined) as caught:
             w.law(law)
@@ -309,6 +315,7 @@ def test_a_law_with_a_function_under_a_premise(w: Workbench) -> None:
     with pytest.raises(Conflict) as caught:
         y.ask()
     assert set(caught.value.premises) == {"growth", "rule", "scale"}
+    assert caught.value.says["growth"] == "y == exp(x); exp(x)"
 
 
 def test_a_law_may_be_a_bound_by_a_function(w: Workbench) -> None:

@@ -61,9 +61,9 @@ class BoundsOf:
         try:
             low, high = shape_of(real.applied, argument).bounds(argument)
         except Undefined as undefined:
+            said = str(undefined).format(f"`{text_of(inner)}`")
             raise Undefined(
-                f"`{text_of(real)}` has no value for `{text_of(inner)}` {undefined}: give its "
-                "quantities ends that leave this out"
+                f"`{text_of(real)}` {said}: give its quantities ends that leave this out"
             ) from None
         off = Fraction(0) if real.applied.table is None else real.applied.table.off
         return low - off, high + off

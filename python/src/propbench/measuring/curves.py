@@ -241,6 +241,10 @@ class Segments:
 
     points: Points
 
+    # (that of all points takes a while, and is asked for often)
+    def __hash__(self) -> int:
+        return hash((self.points[0], self.points[-1], len(self.points)))
+
     @property
     def rises(self) -> bool:
         return self.points[0][1] < self.points[-1][1]
@@ -258,8 +262,9 @@ class Segments:
         return found, found
 
     def bend(self, low: Fraction, high: Fraction) -> Ends | None:
-        knots = [at for at, _ in self.points if low < at < high]
-        return None if knots else (ZERO, ZERO)
+        first, last = (bisect_right(self.points, at, key=lambda it: it[0]) for at in (low, high))
+        is_line = first == last or first == last - 1 and self.points[first][0] == high
+        return (ZERO, ZERO) if is_line else None
 
     def guess(self, value: Fraction) -> Fraction:
         return between(tuple(sorted((height, at) for at, height in self.points)), value)
@@ -267,7 +272,7 @@ class Segments:
 
 def between(points: Points, at: Fraction) -> Fraction:
     """The value on the line between the two points that are next to a number."""
-    place = bisect_right([first for first, _ in points], at)
+    place = bisect_right(points, at, key=lambda point: point[0])
     place = min(max(place, 1), len(points) - 1)
     (low, first), (high, last) = points[place - 1], points[place]
     return first + (last - first) * (at - low) / (high - low)

@@ -1,6 +1,6 @@
 """Functions of measured quantities as a user writes them: `exp`, `sin`, `atan2`, and `pi`."""
 
-from collections.abc import Callable, Iterable
+from collections.abc import Callable, Iterable, Sequence
 from dataclasses import replace
 from fractions import Fraction
 from functools import partial
@@ -144,7 +144,7 @@ def curve(
     argument, value = unit_of(of), unit_of(unit)
     made = sorted(
         (at * argument.factor + argument.offset, to * value.factor + value.offset)
-        for at, to in ((_exact(at), _exact(to)) for at, to in points)
+        for at, to in map(_pair, points)
     )
     for (first, _), (second, _) in zip(made, made[1:]):
         if first == second:
@@ -202,6 +202,13 @@ def _decibels(count: int) -> Term:
 def _of_table(known: Table, term: Given) -> Term:
     """What a table has for a term."""
     return Made(function_of(Function(Name.TABLE, table=known), real_of(term)))
+
+
+def _pair(point: object) -> tuple[Fraction, Fraction]:
+    """A point of a curve. Raises TypeError for what is none."""
+    if not isinstance(point, Sequence) or isinstance(point, str) or len(point) != 2:
+        raise TypeError(f"a point of a curve is an argument and a value: {point!r}")
+    return _exact(point[0]), _exact(point[1])
 
 
 def _exact(given: Exact | str) -> Fraction:

@@ -35,7 +35,8 @@ _ONE = Fraction(1)
 
 
 class Undefined(ValueError):
-    """A function has no value for all that its argument may be."""
+    """A function has no value for all that its argument may be, or can't be told for all of it: the
+    text has `{}` for the argument."""
 
 
 class Name(Enum):
@@ -77,6 +78,10 @@ class Table:
     off: Fraction
     argument: Dimension
     value: Dimension
+
+    # (that of all points takes a while, and is asked for often)
+    def __hash__(self) -> int:
+        return hash((self.name, len(self.points)))
 
 
 @dataclass(frozen=True)
@@ -150,7 +155,8 @@ def shape_of(function: Function, argument: Ends) -> Shape:
     low, high = argument
     name, in_degrees = function.name, function.in_degrees
     if name in (Name.EXP, Name.EXP10):
-        _check(high <= MOST_EXPONENT, f"told where that is above {MOST_EXPONENT}", low, high)
+        if high > MOST_EXPONENT:
+            raise Undefined(f"can't be told for {{}} above {MOST_EXPONENT}{_may_be(low, high)}")
         return Shape((Exponential(10 if name is Name.EXP10 else None),))
     if name in (Name.LN, Name.LOG10):
         _check(low > 0, "where that is 0 or less", low, high)
@@ -175,7 +181,11 @@ def shape_of(function: Function, argument: Ends) -> Shape:
 
 def _check(is_there: bool, where: str, low: Fraction, high: Fraction) -> None:
     if not is_there:
-        raise Undefined(f"{where}, and it may be {float(low):.6g}..{float(high):.6g}")
+        raise Undefined(f"has no value for {{}} {where}{_may_be(low, high)}")
+
+
+def _may_be(low: Fraction, high: Fraction) -> str:
+    return f", and it may be {float(low):.6g}..{float(high):.6g}"
 
 
 def _branch_of_tangent(argument: Ends, in_degrees: bool) -> int:
@@ -198,7 +208,8 @@ def _wave(function: Function, argument: Ends) -> Shape:
     tiny = Fraction(1, 10**40)
     places = range(floor(first + tiny), max(floor(first + tiny) + 1, ceil(last - tiny)))
     if len(places) > _MOST_CURVES:
-        _check(False, f"told over more than {_MOST_CURVES} half turns", *argument)
+        told = f"can't be told for {{}} over more than {_MOST_CURVES} half turns"
+        raise Undefined(f"{told}{_may_be(*argument)}")
     curves = tuple(Wave(is_cosine, place, function.in_degrees) for place in places)
     if function.branch is not None:
         return Shape((curves[function.branch],))

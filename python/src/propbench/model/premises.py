@@ -69,7 +69,8 @@ class Premises:
 
     def text(self, name: str) -> str:
         """What is stated under a premise."""
-        return "; ".join(statement.text for statement in self.statements.get(name, ()))
+        # (of a curve that is told by pieces each is called the same)
+        return "; ".join(dict.fromkeys(each.text for each in self.statements.get(name, ())))
 
     @property
     def in_force(self) -> list[str]:
