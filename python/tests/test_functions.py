@@ -19,6 +19,7 @@ from propbench.measuring.readings import reading_of
 from propbench.measuring.stating import BendTold
 from propbench.measuring.terms import Term
 from propbench.measuring.units import unit_of
+from propbench.model.measures import Interval
 
 pytest.importorskip("mpmath")
 
@@ -35,6 +36,12 @@ def is_near(answer: MeasuredAnswer, low: float, high: float, most: float = 1.01)
     tiny = Decimal(max(abs(low), abs(high)) * 1e-12)
     is_outside = answer.low <= Decimal(low) + tiny and Decimal(high) - tiny <= answer.high
     return is_outside and float(answer.high - answer.low) <= most * (high - low) + 1e-7
+
+
+def is_near_interval(found: Interval, low: float, high: float) -> bool:
+    """Whether an interval has all from one number to another, and is hardly wider."""
+    is_outside = float(found.low) <= low and high <= float(found.high)
+    return is_outside and float(found.high - found.low) < 1.05 * (high - low)
 
 
 Plain = Callable[[float], float]
@@ -352,6 +359,26 @@ def test_what_was_asked_is_asked_again_without_more_pieces(w: Workbench) -> None
     w.read("here", x, "2 +- 0.01")
     first, count = y.ask(), len(w.network.events)
     assert (y.ask(), len(w.network.events)) == (first, count)
+
+
+def test_asking_changes_nothing_that_a_comparison_tells(w: Workbench) -> None:
+    x, y = w.measured("x", low=0, high=10), w.measured("y", low=0, high=30_000)
+    w.law(y == p.exp(x), under="growth")
+    w.read("here", x, "2 +- 0.01")
+    before = w.snapshot()
+    assert is_near(y.ask(), math.exp(1.99), math.exp(2.01))
+    assert not w.diff(before)
+
+
+def test_a_reading_that_is_off_is_told_apart(w: Workbench) -> None:
+    x, y = w.measured("x", low=0, high=10), w.measured("y", low=0, high=30_000)
+    w.law(y == p.exp(x))
+    w.read("here", x, "2 +- 0.01")
+    w.read("there", y, "7.5 +- 0.01")
+    ways = w.outliers()
+    assert sorted(map(sorted, ways)) == [["here"], ["there"]]
+    [left] = [way.off["there"].left for way in ways if "there" in way]
+    assert is_near_interval(left, math.exp(1.99), math.exp(2.01))
 
 
 def test_a_file_keeps_what_was_told(w: Workbench, wide: str, tmp_path: Path) -> None:

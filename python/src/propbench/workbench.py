@@ -80,6 +80,8 @@ if TYPE_CHECKING:
 Stated = Truth | bool | Sequence[Truth | bool]
 SomeCell = TypeVar("SomeCell", bound=Cell)
 _UNTOLD = "what makes up a value is told by propwide, and this program is another"
+# Seconds in which it is known how finely curves have to be told, or that isn't waited for.
+_SOON = 2.0
 _MAY_BE_FEWER = "there was no time to find out whether fewer of these are in conflict"
 _LACKS = "The program has no rule of its own for {}: answers may be wider than those of propwide."
 
@@ -134,7 +136,9 @@ class Workbench(Measuring, Closing):
 
     @property
     def model(self) -> BenchModel:
-        """The workbench as questions see it, which take many asks."""
+        """The workbench as questions see it, which take many asks. Curves are told to it as finely
+        as answers need it, where that is known soon."""
+        self._sharpen(self._network.cells.values(), Clock(_SOON, None))
         return BenchModel(self._network)
 
     @property

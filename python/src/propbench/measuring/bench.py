@@ -1,7 +1,9 @@
 """What a workbench does with measured quantities: it has these methods."""
 
 from collections.abc import Iterable, Sequence
+from contextlib import suppress
 
+from propbench.measuring.apart import left_apart
 from propbench.measuring.exact import Exact
 from propbench.measuring.polynomials import Polynomial
 from propbench.measuring.outliers import Outliers, find_outliers
@@ -33,11 +35,15 @@ from propbench.model.measures import Measure
 from propbench.model.network import Network
 from propbench.model.nodes import Declared, cells_in
 from propbench.model.reading import Reader
+from propbench.program import OutOfTime
 from propbench.questions import Questions
 from propbench.questions.clock import Clock, Progress
 from propbench.questions.rooms import Numbers
 from propbench.replies import Contradiction, Settled, Value
 from propbench.values import Span
+
+# How often pieces of curves are halved for readings that are in conflict.
+_APART = 5
 
 
 class Measuring(Questions):
@@ -152,13 +158,16 @@ class Measuring(Questions):
     ) -> Outliers:
         """The least sets of readings to give up so that nothing speaks against the others, `most` of
         them at the most: the fewest first, and of as many those that are off by more."""
+        clock = Clock(seconds, None)
+        with suppress(OutOfTime):
+            self._sharpen_apart(clock)
         measured_cells = [name for name, it in self._network.cells.items() if it.measure]
         return find_outliers(
             self.model,
             self._readings(),
             self._unread_first(measured_cells),
             most,
-            seconds,
+            clock.seconds_left(),
             progress,
         )
 
@@ -222,6 +231,23 @@ class Measuring(Questions):
                 self._sharp = Sharp(self._network.record, frozenset(tied), parts)
                 return
             self._network.do(*finer)
+
+    def _sharpen_apart(self, clock: Clock) -> None:
+        """The same where readings are in conflict, for what is left without each of them."""
+        for _ in range(_APART if self._has_bends else 0):
+            told = []
+            for left in left_apart(self.model, clock):
+                cells = self._network.cells
+                rooms = {
+                    it: left.get(name) or _whole(it) for name, it in cells.items() if it.measure
+                }
+                in_force = self._network.premises.in_force
+                sharpening = Sharpening.of(self._network.events, rooms, in_force, 0)
+                finer = sharpening.finer(rooms)
+                self._network.do(*finer)
+                told += finer
+            if not told:
+                return
 
     def _left_for(self, cells: Sequence[Declared], clock: Clock) -> dict[Declared, Numbers]:
         """What is left for cells; nothing where that isn't settled, or there is a conflict."""
