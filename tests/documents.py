@@ -17,7 +17,10 @@ TOP = os.path.dirname(os.path.dirname(os.path.realpath(__file__)))
 CODE = {"docs/HOSTING.md": "prop_host_tests", "docs/PRIMER.md": "prop_sets"}
 # Documents whose indented blocks are Python and what it prints, which python/tests runs.
 PYTHON = {
-    "docs/WORKBENCH.md", "docs/QUESTIONS.md", "docs/MEASURING.md", "docs/FUNCTIONS.md",
+    "docs/WORKBENCH.md",
+    "docs/QUESTIONS.md",
+    "docs/MEASURING.md",
+    "docs/FUNCTIONS.md",
     "docs/SEEING.md",
 }
 COMMANDS = """
