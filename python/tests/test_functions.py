@@ -353,6 +353,23 @@ def test_pieces_are_halved_within_a_budget(w: Workbench) -> None:
     assert 200 < len(told) <= 600
 
 
+def test_where_there_is_no_room_for_pieces_answers_are_wider(
+    w: Workbench, monkeypatch: pytest.MonkeyPatch
+) -> None:
+    x, y = w.measured("x", low=0, high=10), w.measured("y", low=0, high=30_000)
+    w.law(y == p.exp(x))
+    w.read("here", x, "2 +- 0.01")
+
+    def full(*events: object) -> None:
+        raise ValueError("the program has no room for more instances; nothing of this was stated")
+
+    with monkeypatch.context() as held:
+        held.setattr(w.network, "do", full)
+        answer = y.ask()
+    assert answer.low is not None and answer.high is not None
+    assert float(answer.low) < 7 and 7.5 < float(answer.high) < 10
+
+
 def test_what_was_asked_is_asked_again_without_more_pieces(w: Workbench) -> None:
     x, y = w.measured("x", low=0, high=10), w.measured("y", low=0, high=30_000)
     w.law(y == p.exp(x))

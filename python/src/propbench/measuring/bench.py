@@ -215,9 +215,10 @@ class Measuring(Questions):
         """Tells curves of functions by finer pieces where what is believed leaves the quantities that
         these cells hang on, in so many parts too, as long as that narrows answers and there is
         time."""
-        wanted = list(cells)
-        record = self._network.record
-        if not self._has_bends or self._sharp and self._sharp.covers(record, wanted, parts):
+        if not self._has_bends:
+            return
+        wanted, record = list(cells), self._network.record
+        if self._sharp and self._sharp.covers(record, wanted, parts):
             return
         tied = self._tied(wanted)
         believed = self._network.premises.in_force
@@ -227,10 +228,9 @@ class Measuring(Questions):
             if not left:
                 return
             finer = sharpening.finer(left)
-            if not finer:
+            if not finer or not self._has_room_for(finer):
                 self._sharp = Sharp(self._network.record, frozenset(tied), parts)
                 return
-            self._network.do(*finer)
 
     def _sharpen_apart(self, clock: Clock) -> None:
         """The same where readings are in conflict, for what is left without each of them."""
@@ -244,10 +244,17 @@ class Measuring(Questions):
                 in_force = self._network.premises.in_force
                 sharpening = Sharpening.of(self._network.events, rooms, in_force, 0)
                 finer = sharpening.finer(rooms)
-                self._network.do(*finer)
-                told += finer
+                told += finer if self._has_room_for(finer) else []
             if not told:
                 return
+
+    def _has_room_for(self, pieces: Sequence[BendTold]) -> bool:
+        """Whether the program has room for pieces of curves; then they are told."""
+        try:
+            self._network.do(*pieces)
+        except ValueError:
+            return False
+        return True
 
     def _left_for(self, cells: Sequence[Declared], clock: Clock) -> dict[Declared, Numbers]:
         """What is left for cells; nothing where that isn't settled, or there is a conflict."""
