@@ -66,7 +66,7 @@ def main() -> None:
             if cases % 10 == 0:
                 shaved += len(case.quantities)
                 found += kind.lost(case, is_shaved=True)
-                found += [f"{each} is convicted" for each in w.outliers(seconds=2)[:1] if each]
+                found += [f"{each} is convicted" for each in w.outliers(seconds=20)[:1] if each]
             if found:
                 sys.exit(f"LOST: {case}: {found}")
             laws += len(case.laws)

@@ -260,7 +260,7 @@ def lost(case: Case, *, is_shaved: bool = False) -> list[str]:
     """The quantities whose real does not lie in their answer."""
     found = []
     for name, quantity in case.quantities.items():
-        answer = case.w.shave(quantity, seconds=2) if is_shaved else quantity.ask(seconds=2)
+        answer = case.w.shave(quantity, seconds=20) if is_shaved else quantity.ask(seconds=20)
         number = fraction_of(case.reals[name])
         if answer.low is not None and answer.high is not None:
             if not Fraction(answer.low) - TINY <= number <= Fraction(answer.high) + TINY:

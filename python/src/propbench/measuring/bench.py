@@ -220,6 +220,9 @@ class Measuring(Questions):
         wanted, record = list(cells), self._network.record
         if self._sharp and self._sharp.covers(record, wanted, parts):
             return
+        # (there is to be time for the question itself)
+        left_over = clock.seconds_left()
+        clock = Clock(left_over if left_over is None else left_over / 2, None)
         tied = self._tied(wanted)
         believed = self._network.premises.in_force
         sharpening = Sharpening.of(self._network.events, tied, believed, parts)

@@ -65,7 +65,7 @@ class BoundsOf:
             raise Undefined(
                 f"`{text_of(real)}` {said}: give its quantities ends that leave this out"
             ) from None
-        off = Fraction(0) if real.applied.table is None else real.applied.table.off
+        off = real.applied.off
         return low - off, high + off
 
 

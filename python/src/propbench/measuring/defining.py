@@ -16,7 +16,6 @@ from propbench.model.nodes import Declared
 
 # Gives a quantity that the user didn't name, for a term within a law, by what its cell counts.
 RootOf = Callable[[Real, Measure], Declared]
-_ZERO = Fraction(0)
 
 
 @dataclass
@@ -52,9 +51,9 @@ class Definitions:
         shape = shape_of(function, self.bounds(inner))
         if len(shape.curves) == 1:
             argument, [curve] = self._argument(inner), shape.curves
-            off = _ZERO if function.table is None else function.table.off
             ends = (value, argument) if shape.is_inverse else (argument, value)
-            self.bends.append(Bend(curve, ends[0].quantity, ends[1].quantity, off, text_of(real)))
+            cells = ends[0].quantity, ends[1].quantity
+            self.bends.append(Bend(curve, *cells, function.off, text_of(real)))
             return
         parts = [function_of(each, inner) for each in branches(function, shape)]
         joined = parts[0]

@@ -95,6 +95,11 @@ class Function:
     table: Table | None = None
     branch: int | None = None
 
+    @property
+    def off(self) -> Fraction:
+        """How far its values may be off: of several curves that is said of the first."""
+        return ZERO if self.table is None or self.branch else self.table.off
+
     def dimension_of(self, argument: Dimension) -> Dimension:
         """The dimension of its values. Raises MixedUnits where there are none of this argument."""
         if self.name is Name.POWER:
@@ -114,7 +119,7 @@ class Function:
 
     def __str__(self) -> str:
         name = self.name.value if self.table is None else self.table.name
-        return name if self.branch is None else f"{name} {self.branch}"
+        return name if self.branch is None else f"part {self.branch + 1} of {name}"
 
 
 @dataclass(frozen=True)
