@@ -227,7 +227,10 @@ class Measuring(Questions):
         believed = self._network.premises.in_force
         sharpening = Sharpening.of(self._network.events, tied, believed, parts)
         while sharpening.pieces and not clock.is_over():
-            left = self._left_for(sharpening.cells, clock)
+            try:
+                left = self._left_for(sharpening.cells, clock)
+            except OutOfTime:
+                return
             if not left:
                 return
             finer = sharpening.finer(left)
