@@ -16,6 +16,8 @@ from propbench.measuring import enclosing
 from propbench.measuring.curves import Exponential, Power, Tangent, Wave, inverse
 from propbench.measuring.quantities import MeasuredAnswer
 from propbench.measuring.readings import reading_of
+from propbench.measuring.shapes import Function, Name
+from propbench.measuring.slopes_of import value_and_slope
 from propbench.measuring.stating import BendTold
 from propbench.measuring.terms import Term
 from propbench.measuring.units import unit_of
@@ -451,3 +453,32 @@ def test_a_turn_of_a_wave_has_its_extreme() -> None:
         assert any(math.isclose(each, round(2 * each) / 2) for each in half_turns)
         low, high = wave.value(wave.domain[1 if extreme == 1 else 0] or Fraction(0))
         assert low <= extreme <= high
+
+
+@pytest.mark.parametrize(("function", "unit", "ends", "read", "plain"), CASES[:17])
+def test_values_and_slopes_for_estimates(
+    w: Workbench,
+    function: Callable[[Term], Term],
+    unit: str,
+    ends: tuple[int, int],
+    read: tuple[float, float],
+    plain: Plain,
+) -> None:
+    argument = w.measured("argument", unit=unit, low=ends[0], high=ends[1])
+    at = (read[0] + read[1]) / 2
+    value, slope = value_and_slope(function(argument).real.applied, at)
+    step = abs(at) * 1e-6
+    assert math.isclose(value, plain(at), rel_tol=1e-12)
+    by_hand = (plain(at + step) - plain(at - step)) / (2 * step)
+    assert math.isclose(slope, by_hand, rel_tol=1e-5)
+
+
+def test_where_there_is_no_slope() -> None:
+    for name, at in ((Name.LN, 0.0), (Name.ASIN, 1.0), (Name.EXP, 1e6), (Name.ACOS, 2.0)):
+        with pytest.raises(ValueError):
+            value_and_slope(Function(name), at)
+    steps = p.curve("steps", [(0, 0), (1, 2), (2, 3)])
+    applied = steps("1.5").real.applied
+    assert value_and_slope(applied, 1.5) == (2.5, 1.0)
+    with pytest.raises(ValueError, match="`steps` has no value"):
+        value_and_slope(applied, 3)
