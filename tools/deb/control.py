@@ -60,7 +60,7 @@ def control(files: dict[str, bytes], version: str, is_proved: bool) -> str:
         "Maintainer": MAINTAINER,
         "Installed-Size": sum(-(-len(it) // 1024) for it in files.values()),
         "Depends": needs(files),
-        "Recommends": "graphviz, python3-prompt-toolkit, python3-pygments",
+        "Recommends": "graphviz, python3-mpmath, python3-prompt-toolkit, python3-pygments",
         "Suggests": "jupyter-notebook, minizinc, python3-odf, python3-openpyxl, python3-scipy",
         "Section": "math",
         "Priority": "optional",

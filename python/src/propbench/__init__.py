@@ -25,6 +25,26 @@ if TYPE_CHECKING:
     from propbench.errors import *
     from propbench.finding import find_program as find_program
     from propbench.finding import find_wide as find_wide
+    from propbench.measuring.elementary import acos as acos
+    from propbench.measuring.elementary import asin as asin
+    from propbench.measuring.elementary import at_level as at_level
+    from propbench.measuring.elementary import at_pH as at_pH
+    from propbench.measuring.elementary import atan as atan
+    from propbench.measuring.elementary import atan2 as atan2
+    from propbench.measuring.elementary import cos as cos
+    from propbench.measuring.elementary import curve as curve
+    from propbench.measuring.elementary import degrees as degrees
+    from propbench.measuring.elementary import exp as exp
+    from propbench.measuring.elementary import exp10 as exp10
+    from propbench.measuring.elementary import hypot as hypot
+    from propbench.measuring.elementary import level as level
+    from propbench.measuring.elementary import ln as ln
+    from propbench.measuring.elementary import log10 as log10
+    from propbench.measuring.elementary import pH as pH
+    from propbench.measuring.elementary import pi as pi
+    from propbench.measuring.elementary import radians as radians
+    from propbench.measuring.elementary import sin as sin
+    from propbench.measuring.elementary import tan as tan
     from propbench.measuring.functions import maximum as maximum
     from propbench.measuring.functions import mean as mean
     from propbench.measuring.functions import minimum as minimum
@@ -59,6 +79,10 @@ else:
     _HOMES = {
         "propbench.errors": "",
         "propbench.finding": "find_program find_wide",
+        "propbench.measuring.elementary": """
+            acos asin at_level at_pH atan atan2 cos curve degrees exp exp10 hypot level ln log10 pH pi
+            radians sin tan
+        """,
         "propbench.measuring.functions": "maximum mean minimum total",
         "propbench.measuring.quantities": "Quantity",
         "propbench.measuring.terms": "Law",
@@ -83,8 +107,8 @@ else:
             NameTaken NoBound NoGraphviz NoProgram NoReading NoSuchCell NoSuchDomain NoSuchName
             NoSuchPremise NoSuchProcedure NoSuchRelation NotALaw NotAName NotANumberInRange NotAWorkbench
             NotInTheDomain NotSettled NotUtf8 OutOfMemory OutOfTime ProgramEnded Refused
-            SessionInUse TooCoarse TooLong UnknownCommand UnknownUnit WrongCountOfCells WrongForm
-            WrongKind WrongParameter WrongReply
+            SessionInUse TooCoarse TooLong Undefined UnknownCommand UnknownUnit WrongCountOfCells
+            WrongForm WrongKind WrongParameter WrongReply
         """,
         "propbench.replies": """
             Best Called Contradiction Done How Impossible Instance Listing Moved Nogoods NoneFits

@@ -18,6 +18,7 @@ if TYPE_CHECKING:
     from propbench.measuring.bounds import NoBound as NoBound
     from propbench.measuring.exact import TooLong as TooLong
     from propbench.measuring.law_texts import NotALaw as NotALaw
+    from propbench.measuring.shapes import Undefined as Undefined
     from propbench.measuring.translation import TooCoarse as TooCoarse
     from propbench.measuring.units import MixedUnits as MixedUnits
     from propbench.measuring.units import UnknownUnit as UnknownUnit
@@ -62,6 +63,7 @@ else:
         "propbench.measuring.bounds": "NoBound",
         "propbench.measuring.exact": "TooLong",
         "propbench.measuring.law_texts": "NotALaw",
+        "propbench.measuring.shapes": "Undefined",
         "propbench.measuring.translation": "TooCoarse",
         "propbench.measuring.units": "MixedUnits UnknownUnit",
         "propbench.model.answers": "Conflict NotSettled",

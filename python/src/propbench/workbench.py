@@ -38,6 +38,10 @@ from propbench.questions.asking import CellLike
 if TYPE_CHECKING:
     from propbench.laboratory.adjustment import Adjustment
     from propbench.laboratory.report import Report
+    from propbench.model.tabling import Table
+
+# Seconds in which it is known how finely curves have to be told, or that isn't waited for.
+_SOON = 2.0
 
 
 class Workbench(PlainWorkbench, Laboratory):
@@ -74,12 +78,26 @@ class Workbench(PlainWorkbench, Laboratory):
 
     @property
     def model(self) -> BenchModel:
+        self._sharpen(self._network.cells.values(), Clock(_SOON, None))
         return BenchModel(self._network, schedule_in)
 
     def constraint_of(self, constraint: Truth | bool) -> Node:
         if isinstance(constraint, Law):
             raise TypeError(f"`{constraint!r}` is a law of quantities: state it by `w.law(..)`")
         return super().constraint_of(constraint)
+
+    def answer(
+        self, command: str, cell: Declared, seconds: float | None, over: str | None
+    ) -> Answer:
+        clock = Clock(seconds, None)
+        if over is None:
+            self._sharpen([cell], clock)
+        return super().answer(command, cell, clock.seconds_left(), over)
+
+    def table(self, *cells: Cell, seconds: float | None = None) -> Table:
+        clock = Clock(seconds, None)
+        self._sharpen(map(self._own, cells) if cells else self._network.cells.values(), clock)
+        return super().table(*cells, seconds=clock.seconds_left())
 
     # (of a quantity there is another table)
     def sensitivity(  # type: ignore[override]

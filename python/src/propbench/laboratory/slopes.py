@@ -2,8 +2,9 @@
 
 from collections.abc import Callable, Mapping
 from dataclasses import dataclass
-from math import sqrt
+from math import pi, sqrt
 
+from propbench.measuring.slopes_of import value_and_slope
 from propbench.measuring.terms import Real, Sort, text_of
 from propbench.model.nodes import Declared
 
@@ -47,6 +48,9 @@ def sloped(real: Real, at: Mapping[Declared, float]) -> Sloped:
         [base], power = args, int(real.number)
         return base.bent(base.value**power, power * base.value ** (power - 1))
     try:
+        if real.sort is Sort.FUNCTION:
+            [inner] = args
+            return inner.bent(*value_and_slope(real.applied, inner.value))
         return _OF_SORT[real.sort](args)
     except (ZeroDivisionError, ValueError):
         raise NoValue(f"`{text_of(real)}` has no value or no slope where it is estimated") from None
@@ -76,6 +80,7 @@ def _root(args: list[Sloped]) -> Sloped:
 
 
 _OF_SORT: dict[Sort, Callable[[list[Sloped]], Sloped]] = {
+    Sort.PI: lambda args: Sloped(pi, {}),
     Sort.SUM: _sum,
     Sort.DIFFERENCE: lambda args: args[0].plus(args[1].times(-1.0)),
     Sort.NEGATIVE: lambda args: args[0].times(-1.0),

@@ -1,7 +1,10 @@
 """What a workbench does with measured quantities: it has these methods."""
 
 from collections.abc import Iterable, Mapping, Sequence
+from contextlib import suppress
 
+from propbench.measuring.apart import left_apart
+from propbench.measuring.bends import Bend
 from propbench.measuring.devices import (
     Device,
     corrected,
@@ -13,16 +16,18 @@ from propbench.measuring.devices import (
     told_if_possible,
 )
 from propbench.measuring.exact import Exact
-from propbench.measuring.forms import Polynomial
 from propbench.measuring.law_texts import laws_of
 from propbench.measuring.outliers import Outliers, find_outliers
+from propbench.measuring.polynomials import Polynomial
 from propbench.measuring.predict import Prediction, expected, predicted
 from propbench.measuring.quantities import MeasuredAnswer, Quantity, measure_of, measured
 from propbench.measuring.readings import COVERAGE, Given, reading_of
+from propbench.measuring.refining import SHAVED, Sharp, Sharpening
 from propbench.measuring.rooms import Room, find_room
 from propbench.measuring.sensitivity import Improvements, find_improvements
 from propbench.measuring.shaving import Shaved, find_shaved
 from propbench.measuring.stating import (
+    BendTold,
     LawTold,
     RootMade,
     Stated,
@@ -30,6 +35,7 @@ from propbench.measuring.stating import (
     quantities_in,
     read,
     stated,
+    told_pieces,
 )
 from propbench.measuring.terms import Law, Real, text_of
 from propbench.measuring.units import unit_of
@@ -41,11 +47,15 @@ from propbench.model.measures import Measure
 from propbench.model.network import Network
 from propbench.model.nodes import Declared, cells_in
 from propbench.model.reading import Reader
+from propbench.program import OutOfTime
 from propbench.questions import Questions
 from propbench.questions.clock import Clock, Progress
 from propbench.questions.rooms import Numbers
-from propbench.replies import Contradiction, Value
+from propbench.replies import Contradiction, Settled, Value
 from propbench.values import Span
+
+# How often pieces of curves are halved for readings that are in conflict.
+_APART = 5
 
 
 class Measuring(Questions):
@@ -53,6 +63,10 @@ class Measuring(Questions):
 
     _network: Network
     _owner: object
+    # Whether a law was stated in which a function stands.
+    _has_bends: bool = False
+    # For what the pieces of curves are as fine as need be.
+    _sharp: Sharp | None = None
 
     # --- what is stated ---
 
@@ -116,7 +130,7 @@ class Measuring(Questions):
         roots = _Roots(self)
         try:
             check_zeros(law)
-            found, definitions = stated(law, self._equations(under), under, roots)
+            found, defined = stated(law, self._equations(under), under, roots)
             corrections = [
                 event
                 for device in self.devices.values()
@@ -124,10 +138,12 @@ class Measuring(Questions):
             ]
         except RecursionError:
             raise ValueError("a law is nested too deeply: name parts of it by quantities") from None
+        self._has_bends = self._has_bends or bool(defined.bends)
         self._network.do(
             *roots.events,
             LawTold(found.constraint, under, law.text, found),
-            *(LawStated(each.constraint, under, each.law.text) for each in definitions),
+            *(LawStated(each.constraint, under, each.law.text) for each in defined.laws),
+            *self._new_pieces(defined.bends, under),
             *corrections,
         )
 
@@ -243,8 +259,9 @@ class Measuring(Questions):
         >>> answer.low <= 5 <= answer.high
         True
         """
-        self._own(quantity)
-        return find_shaved(self, quantity, seconds, progress)
+        clock = Clock(seconds, None)
+        self._sharpen([self._own(quantity)], clock, SHAVED)
+        return find_shaved(self, quantity, clock.seconds_left(), progress)
 
     def outliers(
         self,
@@ -264,11 +281,19 @@ class Measuring(Questions):
         >>> [each.names for each in w.outliers()]
         [('guess',), ('tape', 'laser')]
         """
+        clock = Clock(seconds, None)
+        with suppress(OutOfTime):
+            self._sharpen_apart(clock)
         measured_cells = [name for name, it in self._network.cells.items() if it.measure]
         readings = self._readings()
         ordered = {name: readings[name] for name in self._suspects_first(list(readings))}
         return find_outliers(
-            self.model, ordered, self._unread_first(measured_cells), most, seconds, progress
+            self.model,
+            ordered,
+            self._unread_first(measured_cells),
+            most,
+            clock.seconds_left(),
+            progress,
         )
 
     def improvements(
@@ -335,23 +360,92 @@ class Measuring(Questions):
 
     # --- within ---
 
-    def _related(self, quantity: Quantity) -> list[str]:
+    def _sharpen(self, cells: Iterable[Declared], clock: Clock, parts: int = 0) -> None:
+        """Tells curves of functions by finer pieces where what is believed leaves the quantities that
+        these cells hang on, in so many parts too, as long as that narrows answers and there is
+        time."""
+        if not self._has_bends:
+            return
+        wanted, record = list(cells), self._network.record
+        if self._sharp and self._sharp.covers(record, wanted, parts):
+            return
+        # (there is to be time for the question itself)
+        left_over = clock.seconds_left()
+        clock = Clock(left_over if left_over is None else left_over / 2, None)
+        tied = self._tied(wanted)
+        believed = self._network.premises.in_force
+        sharpening = Sharpening.of(self._network.events, tied, believed, parts)
+        while sharpening.pieces and not clock.is_over():
+            try:
+                left = self._left_for(sharpening.cells, clock)
+            except OutOfTime:
+                return
+            if not left:
+                return
+            finer = sharpening.finer(left)
+            if not finer or not self._has_room_for(finer):
+                self._sharp = Sharp(self._network.record, frozenset(tied), parts)
+                return
+
+    def _sharpen_apart(self, clock: Clock) -> None:
+        """The same where readings are in conflict, for what is left without each of them."""
+        for _ in range(_APART if self._has_bends else 0):
+            told = []
+            for left in left_apart(self.model, clock):
+                cells = self._network.cells
+                rooms = {
+                    it: left.get(name) or _whole(it) for name, it in cells.items() if it.measure
+                }
+                in_force = self._network.premises.in_force
+                sharpening = Sharpening.of(self._network.events, rooms, in_force, 0)
+                finer = sharpening.finer(rooms)
+                told += finer if self._has_room_for(finer) else []
+            if not told:
+                return
+
+    def _has_room_for(self, pieces: Sequence[BendTold]) -> bool:
+        """Whether the program has room for pieces of curves; then they are told."""
+        try:
+            self._network.do(*pieces)
+        except ValueError:
+            return False
+        return True
+
+    def _left_for(self, cells: Sequence[Declared], clock: Clock) -> dict[Declared, Numbers]:
+        """What is left for cells; nothing where that isn't settled, or there is a conflict."""
+        session, names = self._network.session, self._network.vocabulary.cells
+        if not isinstance(session.send("settle", seconds=clock.seconds_left()), Settled):
+            return {}
+        asks = [f"ask {names.line(cell.name)}" for cell in cells]
+        found: dict[Declared, Numbers] = {}
+        for cell, reply in zip(cells, session.look(asks, until=clock.last)):
+            held = reply.value if isinstance(reply, Value) else None
+            found[cell] = Numbers(held.low, held.high) if isinstance(held, Span) else _whole(cell)
+        return found
+
+    def _related(self, cell: Declared) -> list[str]:
         """The quantities that laws tie to this one, by name, those without readings in front."""
-        found = {quantity.declared}
-        groups = [
-            cells_in(each.constraint)
-            for each in self._network.events
-            if isinstance(each, LawStated)
-        ]
+        found = self._tied([cell])
+        return self._unread_first(
+            [cell.name for cell in self._network.cells.values() if cell in found]
+        )
+
+    def _tied(self, cells: Iterable[Declared]) -> set[Declared]:
+        """These cells, and all that laws tie to them."""
+        found = set(cells)
+        stated = (each for each in self._network.events if isinstance(each, LawStated))
+        # (a curve has many pieces)
+        groups = {
+            each.cells if isinstance(each, BendTold) else tuple(cells_in(each.constraint))
+            for each in stated
+        }
         count = 0
         while count < len(found):
             count = len(found)
             for group in groups:
                 if not found.isdisjoint(group):
                     found.update(group)
-        return self._unread_first(
-            [cell.name for cell in self._network.cells.values() if cell in found]
-        )
+        return found
 
     def _unread_first(self, names: Sequence[str]) -> list[str]:
         """Quantities by name, those without readings in front."""
@@ -416,6 +510,17 @@ class Measuring(Questions):
         while name in self._network.cells:
             name += "'"
         return name
+
+    def _new_pieces(self, bends: Iterable[Bend], under: str | None) -> list[BendTold]:
+        """What is told of curves at first, where it isn't told yet."""
+        told = {
+            each.piece.bend
+            for each in self._network.events
+            if isinstance(each, BendTold) and each.premise in (None, under)
+        }
+        fresh = [bend for bend in dict.fromkeys(bends) if bend not in told]
+        found = (bend.piece(place) for bend in fresh for place in bend.first_places())
+        return list(told_pieces(found, under))
 
     def _equations(self, under: str | None) -> list[Polynomial]:
         """The equations that hold always, with which one that does may be combined."""
@@ -484,3 +589,9 @@ class _Roots:
     def events(self) -> list[RootMade]:
         """The events that make the new ones."""
         return [RootMade(cell, root) for root, cell in self._made.items()]
+
+
+def _whole(cell: Declared) -> Numbers:
+    """All that a quantity's cell may be."""
+    assert cell.low is not None and cell.high is not None
+    return Numbers(cell.low, cell.high)

@@ -12,12 +12,13 @@ from fractions import Fraction
 
 from propbench.measuring.amounts import NoReading, amount_of
 from propbench.measuring.bounds import Bounds
+from propbench.measuring.defining import RootOf
 from propbench.measuring.exact import Exact, exact_of, short
-from propbench.measuring.forms import Polynomial, factored, multiplied_out
 from propbench.measuring.linear import summed
+from propbench.measuring.polynomials import Polynomial, factored, multiplied_out
 from propbench.measuring.quantities import measure_between
 from propbench.measuring.readings import Reading, in_ascii
-from propbench.measuring.stating import RootOf, declared, read, stated
+from propbench.measuring.stating import declared, read, stated
 from propbench.measuring.terms import ONE, Law, Real, Sort, text_of
 from propbench.measuring.units import BARE, MixedUnits, Unit, dimension_text, unit_of
 from propbench.model.events import CellMade, Event, LawStated

@@ -9,6 +9,7 @@ import re
 from collections.abc import Callable, Mapping
 from fractions import Fraction
 
+from propbench.measuring.elementary import FUNCTIONS, at_level, pi
 from propbench.measuring.exact import number_in, short
 from propbench.measuring.functions import maximum, mean, minimum, total
 from propbench.measuring.terms import Law, Made, Term, constant, power_of, real_of
@@ -25,7 +26,10 @@ _FUNCTIONS: dict[str, Callable[..., Term]] = {
     "total": total,
     "maximum": maximum,
     "minimum": minimum,
+    **FUNCTIONS,
 }
+_OF_SEVERAL = ("mean", "total", "maximum", "minimum", "hypot")
+_OF_TWO = ("atan2",)
 _OPERATIONS: dict[type[ast.operator], Callable[[Term, Term], Term]] = {
     ast.Add: Term.__add__,
     ast.Sub: Term.__sub__,
@@ -126,6 +130,8 @@ class _Reading:
     def _named(self, name: str) -> Term:
         if name in self._terms:
             return self._terms[name]
+        if name == "pi":
+            return pi
         near = near_names(name, self._quantities)
         hint = f": did you mean {quoted(near[0])}?" if near else ""
         raise self._wrong(f"no quantity is called {quoted(name)}{hint}")
@@ -154,16 +160,22 @@ class _Reading:
         raise self._wrong("a power is by a number")
 
     def _called(self, tree: ast.Call) -> Term:
-        function = _FUNCTIONS.get(tree.func.id) if isinstance(tree.func, ast.Name) else None
-        if function is None or tree.keywords:
+        name = tree.func.id if isinstance(tree.func, ast.Name) else ""
+        if name not in _FUNCTIONS or tree.keywords:
             raise self._wrong(f"its functions are {', '.join(_FUNCTIONS)}")
+        if name == "at_level" and len(tree.args) == 2:
+            return at_level(self._term(tree.args[0]), self._unit(tree.args[1]))
         args = [self._term(each) for each in tree.args]
-        is_of_one = tree.func.id in ("abs", "sqrt") if isinstance(tree.func, ast.Name) else False
-        if not args or is_of_one and len(args) > 1:
-            raise self._wrong(
-                f"`{ast.unparse(tree.func)}` is of {'one term' if is_of_one else 'terms'}"
-            )
-        return function(*args)
+        counted = "terms" if name in _OF_SEVERAL else "two terms" if name in _OF_TWO else "one term"
+        if len(args) != {"one term": 1, "two terms": 2}.get(counted, max(1, len(args))):
+            raise self._wrong(f"`{name}` is of {counted}")
+        return _FUNCTIONS[name](*args)
+
+    def _unit(self, tree: ast.expr) -> str:
+        """A unit, as it stands in quotes. Raises NotALaw."""
+        if isinstance(tree, ast.Constant) and isinstance(tree.value, str):
+            return tree.value
+        raise self._wrong('the unit of a level stands in quotes, as `at_level(x, "W")`')
 
     def _wrong(self, why: str) -> NotALaw:
         return NotALaw(f"{quoted(self._text.strip())} is no law: {why}")

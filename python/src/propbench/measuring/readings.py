@@ -12,6 +12,7 @@ from dataclasses import dataclass, replace
 from fractions import Fraction
 
 from propbench.measuring.amounts import UNIT, Amount, NoReading, amount_of, check_length, same
+from propbench.measuring.angles import in_units
 from propbench.measuring.exact import (
     EXPONENT,
     MOST_DIGITS,
@@ -52,7 +53,7 @@ class Reading:
 
 def constant_of(text: str) -> tuple[Fraction, Unit]:
     """A constant in a law, as `9.81 m/s2`: exact, in base units. Raises NoReading."""
-    amount = amount_of(in_ascii(text), text)
+    amount = amount_of(in_units(in_ascii(text)), text)
     unit = unit_of(amount.unit or "1")
     return amount.value * unit.factor + unit.offset, unit
 
@@ -73,7 +74,7 @@ def reading_of(given: Given, unit: Unit, coverage: Exact = COVERAGE) -> Reading:
         real = number * unit.factor + unit.offset
         return Reading(real, real, _with_unit(str(given), unit))
     text = in_ascii(given)
-    read = _read(text, unit, times)
+    read = _read(in_units(text), unit, times)
     return _ordered(read.low, read.high, text, read.coverage)
 
 
@@ -180,7 +181,7 @@ def _around(
 def _end(given: object, unit: Unit) -> Fraction:
     """An end of an interval: exact."""
     if isinstance(given, str):
-        amount = amount_of(in_ascii(given), given)
+        amount = amount_of(in_units(in_ascii(given)), given)
         named = same(amount.unit, unit, given)
         return amount.value * named.factor + named.offset
     return exact_of(given) * unit.factor + unit.offset

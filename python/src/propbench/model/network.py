@@ -75,6 +75,11 @@ class Network:
         return self._now().events
 
     @property
+    def record(self) -> Record:
+        """All that is kept: another one since anything was stated, kicked out or brought in."""
+        return self._record
+
+    @property
     def cells(self) -> dict[str, Declared]:
         """The cells by name, in the order in which they were made."""
         return self._now().cells

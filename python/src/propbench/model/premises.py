@@ -78,7 +78,8 @@ class Premises:
 
     def exactly(self, name: str) -> str:
         """All that is stated under a premise, by its cells."""
-        return "; ".join(statement.text for statement in self.statements.get(name, ()))
+        # (of a curve that is told by pieces each is called the same)
+        return "; ".join(dict.fromkeys(each.text for each in self.statements.get(name, ())))
 
     @property
     def in_force(self) -> list[str]:
