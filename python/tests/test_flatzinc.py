@@ -62,7 +62,7 @@ def test_the_grammar() -> None:
         ("var 1..2: x\nsolve satisfy;", 2, "';' is wanted, and not 'solve'"),
         ("var 1..2: x;\nconstraint int_le(x,?);", 2, "no word of FlatZinc begins with '?'"),
         ("var 1..2: x;\nsolve improve x;", 2, "and not 'improve'"),
-        ("var -9..9: x;\nconstraint int_pow(x,x,4);\nsolve satisfy;", 2, "exponents from 0"),
+        ("var -9..99: x;\nconstraint int_pow(x,x,4);\nsolve satisfy;", 2, "exponents up to 63"),
         ("var 1..2: x;\nconstraint int_le(x,y);\nsolve satisfy;", 2, "nothing is called `y`"),
         ("var 1..2: x;\nsolve minimize y;", 2, "nothing is called `y`"),
         ("var 1..2: x = y;\nsolve satisfy;", 1, "nothing is called `y`"),
@@ -143,6 +143,15 @@ def test_the_options(
         assert said.startswith("x = 1;\ny = 2;\nboth = array1d(0..1,[1,2]);\n")
     if "maximize" in goal:
         assert said.startswith("x = 2;\ny = 3;\n")
+
+
+@pytest.mark.parametrize("word", ["--node", "--all-solutions", "--stat"])
+def test_no_option_is_taken_for_another(
+    tmp_path: Path, capsys: pytest.CaptureFixture[str], word: str
+) -> None:
+    with pytest.raises(SystemExit) as ended:
+        main([word, str(tmp_path / "m.fzn")])
+    assert ended.value.code == 2 and f"unrecognized arguments: {word}" in capsys.readouterr().err
 
 
 def test_no_time_is_unknown_and_statistics(

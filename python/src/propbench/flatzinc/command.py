@@ -23,7 +23,9 @@ propbench MODEL DATA`. That there is no solution, and none that is better, is wh
 
 def parser() -> argparse.ArgumentParser:
     """The reader of the command line, with the options that MiniZinc gives a solver."""
-    made = argparse.ArgumentParser(prog="fzn-propbench", description=DESCRIPTION)
+    made = argparse.ArgumentParser(
+        prog="fzn-propbench", description=DESCRIPTION, allow_abbrev=False
+    )
     made.add_argument("file", metavar="FILE", help="the model in FlatZinc, or - for standard input")
     made.add_argument("-a", "--all", action="store_true", help="all solutions, not one alone")
     made.add_argument("-n", type=int, metavar="N", help="so many solutions (1)")

@@ -126,7 +126,7 @@ def _is_value(terms: Terms, constraint: Constraint) -> Truth:
     given = _GIVES[constraint.name](terms, args[:-1])
     if given is None:
         raise NotSupported(
-            constraint.line, f"{constraint.name} is supported for exponents from 0 to 63 alone"
+            constraint.line, f"{constraint.name} is supported for exponents up to 63 alone"
         )
     value, beside = given
     if isinstance(value, Truth):
@@ -222,8 +222,7 @@ def _divides(give: Callable[[Number, Number], Number]) -> Gives:
 
 
 def _power(terms: Terms, args: Args) -> tuple[Number, Truth] | None:
-    found = arithmetic.power(terms.number(args[0]), terms.number(args[1]))
-    return None if found is None else (found, arithmetic.YES)
+    return arithmetic.power(terms.number(args[0]), terms.number(args[1]))
 
 
 def _extreme(give: Callable[[list[Number]], Number]) -> Gives:
