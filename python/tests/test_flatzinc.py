@@ -8,7 +8,7 @@ from propbench import Workbench
 from propbench.flatzinc.building import Built
 from propbench.flatzinc.command import main
 from propbench.flatzinc.grammar import read
-from propbench.flatzinc.solving import solve
+from propbench.flatzinc.solving import ALL, Wanted, solve
 from propbench.flatzinc.symbolic import domains
 from propbench.flatzinc.terms import Call, Name, NotSupported, Numbers, Text
 
@@ -189,7 +189,7 @@ def test_the_order_is_that_of_the_annotation(
 ) -> None:
     text = ORDERED.format(first=first, by="input_order", value=value)
     with Workbench(program) as workbench:
-        assert solve(Built(read(text), workbench), 1, None).plans == [right]
+        assert solve(Built(read(text), workbench), Wanted()).plans == [right]
 
 
 def test_what_is_told_apart() -> None:
@@ -213,7 +213,7 @@ def test_what_a_definition_needs_holds_always(program: str) -> None:
     with Workbench(program) as workbench:
         built = Built(read(text), workbench)
         assert len(built.cells) == 3
-        found = solve(built, 100, None).plans
+        found = solve(built, Wanted(ALL)).plans
     pairs = [(x, y) for x in (-1, 0, 1) for y in (1, 2)]
     right = [{"x": x, "y": y, "b": not (x, y) == (1, 1)} for x, y in pairs]
     assert sorted(map(str, found)) == sorted(map(str, right))

@@ -23,10 +23,11 @@ class Group:
     is_from_top: bool
 
 
-def order_of(built: Built) -> list[Group]:
-    """The cells that come first by the annotations of the goal, and behind them those that the
-    model itself has."""
-    groups = [group for each in built.flat.goal.annotations for group in _groups(built, each)]
+def order_of(built: Built, is_free: bool = False) -> list[Group]:
+    """The cells that come first by the annotations of the goal, unless the search is free of these,
+    and behind them those that the model itself has."""
+    annotations = () if is_free else built.flat.goal.annotations
+    groups = [group for each in annotations for group in _groups(built, each)]
     named = {cell.name for group in groups for cell in group.cells}
     others = tuple(cell for cell in built.own if cell.name not in named)
     return [*groups, Group(others, False)]

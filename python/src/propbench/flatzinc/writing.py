@@ -11,15 +11,11 @@ SOLUTION, COMPLETE = "----------", "=========="
 UNSATISFIABLE, UNKNOWN = "=====UNSATISFIABLE=====", "=====UNKNOWN====="
 
 
-def written(built: Built, solutions: Solutions) -> Iterator[str]:
-    """The lines that tell of solutions, and whether there are others."""
-    for plan in solutions.plans:
-        yield from solution(built, plan)
-        yield SOLUTION
-    if not solutions.plans:
-        yield UNSATISFIABLE if solutions.is_complete else UNKNOWN
-    elif solutions.is_complete:
-        yield COMPLETE
+def ending(found: Solutions) -> list[str]:
+    """The line that tells whether there are others, where that is known."""
+    if not found.plans:
+        return [UNSATISFIABLE if found.is_complete else UNKNOWN]
+    return [COMPLETE] if found.is_complete else []
 
 
 def solution(built: Built, plan: Plan) -> Iterator[str]:
@@ -34,8 +30,18 @@ def solution(built: Built, plan: Plan) -> Iterator[str]:
             yield f"{array.name} = array{len(array.printed)}d({sets},[{values}]);"
 
 
-def statistics(numbers: Mapping[str, object]) -> Iterator[str]:
-    """Statistics by name."""
+def statistics(built: Built, found: Solutions, times: Mapping[str, float]) -> Iterator[str]:
+    """Statistics by the names that MiniZinc has for them: `propagations` are steps of the program."""
+    variables = built.flat.variables.values()
+    truths = sum(each.is_truth for each in variables)
+    lines = built.workbench.model.base()
+    numbers: dict[str, object] = {name: f"{seconds:.3f}" for name, seconds in times.items()}
+    numbers |= {"nSolutions": len(found.plans), "variables": len(variables)}
+    numbers |= {"intVariables": len(variables) - truths, "boolVariables": truths}
+    numbers |= {"propagators": sum(line.startswith("attach ") for line in lines)}
+    numbers |= {"propagations": found.steps, "cells": len(built.cells)}
+    if found.objective is not None:
+        numbers["objective"] = found.objective
     for name, value in numbers.items():
         yield f"%%%mzn-stat: {name}={value}"
     yield "%%%mzn-stat-end"
