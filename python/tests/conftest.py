@@ -24,7 +24,7 @@ sys.path.append(str(REPOSITORY / "tests"))
 
 OF_A_WORKBENCH = """
 test_cases test_certificates test_flatzinc test_flatzinc_meaning test_flatzinc_models
-test_flatzinc_random test_flatzinc_search test_planning test_questions test_questions_page test_shown
+test_flatzinc_random test_flatzinc_search test_flatzinc_sets test_planning test_questions test_questions_page test_shown
 test_solving test_spoilt test_what_ifs test_workbench test_workbench_files test_workbench_page
 test_workbench_random
 """.split()

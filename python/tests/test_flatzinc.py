@@ -57,7 +57,6 @@ def test_the_grammar() -> None:
     [
         ("var 1..2: x;\nvar float: y;\nsolve satisfy;", 2, "floats are not supported"),
         ("var 1.5..2.5: y;\nsolve satisfy;", 1, "floats are not supported"),
-        ("var set of 1..3: y;\nsolve satisfy;", 1, "sets are not supported"),
         ("var 1..2: x;\n\nconstraint int_sqrt(x,x);\nsolve satisfy;", 3, "int_sqrt"),
         ("var 1..2: x\nsolve satisfy;", 2, "';' is wanted, and not 'solve'"),
         ("var 1..2: x;\nconstraint int_le(x,?);", 2, "no word of FlatZinc begins with '?'"),

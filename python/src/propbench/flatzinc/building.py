@@ -10,6 +10,7 @@ from propbench.flatzinc import meaning, symbolic
 from propbench.flatzinc.arithmetic import NO, YES, constant, every, same_truth, within
 from propbench.flatzinc.forms import check
 from propbench.flatzinc.meaning import differing
+from propbench.flatzinc.sets import Members, is_same
 from propbench.flatzinc.terms import (
     BLAMED,
     Call,
@@ -34,6 +35,7 @@ from propbench.model.expressions import (
 from propbench.model.kinds import Domain
 from propbench.workbench import Workbench
 
+_INTRODUCED = "var_is_introduced"
 # Definitions lie so deep within one another at the most; then a cell has the value.
 _DEEPEST = 30
 
@@ -46,6 +48,8 @@ class Built:
         check(flat)
         self.flat, self.workbench = flat, workbench
         self.cells: dict[str, Cell] = {}
+        # The truths of each set's elements.
+        self.sets: dict[str, dict[int, TruthCell]] = {}
         self._expressions: dict[str, Number | Truth | Element] = {}
         self._deep: dict[str, int] = {}
         self._titles = _titles(flat)
@@ -57,7 +61,8 @@ class Built:
             for each in flat.constraints
             if each.defined is not None
             and each.defined in flat.variables
-            and flat.variables[each.defined].has("var_is_introduced")
+            and flat.variables[each.defined].has(_INTRODUCED)
+            and not flat.variables[each.defined].is_set
             and each.defined not in kept
         }
         self._done: set[int] = set()
@@ -68,8 +73,15 @@ class Built:
 
     def _state_all(self, flat: Flat) -> None:
         for variable in flat.variables.values():
-            if variable.name not in self._definitions:
+            if variable.is_set:
+                self._set(variable)
+            elif variable.name not in self._definitions:
                 self._expression(variable.name)
+        for variable in flat.variables.values():
+            if variable.is_set and variable.value is not None:
+                self._require(
+                    is_same(self.members(Name(variable.name)), self.members(variable.value))
+                )
         for each in flat.constraints:
             if each.defined in self._definitions:
                 self._expression(str(each.defined))
@@ -79,12 +91,14 @@ class Built:
     @property
     def own(self) -> list[Cell]:
         """The cells of the variables that MiniZinc didn't bring in."""
-        variables = self.flat.variables
-        return [
-            cell
-            for name, cell in self.cells.items()
-            if not variables[name].has("var_is_introduced")
-        ]
+        names = (name for name, it in self.flat.variables.items() if not it.has(_INTRODUCED))
+        return [cell for name in names for cell in self.cells_of(name)]
+
+    def cells_of(self, name: str) -> list[Cell]:
+        """The cells of a variable: none where it is an expression, one, or those of a set."""
+        if name in self.sets:
+            return list(self.sets[name].values())
+        return [self.cells[name]] if name in self.cells else []
 
     # --- what terms stand for ---
 
@@ -131,8 +145,9 @@ class Built:
         if len(elements) < len(compared) or not any(isinstance(each, Element) for each in elements):
             return None
         name = constraint.name.removesuffix("_reif")
-        if name == "set_in":
-            return self._one_of(elements[0], self.values(constraint.args[1]))
+        values = self.values(constraint.args[1]) if name == "set_in" else None
+        if values is not None:
+            return self._one_of(elements[0], values)
         if name == "fzn_all_different_int":
             return differing(elements)
         first, second = sorted(elements, key=lambda each: isinstance(each, str))
@@ -153,11 +168,23 @@ class Built:
         kept = [each for each in names if values.has(int(each))]
         return made.among(*kept) if kept else NO
 
-    def values(self, term: Term) -> Numbers:
-        """A constant set."""
+    def values(self, term: Term) -> Numbers | None:
+        """A constant set; None for a variable."""
         found = self.flat.resolved(term)
-        assert isinstance(found, Numbers), f"no set: {term!r}"
-        return found
+        return found if isinstance(found, Numbers) else None
+
+    def members(self, term: Term) -> Members:
+        """A set."""
+        values = self.values(term)
+        if values is not None:
+            return Members.of(values)
+        found = self.flat.resolved(term)
+        assert isinstance(found, Name), f"no set: {term!r}"
+        return Members(self.sets[found.text])
+
+    def sets_of(self, term: Term) -> list[Members]:
+        """An array of sets."""
+        return [self.members(each) for each in self.elements(term)]
 
     def _value(self, term: Term) -> Number | Truth | Element:
         found = self.flat.resolved(term)
@@ -213,6 +240,15 @@ class Built:
         self._expressions[name] = made
         self._require(self._is_possible(variable, made))
         return made
+
+    def _set(self, variable: Variable) -> None:
+        """A truth for each element that a set may have."""
+        title = self._titles.get(variable.name, variable.name)
+        assert variable.values is not None
+        self.sets[variable.name] = {
+            element: self.workbench.truth(f"{element} in {title}")
+            for element in variable.values.each()
+        }
 
     def _domain(self, values: tuple[int, ...]) -> Domain:
         """The domain of these numbers, the same each time."""

@@ -11,7 +11,7 @@ from propbench.flatzinc.building import Built
 from propbench.flatzinc.terms import Call, Name, Term
 from propbench.model.cells import Cell
 
-_SEARCHES = ("int_search", "bool_search")
+_SEARCHES = ("int_search", "bool_search", "set_search")
 _FROM_TOP = ("indomain_max", "indomain_reverse_split", "outdomain_min")
 
 
@@ -51,8 +51,8 @@ def _groups(built: Built, annotation: Term) -> Iterator[Group]:
 
 def _cells(built: Built, variables: Term) -> Iterator[Cell]:
     for each in _elements(built, variables):
-        if isinstance(each, Name) and each.text in built.cells:
-            yield built.cells[each.text]
+        if isinstance(each, Name):
+            yield from built.cells_of(each.text)
 
 
 def _elements(built: Built, term: Term) -> tuple[Term, ...]:
