@@ -224,6 +224,7 @@ def test_the_parser_can_be_shown() -> None:
         "shell",
         "check",
         "blame",
+        "minizinc",
         "page",
         "draw",
     ]

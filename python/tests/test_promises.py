@@ -29,7 +29,7 @@ MEMBERS = {
     "Session": "close fresh lines proved replay send send_all",
     "Certificate": "check save",
 }
-COMMANDS = "run check blame shell draw page"
+COMMANDS = "run check blame minizinc shell draw page"
 
 
 def test_names_stay() -> None:

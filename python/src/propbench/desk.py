@@ -98,6 +98,15 @@ def parser() -> argparse.ArgumentParser:
     blame.add_argument("--seconds", type=_seconds, metavar="N", help="how long it may take")
     blame.add_argument("--picture", metavar="FILE", help="draw the conflicts: .svg, .png or .dot")
     blame.add_argument("--certificate", metavar="FILE", help="save what `propdesk check` checks")
+    minizinc = commands.add_parser(
+        "minizinc",
+        help="tell MiniZinc of the solver",
+        description="Says whether MiniZinc knows of the solver propbench by a file in your folder for"
+        " solvers; writes that file, or removes it.",
+    )
+    either = minizinc.add_mutually_exclusive_group()
+    either.add_argument("--install", action="store_true", help="write the file")
+    either.add_argument("--remove", action="store_true", help="remove the file")
     page = commands.add_parser(
         "page",
         help="show a file in a browser",
@@ -187,7 +196,25 @@ def _blamed(options: argparse.Namespace) -> int:
     return blame_file(Path(options.file), list(map(Path, options.data)), asked, options.program)
 
 
+def _told_minizinc(options: argparse.Namespace) -> int:
+    from propbench.flatzinc import installing
+
+    if options.remove:
+        print(f"{printable(str(installing.remove()))} is removed.")
+        return 0
+    if options.install:
+        installing.install()
+    path = printable(str(installing.solver_file()))
+    if not installing.installed():
+        print(f"{path} isn't there, or is another: `propdesk minizinc --install` writes it.")
+        return 1
+    print(f"{path} tells of it: `minizinc --solver propbench model.mzn`.")
+    return 0
+
+
 def _done(options: argparse.Namespace) -> int:
+    if options.command == "minizinc":
+        return _told_minizinc(options)
     if options.command == "check":
         return check_file(options.file, options.program, options.base)
     if options.command == "blame":
