@@ -16,7 +16,7 @@ import sys
 import tempfile
 import time
 from collections import Counter
-from collections.abc import Iterable, Iterator, Sequence
+from collections.abc import Iterable, Iterator
 from dataclasses import dataclass, field
 from pathlib import Path
 from typing import Any
@@ -127,14 +127,16 @@ def words_of(options: dict[str, Any]) -> list[str]:
     return words
 
 
-def run(test: Test, solver: str, seconds: float, more: Sequence[str] = ()) -> Ran:
+def run(test: Test, solver: str, seconds: float) -> Ran:
     """What a solver says of a test in so many seconds."""
     words = ["minizinc", "--solver", solver, "--output-mode", "json", "--output-objective"]
-    words += ["--soln-sep", "%%next", *words_of(test.options), *more, str(test.model)]
+    words += ["--soln-sep", "%%next", *words_of(test.options), str(test.model)]
+    for each in test.data:
+        words += ["--param-file", str(each)] if each.suffix == ".mpc" else [str(each)]
     began = time.monotonic()
     try:
         ran = subprocess.run(
-            [*words, *map(str, test.data)],
+            words,
             text=True,
             errors="replace",
             capture_output=True,
@@ -212,7 +214,7 @@ def meets(wanted: Any, found: dict[str, Any]) -> bool:
         return any(meets(each, found) for each in wanted.value)
     told = wanted.value if isinstance(wanted, Tagged) else wanted
     if not isinstance(told, dict):
-        return told is None
+        return not told
     known = {"objective": found.get("_objective"), **found}
     return all(
         name in known and is_same(plain(value), plain(known[name]))
@@ -249,6 +251,8 @@ def agrees(test: Test, ran: Ran, gecode: str) -> bool:
     if not ran.solutions:
         return ran.status == theirs.status and not theirs.solutions
     found = {k: v for k, v in ran.solutions[-1].items() if not k.startswith("_")}
+    if not found:
+        return bool(theirs.solutions)
     best = ran.solutions[-1].get("_objective")
     if best is not None and theirs.solutions and theirs.status == "COMPLETE":
         if not is_same(theirs.solutions[-1].get("_objective"), best):
@@ -273,7 +277,18 @@ def judged(test: Test, ran: Ran, gecode: str) -> str:
     if ran.status == "ERROR":
         is_ours = "fzn-propbench" in ran.error and "Traceback" not in ran.error
         return "refused" if is_ours else "failed"
-    return "agrees with Gecode" if agrees(test, ran, gecode) else "WRONG"
+    if agrees(test, ran, gecode):
+        return "agrees with Gecode"
+    return "beyond Gecode's numbers" if is_beyond(ran.solutions) else "WRONG"
+
+
+def is_beyond(value: Any) -> bool:
+    """Whether there is a number that Gecode has no room for."""
+    if isinstance(value, dict):
+        return any(map(is_beyond, value.values()))
+    if isinstance(value, list):
+        return any(map(is_beyond, value))
+    return isinstance(value, int) and abs(value) >= 2**31 - 2
 
 
 def main() -> int:

@@ -144,7 +144,7 @@ def test_the_options(
         assert said.startswith("x = 2;\ny = 3;\n")
 
 
-@pytest.mark.parametrize("word", ["--node", "--all-solutions", "--stat"])
+@pytest.mark.parametrize("word", ["-node", "--node", "--all-solutions", "--stat"])
 def test_no_option_is_taken_for_another(
     tmp_path: Path, capsys: pytest.CaptureFixture[str], word: str
 ) -> None:

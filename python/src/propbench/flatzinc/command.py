@@ -46,7 +46,7 @@ def parser() -> argparse.ArgumentParser:
 def main(words: Sequence[str] | None = None) -> int:
     """Solves the model of a command line, and gives the exit status: 0, or 1 where it can't be
     read or the program ended."""
-    options = parser().parse_args(words)
+    options = _options(list(sys.argv[1:] if words is None else words))
     try:
         with _ended_by_interrupt():
             return _solved(options)
@@ -79,6 +79,15 @@ def _solved(options: argparse.Namespace) -> int:
             times = {"initTime": read_at - began, "solveTime": time.monotonic() - read_at}
             print("\n".join(statistics(built, found, times)))
     return 0
+
+
+def _options(words: list[str]) -> argparse.Namespace:
+    """The options of a command line. (Of a word like `-node` none is taken to be -n with a value.)"""
+    read = parser()
+    unknown = [word for word in words if len(word) > 2 and word[0] == "-" and word[1].isalpha()]
+    if unknown:
+        read.error(f"unrecognized arguments: {' '.join(unknown)}")
+    return read.parse_args(words)
 
 
 @contextmanager
