@@ -15,6 +15,7 @@ from propbench import Workbench
 from propbench.flatzinc.building import Built
 from propbench.flatzinc.command import main
 from propbench.flatzinc.grammar import read
+from propbench.flatzinc.seeking import Way
 from propbench.flatzinc.solving import Wanted, solve
 
 # The longest of ten sticks that a truck of 100 takes together: so many choices that one by one
@@ -48,7 +49,7 @@ def loads(said: str) -> list[int]:
 
 
 @pytest.mark.parametrize(
-    "words", [[], ["-f"], ["-r", "7"], ["-i"], ["-a"], ["-i", "-f", "-r", "2"]]
+    "words", [[], ["-f"], ["-r", "7"], ["-i"], ["-a"], ["-i", "-f", "-r", "2"], ["-p", "3", "-i"]]
 )
 def test_the_best_is_the_last(
     program: str, tmp_path: Path, capsys: pytest.CaptureFixture[str], words: list[str]
@@ -81,14 +82,18 @@ def ruler(marks: int, most: int) -> str:
 def test_each_better_one_is_told(wide: str) -> None:
     told: list[object] = []
     with Workbench(wide) as workbench:
-        found = solve(Built(read(ruler(6, 40)), workbench), Wanted(is_each=True), told.append)
+        found = solve(
+            Built(read(ruler(6, 40)), workbench), Wanted(way=Way(is_each=True)), told.append
+        )
     lengths = [plan["m5"] for plan in found.plans]
     # (17 is the length of the best ruler of six marks)
     assert found.is_complete and told == found.plans and found.objective == lengths[-1] == 17
     assert len(lengths) > 1 and lengths == sorted(set(lengths), reverse=True)
 
 
-@pytest.mark.parametrize("words", [["-a"], ["-a", "-f"], ["-a", "-r", "3"], ["-n", "9"]])
+@pytest.mark.parametrize(
+    "words", [["-a"], ["-a", "-f"], ["-a", "-r", "3"], ["-n", "9"], ["-a", "-p", "4"]]
+)
 def test_what_is_brought_in_makes_no_solutions(
     program: str, tmp_path: Path, capsys: pytest.CaptureFixture[str], words: list[str]
 ) -> None:

@@ -73,7 +73,7 @@ def test_each_constraint_at_all_points(program: str, name: str) -> None:
         ("var set of 1..3: s;\nconstraint set_eq(s,t);", 2, "nothing is called `t`"),
         ("var set of 1..3: s = 4;\nsolve satisfy;", 1, "a value of another kind"),
         ("var 1..3: s = {4};\nsolve satisfy;", 1, "a value of another kind"),
-        ("var set of 1..3: s;\nsolve minimize s;", 2, "the minimum of a set"),
+        ("var set of 1..3: s;\nsolve minimize s;", 2, "what to minimize has to be a number"),
     ],
     ids=lambda given: repr(given)[-30:],
 )

@@ -35,8 +35,9 @@ class Told:
 class Asked(Protocol):
     """A question for solutions."""
 
-    def line(self, seeker: Seeker) -> str:
-        """How the program is asked."""
+    def line(self, seeker: Seeker, is_free: bool) -> str:
+        """How the program is asked, where it may decide first what it will, or else by the search
+        annotations."""
 
     def take(self, seeker: Seeker, reply: Reply) -> None:
         """Takes in what the program has found. Raises Unlike where it doesn't hold as stated."""
@@ -64,9 +65,9 @@ class AnySolution(Asked):
         """Whether one is found, or that there is none."""
         return self.told.is_complete or self.told.count > 0
 
-    def line(self, seeker: Seeker) -> str:
+    def line(self, seeker: Seeker, is_free: bool) -> str:
         """How the program is asked."""
-        return " ".join(["solve", *seeker.first()])
+        return " ".join(["solve", *([] if is_free else seeker.first())])
 
     def take(self, seeker: Seeker, reply: Reply) -> None:
         """Takes in what the program has found."""
@@ -103,7 +104,7 @@ class ManySolutions(Asked):
         """Whether as many are found, or all."""
         return self.told.is_complete or self.told.count >= self.most
 
-    def line(self, seeker: Seeker) -> str:
+    def line(self, seeker: Seeker, is_free: bool) -> str:
         """How the program is asked."""
         left = max(1, count_asked(self.most) - self._rows)
         return " ".join(["plans", str(left), *(seeker.lines[cell] for cell in self.show)])
@@ -164,9 +165,10 @@ class BestSolution(Asked):
         """Whether nothing is better than the best that was found."""
         return self.told.is_complete
 
-    def line(self, seeker: Seeker) -> str:
+    def line(self, seeker: Seeker, is_free: bool) -> str:
         """How the program is asked."""
-        return " ".join([self.sort, seeker.lines[self.cell], *seeker.first()])
+        first = [] if is_free else seeker.first()
+        return " ".join([self.sort, seeker.lines[self.cell], *first])
 
     def take(self, seeker: Seeker, reply: Reply) -> None:
         """Takes in what the program has found."""

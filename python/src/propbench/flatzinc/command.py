@@ -11,6 +11,7 @@ from contextlib import contextmanager
 from propbench.finding import NoProgram
 from propbench.flatzinc.building import Built
 from propbench.flatzinc.grammar import read
+from propbench.flatzinc.seeking import Way
 from propbench.flatzinc.solving import ALL, Wanted, solve
 from propbench.flatzinc.terms import NotSupported
 from propbench.flatzinc.writing import SOLUTION, UNKNOWN, ending, solution, statistics
@@ -35,6 +36,7 @@ def parser() -> argparse.ArgumentParser:
     made.add_argument("-n", type=int, metavar="N", help="so many solutions (1)")
     made.add_argument("-i", "--intermediate", action="store_true", help="each better solution too")
     made.add_argument("-f", "--free", action="store_true", help="heed no search annotations")
+    made.add_argument("-p", type=int, metavar="N", default=1, help="so many searches side by side")
     made.add_argument("-r", type=int, metavar="SEED", help="call procedures in another order")
     made.add_argument("-t", type=float, metavar="MS", help="milliseconds that it may take")
     made.add_argument("-s", "--statistics", action="store_true", help="statistics too")
@@ -114,7 +116,8 @@ def _wanted(options: argparse.Namespace, taken: float) -> Wanted:
     """What is asked for, after so many seconds."""
     most = ALL if options.all and options.n is None else options.n or 1
     left = None if options.t is None else max(0.0, options.t / 1000 - taken)
-    return Wanted(most, left, options.intermediate or options.all, options.free)
+    way = Way(options.intermediate or options.all, options.p, options.r or 0)
+    return Wanted(most, left, options.free, way)
 
 
 def _text(file: str) -> str:

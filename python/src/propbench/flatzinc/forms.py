@@ -15,6 +15,7 @@ from propbench.flatzinc.terms import (
     Name,
     NotSupported,
     Numbers,
+    Sort,
     Term,
     Text,
     Variable,
@@ -82,8 +83,8 @@ def check(flat: Flat) -> None:
         _check_constraint(flat, each)
     if flat.goal.objective is not None:
         _check_values(flat, [flat.goal.objective], flat.goal.line)
-        if _is_set(flat, flat.resolved(flat.goal.objective)):
-            raise NotSupported(flat.goal.line, f"the {flat.goal.sort[:5]}um of a set is not known")
+        if not _is_number(flat, flat.resolved(flat.goal.objective)):
+            raise NotSupported(flat.goal.line, f"what to {flat.goal.sort} has to be a number")
 
 
 def called(name: str) -> str:
@@ -171,6 +172,12 @@ def _is_of(sort: str, found: Term, flat: Flat) -> bool:
         each_is = (_is_of(inner, flat.resolved(each), flat) for each in _elements(found))
         return isinstance(found, tuple) and all(each_is)
     return isinstance(found, int if sort == "c" else Text)
+
+
+def _is_number(flat: Flat, found: Term) -> bool:
+    if isinstance(found, Name):
+        return flat.variables[found.text].sort is Sort.NUMBER
+    return isinstance(found, int)
 
 
 def _is_set(flat: Flat, found: Term) -> bool:

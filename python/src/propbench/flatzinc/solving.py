@@ -1,33 +1,26 @@
 """Solutions of a model, told as they are found.
 
-propwide searches itself, in slices of steps; where that takes long it goes by cases too, in turns.
-Where the search stands still, and over propbench, it goes by cases alone.
+propwide searches itself; where that takes long it goes by cases too, in turns. Where the search
+stands still, and over propbench, it goes by cases alone.
 """
 
-import time
 from collections.abc import Callable
 from contextlib import closing, suppress
-from dataclasses import dataclass, field
+from dataclasses import dataclass, field, replace
 
 from propbench.flatzinc.asking import AnySolution, Asked, BestSolution, ManySolutions, Told
 from propbench.flatzinc.building import Built
 from propbench.flatzinc.order import order_of
+from propbench.flatzinc.seeking import Sought, Way
 from propbench.flatzinc.terms import Name
 from propbench.model.cells import ElementCell, NumberCell
-from propbench.points import Several
 from propbench.questions import Plan
 from propbench.questions.bounding import GREATEST, LEAST
 from propbench.questions.clock import Clock
-from propbench.questions.seeking import Seeker, Unlike, seeks
-from propbench.replies import UNSETTLED, Reply
+from propbench.questions.seeking import Unlike, seeks
 
 # More solutions than there can be time for.
 ALL = 10**9
-# A slice has so many steps, and where each better solution is wanted so many.
-_SLICE, _SHORT_SLICE = 20_000, 4_000
-# The search stands still where so many slices behind one another tell nothing new, and each takes
-# less than these seconds.
-_STILL, _SOON = 50, 0.0004
 # So many seconds it goes by cases first, where the greatest values are to be tried first.
 _FROM_TOP = 0.5
 # Of a turn so much goes to the cases, and so much where a solution was found already.
@@ -37,14 +30,13 @@ Tell = Callable[[Plan], None]
 
 @dataclass(frozen=True)
 class Wanted:
-    """What is asked of a model: so many solutions at the most, or the best, in so many seconds. Each
-    better one is told too where that `is_each`; search annotations don't count where it `is_free`.
-    """
+    """What is asked of a model: so many solutions at the most, or the best, in so many seconds, and in
+    what way; search annotations don't count where it `is_free`."""
 
     most: int = 1
     seconds: float | None = None
-    is_each: bool = False
     is_free: bool = False
+    way: Way = Way()
 
 
 @dataclass
@@ -89,8 +81,11 @@ class _Search:
         """Searches, as long as there is time."""
         model = self._built.workbench.model
         if seeks(model):
-            with suppress(Unlike), Seeker(model, self._clock) as seeker:
-                self._take_turns(seeker)
+            with suppress(Unlike), Sought(model, self._clock, self._asked, self._way()) as sought:
+                try:
+                    self._take_turns(sought)
+                finally:
+                    self._steps = sought.steps
                 return
         self._asked.go_by_cases(self._clock)
 
@@ -109,6 +104,12 @@ class _Search:
         is_best = self._built.flat.goal.objective is not None and bool(self._plans)
         return Solutions(self._plans, is_complete or is_best, self._steps)
 
+    def _way(self) -> Way:
+        """How the program is to search."""
+        # (of several solutions each would be told by all of them)
+        is_many = isinstance(self._asked, ManySolutions)
+        return replace(self._wanted.way, count=1) if is_many else self._wanted.way
+
     def _question(self) -> Asked:
         built, goal = self._built, self._built.flat.goal
         named = goal.objective.text if isinstance(goal.objective, Name) else ""
@@ -121,46 +122,27 @@ class _Search:
             return AnySolution(self._told)
         return ManySolutions(self._told, [each.name for each in built.own], self._wanted.most)
 
-    def _take_turns(self, seeker: Seeker) -> None:
+    def _take_turns(self, sought: Sought) -> None:
         """Has the program search, and goes by cases, in turns."""
         asked, clock = self._asked, self._clock
-        steps = _SHORT_SLICE if self._wanted.is_each else _SLICE
-        seeker.session.send(f"limit {steps}")
-        if any(each.is_from_top for each in seeker.model.first()) and clock.seconds_left() != 0:
+        first = self._built.workbench.model.first()
+        if any(each.is_from_top for each in first) and clock.seconds_left() != 0:
             # (the program itself tries the least ones)
             asked.go_by_cases(clock.turn(_FROM_TOP))
         for seconds in clock.turns():
-            is_still = self._seek(seeker, steps, seconds)
+            if not asked.is_done:
+                sought.run(seconds)
             if asked.is_done or clock.is_over():
                 return
             part = seconds * (_SMALL_SHARE if self._told.count else _SHARE)
-            asked.go_by_cases(clock if is_still else clock.turn(part))
-            if asked.is_done or is_still:
+            asked.go_by_cases(clock if sought.is_still else clock.turn(part))
+            if asked.is_done or sought.is_still:
                 return
-
-    def _seek(self, seeker: Seeker, steps: int, seconds: float) -> bool:
-        """Has the program search for so many seconds, in slices of so many steps; whether it stands
-        still."""
-        asked, until, last, still = self._asked, time.monotonic() + seconds, _NOTHING, 0
-        while not asked.is_done and time.monotonic() < until:
-            began = time.monotonic()
-            seeker.reply = UNSETTLED
-            seeker.ask(asked.line(seeker), until - began)
-            self._steps += steps
-            reply = seeker.reply
-            is_news = isinstance(reply, Several) and bool(reply.rows) or reply != last
-            still = 0 if is_news or time.monotonic() - began > _SOON else still + 1
-            if still == _STILL:
-                return True
-            if is_news:
-                asked.take(seeker, reply)
-            last = reply
-        return False
 
     def _take(self, plan: Plan) -> None:
         """Takes in a solution: the best is told at the end, unless each is wanted."""
         shown = {name: int(v) if name in self._elements else v for name, v in plan.items()}
-        if isinstance(self._asked, BestSolution) and not self._wanted.is_each:
+        if isinstance(self._asked, BestSolution) and not self._wanted.way.is_each:
             self._best = shown
         else:
             self._say(shown)
@@ -169,6 +151,3 @@ class _Search:
         self._plans.append(plan)
         if self._tell is not None:
             self._tell(plan)
-
-
-_NOTHING: Reply = UNSETTLED

@@ -20,6 +20,7 @@ from propbench.questions.trial import mark_for
 from propbench.refusals import Refused
 from propbench.replies import UNSETTLED, Contradiction, Reply, Settled, Unsettled, Value
 from propbench.runs import is_settled
+from propbench.session import Session
 from propbench.values import Held, Nothing, Span
 from propbench.words import MOST_NUMBER, MOST_STEPS, is_silent, is_well_encoded
 
@@ -52,8 +53,9 @@ class Seeker(Closing):
     """A second session of a model's network, whose program is asked for points. Where its clock has
     an end, it lasts no longer."""
 
-    def __init__(self, model: Model, clock: Clock) -> None:
-        """A session in which what is believed is that of the model. Raises as `Session` does."""
+    def __init__(self, model: Model, clock: Clock, session: Session | None = None) -> None:
+        """A session in which what is believed is that of the model: one that begins as the model's
+        did, or this one, which is empty as yet. Raises as `Session` does."""
         self.model, self.clock = model, clock
         self.base = [line for line in model.base() if not is_silent(line)]
         self.mark = mark_for(self.base)
@@ -67,7 +69,7 @@ class Seeker(Closing):
         # Premises that can't all hold, where that follows without any search.
         self._clash: tuple[str, ...] | None = None
         self._held: dict[str, Reply | Refused] = {}
-        self.session = model.session.fresh()
+        self.session = session or model.session.fresh()
         self.session.end_by(clock.latest)
         try:
             with suppress(OutOfTime):
