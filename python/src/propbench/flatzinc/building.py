@@ -7,10 +7,10 @@ stands in its place, and the other conditions of its definition hold always.
 from collections.abc import Iterable
 
 from propbench.flatzinc import meaning, symbolic
-from propbench.flatzinc.arithmetic import NO, YES, constant, every, same_truth, within
+from propbench.flatzinc.arithmetic import NO, YES, constant, every, same_truth, some, within
 from propbench.flatzinc.forms import check
 from propbench.flatzinc.meaning import differing
-from propbench.flatzinc.sets import Members, is_same
+from propbench.flatzinc.sets import Members, elements_of, is_same, places_of
 from propbench.flatzinc.terms import (
     BLAMED,
     Call,
@@ -145,14 +145,34 @@ class Built:
         if len(elements) < len(compared) or not any(isinstance(each, Element) for each in elements):
             return None
         name = constraint.name.removesuffix("_reif")
-        values = self.values(constraint.args[1]) if name == "set_in" else None
-        if values is not None:
-            return self._one_of(elements[0], values)
+        if name == "set_in":
+            return self._is_in(elements[0], constraint.args[1])
+        if name == "array_set_element":
+            return self._is_set_at(elements[0], constraint)
         if name == "fzn_all_different_int":
             return differing(elements)
         first, second = sorted(elements, key=lambda each: isinstance(each, str))
         assert isinstance(first, Element)
         return first == second if name.endswith("eq") else first != second
+
+    def _is_in(self, made: Element | str, term: Term) -> Truth:
+        """That an element's number is in a set."""
+        values = self.values(term)
+        if values is not None:
+            return self._one_of(made, values)
+        held = self.members(term).truths.items()
+        is_one = [every([self._one_of(made, Numbers.of([it])), truth]) for it, truth in held]
+        return some(is_one)
+
+    def _is_set_at(self, made: Element | str, constraint: Constraint) -> Truth:
+        """That a set is the one of these constants whose place is an element's number."""
+        _, given, told = constraint.args
+        sets, member = self.sets_of(given), self.members(told)
+        found = {
+            element: self._one_of(made, places_of(element, sets)) for element in elements_of(sets)
+        }
+        is_place = self._one_of(made, Numbers.span(1, len(sets)))
+        return every([is_place, is_same(Members(found), member)])
 
     def _elements(self, term: Term) -> list[Element | str]:
         """The element that a term stands for, as a list; an empty one where it is none."""

@@ -216,6 +216,12 @@ def _set_at(terms: Terms, args: Args) -> Truth:
     return every([_is_index(index, len(values)), found])
 
 
+def _constant_set_at(terms: Terms, args: Args) -> Truth:
+    index, values = terms.number(args[0]), terms.sets_of(args[1])
+    found = sets.is_same(sets.constant_at(index, values), terms.members(args[2]))
+    return every([_is_index(index, len(values)), found])
+
+
 _SAYS: dict[str, Says] = {
     "int_eq": _compares(lambda x, y: x == y),
     "int_ne": _compares(lambda x, y: x != y),
@@ -240,7 +246,7 @@ _SAYS: dict[str, Says] = {
     "set_intersect": _joins_sets(sets.both),
     "set_symdiff": _joins_sets(sets.one_alone),
     "set_union": _joins_sets(sets.either),
-    "array_set_element": lambda terms, args: _set_at(terms, args),
+    "array_set_element": lambda terms, args: _constant_set_at(terms, args),
     "array_var_set_element": lambda terms, args: _set_at(terms, args),
     "bool_eq": _logic(same_truth),
     "bool_ne": _logic(_either),

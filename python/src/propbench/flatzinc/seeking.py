@@ -5,10 +5,10 @@ every second one has the program decide as it will.
 """
 
 import time
-from collections.abc import Iterator
 from concurrent.futures import ThreadPoolExecutor
-from contextlib import ExitStack
+from contextlib import ExitStack, suppress
 from dataclasses import dataclass, field
+from threading import Lock
 
 from propbench.closing import Closing
 from propbench.flatzinc.asking import Asked
@@ -19,8 +19,8 @@ from propbench.questions.seeking import Seeker
 from propbench.replies import UNSETTLED, Reply
 from propbench.session import Session
 
-# A slice has so many steps, and where each better solution is wanted so many.
-_SLICE, _SHORT_SLICE = 20_000, 8_000
+# Where each better solution is wanted, what is known is told after so many steps.
+_SHORT_SLICE = 8_000
 # A search stands still where so many slices behind one another tell nothing new, and would have to
 # take more steps a second than this.
 _STILL, _FASTEST = 50, 10_000_000
@@ -38,37 +38,60 @@ class Way:
     seed: int = 0
 
 
+class _Ended(Exception):
+    """A search needn't go on."""
+
+
 @dataclass
 class _One:
-    """One of the searches: what it said last, and since when it tells nothing new."""
+    """One of the searches, and what it has told of its question since it was asked."""
 
     seeker: Seeker
+    asked: Asked
     is_free: bool
-    # The steps of a slice, and of all that took as long as that many may.
-    slice_of: int
+    lock: Lock
     steps: int = 0
-    last: Reply = UNSETTLED
-    since: float = 0.0
-    slices: int = 0
     is_still: bool = False
+    _last: Reply = UNSETTLED
+    _rows: int = 0
+    _slices: int = 0
+    _since: float = 0.0
 
-    def ask(self, line: str, seconds: float) -> None:
-        """Has it search for a slice."""
-        self.seeker.reply, began = UNSETTLED, time.monotonic()
-        self.seeker.ask(line, seconds)
-        if time.monotonic() - began > self.slice_of / _FASTEST:
-            self.steps += self.slice_of
+    def run(self, seconds: float) -> None:
+        """Has it search for so many seconds. Raises Unlike where what is found doesn't hold."""
+        self._rows, self._slices, self._since = 0, 0, time.monotonic()
+        self.seeker.reply, self.seeker.heard = UNSETTLED, self._hear
+        with suppress(_Ended):
+            self.seeker.ask(self.asked.line(self.seeker, self.is_free), seconds)
 
-    def is_news(self) -> bool:
-        """Whether a slice has told something new."""
-        reply, now = self.seeker.reply, time.monotonic()
-        if reply != self.last or isinstance(reply, Several) and reply.rows:
-            self.last, self.since, self.slices = reply, now, 0
-            return True
-        self.slices += 1
-        fastest = self.slices * self.slice_of / _FASTEST
-        self.is_still = self.slices >= _STILL and now - self.since < fastest
-        return False
+    def _hear(self, reply: Reply) -> None:
+        """Takes in what is known after one slice more."""
+        with self.lock:
+            if self.asked.is_done:
+                raise _Ended
+            if self._is_news(reply):
+                self.asked.take(self.seeker, self._fresh(reply))
+            if self.asked.is_done or self.is_still:
+                raise _Ended
+
+    def _is_news(self, reply: Reply) -> bool:
+        """Whether a slice has told something new; where it hasn't, whether the search stands still."""
+        now, steps = time.monotonic(), self.seeker.session.steps_of_slice
+        self._slices += 1
+        is_slow = now - self._since > self._slices * steps / _FASTEST
+        self.steps += steps if is_slow else 0
+        self.is_still = self._slices >= _STILL and not is_slow
+        if reply is self._last or reply == self._last:
+            return False
+        self._last, self._slices, self._since = reply, 0, now
+        return True
+
+    def _fresh(self, reply: Reply) -> Reply:
+        """A reply without the solutions that it had before."""
+        if not isinstance(reply, Several):
+            return reply
+        rows, self._rows = reply.rows[self._rows :], len(reply.rows)
+        return Several(rows, reply.others)
 
 
 @dataclass
@@ -83,12 +106,13 @@ class Sought(Closing):
     _opened: ExitStack = field(default_factory=ExitStack)
 
     def __post_init__(self) -> None:
-        steps = _SHORT_SLICE if self.way.is_each else _SLICE
+        lock = Lock()
         try:
             for number in range(max(1, min(self.way.count, _MOST))):
                 seeker = self._opened.enter_context(self._seeker(number))
-                seeker.session.send(f"limit {steps}")
-                self._searches.append(_One(seeker, number % 2 == 1, steps))
+                if self.way.is_each:
+                    seeker.session.steps_of_slice = _SHORT_SLICE
+                self._searches.append(_One(seeker, self.asked, number % 2 == 1, lock))
             self._pool = self._opened.enter_context(ThreadPoolExecutor(len(self._searches)))
         except BaseException:
             self.close()
@@ -110,27 +134,11 @@ class Sought(Closing):
 
     def run(self, seconds: float) -> None:
         """Has them search for so many seconds. Raises Unlike where what is found doesn't hold."""
-        until = time.monotonic() + seconds
-        for each in self._searches:
-            each.since, each.slices = time.monotonic(), 0
-        while not (self.asked.is_done or self.is_still) and time.monotonic() < until:
-            for each in self._told(until):
-                if each.is_news() and not self.asked.is_done:
-                    self.asked.take(each.seeker, each.seeker.reply)
-
-    def _told(self, until: float) -> Iterator[_One]:
-        """The searches that have searched for a slice."""
-        going = [each for each in self._searches if not each.is_still]
-        seconds = max(0.0, until - time.monotonic())
-        lines = [self.asked.line(each.seeker, each.is_free) for each in going]
-        if len(going) == 1:
-            going[0].ask(lines[0], seconds)
+        if len(self._searches) == 1:
+            self._searches[0].run(seconds)
         else:
-            for each in [
-                self._pool.submit(it.ask, line, seconds) for it, line in zip(going, lines)
-            ]:
+            for each in [self._pool.submit(it.run, seconds) for it in self._searches]:
                 each.result()
-        return iter(going)
 
     def _seeker(self, number: int) -> Seeker:
         if number == 0:

@@ -6,9 +6,17 @@ Sets are in order as MiniZinc has it: as the lists of their elements, the least 
 from collections.abc import Iterable, Mapping, Sequence
 from dataclasses import dataclass
 
-from propbench.flatzinc.arithmetic import NO, YES, every, picked, same_truth, some
+from propbench.flatzinc.arithmetic import (
+    NO,
+    YES,
+    constant,
+    every,
+    picked,
+    same_truth,
+    some,
+    within,
+)
 from propbench.flatzinc.terms import Numbers
-from propbench.flatzinc.arithmetic import constant
 from propbench.model.expressions import Number, Truth, count
 
 
@@ -82,6 +90,18 @@ def one_alone(one: Members, other: Members) -> Members:
 def picked_set(index: Number, sets: Sequence[Members]) -> Members:
     """Of these sets, which are numbered from 1, the one that the index says."""
     return Members({e: picked(index, 1, [each.has(e) for each in sets]) for e in elements_of(sets)})
+
+
+def constant_at(index: Number, sets: Sequence[Members]) -> Members:
+    """The same of constant sets: an element is there at the places of the sets that have it."""
+    return Members(
+        {element: within(index, places_of(element, sets)) for element in elements_of(sets)}
+    )
+
+
+def places_of(element: int, sets: Sequence[Members]) -> Numbers:
+    """At which places the sets stand that have an element always, from 1 on."""
+    return Numbers.of(n for n, each in enumerate(sets, 1) if each.has(element).node is YES.node)
 
 
 def is_less(one: Members, other: Members) -> Truth:

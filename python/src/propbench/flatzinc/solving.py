@@ -130,7 +130,7 @@ class _Search:
             # (the program itself tries the least ones)
             asked.go_by_cases(clock.turn(_FROM_TOP))
         for seconds in clock.turns():
-            if not asked.is_done:
+            if not (asked.is_done or clock.is_over()):
                 sought.run(seconds)
             if asked.is_done or clock.is_over():
                 return

@@ -5,7 +5,7 @@ at here once more, constraint by constraint in exact whole numbers; where one do
 stated says more than its lines), nothing is said, and the search of this package has its turn.
 """
 
-from collections.abc import Iterable, Mapping, Sequence
+from collections.abc import Callable, Iterable, Mapping, Sequence
 from contextlib import suppress
 
 from propbench.closing import Closing
@@ -66,6 +66,8 @@ class Seeker(Closing):
         # What any symbol is that may be any.
         self._other = f"{mark_for(self.base, 'other{}_')}0"
         self.reply: Reply = UNSETTLED
+        # Called with what is known, slice by slice; what it raises ends the question.
+        self.heard: Callable[[Reply], None] | None = None
         # Premises that can't all hold, where that follows without any search.
         self._clash: tuple[str, ...] | None = None
         self._held: dict[str, Reply | Refused] = {}
@@ -111,6 +113,8 @@ class Seeker(Closing):
         def hear(steps: int, reply: Reply) -> None:
             self.reply = _joined(before, reply)
             self.clock.tell(_told(self.reply))
+            if self.heard is not None:
+                self.heard(self.reply)
 
         # (what takes longer than that goes on, and the next question waits for it)
         with suppress(OutOfTime):
