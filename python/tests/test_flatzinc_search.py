@@ -134,12 +134,13 @@ def test_statistics_have_the_names_of_minizinc(
     assert float(told["solveTime"]) > 0 and int(told["propagators"]) > 0
 
 
-def test_who_ends_it_gets_the_best_so_far(program: str, tmp_path: Path) -> None:
+@pytest.mark.parametrize("searches", ["1", "3"])
+def test_who_ends_it_gets_the_best_so_far(program: str, tmp_path: Path, searches: str) -> None:
     # (the best of so many marks is out of reach)
     file = tmp_path / "m.fzn"
     file.write_text(ruler(10, 200))
     solver = REPOSITORY / "python/src/propbench/flatzinc/fzn-propbench"
-    words = [sys.executable, str(solver), "-i", str(file), "--program", program]
+    words = [sys.executable, str(solver), "-i", "-p", searches, str(file), "--program", program]
     with subprocess.Popen(words, stdout=subprocess.PIPE, text=True) as ran:
         time.sleep(4)
         ran.send_signal(signal.SIGTERM)

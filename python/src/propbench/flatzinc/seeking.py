@@ -8,7 +8,7 @@ import time
 from concurrent.futures import ThreadPoolExecutor
 from contextlib import ExitStack, suppress
 from dataclasses import dataclass, field
-from threading import Lock
+from threading import Event, Lock
 
 from propbench.closing import Closing
 from propbench.flatzinc.asking import Asked
@@ -50,6 +50,7 @@ class _One:
     asked: Asked
     is_free: bool
     lock: Lock
+    ended: Event
     steps: int = 0
     is_still: bool = False
     _last: Reply = UNSETTLED
@@ -67,7 +68,7 @@ class _One:
     def _hear(self, reply: Reply) -> None:
         """Takes in what is known after one slice more."""
         with self.lock:
-            if self.asked.is_done:
+            if self.asked.is_done or self.ended.is_set():
                 raise _Ended
             if self._is_news(reply):
                 self.asked.take(self.seeker, self._fresh(reply))
@@ -106,20 +107,21 @@ class Sought(Closing):
     _opened: ExitStack = field(default_factory=ExitStack)
 
     def __post_init__(self) -> None:
-        lock = Lock()
+        lock, self._ended = Lock(), Event()
         try:
             for number in range(max(1, min(self.way.count, _MOST))):
                 seeker = self._opened.enter_context(self._seeker(number))
                 if self.way.is_each:
                     seeker.session.steps_of_slice = _SHORT_SLICE
-                self._searches.append(_One(seeker, self.asked, number % 2 == 1, lock))
+                self._searches.append(_One(seeker, self.asked, number % 2 == 1, lock, self._ended))
             self._pool = self._opened.enter_context(ThreadPoolExecutor(len(self._searches)))
         except BaseException:
             self.close()
             raise
 
     def close(self) -> None:
-        """Ends the searches."""
+        """Ends the searches; those that are under way end behind their slice."""
+        self._ended.set()
         self._opened.close()
 
     @property
