@@ -27,7 +27,7 @@ from propbench.refusals import Refused, UnknownCommand
 from propbench.points import Best, NoneFits, Points, Several, SoFar
 from propbench.replies import DONE, SILENT, How, Listing, Reply, Step, Unsettled
 from propbench.runs import LATE, PATIENCE, Progress, Question, Runner, Watch, is_settled
-from propbench.seeking import STEPS_OF_SLICE, Seeking
+from propbench.seeking import Seeking
 from propbench.words import MOST_STEPS, as_line, is_silent
 
 # How long, in seconds, a program that owes a reply is waited for where it isn't at work: it may be
@@ -91,8 +91,8 @@ class Session(Closing):
         self._coming: Program | None = None
         # What those who ask a session much keep of it, by their names; it goes with the session.
         self.kept: dict[str, object] = {}
-        # After so many steps of a question for points it is told what is known.
-        self.steps_of_slice = STEPS_OF_SLICE
+        # After so many steps of a question for points it is told what is known, where that is said.
+        self.steps_of_slice: int | None = None
         _notice_ends()
         self._use(self._begun(None))
         _sessions.add(weakref.ref(self, _sessions.discard))

@@ -94,6 +94,11 @@ class Built:
         names = (name for name, it in self.flat.variables.items() if not it.has(_INTRODUCED))
         return [cell for name in names for cell in self.cells_of(name)]
 
+    @property
+    def count(self) -> int:
+        """How many cells there are."""
+        return len(self.cells) + sum(map(len, self.sets.values()))
+
     def cells_of(self, name: str) -> list[Cell]:
         """The cells of a variable: none where it is an expression, one, or those of a set."""
         if name in self.sets:

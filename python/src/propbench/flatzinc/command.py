@@ -69,7 +69,7 @@ def _solved(options: argparse.Namespace) -> int:
         built = Built(flat, workbench)
         read_at = time.monotonic()
         if options.verbose:
-            print(f"% {len(built.cells)} cells, {len(flat.constraints)} constraints", flush=True)
+            print(f"% {built.count} cells, {len(flat.constraints)} constraints", flush=True)
 
         def tell(plan: Plan) -> None:
             print("\n".join([*solution(built, plan), SOLUTION]), flush=True)

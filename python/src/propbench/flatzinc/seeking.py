@@ -19,8 +19,8 @@ from propbench.questions.seeking import Seeker
 from propbench.replies import UNSETTLED, Reply
 from propbench.session import Session
 
-# Where each better solution is wanted, what is known is told after so many steps.
-_SHORT_SLICE = 8_000
+# What is known is told after so many steps, and where each better solution is wanted after so many.
+_SLICE, _SHORT_SLICE = 50_000, 8_000
 # A search stands still where so many slices behind one another tell nothing new, and would have to
 # take more steps a second than this.
 _STILL, _FASTEST = 50, 10_000_000
@@ -51,6 +51,7 @@ class _One:
     is_free: bool
     lock: Lock
     ended: Event
+    slice_of: int
     steps: int = 0
     is_still: bool = False
     _last: Reply = UNSETTLED
@@ -77,10 +78,10 @@ class _One:
 
     def _is_news(self, reply: Reply) -> bool:
         """Whether a slice has told something new; where it hasn't, whether the search stands still."""
-        now, steps = time.monotonic(), self.seeker.session.steps_of_slice
+        now = time.monotonic()
         self._slices += 1
-        is_slow = now - self._since > self._slices * steps / _FASTEST
-        self.steps += steps if is_slow else 0
+        is_slow = now - self._since > self._slices * self.slice_of / _FASTEST
+        self.steps += self.slice_of if is_slow else 0
         self.is_still = self._slices >= _STILL and not is_slow
         if reply is self._last or reply == self._last:
             return False
@@ -108,12 +109,14 @@ class Sought(Closing):
 
     def __post_init__(self) -> None:
         lock, self._ended = Lock(), Event()
+        steps = _SHORT_SLICE if self.way.is_each else _SLICE
         try:
             for number in range(max(1, min(self.way.count, _MOST))):
                 seeker = self._opened.enter_context(self._seeker(number))
-                if self.way.is_each:
-                    seeker.session.steps_of_slice = _SHORT_SLICE
-                self._searches.append(_One(seeker, self.asked, number % 2 == 1, lock, self._ended))
+                seeker.session.steps_of_slice = steps
+                self._searches.append(
+                    _One(seeker, self.asked, number % 2 == 1, lock, self._ended, steps)
+                )
             self._pool = self._opened.enter_context(ThreadPoolExecutor(len(self._searches)))
         except BaseException:
             self.close()

@@ -41,7 +41,7 @@ def statistics(built: Built, found: Solutions, times: Mapping[str, float]) -> It
     numbers |= {"intVariables": len(variables) - truths - sets, "boolVariables": truths}
     numbers |= {"setVariables": sets} if sets else {}
     numbers |= {"propagators": sum(line.startswith("attach ") for line in lines)}
-    numbers |= {"propagations": found.steps, "cells": len(built.cells)}
+    numbers |= {"propagations": found.steps, "cells": built.count}
     if found.objective is not None:
         numbers["objective"] = found.objective
     for name, value in numbers.items():

@@ -81,16 +81,23 @@ class Seeker(Closing):
             raise
 
     def _begin(self) -> None:
-        """Has the network made, and what follows whatever the choices take."""
-        session, left = self.session, self.clock.seconds_left()
-        chosen = [line for line in self.base if line.split()[0] == "choose"]
-        session.send_all([line for line in self.base if line not in chosen])
+        """Has the network made, and what follows found out."""
+        self.session.send_all(self.base)
+        self.session.send(f"limit {MOST_STEPS}")
+        # (in a session of its own: behind a run the search may stand still)
+        with self.model.session.fresh() as session:
+            session.end_by(self.clock.latest)
+            self._look_around(session)
+
+    def _look_around(self, session: Session) -> None:
+        """Has a session find out what follows whatever the choices take."""
+        left = self.clock.seconds_left()
+        session.send_all([line for line in self.base if line.split()[0] != "choose"])
         session.send(f"limit {_STEPS}")
         end = session.send("settle", seconds=None if left is None else left / 2)
         if isinstance(end, Contradiction):
             self._clash = end.premises
         self._held = dict(zip(self.lines, session.look(f"ask {it}" for it in self.lines.values())))
-        session.send_all([f"limit {MOST_STEPS}", *chosen])
 
     def close(self) -> None:
         """Ends the session."""
