@@ -100,7 +100,18 @@ def test_sets_are_printed_as_minizinc_does(
     )
 
 
-# (what each set of two of five may be, none of them with more than one of another's)
+def test_a_set_may_be_declared_behind_what_it_defines(program: str) -> None:
+    text = (
+        "var bool: given :: output_var = b;\n"
+        "var bool: b :: var_is_introduced :: is_defined_var;\n"
+        "var set of 1..2: s :: output_var = t;\nvar set of 2..3: t :: output_var;\n"
+        "constraint set_in_reif(2,s,b) :: defines_var(b);\nsolve satisfy;\n"
+    )
+    right = ["given = false;\ns = {};\nt = {};\n", "given = true;\ns = 2..2;\nt = 2..2;\n"]
+    assert printed(program, text) == right
+
+
+# (the seven lines of the smallest projective plane)
 TRIPLES = """\
 include "globals.mzn";
 enum Point = {a, b, c, d, e, f, g};

@@ -72,16 +72,16 @@ class Built:
             raise NotSupported(0, "definitions lie too deep within one another") from None
 
     def _state_all(self, flat: Flat) -> None:
+        sets = [variable for variable in flat.variables.values() if variable.is_set]
+        for variable in sets:
+            self._set(variable)
         for variable in flat.variables.values():
-            if variable.is_set:
-                self._set(variable)
-            elif variable.name not in self._definitions:
+            if not variable.is_set and variable.name not in self._definitions:
                 self._expression(variable.name)
-        for variable in flat.variables.values():
-            if variable.is_set and variable.value is not None:
-                self._require(
-                    is_same(self.members(Name(variable.name)), self.members(variable.value))
-                )
+        for variable in sets:
+            if variable.value is not None:
+                given, told = self.members(Name(variable.name)), self.members(variable.value)
+                self._require(is_same(given, told))
         for each in flat.constraints:
             if each.defined in self._definitions:
                 self._expression(str(each.defined))
