@@ -106,6 +106,34 @@ def test_what_is_brought_in_makes_no_solutions(
     assert said.endswith("==========\n")
 
 
+# (what MiniZinc brings in and prints is a part of a solution)
+PRINTED = """\
+var 1..3: x :: var_is_introduced :: output_var;
+var 1..9: h :: var_is_introduced;
+array [1..2] of var int: a :: output_array([1..2]) = [x,y];
+var 1..2: y :: var_is_introduced;
+constraint int_lt(y,x);
+constraint int_le(x,h);
+solve satisfy;
+"""
+UNSEEN = "var 1..3: h :: var_is_introduced;\nconstraint int_le(2,h);\nsolve satisfy;\n"
+
+
+@pytest.mark.parametrize("words", [["-a"], ["-n", "9"]])
+def test_what_is_printed_makes_solutions(
+    program: str, tmp_path: Path, capsys: pytest.CaptureFixture[str], words: list[str]
+) -> None:
+    file = tmp_path / "m.fzn"
+    file.write_text(PRINTED)
+    assert main([*words, str(file), "--program", program]) == 0
+    said = capsys.readouterr().out
+    pairs = re.findall(r"x = (\d);\na = array1d\(1..2,\[\1,(\d)\]\);\n----------\n", said)
+    assert sorted(pairs) == [("2", "1"), ("3", "1"), ("3", "2")] and said.endswith("==========\n")
+    file.write_text(UNSEEN)
+    assert main([*words, str(file), "--program", program]) == 0
+    assert capsys.readouterr().out == "----------\n==========\n"
+
+
 def test_no_more_are_told_than_are_wanted(program: str) -> None:
     with Workbench(program) as workbench:
         found = solve(Built(read(HIDDEN), workbench), Wanted(2))

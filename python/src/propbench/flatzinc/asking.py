@@ -56,9 +56,10 @@ class Asked(Protocol):
 
 @dataclass
 class AnySolution(Asked):
-    """The question for some solution."""
+    """The question for some solution; where that `is_all` there is, it is the only one."""
 
     told: Told
+    is_all: bool = False
 
     @property
     def is_done(self) -> bool:
@@ -73,7 +74,7 @@ class AnySolution(Asked):
         """Takes in what the program has found."""
         points = points_of(reply)
         if points is not None:
-            self.told.tell(seeker.fits(points).plan)
+            self._tell(seeker.fits(points).plan)
         elif isinstance(reply, NoneFits):
             self.told.is_complete = True
 
@@ -81,9 +82,13 @@ class AnySolution(Asked):
         """Goes by cases."""
         found = solution_by_cases(self.told.model, clock)
         if isinstance(found, Solution):
-            self.told.tell(found)
+            self._tell(found)
         elif isinstance(found, NothingFits):
             self.told.is_complete = found.premises is not None
+
+    def _tell(self, plan: Mapping[str, Point]) -> None:
+        self.told.tell(plan)
+        self.told.is_complete = self.is_all
 
 
 @dataclass

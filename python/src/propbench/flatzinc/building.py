@@ -90,8 +90,11 @@ class Built:
 
     @property
     def own(self) -> list[Cell]:
-        """The cells of the variables that MiniZinc didn't bring in."""
-        names = (name for name, it in self.flat.variables.items() if not it.has(_INTRODUCED))
+        """The cells of the variables that MiniZinc didn't bring in, or prints: in these solutions
+        differ."""
+        printed = {each.text for each in _printed(self.flat)}
+        variables = self.flat.variables.items()
+        names = [name for name, it in variables if name in printed or not it.has(_INTRODUCED)]
         return [cell for name in names for cell in self.cells_of(name)]
 
     @property
@@ -315,14 +318,19 @@ def _is_plain(truth: Truth) -> bool:
     return truth.node in (YES.node, NO.node)
 
 
-def _kept(flat: Flat) -> Iterable[Name]:
-    """The variables that have to be cells: those that are printed, sought, or tried out first."""
+def _printed(flat: Flat) -> Iterable[Name]:
+    """The variables that are printed."""
     for variable in flat.variables.values():
         if variable.has("output_var"):
             yield Name(variable.name)
     for array in flat.arrays.values():
         if array.printed is not None:
             yield from _names_in(array.elements)
+
+
+def _kept(flat: Flat) -> Iterable[Name]:
+    """The variables that have to be cells: those that are printed, sought, or tried out first."""
+    yield from _printed(flat)
     if flat.goal.objective is not None:
         yield from _names_in((flat.goal.objective,))
     for each in flat.goal.annotations:

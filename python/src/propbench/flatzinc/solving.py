@@ -100,9 +100,7 @@ class _Search:
         asked, is_complete = self._asked, self._told.is_complete
         if isinstance(asked, BestSolution):
             return Solutions(self._plans, is_complete, self._steps, asked.value)
-        # (an objective that is given leaves nothing that would be better)
-        is_best = self._built.flat.goal.objective is not None and bool(self._plans)
-        return Solutions(self._plans, is_complete or is_best, self._steps)
+        return Solutions(self._plans, is_complete, self._steps)
 
     def _way(self) -> Way:
         """How the program is to search."""
@@ -118,9 +116,12 @@ class _Search:
             is_least = goal.sort == "minimize"
             sort, sign = (LEAST, 1) if is_least else (GREATEST, -1)
             return BestSolution(self._told, cell.name, sort, sign)
-        if goal.objective is not None or self._wanted.most == 1:
-            return AnySolution(self._told)
-        return ManySolutions(self._told, [each.name for each in built.own], self._wanted.most)
+        show = [each.name for each in built.own]
+        # (an objective that is given leaves nothing that would be better)
+        is_all = goal.objective is not None or not show
+        if is_all or self._wanted.most == 1:
+            return AnySolution(self._told, is_all)
+        return ManySolutions(self._told, show, self._wanted.most)
 
     def _take_turns(self, sought: Sought) -> None:
         """Has the program search, and goes by cases, in turns."""
