@@ -225,6 +225,8 @@ def test_the_parser_can_be_shown() -> None:
         "check",
         "blame",
         "plan",
+        "measure",
+        "minizinc",
         "page",
         "draw",
     ]

@@ -33,7 +33,7 @@ MEMBERS = {
     "Session": "close fresh lines proved replay send send_all",
     "Certificate": "check save",
 }
-COMMANDS = "run check blame plan shell draw page"
+COMMANDS = "run check blame plan measure minizinc shell draw page"
 
 
 def test_names_stay() -> None:

@@ -79,10 +79,6 @@ else:
     _HOMES = {
         "propbench.errors": "",
         "propbench.finding": "find_program find_wide",
-        "propbench.measuring.elementary": """
-            acos asin at_level at_pH atan atan2 cos curve degrees exp exp10 hypot level ln log10 pH pi
-            radians sin tan
-        """,
         "propbench.measuring.functions": "maximum mean minimum total",
         "propbench.measuring.quantities": "Quantity",
         "propbench.measuring.terms": "Law",
@@ -99,6 +95,13 @@ else:
         "propbench.session": "Session",
         "propbench.values": "Elements Nothing Span",
         "propbench.workbench": "Workbench",
+    }
+    # Functions that stand in laws: no star brings them in, since `math` has many of these names.
+    _FUNCTIONS = {
+        "propbench.measuring.elementary": """
+            acos asin at_level at_pH atan atan2 cos curve degrees exp exp10 hypot level ln log10 pH pi
+            radians sin tan
+        """
     }
     # What has a module of its own since, and stays here for who wrote it so.
     _OLDER = {
@@ -117,7 +120,7 @@ else:
         """,
     }
     __all__ = sorted(["errors", "replies", *all_of(_HOMES)])
-    __getattr__ = names_of(__name__, _HOMES, _OLDER)
+    __getattr__ = names_of(__name__, _HOMES, _FUNCTIONS, _OLDER)
 
     def __dir__():
-        return sorted({*globals(), *__all__})
+        return sorted({*globals(), *__all__, *all_of(_FUNCTIONS)})

@@ -158,6 +158,15 @@ def parser() -> argparse.ArgumentParser:
     measure.add_argument(
         "--seconds", type=_seconds, default=60.0, metavar="N", help="how long it may take (60)"
     )
+    minizinc = commands.add_parser(
+        "minizinc",
+        help="tell MiniZinc of the solver",
+        description="Says whether MiniZinc knows of the solver propbench by a file in your folder for"
+        " solvers; writes that file, or removes it.",
+    )
+    either = minizinc.add_mutually_exclusive_group()
+    either.add_argument("--install", action="store_true", help="write the file")
+    either.add_argument("--remove", action="store_true", help="remove the file")
     page = commands.add_parser(
         "page",
         help="show a file in a browser",
@@ -348,9 +357,28 @@ def _measured(options: argparse.Namespace) -> int:
     return measure_files(asked, options.program)
 
 
+def _told_minizinc(options: argparse.Namespace) -> int:
+    from propbench.flatzinc import installing
+    from propbench.showing import printable
+
+    if options.remove:
+        print(f"{printable(str(installing.remove()))} is removed.")
+        return 0
+    if options.install:
+        installing.install()
+    path = printable(str(installing.solver_file()))
+    if not installing.installed():
+        print(f"{path} isn't there, or is another: `propdesk minizinc --install` writes it.")
+        return 1
+    print(f"{path} tells of it: `minizinc --solver propbench model.mzn`.")
+    return 0
+
+
 def _done(options: argparse.Namespace) -> int:
     from propbench.running import Way, run_as_json, run_file
 
+    if options.command == "minizinc":
+        return _told_minizinc(options)
     if options.command == "check":
         return _checked(options)
     if options.command == "blame":

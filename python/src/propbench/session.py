@@ -89,6 +89,8 @@ class Session(Closing):
         self._coming: Program | None = None
         # What those who ask a session much keep of it, by their names; it goes with the session.
         self.kept: dict[str, object] = {}
+        # After so many steps of a question for points it is told what is known, where that is said.
+        self.steps_of_slice: int | None = None
         _notice_ends()
         self._use(self._begun(None))
         _sessions.add(weakref.ref(self, _sessions.discard))
@@ -655,7 +657,8 @@ class Session(Closing):
         if words and words[0] in RUNNING:
             return self._runner.watched(Question(line, words, self._sent), watch)
         if words and words[0] in SEEKING:
-            return Seeking(self._talk, Question(line, words, self._sent), watch).reply()
+            question = Question(line, words, self._sent)
+            return Seeking(self._talk, question, watch, self.steps_of_slice).reply()
         # (who is told that it came to nothing may send it again)
         self._talk.program.is_kept = False
         self._runner.tell(line)

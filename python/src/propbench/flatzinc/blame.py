@@ -14,7 +14,7 @@ from propbench.clock import Clock
 from propbench.flatzinc.building import Built
 from propbench.flatzinc.compiling import Compiled, compiled
 from propbench.flatzinc.picture import dot_of, draw
-from propbench.flatzinc.solving import solve
+from propbench.flatzinc.solving import Wanted, solve
 from propbench.flatzinc.writing import solution
 from propbench.plain import PlainWorkbench
 from propbench.questions.conflicts import Conflicts, Repair, Repairs, find_both
@@ -87,7 +87,7 @@ def _repaired(built: Built, repair: Repair, seconds: float | None) -> Iterator[s
     workbench = built.workbench
     for name in repair:
         workbench.kick(name)
-    found = solve(built, 1, seconds)
+    found = solve(built, Wanted(seconds=seconds))
     for name in repair:
         workbench.bring(name)
     without = printable(f"Without {repair}")

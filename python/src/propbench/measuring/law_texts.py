@@ -28,8 +28,13 @@ _FUNCTIONS: dict[str, Callable[..., Term]] = {
     "minimum": minimum,
     **FUNCTIONS,
 }
-_OF_SEVERAL = ("mean", "total", "maximum", "minimum", "hypot")
-_OF_TWO = ("atan2",)
+# Of how many terms each is; of those with None there are any but none at all.
+_COUNTS = {
+    **dict.fromkeys(_FUNCTIONS, 1),
+    "atan2": 2,
+    **dict.fromkeys(("mean", "total", "maximum", "minimum", "hypot"), None),
+}
+_COUNTED = {1: "one term", 2: "two terms", None: "terms"}
 _OPERATIONS: dict[type[ast.operator], Callable[[Term, Term], Term]] = {
     ast.Add: Term.__add__,
     ast.Sub: Term.__sub__,
@@ -166,9 +171,9 @@ class _Reading:
         if name == "at_level" and len(tree.args) == 2:
             return at_level(self._term(tree.args[0]), self._unit(tree.args[1]))
         args = [self._term(each) for each in tree.args]
-        counted = "terms" if name in _OF_SEVERAL else "two terms" if name in _OF_TWO else "one term"
-        if len(args) != {"one term": 1, "two terms": 2}.get(counted, max(1, len(args))):
-            raise self._wrong(f"`{name}` is of {counted}")
+        count = _COUNTS[name]
+        if not args or count not in (None, len(args)):
+            raise self._wrong(f"`{name}` is of {_COUNTED[count]}")
         return _FUNCTIONS[name](*args)
 
     def _unit(self, tree: ast.expr) -> str:

@@ -284,7 +284,7 @@ def find_plans(
     if seeks(model):
         with suppress(Unlike), Seeker(model, clock) as seeker:
             return listed_in_turns(seeker, names, most)
-    return _by_cases(model, names, most, clock)
+    return plans_by_cases(model, names, most, clock)
 
 
 def listed_in_turns(seeker: Seeker, names: Sequence[str] | None, most: int) -> Plans:
@@ -297,7 +297,7 @@ def listed_in_turns(seeker: Seeker, names: Sequence[str] | None, most: int) -> P
         for seconds in clock.turns():
             if listed.run(seconds) or clock.is_over():
                 break
-            found.append(_by_cases(seeker.model, names, most, clock.turn(seconds)))
+            found.append(plans_by_cases(seeker.model, names, most, clock.turn(seconds)))
             if found[-1].complete or len(found[-1]) >= most:
                 break
 
@@ -310,7 +310,7 @@ def listed_in_turns(seeker: Seeker, names: Sequence[str] | None, most: int) -> P
     return tried_by(clock, run, result)
 
 
-def _by_cases(model: Model, names: Sequence[str] | None, most: int, clock: Clock) -> Plans:
+def plans_by_cases(model: Model, names: Sequence[str] | None, most: int, clock: Clock) -> Plans:
     """Plans by going through cases."""
     trial = Trial(model, model.believed(), clock)
     try:
