@@ -9,7 +9,7 @@ from typing import Any
 
 import pytest
 
-from propbench import Workbench
+from propbench import Workbench, pi
 from propbench.laboratory.adjustment import Adjustment, Estimate
 from propbench.laboratory.least_squares import NoScipy
 from propbench.questions.trial import Seen, Trial
@@ -113,6 +113,26 @@ def test_both_ways_on_one_net(w: Workbench) -> None:
     for estimate in w.adjust():
         assert estimate.bounds is not None and estimate.value is not None
         assert float(estimate.bounds.low) <= estimate.value <= float(estimate.bounds.high)
+
+
+def test_functions_in_laws(w: Workbench) -> None:
+    """A circumference, and how high a slope goes: their u from the slopes, by hand."""
+    width = w.measured("width", unit="mm", low=1, high=100, step="0.001")
+    around = w.measured("around", unit="mm", low=1, high=400, step="0.001")
+    side = w.measured("side", unit="m", low=1, high=3, step="0.0001")
+    angle = w.measured("angle", unit="deg", low=10, high=50, step="0.001")
+    height = w.measured("height", unit="m", low=0, high=3, step="0.0001")
+    w.law(around == pi * width)
+    w.law("height == side * sin(angle)")
+    w.read("caliper", width, "10 mm u=0.02")
+    w.read("tape", side, "2 m u=0.001")
+    w.read("compass", angle, "30 deg u=0.1")
+    found = by_name(w.adjust())
+    assert found["around"].value == pytest.approx(31.4159265, abs=1e-6)
+    assert found["around"].u == pytest.approx(3.14159265 * 0.02, rel=1e-4)
+    assert found["height"].value == pytest.approx(1.0, abs=1e-6)
+    parts = (0.5 * 0.001) ** 2 + (sqrt(3) * 0.1 * 3.14159265 / 180) ** 2
+    assert found["height"].u == pytest.approx(sqrt(parts), rel=1e-4)
 
 
 def test_the_concentration_of_a_standard(w: Workbench) -> None:

@@ -11,7 +11,22 @@ from types import SimpleNamespace
 
 import pytest
 
-from propbench import BadTable, NotALaw, Workbench, maximum, mean, minimum, total
+from propbench import (
+    BadTable,
+    NotALaw,
+    Workbench,
+    at_level,
+    atan2,
+    exp,
+    hypot,
+    level,
+    maximum,
+    mean,
+    minimum,
+    pi,
+    sin,
+    total,
+)
 from propbench.laboratory.rounding import rounded_of
 from propbench.measuring.law_texts import laws_of
 from propbench.measuring.quantities import Quantity
@@ -300,6 +315,9 @@ def test_a_text_is_the_law_that_it_says() -> None:
             <= ratio.sqrt() + mean(ratio, 3),
             "maximum(mass, in water) < total(mass, in water)": maximum(both) < total(both),
             "-ratio ** -2 == abs(-ratio)": -(ratio**-2) == abs(-ratio),
+            "exp(ratio) == pi * sin(ratio)": exp(ratio) == pi * sin(ratio),
+            "atan2(mass, in water) <= hypot(1, 2, ratio)": atan2(mass, water) <= hypot(1, 2, ratio),
+            "at_level(level(ratio), 'W') == '5 mW'": at_level(level(ratio), "W") == "5 mW",
         }
         for text, law in laws.items():
             [found] = laws_of(text, known)
@@ -380,5 +398,6 @@ def test_laws_of_a_file(w: Workbench, tmp_path: Path) -> None:
     with pytest.raises(NotALaw, match="laws.txt, line 2: `mass` is in g, and `volume` in cm3"):
         w.read_laws(path)
     assert list(w.network.events) == before
-    with pytest.raises(MixedUnits):
-        w.law("mass == volume")
+    for text in ("mass == volume", "exp(mass) == 3"):
+        with pytest.raises(MixedUnits):
+            w.law(text)

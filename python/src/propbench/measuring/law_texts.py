@@ -29,7 +29,7 @@ _FUNCTIONS: dict[str, Callable[..., Term]] = {
     **FUNCTIONS,
 }
 # Of how many terms each is; of those with None there are any but none at all.
-_COUNTS = {
+_COUNTS: dict[str, int | None] = {
     **dict.fromkeys(_FUNCTIONS, 1),
     "atan2": 2,
     **dict.fromkeys(("mean", "total", "maximum", "minimum", "hypot"), None),
