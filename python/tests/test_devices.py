@@ -1,5 +1,6 @@
 """Devices whose readings share their errors: answers beside exact fractions and drawn truths."""
 
+import math
 import random
 from collections.abc import Iterator, Sequence
 from fractions import Fraction
@@ -10,7 +11,7 @@ import pytest
 from conftest import TIMES
 from test_measured import Ends, ends, is_tight
 
-from propbench import Conflict, MixedUnits, UnknownUnit, Workbench
+from propbench import Conflict, MixedUnits, UnknownUnit, Workbench, sin
 from propbench.measuring.quantities import Quantity
 
 SCALE, OFFSET, DIGIT = Fraction(1, 1000), Fraction(2, 100), Fraction(5, 1000)
@@ -133,6 +134,35 @@ def test_no_truth_is_lost_and_no_innocent_reading_convicted() -> None:
                     assert answer.low is not None and answer.high is not None
                     assert Fraction(answer.low) <= real <= Fraction(answer.high), (seed, made)
             assert list(w.outliers(seconds=20)) == [frozenset()]
+
+
+def test_no_truth_is_lost_beside_functions() -> None:
+    """Lengths by one tape in laws with a sine: all drawn truths lie in the answers."""
+    draw = random.Random(5)
+    for number in range(15 * TIMES):
+        sides, degrees = [draw.uniform(2, 9), draw.uniform(2, 9)], draw.uniform(5, 85)
+        offset, gain = draw.uniform(-0.02, 0.02), 1 + draw.uniform(-0.001, 0.001)
+        sine = math.sin(math.radians(degrees))
+        truths = [sides[0] * sine - sides[1], (sides[0] - sides[1]) * sine]
+        with Workbench() as w:
+            tape = w.device("tape", offset="0.02 m", scale="0.1 %" if number % 3 else None)
+            gain = gain if number % 3 else 1
+            one, other = (w.measured(n, unit="m", low=1, high=10) for n in ("one", "other"))
+            angle = w.measured("angle", unit="deg", low=1, high=89)
+            height = w.measured("height", unit="m", low=-20, high=20)
+            laws = [height == one * sin(angle) - other, height == (one - other) * sin(angle)]
+            if number % 2:
+                w.law(laws[number % 4 // 2])
+            for cell, truth in ((one, sides[0]), (other, sides[1])):
+                shows = (truth - offset) / gain + draw.uniform(-0.005, 0.005)
+                w.read(cell.name, cell, f"{shows:.9f} +- 0.00501 m", by=tape)
+            w.read("compass", angle, f"{degrees + draw.uniform(-0.1, 0.1):.9f} +- 0.101 deg")
+            if not number % 2:
+                w.law(laws[number % 4 // 2])
+            wanted = {one: sides[0], other: sides[1], angle: degrees}
+            for cell, truth in (*wanted.items(), (height, truths[number % 4 // 2])):
+                answer = cell.ask()
+                assert float(answer.low) - 1e-9 <= truth <= float(answer.high) + 1e-9, number
 
 
 def test_the_device_is_named(w: Workbench) -> None:
