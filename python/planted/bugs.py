@@ -542,8 +542,8 @@ BUGS = [
     ),
     Bug(
         "flatzinc/writing.py",
-        "        yield UNSATISFIABLE if solutions.is_complete else UNKNOWN\n",
-        "        yield UNSATISFIABLE\n",
+        "        return [UNSATISFIABLE if found.is_complete else UNKNOWN]\n",
+        "        return [UNSATISFIABLE]\n",
         "flatzinc::no_time_is_unknown_and_statistics",
     ),
     Bug(
