@@ -12,6 +12,7 @@ import pytest
 import propbench
 from propbench import errors, replies
 from propbench.desk import main
+from propbench.measuring.elementary import FUNCTIONS, curve, pi
 
 # What 1.0 had: more may come, none may go.
 NAMES = """
@@ -41,6 +42,13 @@ def test_names_stay() -> None:
     first = {*propbench.__all__, *errors.__all__, *replies.__all__}
     assert set(NAMES.split()) <= first
     assert all(hasattr(propbench, name) for name in [*NAMES.split(), *propbench.__all__])
+
+
+def test_functions_of_laws_are_there_too() -> None:
+    """By the names that they have in laws; but a star doesn't bring them in."""
+    for name, function in {**FUNCTIONS, "curve": curve, "pi": pi}.items():
+        assert getattr(propbench, name) is function and name in dir(propbench)
+        assert name not in propbench.__all__
 
 
 @pytest.mark.parametrize("module", [errors, replies])

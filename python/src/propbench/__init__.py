@@ -106,12 +106,13 @@ else:
     # What has a module of its own since, and stays here for who wrote it so.
     _OLDER = {
         "propbench.errors": """
-            BadTable CertificateError EmptyValue Interrupted IsAChoice LimitReached LineTooLong MixedUnits
-            NameTaken NoBound NoGraphviz NoProgram NoReading NoSuchCell NoSuchDomain NoSuchName
-            NoSuchPremise NoSuchProcedure NoSuchRelation NotALaw NotAName NotANumberInRange NotAWorkbench
-            NotInTheDomain NotSettled NotUtf8 OutOfMemory OutOfTime ProgramEnded Refused
-            SessionInUse TooCoarse TooLong Undefined UnknownCommand UnknownUnit WrongCountOfCells
-            WrongForm WrongKind WrongParameter WrongReply
+            BadTable CertificateError EmptyValue Interrupted IsAChoice LimitReached
+            LineTooLong MixedUnits NameTaken NoBound NoGraphviz NoLibrary NoProgram
+            NoReading NoScipy NoSuchCell NoSuchDomain NoSuchName NoSuchPremise
+            NoSuchProcedure NoSuchRelation NotALaw NotAName NotANumberInRange
+            NotAWorkbench NotInTheDomain NotSettled NotUtf8 OutOfMemory OutOfTime
+            ProgramEnded Refused SessionInUse TooCoarse TooLong Undefined UnknownCommand
+            UnknownUnit WrongCountOfCells WrongForm WrongKind WrongParameter WrongReply
         """,
         "propbench.replies": """
             Best Called Contradiction Done How Impossible Instance Listing Moved Nogoods NoneFits

@@ -13,9 +13,11 @@ from propbench.lazily import all_of, names_of
 if TYPE_CHECKING:
     from propbench.conversation import WrongReply as WrongReply
     from propbench.finding import NoProgram as NoProgram
+    from propbench.laboratory.least_squares import NoScipy as NoScipy
     from propbench.laboratory.sheets import BadTable as BadTable
     from propbench.measuring.amounts import NoReading as NoReading
     from propbench.measuring.bounds import NoBound as NoBound
+    from propbench.measuring.enclosing import NoLibrary as NoLibrary
     from propbench.measuring.exact import TooLong as TooLong
     from propbench.measuring.law_texts import NotALaw as NotALaw
     from propbench.measuring.shapes import Undefined as Undefined
@@ -58,9 +60,11 @@ else:
     _HOMES = {
         "propbench.conversation": "WrongReply",
         "propbench.finding": "NoProgram",
+        "propbench.laboratory.least_squares": "NoScipy",
         "propbench.laboratory.sheets": "BadTable",
         "propbench.measuring.amounts": "NoReading",
         "propbench.measuring.bounds": "NoBound",
+        "propbench.measuring.enclosing": "NoLibrary",
         "propbench.measuring.exact": "TooLong",
         "propbench.measuring.law_texts": "NotALaw",
         "propbench.measuring.shapes": "Undefined",
