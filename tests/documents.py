@@ -16,7 +16,10 @@ TOP = os.path.dirname(os.path.dirname(os.path.realpath(__file__)))
 # Documents whose indented blocks are code, with the crate in which it stands.
 CODE = {"docs/HOSTING.md": "prop_host_tests", "docs/PRIMER.md": "prop_sets"}
 # Documents whose indented blocks are Python and what it prints, which python/tests runs.
-PYTHON = {"docs/WORKBENCH.md", "docs/QUESTIONS.md", "docs/MEASURING.md", "docs/SEEING.md"}
+PYTHON = {
+    f"docs/{name}.md"
+    for name in ("WORKBENCH", "QUESTIONS", "PLANNING", "MEASURING", "FUNCTIONS", "SEEING")
+}
 COMMANDS = """
 domain relation cell attach define fix tell choose kick bring forget limit ask why core settle
 worldview nogoods

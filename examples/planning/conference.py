@@ -3,7 +3,7 @@
 from propbench import Workbench
 
 w = Workbench()
-p = w.plan(days=60, people="ana ben cleo")
+p = w.project(days=60, people="ana ben cleo")
 budget = p.task("budget", 2, who="ana")
 hotel, uni = dict(days=2, cost=4000), dict(days=5, cost=1500)
 venue = p.task("venue", who="ana", after=[budget], options={"hotel": hotel, "uni": uni})

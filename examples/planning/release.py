@@ -5,7 +5,7 @@ from datetime import date
 from propbench import Workbench
 
 w = Workbench()
-p = w.plan(days=30, people="ana ben cleo", start=date(2026, 3, 2), off="sat sun")
+p = w.project(days=30, people="ana ben cleo", start=date(2026, 3, 2), off="sat sun")
 design = p.task("design", 3, who="ana")
 engines = {"our own engine": dict(days=9), "a library": dict(days=3, cost=1800)}
 engine = p.task("engine", who="ben", after=[design], options=engines)

@@ -39,6 +39,10 @@ _PROJECTS = "planning::best_plans_are_those_of_all"
 _FLAT = "flatzinc_meaning::each_constraint_at_all_points"
 _APART = "flatzinc_random::values_that_are_told_apart_are_elements"
 _BLAMED = "flatzinc_blame::conflicts_and_repairs_are_those_of_brute_force"
+_FUNCTIONS = "functions::each_function_in_both_directions"
+_PIECES = "bends::pieces_hold_at_all_reals"
+_REALS = f"real_functions::reals_lie_in_every_answer {_FUNCTIONS}"
+_TWICE = "narrow_forms::a_quantity_that_stands_twice"
 
 BUGS = [
     # What an expression means.
@@ -238,13 +242,13 @@ BUGS = [
         "planning::what_is_refused_leaves_nothing",
     ),
     Bug(
-        "workbench.py",
+        "plain.py",
         "            copy, self._network = self._network, kept\n",
         "            copy = self._network\n",
         "what_is_left::a_what_if_leaves_nothing",
     ),
     Bug(
-        "workbench.py",
+        "plain.py",
         "            if known.get(cell.name) is not cell:\n",
         "            if cell.name not in known:\n",
         "what_is_left::what_was_made_in_a_what_if_says_that_it_is_gone",
@@ -538,8 +542,8 @@ BUGS = [
     ),
     Bug(
         "flatzinc/writing.py",
-        "        yield UNSATISFIABLE if solutions.is_complete else UNKNOWN\n",
-        "        yield UNSATISFIABLE\n",
+        "        return [UNSATISFIABLE if found.is_complete else UNKNOWN]\n",
+        "        return [UNSATISFIABLE]\n",
         "flatzinc::no_time_is_unknown_and_statistics",
     ),
     Bug(
@@ -647,5 +651,92 @@ BUGS = [
         "self._is_closed or self._is_gone():",
         "self._is_closed:",
         "page_server::what_a_page_asked_ends_with_it",
+    ),
+    # What a laboratory reads.
+    Bug(
+        "measuring/devices.py",
+        "_times_gain(factored(part), device, degree - lowest)",
+        "_times_gain(factored(part), device, 0)",
+        "devices::a_difference_keeps_no_offset_and_a_ratio_no_scale",
+    ),
+    Bug(
+        "laboratory/rounding.py",
+        "wide = ceil(max(",
+        "wide = round(max(",
+        "tables::nothing_is_lost_by_rounding",
+    ),
+    Bug(
+        "laboratory/tabled.py",
+        "        if quantity in before:\n",
+        "        if name in before:\n",
+        "tables::bad_rows",
+    ),
+    Bug(
+        "laboratory/least_squares.py",
+        "len(self._observations) - rank,",
+        "len(self._observations) - rank - 1,",
+        "adjustment::a_net_of_levels_as_the_normal_equations_have_it",
+    ),
+    # Functions of measured quantities, which may lose no real, and are as narrow as they can be.
+    Bug(
+        "measuring/bends.py",
+        "off = HALF + (self.off + _TINY) / self._measures[1].step",
+        "off = (self.off + _TINY) / self._measures[1].step",
+        _PIECES,
+    ),
+    Bug(
+        "measuring/bends.py",
+        "more = abs(of_argument) * HALF",
+        "more = of_argument * HALF",
+        _PIECES,
+    ),
+    Bug(
+        "measuring/bends.py",
+        "(self.off + _TINY)",
+        "_TINY",
+        _PIECES,
+    ),
+    Bug(
+        "measuring/bends.py",
+        "min(low for low, _ in rests) - max(bend[1], Fraction(0)) * scale",
+        "min(low for low, _ in rests) - max(-bend[0], Fraction(0)) * scale",
+        _PIECES,
+    ),
+    Bug(
+        "measuring/bends.py",
+        "scale = argument.step**2 / value.step * (last - first) ** 2 / 8",
+        "scale = argument.step**2 / value.step * (last - first) ** 2 / 16",
+        _PIECES,
+    ),
+    Bug(
+        "measuring/bounds.py",
+        "return low - off, high + off",
+        "return low, high",
+        f"functions::a_curve_of_calibration {_REALS}",
+    ),
+    Bug(
+        "measuring/shapes.py",
+        "Join.GREATEST if curve.rises else Join.LEAST",
+        "Join.LEAST if curve.rises else Join.GREATEST",
+        "functions::a_sine_beyond_its_turns",
+    ),
+    Bug(
+        "measuring/curves.py",
+        "_is_past(curve, above, value, not curve.rises)",
+        "_is_past(curve, above, value, curve.rises)",
+        "functions::curves_and_their_inverses",
+    ),
+    Bug(
+        "measuring/refining.py",
+        "for each in (place, place + (1 if is_above else -1)):",
+        "for each in (place,):",
+        _FUNCTIONS,
+    ),
+    Bug("measuring/once.py", "constant(-factor * share**2)", "constant(-(share**2))", _TWICE),
+    Bug(
+        "measuring/logarithms.py",
+        "return high > _WIDE * low",
+        "return False",
+        "narrow_forms::an_exponential_that_may_be_much_or_little",
     ),
 ]

@@ -20,6 +20,13 @@ def rounded_to_zero(left: int, right: int) -> int:
     return found if (left < 0) == (right < 0) else -found
 
 
+def power(base: int, exponent: int) -> int | None:
+    """A power as MiniZinc has it: below zero it is 1 divided by one, which zero has none of."""
+    if exponent >= 0:
+        return base**exponent
+    return rounded_to_zero(1, base**-exponent) if base else None
+
+
 def total(factors: list[int], values: list[int]) -> int:
     return sum(factor * value for factor, value in zip(factors, values))
 
@@ -49,6 +56,7 @@ PLAIN: dict[str, tuple[str, Callable[..., object]]] = {
     "int_min": ("iii", lambda x, y, z: z == min(x, y)),
     "int_div": ("iii", lambda x, y, z: y != 0 and z == rounded_to_zero(x, y)),
     "int_mod": ("iii", lambda x, y, z: y != 0 and z == x - rounded_to_zero(x, y) * y),
+    "int_pow": ("iii", lambda x, y, z: z == power(x, y)),
     "array_int_maximum": ("iX", lambda m, x: m == max(x)),
     "array_int_minimum": ("iX", lambda m, x: m == min(x)),
     "array_int_element": ("iCi", lambda i, a, x: 1 <= i <= len(a) and x == a[i - 1]),

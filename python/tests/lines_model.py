@@ -112,6 +112,9 @@ class LineModel(Questions):
     def chosen(self, plan: Mapping[str, Point]) -> Mapping[str, object]:
         return {}
 
+    def scheduled(self, plan: Mapping[str, Point]) -> None:
+        return None
+
     def is_measured(self, cell: str) -> bool:
         return False
 
@@ -153,6 +156,9 @@ class LineModel(Questions):
 
     def text(self, premise: str) -> str:
         return ", ".join(map(str, self.told.premises[premise]))
+
+    def exactly(self, premise: str) -> str:
+        return self.text(premise)
 
     def all_plans(self, believed: Sequence[str]) -> Iterator[dict[str, Point]]:
         """All plans with these premises, by going through all points."""

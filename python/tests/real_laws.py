@@ -272,11 +272,11 @@ def read_some(case: Case) -> None:
             case.w.read(f"read {name}", quantity, (number - width * below, number + width * above))
 
 
-def lost(case: Case) -> list[str]:
+def lost(case: Case, *, is_shaved: bool = False) -> list[str]:
     """The quantities whose real does not lie in their answer."""
     found = []
     for name, quantity in case.quantities.items():
-        answer = quantity.ask(seconds=2)
+        answer = case.w.shave(quantity, seconds=2) if is_shaved else quantity.ask(seconds=2)
         number = case.reals[name] / case.units[name]
         if answer.low is not None and answer.high is not None:
             if not Fraction(answer.low) <= number <= Fraction(answer.high):
@@ -284,9 +284,10 @@ def lost(case: Case) -> list[str]:
     return found
 
 
-def unmet(case: Case) -> list[str]:
-    """What is stated that does not hold where each cell holds what it does for its real: worked out
-    in whole numbers, without the program. Raises Unfit for a root that is no fraction."""
+def unmet(case: Case, *, is_read: bool = True) -> list[str]:
+    """What is stated that does not hold where each cell holds what it does for its real, with what
+    `is_read` or without: worked out in whole numbers, without the program. Raises Unfit for a root
+    that is no fraction."""
     points: dict[Declared, Point] = {}
     for cell in case.w._network.cells.values():
         if cell.name not in case.reals and not case.roots:
@@ -296,7 +297,8 @@ def unmet(case: Case) -> list[str]:
         assert cell.measure is not None
         found = value_of(case.roots[cell.name], case.reals) if real is None else real
         points[cell] = cell.measure.count(found)
-    events = [it for it in case.w._network.events if isinstance(it, Required | Told)]
+    sorts = (Required, Told) if is_read else Required
+    events = [it for it in case.w._network.events if isinstance(it, sorts)]
     return [it.text for it in events if not it.is_met(points)]
 
 

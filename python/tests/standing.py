@@ -311,7 +311,8 @@ class Standing:
         for person in PEOPLE:
             work = [cell(f"{name} days") for name, people in p.tasks.items() if person in people]
             if len(work) > 1:
-                self.say(None, ("at most", ("total", *work), cell("end")), True)
+                bound = ("at most", ("total", *work), cell("end"))
+                self.say(f"{person} does one thing at a time", bound, True)
 
     def total_cost(self) -> None:
         """Makes the cell of what all costs."""
@@ -339,9 +340,10 @@ class Standing:
         p = self._project()
         start, end = cell(f"{name} start"), cell(f"{name} end")
         for other, people in p.tasks.items():
-            if {*who} & {*people}:
+            for person in (each for each in who if each in people):
                 first = ("at most", cell(f"{other} end"), start)
-                self.say(None, ("or", first, ("at most", end, cell(f"{other} start"))))
+                apart = ("or", first, ("at most", end, cell(f"{other} start")))
+                self.say(f"{person} does one thing at a time", apart)
         # (whoever is away twice under the same name is away once)
         for person, begin, last, premise in dict.fromkeys(p.away):
             if person in who:

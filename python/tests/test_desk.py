@@ -224,6 +224,9 @@ def test_the_parser_can_be_shown() -> None:
         "shell",
         "check",
         "blame",
+        "plan",
+        "measure",
+        "minizinc",
         "page",
         "draw",
     ]

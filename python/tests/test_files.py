@@ -221,8 +221,8 @@ def test_a_pipe_is_written_to(tmp_path: Path) -> None:
 
 
 def test_nothing_writes_a_file_in_another_way() -> None:
-    """No other module opens a file to write, but in a folder for a moment. (A journal is no file
-    that takes the place of another: it is begun anew each time.)"""
+    """No other module opens a file to write, but in a folder for a moment, or in memory. (A journal
+    is no file that takes the place of another: it is begun anew each time.)"""
     found = []
     for path in sorted(SOURCES.rglob("*.py")):
         for node in ast.walk(ast.parse(path.read_text())):
@@ -232,7 +232,8 @@ def test_nothing_writes_a_file_in_another_way() -> None:
                 opens = name == "open" and any(set(str(each)) & set("wax+") for each in modes)
                 if opens or name in ("write_text", "write_bytes"):
                     found.append(f"{path.relative_to(SOURCES)}: {name}")
-    assert found == ["files.py: open", "files.py: open", "flatzinc/compiling.py: write_text"]
+    files = ["files.py: open", "files.py: open", "flatzinc/compiling.py: write_text"]
+    assert found == [*files, "process.py: open"]
 
 
 def test_what_another_changed_is_neither_lost_nor_hidden(tmp_path: Path) -> None:

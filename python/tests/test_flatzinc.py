@@ -8,7 +8,7 @@ from propbench import Workbench
 from propbench.flatzinc.building import Built
 from propbench.flatzinc.command import main
 from propbench.flatzinc.grammar import read
-from propbench.flatzinc.solving import solve
+from propbench.flatzinc.solving import ALL, Wanted, solve
 from propbench.flatzinc.symbolic import domains
 from propbench.flatzinc.terms import Call, Name, NotSupported, Numbers, Text
 
@@ -57,12 +57,11 @@ def test_the_grammar() -> None:
     [
         ("var 1..2: x;\nvar float: y;\nsolve satisfy;", 2, "floats are not supported"),
         ("var 1.5..2.5: y;\nsolve satisfy;", 1, "floats are not supported"),
-        ("var set of 1..3: y;\nsolve satisfy;", 1, "sets are not supported"),
         ("var 1..2: x;\n\nconstraint int_sqrt(x,x);\nsolve satisfy;", 3, "int_sqrt"),
         ("var 1..2: x\nsolve satisfy;", 2, "';' is wanted, and not 'solve'"),
         ("var 1..2: x;\nconstraint int_le(x,?);", 2, "no word of FlatZinc begins with '?'"),
         ("var 1..2: x;\nsolve improve x;", 2, "and not 'improve'"),
-        ("var -9..9: x;\nconstraint int_pow(x,x,4);\nsolve satisfy;", 2, "exponents from 0"),
+        ("var -9..99: x;\nconstraint int_pow(x,x,4);\nsolve satisfy;", 2, "exponents up to 63"),
         ("var 1..2: x;\nconstraint int_le(x,y);\nsolve satisfy;", 2, "nothing is called `y`"),
         ("var 1..2: x;\nsolve minimize y;", 2, "nothing is called `y`"),
         ("var 1..2: x = y;\nsolve satisfy;", 1, "nothing is called `y`"),
@@ -145,6 +144,15 @@ def test_the_options(
         assert said.startswith("x = 2;\ny = 3;\n")
 
 
+@pytest.mark.parametrize("word", ["-node", "--node", "--all-solutions", "--stat"])
+def test_no_option_is_taken_for_another(
+    tmp_path: Path, capsys: pytest.CaptureFixture[str], word: str
+) -> None:
+    with pytest.raises(SystemExit) as ended:
+        main([word, str(tmp_path / "m.fzn")])
+    assert ended.value.code == 2 and f"unrecognized arguments: {word}" in capsys.readouterr().err
+
+
 def test_no_time_is_unknown_and_statistics(
     program: str, tmp_path: Path, capsys: pytest.CaptureFixture[str]
 ) -> None:
@@ -180,7 +188,7 @@ def test_the_order_is_that_of_the_annotation(
 ) -> None:
     text = ORDERED.format(first=first, by="input_order", value=value)
     with Workbench(program) as workbench:
-        assert solve(Built(read(text), workbench), 1, None).plans == [right]
+        assert solve(Built(read(text), workbench), Wanted()).plans == [right]
 
 
 def test_what_is_told_apart() -> None:
@@ -204,7 +212,7 @@ def test_what_a_definition_needs_holds_always(program: str) -> None:
     with Workbench(program) as workbench:
         built = Built(read(text), workbench)
         assert len(built.cells) == 3
-        found = solve(built, 100, None).plans
+        found = solve(built, Wanted(ALL)).plans
     pairs = [(x, y) for x in (-1, 0, 1) for y in (1, 2)]
     right = [{"x": x, "y": y, "b": not (x, y) == (1, 1)} for x, y in pairs]
     assert sorted(map(str, found)) == sorted(map(str, right))

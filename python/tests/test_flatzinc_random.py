@@ -6,7 +6,7 @@ from drawn_flatzinc import Drawn, models
 from propbench import Workbench
 from propbench.flatzinc.building import Built
 from propbench.flatzinc.grammar import read
-from propbench.flatzinc.solving import ALL, solve
+from propbench.flatzinc.solving import ALL, Wanted, solve
 
 
 # What tells variables apart, without working with their values.
@@ -29,7 +29,7 @@ def test_values_that_are_told_apart_are_elements(program: str, drawn: Drawn) -> 
 def compare(program: str, drawn: Drawn) -> None:
     right = list(drawn.solutions())
     with Workbench(program) as workbench:
-        found = solve(Built(read(drawn.text), workbench), ALL, None)
+        found = solve(Built(read(drawn.text), workbench), Wanted(ALL))
     assert found.is_complete
     if drawn.goal == "satisfy":
         assert sorted(map(str, found.plans)) == sorted(map(str, right))

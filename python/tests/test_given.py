@@ -4,7 +4,8 @@ from collections.abc import Callable
 
 import pytest
 
-from propbench import Workbench
+from propbench import Elements, Span, Workbench
+from propbench.errors import NoSuchName
 from propbench.planning import Project
 
 
@@ -57,3 +58,43 @@ def test_what_is_given_wrongly(
     with pytest.raises(kind, match=says):
         call(bench)
     assert str(bench.cell("x").ask()) == "x = 2..5 because of Ana"
+
+
+def test_several_names_in_one_text(program: str) -> None:
+    """Wherever several can be given, one by one or in a text; and a name with spaces is the one."""
+    w = Workbench(program)
+    x, y = w.number("x", 0, 9), w.number("y here", 0, 9)
+    w.require(x >= 5, under="much")
+    w.require(x <= 4, under="little")
+    w.require(x <= 3, under="less")
+    w.require(x == y, under="as much")
+    with w.what_if(kick="little less", bring="as much"):
+        assert (x.ask().value, w.believed) == (Span(5, 9), ("much", "as much"))
+    with w.what_if(kick=["little", "less"]):
+        assert w.believed == ("much", "as much")
+    assert [each.names for each in w.repairs(keep="as much")][-1] == ("little", "less")
+    assert [repair.names for repair in w.repairs(keep="little less")] == [("much",)]
+    z = w.number("z", 0, 9)
+    rows = w.scenarios({"both": {"kick": "little less"}}, "x z")
+    assert list(rows["both"]) == ["x", "z"] and rows.columns == ("x", "z")
+    assert list(w.sweep([{"kick": "little less"}], "y here")["1"]) == ["y here"]
+    w.kick("much")
+    w.kick("little")
+    assert sorted(plan["x"] for plan in w.plans("x")) == [0, 1, 2, 3]
+    assert len(w.plans("x z", most=50)) == 4 * 10
+    with pytest.raises(NoSuchName, match="no premise `as mich`. Did you mean as much"):
+        w.conflicts(keep="as mich")
+    with pytest.raises(NoSuchName, match="no premise `litle`. Did you mean little"):
+        w.conflicts(keep="much litle")
+
+
+def test_people_and_elements_with_spaces(program: str) -> None:
+    w = Workbench(program)
+    p = w.project(days=9, people=["Ana Maria", "ben"])
+    assert p.task("a", 2, who="Ana Maria").people == ("Ana Maria",)
+    assert w.project(days=9, people="ana ben").task("b", 2, who="ben ana").people == ("ben", "ana")
+    cell = w.element("day", w.domain("days", ["day one", "two", "three"]))
+    w.fix(cell, "two three")
+    assert cell.ask().value == Elements(("two", "three"))
+    w.fix(w.element("other", w.domain("d", ["day one", "two"])), "day one")
+    assert w.cell("other").ask().value == "day one"

@@ -518,7 +518,7 @@ def test_what_is_refused(w: Workbench) -> None:
         (lambda: w.least(x), TypeError, "w.shave"),
         (lambda: w.slack(x), TypeError, "w.shave"),
         (lambda: w.read("a", days, 3), TypeError, "no measured quantity"),
-        (lambda: x ** Fraction(1, 3), ValueError, "power is by a whole number"),
+        (lambda: x ** Fraction(1, 3001), ValueError, "power is by a whole number"),
         (lambda: x / 0, ValueError, "has no value"),
         (lambda: w.law(1 / (x - y) + 1 / x == "3 1/m"), ValueError, "x - y may be 0|x may be 0"),
         (lambda: w.measured("z", "m", 0), ValueError, "needs low= and high="),

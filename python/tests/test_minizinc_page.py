@@ -19,7 +19,7 @@ from propbench.flatzinc.marking import marked
 PAGE = REPOSITORY / "docs/MINIZINC.md"
 WEEK = Path(__file__).parent / "models/page/week.mzn"
 FLAT = WEEK.with_suffix(".marked.fzn")
-MOST_BYTES = 5_000
+MOST_BYTES = 6_400
 
 
 def blocks(text: str) -> list[str]:

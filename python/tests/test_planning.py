@@ -125,7 +125,8 @@ def test_the_best_plan_says_which_options_it_takes(p: Project) -> None:
     for cell, option in ((p.end, "hotel"), (p.total_cost, "uni")):
         best = w.least(cell)
         assert best.choices == {"venue": option} and best.plan is not None
-        assert ["venue", option] in [line.split() for line in str(best).splitlines()]
+        [venue] = [each for each in p.schedule(best).entries if each.task == "venue"]
+        assert venue.way == option and f"  {option}  " in str(best)
         assert best.rows()[:-1] == list(best.plan.items())
 
 
@@ -228,7 +229,8 @@ def test_the_chart(p: Project, tmp_path: Path) -> None:
     texts = [each.text or "" for each in drawn.iter() if each.tag.endswith("text")]
     assert "<b>&\\x1b (ben)" in texts and "04.03." in texts
     titles = [each.text or "" for each in drawn.iter() if each.tag.endswith("title")]
-    assert titles[0] == "venue (ana): day 0 to 2, in any plan from 0 to 15"
+    # (the days 0 to 1, and in any plan 0 to 14: three weekends lie between)
+    assert titles[0] == "venue (ana): 4-5 Mar, in any plan 4-24 Mar"
     plan = w.least(p.end).plan
     assert plan is not None and len(ElementTree.fromstring(p.chart(plan, rooms=False).svg)) > 10
     w.tell("late", strange.start, 20)
@@ -238,8 +240,9 @@ def test_the_chart(p: Project, tmp_path: Path) -> None:
 
 def test_dates_may_be_texts(p: Project) -> None:
     assert p.day("2026-03-06") == p.day(date(2026, 3, 6)) == p.day(datetime(2026, 3, 6, 8)) == 2
-    assert p.away("ana", "2026-03-06", "2026-03-09") == "ana away 2 to 3"
-    assert p.done_by("2026-03-20") == "all done by 12"
+    assert p.away("ana", "2026-03-06", "2026-03-09") == "ana away 2026-03-06 to 2026-03-09"
+    assert p.done_by("2026-03-20") == "all done by 2026-03-20"
+    assert p.done_by(12, task=p.tasks["review"]) == "review done by 12"
     for wrong in ("2026-3-6", "2026-02-30", "tomorrow", "20260306"):
         with pytest.raises(ValueError, match=f"'{wrong}' is no date: write it as 2026-12-04"):
             p.done_by(wrong)
@@ -289,7 +292,7 @@ def test_a_chart_says_who_is_waited_for(p: Project, tmp_path: Path) -> None:
     away = p.away("ben", 4, 20)
     w.forget("review after venue")
     svg = p.chart(rooms=False).svg
-    assert "review (ben): day 20 to 25; it starts when ben is back, as no task pauses" in svg
+    assert "review (ben): 1-7 Apr; it starts when ben is back, as no task pauses" in svg
     w.kick(away)
     assert "is back" not in p.chart(rooms=False).svg
     chart = p.chart(rooms=False)

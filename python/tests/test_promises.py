@@ -1,13 +1,18 @@
 """What docs/PROMISES.md promises of Python: names that are there, and the desk's statuses."""
 
+import importlib
 import subprocess
 import sys
 from pathlib import Path
+from pkgutil import walk_packages
+from types import ModuleType
 
 import pytest
 
 import propbench
+from propbench import errors, replies
 from propbench.desk import main
+from propbench.measuring.elementary import FUNCTIONS, curve, pi
 
 # What 1.0 had: more may come, none may go.
 NAMES = """
@@ -29,12 +34,50 @@ MEMBERS = {
     "Session": "close fresh lines proved replay send send_all",
     "Certificate": "check save",
 }
-COMMANDS = "run check blame shell draw page"
+COMMANDS = "run check blame plan measure minizinc shell draw page"
 
 
 def test_names_stay() -> None:
-    assert set(NAMES.split()) <= set(propbench.__all__)
-    assert all(hasattr(propbench, name) for name in propbench.__all__)
+    """Each can be imported as ever, and is where one looks for it first."""
+    first = {*propbench.__all__, *errors.__all__, *replies.__all__}
+    assert set(NAMES.split()) <= first
+    assert all(hasattr(propbench, name) for name in [*NAMES.split(), *propbench.__all__])
+
+
+def test_functions_of_laws_are_there_too() -> None:
+    """By the names that they have in laws; but a star doesn't bring them in."""
+    for name, function in {**FUNCTIONS, "curve": curve, "pi": pi}.items():
+        assert getattr(propbench, name) is function and name in dir(propbench)
+        assert name not in propbench.__all__
+
+
+@pytest.mark.parametrize("module", [errors, replies])
+def test_errors_and_replies_are_one_place_each(module: ModuleType) -> None:
+    """All that is raised stands in the one, and nothing else; so do replies in the other."""
+    for name in module.__all__:
+        it = getattr(module, name)
+        is_raised = isinstance(it, type) and issubclass(it, BaseException)
+        assert is_raised == (module is errors), name
+        assert getattr(propbench, name, it) is it
+
+
+def test_what_users_name_first() -> None:
+    wanted = """Workbench Session Project Task Quantity Law Answer Optimum Conflicts Repairs
+        NothingFits Conflict errors replies"""
+    assert set(wanted.split()) <= set(propbench.__all__)
+    assert len(propbench.__all__) <= 40
+    named = [each for each in classes_of_the_package() if each.__name__ == "Conflict"]
+    assert named == [propbench.Conflict]
+
+
+def classes_of_the_package() -> list[type]:
+    """The classes that the modules of the package define, but those which need what isn't there."""
+    found = []
+    for each in walk_packages(propbench.__path__, "propbench."):
+        if not each.name.startswith(("propbench.notebook", "propbench.lexer", "propbench.__main")):
+            module = importlib.import_module(each.name)
+            found += [it for it in vars(module).values() if isinstance(it, type)]
+    return list(dict.fromkeys(it for it in found if it.__module__.startswith("propbench")))
 
 
 @pytest.mark.parametrize("name", MEMBERS)

@@ -19,5 +19,5 @@ def test_the_page(
 ) -> None:
     monkeypatch.setenv("PROPBENCH", program)
     monkeypatch.chdir(tmp_path)
-    carried_out(PAGE.read_text(encoding="utf-8"), 5, capsys)
+    carried_out(PAGE.read_text(encoding="utf-8"), 4, capsys)
     assert main(["check", "least.claim", "--base", "plan.prop"]) == 0

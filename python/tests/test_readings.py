@@ -99,10 +99,17 @@ def test_what_would_be_half_a_unit(text: str) -> None:
         unit_of(text)
 
 
-@pytest.mark.parametrize("text", ["pH", "pH/m", "7 pH"])
+@pytest.mark.parametrize("text", ["pH/m", "pH2", "1/pH"])
 def test_a_unit_that_may_be_two_is_asked_for(text: str) -> None:
-    with pytest.raises(UnknownUnit, match="a picohenry. A pH is a bare number: .*`1`.*`picohenry`"):
-        unit_of(text) if text[0] == "p" else reading_of(text, unit_of("1"))
+    with pytest.raises(UnknownUnit, match="a picohenry. A pH stands alone .* written `picohenry`"):
+        unit_of(text)
+
+
+def test_a_ph_is_no_picohenry() -> None:
+    assert reading_of("7 pH", unit_of("pH")).low == Fraction(13, 2)
+    for unit in ("nH", "1"):
+        with pytest.raises(MixedUnits, match="'7 pH' is in pH"):
+            reading_of("7 pH", unit_of(unit))
 
 
 def test_degrees_and_radians_are_not_mixed() -> None:

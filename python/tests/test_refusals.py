@@ -17,6 +17,7 @@ from propbench import (
     UnknownCommand,
     WrongForm,
 )
+from propbench.nearby import near_names
 from propbench.refusals import CLASSES
 
 # So many sessions are drawn, with so many refused lines each.
@@ -98,6 +99,19 @@ def test_near_names(program: str) -> None:
         assert isinstance(refusal(session, "aks tea"), UnknownCommand)
         assert refusal(session, "attach suum tea tea tea").near == ("sum",)
         assert refusal(session, "ask something_else").near == ()
+
+
+def test_names_that_are_near() -> None:
+    """A letter more, less, another or swapped, and capitals; three at the most, the nearest first."""
+    assert near_names("coffe", ["tea", "coffee", "COFFEE"]) == ("coffee", "COFFEE")
+    assert near_names("zz", ["z"]) == ("z",)
+    assert near_names("aks", ["ask"]) == ("ask",)
+    assert near_names("veneu", ["review", "venue"]) == ("venue",)
+    near = near_names("review1", ["reviews", "review", "review12", "review1x"])
+    assert {*near[:2]} == {"review12", "review1x"} and near[2:] == ("review",)
+    assert len(near_names("review1", [f"review{n}" for n in range(10, 20)])) == 3
+    assert near_names("z", ["a", "b"]) == near_names("something", ["tea", "sum"]) == ()
+    assert near_names("x", (f"y{n}" for n in range(10**9))) == ()
 
 
 def test_near_names_are_those_of_the_time(program: str) -> None:

@@ -35,6 +35,16 @@ def crowd(w: Workbench) -> Number:
     return number
 
 
+def test_numbers_of_one_range_behind_a_condition_are_not_tied() -> None:
+    with Workbench() as w:
+        x, y, holds = w.number("x", 0, 1), w.number("y", 0, 2), w.truth("holds")
+        w.require(holds == (x // y >= 1))
+        found = w.plans()
+    points = [(a, b, b != 0 and a // b >= 1) for a in range(2) for b in range(3)]
+    assert found.complete
+    assert sorted((p["x"], p["y"], p["holds"]) for p in found) == sorted(points)
+
+
 @settings(max_examples=30 * TIMES)
 @given(model_lines())
 def test_a_plan_is_one_of_all(lines: list[str]) -> None:

@@ -1,25 +1,31 @@
-"""`propdesk`: the command line of the package, `python3 -m propbench` too."""
+"""`propdesk`: the command line of the package, `python3 -m propbench` too.
+
+What a command needs is imported once it is carried out: the others start at once.
+"""
 
 import argparse
 import os
 import sys
 from collections.abc import Sequence
 from contextlib import suppress
-from pathlib import Path
+from typing import TYPE_CHECKING
 
-from propbench.checking import check_file
-from propbench.files import OpenedFile
-from propbench.finding import NoProgram
-from propbench.journal import Journal, left
-from propbench.pictures import NoGraphviz, picture_of
-from propbench.program import OutOfTime, ProgramEnded
-from propbench.refusals import Refused
-from propbench.reports import NoReport
-from propbench.running import Way, lines_of, run_as_json, run_file, told_of
-from propbench.session import ORDERS
-from propbench.showing import printable, said_of, shown
-from propbench.watching import Watched
+from propbench.beginning import ORDERS
 
+if TYPE_CHECKING:
+    from decimal import Decimal
+
+    from propbench.journal import Journal
+    from propbench.running import Way
+    from propbench.watching import Watched
+
+# What a schedule is written as, by the endings of files.
+_WRITTEN = {
+    "html": "as a page to read and print",
+    "csv": "as a table",
+    "ics": "for calendars",
+    "svg": "as a chart",
+}
 DESCRIPTION = """\
 A desk for the workbench propbench: runs files of its language, and speaks it with you line by line.
 Every answer is a reply of the program, which is the one that --program or $PROPBENCH names, else
@@ -28,10 +34,13 @@ For what a workbench has saved it is propwide, found in the same way, where ther
 """
 
 STATUS = """\
-The exit status is 0 where all went well, 1 where a line was refused or a report is not what the
-program says, 2 for wrong arguments, 3 where a file could not be read or the program was not found
-or ended, and 130 at Ctrl-C.
+The exit status is 0 where all went well, 1 where a line was refused, readings conflict, a report is
+not what the program says or no plan fits, 2 for wrong arguments and tables, 3 where a file could
+not be read or the program was not found or ended, and 130 at Ctrl-C.
 """
+
+# The columns of tables by which readings may stand or fall together.
+_TOGETHER = ("quantity", "premise", "device", "taken at")
 
 
 def parser() -> argparse.ArgumentParser:
@@ -98,6 +107,66 @@ def parser() -> argparse.ArgumentParser:
     blame.add_argument("--seconds", type=_seconds, metavar="N", help="how long it may take")
     blame.add_argument("--picture", metavar="FILE", help="draw the conflicts: .svg, .png or .dot")
     blame.add_argument("--certificate", metavar="FILE", help="save what `propdesk check` checks")
+    plan = commands.add_parser(
+        "plan",
+        help="make a schedule of the tables of a spreadsheet",
+        description="Reads tables of tasks, people, absences and wishes, and tells a schedule that"
+        " ends as soon as can be, or what stands in the way: then the status is 1. One table alone,"
+        " or that called `tasks`, has the columns task, days, who, after, earliest, latest, cost.",
+    )
+    _add_plan(plan)
+    measure = commands.add_parser(
+        "measure",
+        help="say what follows from tables of readings",
+        description="Reads a bench (quantities, devices and laws, in TOML) and tables of readings,"
+        " and tells what follows for each quantity, which readings conflict, which to give up, and"
+        " which to improve. Ends with status 1 where readings conflict.",
+    )
+    measure.add_argument("file", metavar="BENCH", help="the bench, .toml")
+    measure.add_argument("readings", metavar="READINGS", nargs="+", help="tables, .csv")
+    measure.add_argument(
+        "--decimal", choices=(".", ","), default=".", help="what stands before decimals (.)"
+    )
+    measure.add_argument(
+        "--under",
+        choices=_TOGETHER,
+        help="the column by which readings stand or fall together (each stands by itself)",
+    )
+    measure.add_argument(
+        "--coverage",
+        type=_coverage,
+        default="3",
+        metavar="K",
+        help="how many times a standard uncertainty is taken for a bound (3)",
+    )
+    measure.add_argument(
+        "--improve",
+        metavar="QUANTITY",
+        action="append",
+        default=[],
+        help="tell which reading to improve for this one (for three that nothing was read of)",
+    )
+    measure.add_argument("--csv", metavar="FILE", help="write the results down as a table")
+    measure.add_argument(
+        "--estimates",
+        action="store_true",
+        help="estimates by least squares too, which are tested and not proved",
+    )
+    measure.add_argument(
+        "--report", metavar="FILE", help="write a report: .html, which prints, or .txt"
+    )
+    measure.add_argument(
+        "--seconds", type=_seconds, default=60.0, metavar="N", help="how long it may take (60)"
+    )
+    minizinc = commands.add_parser(
+        "minizinc",
+        help="tell MiniZinc of the solver",
+        description="Says whether MiniZinc knows of the solver propbench by a file in your folder for"
+        " solvers; writes that file, or removes it.",
+    )
+    either = minizinc.add_mutually_exclusive_group()
+    either.add_argument("--install", action="store_true", help="write the file")
+    either.add_argument("--remove", action="store_true", help="remove the file")
     page = commands.add_parser(
         "page",
         help="show a file in a browser",
@@ -120,7 +189,7 @@ def parser() -> argparse.ArgumentParser:
     draw.add_argument(
         "--out", metavar="PICTURE", help="where to, as SVG or .dot (beside the file, as .svg)"
     )
-    for each in (run, shell, check, blame, page, draw):
+    for each in (run, shell, check, blame, measure, plan, page, draw):
         each.add_argument("--program", metavar="PATH", help="the program that answers")
     page.add_argument(
         "--resume", action="store_true", help="go on with what a page of the file did that was cut"
@@ -133,6 +202,36 @@ def parser() -> argparse.ArgumentParser:
     for each in (run, shell, page, draw):
         _add_begin(each)
     return top
+
+
+def _add_plan(to: argparse.ArgumentParser) -> None:
+    to.add_argument(
+        "file", metavar="FILE", help="a folder of .csv files, or a file .csv, .ods or .xlsx"
+    )
+    to.add_argument("--start", metavar="DATE", help="when the plan begins, as 2026-03-02")
+    to.add_argument("--off", metavar="DAYS", help="days off, as `sat sun, 3 April`")
+    to.add_argument("--today", metavar="DATE", help="what isn't done begins then or later")
+    to.add_argument("--days", type=int, metavar="N", help="how many days it has at the most")
+    to.add_argument(
+        "--give-up", action="store_true", help="where nothing fits, give up what costs the least"
+    )
+    to.add_argument(
+        "--what-if",
+        metavar="TEXT",
+        action="append",
+        default=[],
+        help="tell what becomes of it then: `ana ill 3-7 March`, `review takes 8`",
+    )
+    to.add_argument("--why", action="store_true", help="tell why it ends no sooner")
+    for ending, what in _WRITTEN.items():
+        to.add_argument(f"--{ending}", metavar="FILE", help=f"write the schedule {what}")
+    to.add_argument(
+        "--seconds",
+        type=_seconds,
+        default=60.0,
+        metavar="N",
+        help="how long each question may take (60)",
+    )
 
 
 def _add_begin(to: argparse.ArgumentParser) -> None:
@@ -152,10 +251,25 @@ def _seconds(text: str) -> float:
     return seconds
 
 
+def _coverage(text: str) -> "Decimal":
+    from decimal import Decimal, InvalidOperation
+
+    try:
+        return Decimal(text)
+    except InvalidOperation:
+        raise argparse.ArgumentTypeError("a coverage is a number, as 2") from None
+
+
 def main(words: Sequence[str] | None = None) -> int:
     """Does what the words of a command line say, those of this process where none are given, and
     gives the exit status."""
     options = parser().parse_args(words)
+    from propbench.finding import NoProgram
+    from propbench.program import OutOfTime, ProgramEnded
+    from propbench.refusals import Refused
+    from propbench.running import told_of
+    from propbench.showing import printable, said_of
+
     try:
         return _done(options)
     except KeyboardInterrupt:
@@ -169,12 +283,31 @@ def main(words: Sequence[str] | None = None) -> int:
     except Refused as refused:
         print(told_of(refused, printable(options.file)), file=sys.stderr)
         return 1
-    except (NoProgram, NoReport, NoGraphviz, ProgramEnded, OutOfTime, OSError) as error:
-        print(f"propdesk: {said_of(error)}", file=sys.stderr)
-        return 3
+    except (ImportError, NoProgram, ProgramEnded, OutOfTime, OSError) as error:
+        return _failed(error)
+
+
+def _failed(error: Exception) -> int:
+    """Says what failed, and gives the status of that."""
+    from propbench.showing import said_of
+
+    print(f"propdesk: {said_of(error)}", file=sys.stderr)
+    return 3
+
+
+def _checked(options: argparse.Namespace) -> int:
+    from propbench.checking import check_file
+    from propbench.reports import NoReport
+
+    try:
+        return check_file(options.file, options.program, options.base)
+    except NoReport as error:
+        return _failed(error)
 
 
 def _blamed(options: argparse.Namespace) -> int:
+    from pathlib import Path
+
     from propbench.flatzinc.blame import Asked, blame_file
 
     asked = Asked(
@@ -187,11 +320,73 @@ def _blamed(options: argparse.Namespace) -> int:
     return blame_file(Path(options.file), list(map(Path, options.data)), asked, options.program)
 
 
+def _planned(options: argparse.Namespace) -> int:
+    from propbench.planning.brief import Given
+    from propbench.planning.command import Asked, plan_file
+    from propbench.planning.sheets import NoSheetReader
+
+    asked = Asked(
+        Given(options.start, options.off, options.days, options.today),
+        options.give_up,
+        options.what_if,
+        options.why,
+        {it: getattr(options, it) for it in _WRITTEN if getattr(options, it) is not None},
+        options.seconds,
+    )
+    try:
+        return plan_file(options.file, asked, options.program)
+    except NoSheetReader as error:
+        return _failed(error)
+
+
+def _measured(options: argparse.Namespace) -> int:
+    from pathlib import Path
+
+    from propbench.laboratory.command import Asked, Tables, measure_files
+
+    asked = Asked(
+        Path(options.file),
+        list(map(Path, options.readings)),
+        Tables(options.decimal, options.under, options.coverage),
+        options.seconds,
+        options.improve,
+        Path(options.csv) if options.csv else None,
+        Path(options.report) if options.report else None,
+        options.estimates,
+    )
+    return measure_files(asked, options.program)
+
+
+def _told_minizinc(options: argparse.Namespace) -> int:
+    from propbench.flatzinc import installing
+    from propbench.showing import printable
+
+    if options.remove:
+        print(f"{printable(str(installing.remove()))} is removed.")
+        return 0
+    if options.install:
+        installing.install()
+    path = printable(str(installing.solver_file()))
+    if not installing.installed():
+        print(f"{path} isn't there, or is another: `propdesk minizinc --install` writes it.")
+        return 1
+    print(f"{path} tells of it: `minizinc --solver propbench model.mzn`.")
+    return 0
+
+
 def _done(options: argparse.Namespace) -> int:
+    from propbench.running import Way, run_as_json, run_file
+
+    if options.command == "minizinc":
+        return _told_minizinc(options)
     if options.command == "check":
-        return check_file(options.file, options.program, options.base)
+        return _checked(options)
     if options.command == "blame":
         return _blamed(options)
+    if options.command == "plan":
+        return _planned(options)
+    if options.command == "measure":
+        return _measured(options)
     begin = {"order": options.order, "seed": options.seed, "limit": options.limit}
     if options.command in ("page", "draw"):
         if options.command == "page":
@@ -212,6 +407,8 @@ def _done(options: argparse.Namespace) -> int:
 
 def _lines(path: str | None) -> list[str]:
     """The lines of the file that a shell begins with, none where it can't be read."""
+    from propbench.running import lines_of
+
     with suppress(OSError):
         return lines_of(path) if path else []
     return []
@@ -220,13 +417,20 @@ def _lines(path: str | None) -> list[str]:
 _OFFERED = "--resume goes on with it, --forget forgets it."
 
 
-def _journal(options: argparse.Namespace, file: str, checksum: str | None = None) -> Journal | None:
+def _journal(
+    options: argparse.Namespace, file: str, checksum: str | None = None
+) -> "Journal | None":
     """The journal of what these options ask for, None where none is kept."""
+    from propbench.journal import Journal
+
     return None if options.no_journal else Journal(options.command, file, checksum)
 
 
-def _page(options: argparse.Namespace, way: Way) -> int:
+def _page(options: argparse.Namespace, way: "Way") -> int:
+    from propbench.files import OpenedFile
+    from propbench.journal import left
     from propbench.page import serve
+    from propbench.showing import printable, shown
     from propbench.watching.opening import opened
 
     place = options.file if options.file == "-" else os.path.realpath(options.file)
@@ -254,8 +458,14 @@ def _page(options: argparse.Namespace, way: Way) -> int:
     return 0
 
 
-def _draw(watched: Watched, path: str, cell: str | None, out: str | None) -> int:
+def _draw(watched: "Watched", path: str, cell: str | None, out: str | None) -> int:
+    from propbench.pictures import NoGraphviz, picture_of
+    from propbench.showing import printable
+
     where = out if out is not None else f"{os.path.splitext(path)[0]}.svg"
-    picture_of(watched, cell).save(where)
+    try:
+        picture_of(watched, cell).save(where)
+    except NoGraphviz as error:
+        return _failed(error)
     print(f"The picture is in {printable(where)}.")
     return 0

@@ -4,17 +4,17 @@ What is saved goes into a new file beside the old one, down to the disk, and tak
 Where anything goes wrong on the way, or the process is killed, the old file is as it was.
 """
 
-import difflib
 import errno
-import hashlib
 import os
-import secrets
 import stat
 from collections.abc import Callable, Iterator
 from contextlib import suppress
+from typing import TYPE_CHECKING
 
-from propbench.journal import Journal
 from propbench.showing import cut, printable
+
+if TYPE_CHECKING:
+    from propbench.journal import Journal
 
 # What the name of a file begins with that is not yet in its place; a kill may leave one.
 PART = ".propbench-part-"
@@ -78,6 +78,8 @@ def _replace(
     path: str, old: os.stat_result | None, data: bytes, before: Callable[[], None]
 ) -> None:
     """Has a file with this content take the place of what is there, if anything."""
+    import secrets
+
     folder = os.path.dirname(path)
     part = os.path.join(folder, PART + secrets.token_hex(8))
     descriptor = os.open(part, _NEW, 0o666 if old is None else 0o600)
@@ -129,7 +131,7 @@ class OpenedFile:
         """Takes note of what is there now, so that it is made before the file is read; or of what
         was there when its content had this checksum."""
         self.path = path
-        self.journal: Journal | None = None
+        self.journal: "Journal | None" = None
         self._known = _checksum(_content(path)) if checksum is None else checksum
         self._why = CHANGED
 
@@ -175,11 +177,15 @@ def _content(path: str) -> bytes | None:
 
 
 def _checksum(content: bytes | None) -> str | None:
+    import hashlib
+
     return None if content is None else hashlib.sha256(content).hexdigest()
 
 
 def _difference(there: bytes, here: bytes) -> Iterator[str]:
     """The lines in which two contents differ, the first of them."""
+    import difflib
+
     old, new = (part.decode("utf-8", "surrogateescape").splitlines() for part in (there, here))
     if len(old) + len(new) > _COMPARED:
         yield f"({len(old)} lines are there, and {len(new)} here)"

@@ -1,12 +1,9 @@
 """Where the programs are found, and whether they are known to be proved."""
 
-import hashlib
 import os
-import shutil
 from collections.abc import Sequence
 from contextlib import suppress
 from dataclasses import dataclass
-from pathlib import Path
 
 # The program, and the one with more rules, for plans and measurements.
 PLAIN, WIDE = "propbench", "propwide"
@@ -14,7 +11,7 @@ PLAIN, WIDE = "propbench", "propwide"
 SAVED = "# A workbench: the lines beginning with #: tell what the others are for."
 # Where the Debian package that brings proved programs tells their checksums, by where the folder of
 # the programs lies.
-_CHECKSUMS = Path("../share/propbench/proved.sha256")
+_CHECKSUMS = "../share/propbench/proved.sha256"
 
 
 class NoProgram(Exception):
@@ -31,9 +28,10 @@ class Found:
     builds: bool = False
 
 
-def repository() -> Path | None:
+def repository() -> str | None:
     """The repository that this package stands in, where it does."""
-    top = Path(__file__).resolve().parents[3]
+    folder = os.path.dirname(os.path.realpath(__file__))
+    top = os.path.normpath(os.path.join(folder, *[os.pardir] * 3))
     return top if _is_repository(top) else None
 
 
@@ -66,57 +64,70 @@ def _find(given: str | os.PathLike[str] | None, names: Sequence[str]) -> Found:
     told = [os.environ.get(name.upper()) for name in names]
     named = given if given is not None else next(filter(None, told), "")
     if named:
-        path = shutil.which(named)
+        path = _runnable(os.fspath(named))
         if path is None:
             raise NoProgram(f"{os.fspath(named)!r} is no program that can be run")
-        return _found(Path(path))
+        return _found(path)
     top = repository()
     for name in names:
         if top and _is_built(top, name):
-            return Found(str(_built(top, name)), True)
-        installed = shutil.which(name)
+            return Found(_built(top, name), True)
+        installed = _runnable(name)
         if installed:
-            return _found(Path(installed))
+            return _found(installed)
     for name in names:
-        if top and (top / name).is_file():
-            return _found(top / name)
+        if top and os.path.isfile(os.path.join(top, name)):
+            return _found(os.path.join(top, name))
     raise NoProgram(
         "no program `propbench` was found: name it by $PROPBENCH, or build it with tools/build"
     )
 
 
-def _found(path: Path) -> Found:
+def _runnable(named: str) -> str | None:
+    """Where a program is that is named by its path, or lies on $PATH; None where it can't be run."""
+    if os.path.dirname(named):
+        return named if os.access(named, os.X_OK) and os.path.isfile(named) else None
+    import shutil
+
+    return shutil.which(named)
+
+
+def _found(path: str) -> Found:
     """What is found at a path where a program is."""
-    program = path.resolve()
-    top, name = program.parent, program.name
+    program = os.path.realpath(path)
+    top, name = os.path.split(program)
+    there = path if os.path.isabs(path) else os.path.join(os.getcwd(), path.removeprefix("./"))
     if name in (PLAIN, WIDE) and _is_repository(top):
         built = _is_built(top, name)
-        return Found(str(_built(top, name) if built else path.absolute()), built, not built)
-    return Found(str(path.absolute()), _is_proved(program))
+        return Found(_built(top, name) if built else there, built, not built)
+    return Found(there, _is_proved(program))
 
 
-def _built(top: Path, name: str) -> Path:
+def _built(top: str, name: str) -> str:
     """Where a repository's tools/build puts the program of a name."""
-    return top / "crates" / name / "out" / name
+    return os.path.join(top, "crates", name, "out", name)
 
 
-def _is_repository(top: Path) -> bool:
-    return (top / "crates.txt").is_file() and (top / PLAIN).is_file()
+def _is_repository(top: str) -> bool:
+    return all(os.path.isfile(os.path.join(top, name)) for name in ("crates.txt", PLAIN))
 
 
-def _is_built(top: Path, name: str) -> bool:
+def _is_built(top: str, name: str) -> bool:
     """Whether a repository's tools/build has proved the program there."""
     return os.access(_built(top, name), os.X_OK)
 
 
-def _is_proved(program: Path) -> bool:
+def _is_proved(program: str) -> bool:
     """Whether it is a repository's built program, or the one of a package that tells so."""
-    if len(program.parts) > 4:
-        top = program.parents[3]
-        if program == _built(top, program.name) and _is_repository(top):
-            return True
+    folder, name = os.path.split(program)
+    top = os.path.normpath(os.path.join(folder, *[os.pardir] * 3))
+    if program == _built(top, name) and _is_repository(top):
+        return True
     with suppress(OSError):
-        told = (program.parent / _CHECKSUMS).read_text(encoding="utf-8").splitlines()
-        checksum = hashlib.sha256(program.read_bytes()).hexdigest()
-        return checksum in (line.partition(" ")[0] for line in told)
+        with open(os.path.join(folder, _CHECKSUMS), encoding="utf-8") as told:
+            checksums = [line.partition(" ")[0] for line in told.read().splitlines()]
+        import hashlib
+
+        with open(program, "rb") as file:
+            return hashlib.sha256(file.read()).hexdigest() in checksums
     return False

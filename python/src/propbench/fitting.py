@@ -4,7 +4,7 @@ Translated from docs/LANGUAGE.md ("Procedures"), to tell which word of a refused
 """
 
 from propbench.kit import ANY, FROM, KIT, SPAN, TO, TRUTH
-from propbench.known import Definition, Known, Step
+from propbench.known import Definition, Known, DefinitionStep
 
 # What is not looked through: a definition may stand for 200,000 uses, 1,000 within one another.
 MOST_USES = 20_000
@@ -64,7 +64,9 @@ class Fitting:
                 scope[step.cells[0]] = scope[step.like] if step.like else step.kind
         self.depth -= 1
 
-    def _check_step(self, made: Definition, step: Step, scope: dict[str, str], given: str) -> None:
+    def _check_step(
+        self, made: Definition, step: DefinitionStep, scope: dict[str, str], given: str
+    ) -> None:
         passed = given if step.given == "*" else step.given
         try:
             self.check(step.procedure, tuple(scope[cell] for cell in step.cells), passed)
@@ -72,7 +74,7 @@ class Fitting:
             raise Misfit(_outer(made, step, misfit.place), misfit.wanted) from None
 
 
-def _outer(made: Definition, step: Step, place: int | None) -> int | None:
+def _outer(made: Definition, step: DefinitionStep, place: int | None) -> int | None:
     """Which parameter of the definition stands at this place of its step, if one does."""
     if place is None or step.cells[place] not in made.parameters:
         return None

@@ -1,6 +1,7 @@
-"""Times, counts and paths that a caller gives; where one is none, that is said in his words."""
+"""Times, counts, names and paths that a caller gives; where one is none, that is said in his words."""
 
 import os
+from collections.abc import Container, Iterable, Mapping
 from numbers import Integral, Real
 
 
@@ -25,6 +26,28 @@ def count_given(count: object, what: str) -> int:
     if count < 0:
         raise ValueError(f"{what} is a whole number from 0: {count}")
     return int(count)
+
+
+def names_given(given: object, known: Container[str] | None = None) -> tuple[str, ...]:
+    """Names that are given one by one, or in one text with spaces between. Of names that are known
+    one may have spaces itself: the text is that one then, and so is one of which no word is known.
+    Raises TypeError for what is neither.
+
+    >>> names_given("ana ben"), names_given(["ana", "ben"])
+    (('ana', 'ben'), ('ana', 'ben'))
+    >>> names_given("Ana's wish", ["Ana's wish", "cheap"]), names_given("a b", ["a", "b"])
+    (("Ana's wish",), ('a', 'b'))
+    """
+    if isinstance(given, str):
+        words = tuple(given.split())
+        if known is None or (given not in known and any(word in known for word in words)):
+            return words
+        return (given,)
+    if isinstance(given, Iterable) and not isinstance(given, Mapping):
+        names = tuple(given)
+        if all(isinstance(name, str) for name in names):
+            return names
+    raise TypeError(f"names are one text with spaces between, or a list of texts: {given!r}")
 
 
 def path_given(path: object) -> str | os.PathLike[str]:

@@ -21,7 +21,7 @@ _SECTIONS = {"choose": "Choices", "nogoods": "Choices", "core": "Cores", "define
 def document() -> str:
     """The text of docs/LANGUAGE.md, "" where it isn't there."""
     top = repository()
-    for path in [top / "docs/LANGUAGE.md"] if top else [_INSTALLED]:
+    for path in [Path(top, "docs/LANGUAGE.md")] if top else [_INSTALLED]:
         if path.is_file():
             return path.read_text(encoding="utf-8")
     return ""

@@ -21,7 +21,7 @@ class Relation:
 
 
 @dataclass(frozen=True)
-class Step:
+class DefinitionStep:
     """A step of a definition. A local has its name in `cells` and either a kind or the cell that it
     is `like`; a use has the procedure, its cells, and what stands behind `by` ("" for nothing)."""
 
@@ -37,7 +37,7 @@ class Definition:
     """A compound: its parameters and steps."""
 
     parameters: tuple[str, ...]
-    steps: tuple[Step, ...]
+    steps: tuple[DefinitionStep, ...]
 
     @property
     def takes_given(self) -> bool:
@@ -58,15 +58,15 @@ def steps_of(places: list[Place]) -> list[list[Place]]:
     return steps
 
 
-def _step(places: list[Place]) -> Step:
+def _step(places: list[Place]) -> DefinitionStep:
     words = [place.text for place in places]
     if words[0] != "local":
         cells = tuple(place.text for place in places if place.role is Role.INNER_CELL)
         given = words[-1] if "by" in words else ""
-        return Step(words[0], cells, given=given)
+        return DefinitionStep(words[0], cells, given=given)
     if len(words) == 4:
-        return Step("", (words[1],), like=words[3])
-    return Step("", (words[1],), kind=words[2])
+        return DefinitionStep("", (words[1],), like=words[3])
+    return DefinitionStep("", (words[1],), kind=words[2])
 
 
 def definition_of(parse: Parse) -> Definition:
@@ -113,10 +113,6 @@ class Known:
     def is_procedure(self, name: str) -> bool:
         """Whether a procedure or a definition has the name."""
         return name in KIT or name in self.definitions
-
-    def count_of(self, name: str) -> int:
-        """How many cells the procedure or definition takes."""
-        return len(self.cells_of(name))
 
     def cells_of(self, name: str) -> tuple[str, ...]:
         """The names of the cells that a procedure or definition takes, in order."""

@@ -10,7 +10,7 @@ from dataclasses import dataclass
 from propbench.listing import Told, told_by
 from propbench.refusals import Refused
 from propbench.replies import Contradiction, Reply, Value, Worldview
-from propbench.runs import Progress, is_settled
+from propbench.runs import RunProgress, is_settled
 from propbench.session import Session
 from propbench.tables import table
 from propbench.words import NO_PREMISE
@@ -80,7 +80,7 @@ class Overview:
 
 
 def overview(
-    session: Session, seconds: float | None = None, progress: Progress | None = None
+    session: Session, seconds: float | None = None, progress: RunProgress | None = None
 ) -> Overview:
     """All that follows now, found by a run that is cut after so many seconds."""
     before = len(session.lines)

@@ -10,7 +10,6 @@ lets go of the writing end.
 import fcntl
 import os
 import signal
-import tempfile
 import threading
 import time
 import weakref
@@ -98,7 +97,8 @@ class Process:
                 theirs.callback(os.close, leash)
                 places[_LEASH] = leash
             if not show_errors:
-                self._said = tempfile.TemporaryFile()
+                # (a file without a name, which is gone with whoever has it open)
+                self._said = open(os.memfd_create("errors"), "w+b")
                 places[2] = self._said.fileno()
             self.pid = os.posix_spawn(
                 command[0],

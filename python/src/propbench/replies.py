@@ -11,8 +11,39 @@ from typing import TYPE_CHECKING
 from propbench.grammar import SEEKING
 from propbench.points import Best, NoneFits, Points, Several, SoFar, points_in
 from propbench.points import lines_in as lines_of_points
-from propbench.values import Held, value_of
+from propbench.values import Elements, Held, Impossible, Nothing, Span, Symbol, value_of
 from propbench.words import looks_like_number, named, names_in
+
+
+__all__ = [
+    "Best",
+    "Called",
+    "Contradiction",
+    "Done",
+    "Elements",
+    "How",
+    "Impossible",
+    "Instance",
+    "Listing",
+    "Moved",
+    "Nogoods",
+    "NoneFits",
+    "Nothing",
+    "Points",
+    "Reply",
+    "Settled",
+    "Several",
+    "Silent",
+    "SoFar",
+    "Span",
+    "Stand",
+    "Stated",
+    "Step",
+    "Symbol",
+    "Unsettled",
+    "Value",
+    "Worldview",
+]
 
 
 @dataclass(frozen=True)

@@ -9,8 +9,8 @@ import json
 from collections.abc import Iterable, Iterator, Mapping
 from dataclasses import dataclass
 
+from propbench.beginning import MOST_SEED, ORDERS
 from propbench.running import Way, report
-from propbench.session import MOST_SEED, ORDERS
 from propbench.showing import quoted
 from propbench.words import MOST_STEPS
 
@@ -29,7 +29,7 @@ class NoReport(Exception):
 
 
 @dataclass(frozen=True)
-class Told:
+class Answers:
     """The answers of a report: of lines, of the table in all, and of cells, by what they are of;
     and whether the end was reached, and what was cut."""
 
@@ -49,7 +49,7 @@ class Report:
     name: str
     lines: list[str]
     way: Way
-    told: Told
+    told: Answers
     has_steps: bool
 
     def differences(self, program: str | None) -> tuple[list[str], bool]:
@@ -137,12 +137,12 @@ def _way(said: dict[str, object]) -> Way:
     )
 
 
-def _told_in(said: dict[str, object]) -> Told:
+def _told_in(said: dict[str, object]) -> Answers:
     """The answers of a report as JSON has it. Raises KeyError and ValueError where it is none."""
     asked, refused = ([*map(_fields, _items(said[key]))] for key in ("asked", "refused"))
     cells = {cell: _value(_fields(of)) for cell, of in _fields(said["cells"]).items()}
     steps = said["steps"]
-    return Told(
+    return Answers(
         _flag(said["complete"]),
         _flag(said["settled"]),
         None if steps is None else _number(steps, MOST_STEPS),
@@ -189,7 +189,7 @@ def _once(pairs: Iterable[tuple[str, str]]) -> dict[str, str]:
     return found
 
 
-def _differences(told: Told, again: Told) -> Iterator[str]:
+def _differences(told: Answers, again: Answers) -> Iterator[str]:
     """In what the answers of a report differ from others to the same lines."""
     yield from _between(told.lines, again.lines)
     if told.complete != again.complete:

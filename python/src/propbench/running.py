@@ -3,7 +3,6 @@
 A refused line doesn't go unnoticed: the run stops there with the place, the word and a status.
 """
 
-import json
 import sys
 from collections.abc import Iterator, Sequence
 from dataclasses import asdict, dataclass, field
@@ -138,12 +137,16 @@ def run_as_json(path: str, program: str | None, way: Way) -> int:
 
 def as_json(value: object) -> str:
     """A value in JSON, on lines. What can't be printed or seen stands as JSON escapes it."""
+    import json
+
     lines = json.dumps(value, ensure_ascii=False, indent=2).split("\n")
     return "\n".join(line if printable(line) == line else _escaped(line) for line in lines)
 
 
 def _escaped(line: str) -> str:
     """A line of JSON in which all stands as JSON escapes it that `printable` escapes."""
+    import json
+
     return "".join(each if printable(each) == each else json.dumps(each)[1:-1] for each in line)
 
 

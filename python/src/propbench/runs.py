@@ -19,7 +19,7 @@ from propbench.refusals import Refused
 from propbench.replies import Reply, Unsettled, Value, unread
 
 # What is told of a run that goes on: the steps that it took, and what is known then.
-Progress = Callable[[int, Reply], None]
+RunProgress = Callable[[int, Reply], None]
 
 # A slice has so many steps, and should take between these seconds.
 _FEWEST_STEPS, _STEPS, _MOST_STEPS = 10_000, 100_000, 100_000_000
@@ -44,7 +44,7 @@ class Watch:
     waited for."""
 
     until: float | None = None
-    progress: Progress | None = None
+    progress: RunProgress | None = None
     stopped: BaseException | None = None
     taken: int = 0
     recorded: int = 0

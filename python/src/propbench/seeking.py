@@ -14,7 +14,7 @@ from propbench.refusals import Refused
 from propbench.replies import UNSETTLED, Reply
 from propbench.runs import Question, Watch, is_settled, late_text
 
-# A slice has so many steps at the most.
+# A slice has so many steps at the most, unless a session says another number.
 _STEPS = 50_000
 
 
@@ -26,6 +26,7 @@ class Seeking:
     talk: Conversation
     question: Question
     watch: Watch
+    most_steps: int | None = None
     found: Several | None = None
     # The text that was read last, and what it says: the best plan so far is often told once more.
     last: tuple[str, Reply] = ("", UNSETTLED)
@@ -34,7 +35,7 @@ class Seeking:
         """The reply, in as many slices as it needs. Raises the refusal, what ends it from outside,
         and OutOfTime where nothing is known when the time is over."""
         talk, watch = self.talk, self.watch
-        parts = max(1, -(-talk.limit // _STEPS))
+        parts = max(1, -(-talk.limit // (self.most_steps or _STEPS)))
         size = talk.limit // parts
         words = self.question.words
         if words[0] == "plans" and talk.sought != self._place():

@@ -16,26 +16,24 @@ from types import FrameType
 from typing import Literal, overload
 
 from propbench.batch import Batch, as_lines
+from propbench.beginning import MOST_SEED, ORDERS, STEPS
 from propbench.closing import Closing
 from propbench.conversation import Conversation, WrongReply
 from propbench.finding import find_program
 from propbench.given import seconds_given
 from propbench.grammar import ASKING, FORMS, RUNNING, SEEKING
 from propbench.known import Known
+from propbench.points import Best, NoneFits, Points, Several, SoFar
 from propbench.program import OutOfTime, Program, ProgramEnded, StillAtWork
 from propbench.refusals import Refused, UnknownCommand
-from propbench.points import Best, NoneFits, Points, Several, SoFar
 from propbench.replies import DONE, SILENT, How, Listing, Reply, Step, Unsettled
-from propbench.runs import LATE, PATIENCE, Progress, Question, Runner, Watch, is_settled
+from propbench.runs import LATE, PATIENCE, RunProgress, Question, Runner, Watch, is_settled
 from propbench.seeking import Seeking
 from propbench.words import MOST_STEPS, as_line, is_silent
 
 # How long, in seconds, a program that owes a reply is waited for where it isn't at work: it may be
 # that another process is, which it has begun.
 _GRACE = 3.0
-STEPS = 1_000_000_000
-MOST_SEED = 2**64 - 1
-ORDERS = ("fifo", "lifo", "mixed")
 # (within the class `list` is what it does)
 Texts = list[str]
 Replies = list[Reply]
@@ -91,22 +89,39 @@ class Session(Closing):
         self._coming: Program | None = None
         # What those who ask a session much keep of it, by their names; it goes with the session.
         self.kept: dict[str, object] = {}
+        # After so many steps of a question for points it is told what is known, where that is said.
+        self.steps_of_slice: int | None = None
         _notice_ends()
         self._use(self._begun(None))
         _sessions.add(weakref.ref(self, _sessions.discard))
 
     def fresh(self) -> "Session":
-        """A session of its own, of the same program, that begins as this one did."""
+        """A session of its own, of the same program, that begins as this one did.
+
+        >>> with Session() as session, session.fresh() as other:
+        ...     print(session.send("cell x span"), other.send("cell x span"))
+        ok ok
+        """
         return Session(self.program, order=self._order, seed=self._seed, limit=self._first_limit)
 
     @property
     def program(self) -> str:
-        """The path of the program."""
+        """The path of the program.
+
+        >>> with Session() as session:
+        ...     print(session.program.rpartition("/")[2] in ("propbench", "propwide"))
+        True
+        """
         return self._found.path
 
     @property
     def proved(self) -> bool:
-        """Whether the program is known to be built from proofs."""
+        """Whether the program is known to be built from proofs.
+
+        >>> with Session() as session:
+        ...     print(session.proved in (True, False))
+        True
+        """
         return self._found.proved
 
     @property
@@ -116,27 +131,57 @@ class Session(Closing):
         A program that is given these lines answers as this session did. A question that was cut
         stands between a `limit` of the steps that its run took and the limit that was in force.
         What the program is at work on yet is not among them.
+
+        >>> with Session() as session:
+        ...     for line in ["cell x span", "# a comment", "fix x 3"]:
+        ...         reply = session.send(line)
+        ...     print(session.lines)
+        ['cell x span', 'fix x 3']
         """
         return list(self._talk.lines)
 
     @property
     def known(self) -> Known:
-        """The names that the lines so far have declared."""
+        """The names that the lines so far have declared.
+
+        >>> with Session() as session:
+        ...     session.send("cell x span")
+        ...     print(dict(session.known.cells))
+        Done()
+        {'x': 'span'}
+        """
         return self._seen().read_known()
 
     @property
     def limit(self) -> int:
-        """The most steps of a run, as given last."""
+        """The most steps of a run, as given last.
+
+        >>> with Session(limit=1000) as session:
+        ...     print(session.limit)
+        1000
+        """
         return self._seen().read_limit(self._first_limit)
 
     @property
     def pid(self) -> int:
-        """The number of the program's process."""
+        """The number of the program's process.
+
+        >>> with Session() as session:
+        ...     print(session.pid > 0)
+        True
+        """
         return self._talk.program.pid
 
     def close(self) -> None:
         """Ends the program, and a call that another thread has running: that raises ProgramEnded.
-        Nothing can be sent after that."""
+        Nothing can be sent after that.
+
+        >>> session = Session()
+        >>> session.close()
+        >>> session.send("cell x span")
+        Traceback (most recent call last):
+        RuntimeError: the session is closed
+        """
         self._closed = True
         turn, program = self._turn, self._talk.program
         is_free = turn.lock.acquire(False)
@@ -157,7 +202,14 @@ class Session(Closing):
     def end_by(self, until: float | None) -> None:
         """Has the session last until then, a time of the monotonic clock, or without an end: who
         waits for a reply longer gets OutOfTime, and the program is ended, at work or not. That is
-        for a session that is a question's own."""
+        for a session that is a question's own.
+
+        >>> import time
+        >>> with Session() as session:
+        ...     session.end_by(time.monotonic() + 60)
+        ...     print(session.send("cell x span"))
+        ok
+        """
         self._until = self._talk.program.until = until
 
     def send(
@@ -165,7 +217,7 @@ class Session(Closing):
         line: str | bytes,
         *,
         seconds: float | None = None,
-        progress: Progress | None = None,
+        progress: RunProgress | None = None,
     ) -> Reply:
         """Sends one line, and gives its reply.
 
@@ -182,6 +234,14 @@ class Session(Closing):
 
         Raises the Refused of the number that the program answers, ProgramEnded, SessionInUse, and
         ValueError where a line feed stands within the line.
+
+        >>> with Session() as session:
+        ...     session.send("cell x span")
+        ...     session.send("tell ana x 3..5")
+        ...     print(session.send("why x"))
+        Done()
+        Done()
+        x = 3..5 because ana
         """
         text = line if isinstance(line, str) and "\n" not in line else as_line(line)
         watch, until, is_kept = None, self._until, False
@@ -245,6 +305,11 @@ class Session(Closing):
         program is ended. At that, and at Ctrl-C, the lines whose replies have come count as carried
         out, and no others; the next use of the session begins the program anew with these. Raises
         ProgramEnded, and ValueError, before anything is sent, for a line feed within a line.
+
+        >>> with Session() as session:
+        ...     *_, reply = session.send_all(["cell x span", "tell ana x 3..5", "ask x"])
+        ...     print(reply.value.low, reply.value.high)
+        3 5
         """
         texts = as_lines(lines)
         turn = self._take_turn()
@@ -267,6 +332,12 @@ class Session(Closing):
 
         Where what is known is settled, they leave no trace in `lines`. `until` is as that of
         `send_all`.
+
+        >>> lines = ["cell x span", "cell y span", "attach adder x x y", "fix x 3"]
+        >>> with Session() as session:
+        ...     said = session.send_all(lines)
+        ...     print(*session.look(["ask x", "ask y"]), sep="; ")
+        x = 3 unsettled; y = nothing unsettled
         """
         texts = as_lines(questions)
         turn = self._take_turn()
@@ -288,6 +359,13 @@ class Session(Closing):
 
         What the run comes to is the same as without. Raises UnknownCommand over a program that
         tells no steps, and ProgramEnded.
+
+        >>> lines = ["cell x span", "cell y span", "attach adder x x y", "fix x 3"]
+        >>> with Session() as session:
+        ...     said = session.send_all(lines)
+        ...     print(session.step().did)
+        called: 0 adder x x y
+        y = 6 because no premise
         """
         reply = self.send("step")
         assert isinstance(reply, Step)
@@ -296,20 +374,33 @@ class Session(Closing):
     def how(self, cell: str) -> How:
         """What makes up what is known of a cell as it stands, where the program is propwide: no
         step is taken. Raises UnknownCommand over a program that doesn't tell, the refusal of a cell
-        that isn't there, and ProgramEnded."""
+        that isn't there, and ProgramEnded.
+
+        >>> with Session() as session:
+        ...     said = session.send_all(["cell x span", "tell ana x 3..5"])
+        ...     [part] = session.how("x").parts
+        ...     print(part.premise, part.value)
+        ana 3..5
+        """
         reply = self.send(f"how {cell}")
         assert isinstance(reply, How)
         return reply
 
     def list(self) -> Listing:
         """What there is, with how the choices stand, where the program is propwide. Raises
-        UnknownCommand over a program that doesn't tell, and ProgramEnded."""
+        UnknownCommand over a program that doesn't tell, and ProgramEnded.
+
+        >>> with Session() as session:
+        ...     said = session.send_all(["cell x span", "tell ana x 3..5"])
+        ...     print(session.list().premises)
+        (('ana', True),)
+        """
         reply = self.send("list")
         assert isinstance(reply, Listing)
         return reply
 
     def solve(
-        self, *cells: str, seconds: float | None = None, progress: Progress | None = None
+        self, *cells: str, seconds: float | None = None, progress: RunProgress | None = None
     ) -> Points | NoneFits | Unsettled:
         """Points that fit, one value for each cell, or the premises that leave none; where the
         program is propwide. The cells that are named get their values first.
@@ -321,13 +412,22 @@ class Session(Closing):
         `seconds` and `progress` are as those of `send`; asked again at once it goes on. Raises
         UnknownCommand over a program that doesn't search, the refusal of a cell that isn't there,
         and as `send`.
+
+        >>> with Session() as session:
+        ...     said = session.send_all(["cell x span", "tell ana x 3"])
+        ...     print(session.solve().values)
+        {'x': Span(low=3, high=3)}
         """
         reply = self.send(" ".join(["solve", *cells]), seconds=seconds, progress=progress)
         assert isinstance(reply, Points | NoneFits | Unsettled)
         return reply
 
     def least(
-        self, cell: str, *cells: str, seconds: float | None = None, progress: Progress | None = None
+        self,
+        cell: str,
+        *cells: str,
+        seconds: float | None = None,
+        progress: RunProgress | None = None,
     ) -> Best | NoneFits | SoFar | Unsettled:
         """The least that a number can be, with points at which it is, and the premises because of
         which it can't be less. Where that isn't settled in time the best points so far are given.
@@ -336,13 +436,29 @@ class Session(Closing):
             best = session.least("cost", seconds=10)
             if isinstance(best, Best):
                 print(best.value, best.because, best.points.values)
+
+        >>> with Session() as session:
+        ...     said = session.send_all(["cell x span", "tell ana x 3..5"])
+        ...     best = session.least("x", seconds=10)
+        ...     print(best.value, best.because)
+        3 ('ana',)
         """
         return self._end("least", cell, cells, seconds, progress)
 
     def greatest(
-        self, cell: str, *cells: str, seconds: float | None = None, progress: Progress | None = None
+        self,
+        cell: str,
+        *cells: str,
+        seconds: float | None = None,
+        progress: RunProgress | None = None,
     ) -> Best | NoneFits | SoFar | Unsettled:
-        """The same for the greatest that a number can be."""
+        """The same for the greatest that a number can be.
+
+        >>> with Session() as session:
+        ...     said = session.send_all(["cell x span", "tell ana x 3..5"])
+        ...     print(session.greatest("x").value)
+        5
+        """
         return self._end("greatest", cell, cells, seconds, progress)
 
     def _end(
@@ -351,7 +467,7 @@ class Session(Closing):
         cell: str,
         cells: Iterable[str],
         seconds: float | None,
-        progress: Progress | None,
+        progress: RunProgress | None,
     ) -> Best | NoneFits | SoFar | Unsettled:
         """An end of a number."""
         reply = self.send(" ".join([end, cell, *cells]), seconds=seconds, progress=progress)
@@ -363,7 +479,7 @@ class Session(Closing):
         count: int,
         *cells: str,
         seconds: float | None = None,
-        progress: Progress | None = None,
+        progress: RunProgress | None = None,
     ) -> Several | NoneFits | Unsettled:
         """So many points that fit, of which no two are the same at all of these cells; and whether
         there are others. Asked again at once it gives others yet. All else is as in `solve`.
@@ -371,6 +487,12 @@ class Session(Closing):
             found = session.plans(10, "x", "y")
             if isinstance(found, Several):
                 print(len(found.rows), found.rows[0]["x"], found.others)
+
+        >>> with Session() as session:
+        ...     said = session.send_all(["cell x span", "tell ana x 3..5"])
+        ...     found = session.plans(10, "x")
+        ...     print(len(found.rows), found.others)
+        3 ('ana',)
         """
         line = " ".join(["plans", str(count), *cells])
         reply = self.send(line, seconds=seconds, progress=progress)
@@ -380,7 +502,12 @@ class Session(Closing):
     @property
     def tells(self) -> tuple[str, ...]:
         """Those of the commands `step`, `how` and `list`, `solve`, `least`, `greatest` and `plans`
-        that the program has. It is asked once."""
+        that the program has. It is asked once.
+
+        >>> with Session() as session:
+        ...     print(session.tells)
+        ('step', 'how', 'list', 'solve', 'least', 'greatest', 'plans')
+        """
         if self._tells is None:
             # (none of these is carried out but `list`)
             asked = {"how _": ["step", "how"], "list": ["list"], "least": list(SEEKING)}
@@ -391,7 +518,12 @@ class Session(Closing):
 
     @property
     def seeks(self) -> bool:
-        """Whether the program searches for points that fit."""
+        """Whether the program searches for points that fit.
+
+        >>> with Session() as session:
+        ...     print(session.seeks == ("solve" in session.tells))
+        True
+        """
         return "solve" in self.tells
 
     def replay(self, lines: Iterable[str] | None = None) -> Outcomes:
@@ -399,6 +531,11 @@ class Session(Closing):
         place, and gives their replies.
 
         Raises ProgramEnded where the program ends again; the lines are kept.
+
+        >>> with Session() as session:
+        ...     said = session.send_all(["cell x span", "tell ana x 3..5"])
+        ...     print(*session.replay())
+        ok ok
         """
         given = None if lines is None else as_lines(lines)
         turn = self._take_turn()
@@ -410,7 +547,14 @@ class Session(Closing):
 
     def drop_lines(self) -> None:
         """Lets go of the lines that were carried out, for a session that asks very much and is never
-        begun anew: `lines` has those from now on, and a `replay` carries out no others."""
+        begun anew: `lines` has those from now on, and a `replay` carries out no others.
+
+        >>> with Session() as session:
+        ...     said = session.send_all(["cell x span", "tell ana x 3..5"])
+        ...     session.drop_lines()
+        ...     print(session.lines)
+        []
+        """
         turn = self._take_turn()
         try:
             self._talk.lines.clear()
@@ -513,7 +657,8 @@ class Session(Closing):
         if words and words[0] in RUNNING:
             return self._runner.watched(Question(line, words, self._sent), watch)
         if words and words[0] in SEEKING:
-            return Seeking(self._talk, Question(line, words, self._sent), watch).reply()
+            question = Question(line, words, self._sent)
+            return Seeking(self._talk, question, watch, self.steps_of_slice).reply()
         # (who is told that it came to nothing may send it again)
         self._talk.program.is_kept = False
         self._runner.tell(line)

@@ -1,6 +1,5 @@
 """Tables of text in columns, with what can't be printed escaped."""
 
-import textwrap
 from collections.abc import Sequence
 
 from propbench.showing import printable, width
@@ -28,6 +27,8 @@ def table(
 
 def _wrapped(row: list[str], room: int) -> list[list[str]]:
     """The row, its last text in pieces of at most so many letters."""
+    import textwrap
+
     *front, last = row
     first, *more = textwrap.wrap(last, room) or [""]
     return [[*front, first], *([*([""] * len(front)), piece] for piece in more)]

@@ -10,396 +10,94 @@
     print(days.ask())  # days = 0..5 because of cheap
 """
 
-import os
-from collections.abc import Collection, Iterable, Iterator, Mapping, Sequence
-from contextlib import ExitStack, contextmanager, suppress
-from datetime import date
-from typing import TYPE_CHECKING, TypeVar, overload
-from weakref import WeakValueDictionary
+from __future__ import annotations
 
-from propbench.closing import Closing
-from propbench.files import write_file
-from propbench.finding import find_wide
-from propbench.given import path_given
-from propbench.measuring.bench import Measuring
-from propbench.measuring.quantities import Quantity, coverage_of
-from propbench.measuring.sensitivity import Improvements
-from propbench.measuring.readings import reading_of
+from collections.abc import Iterable, Iterator, Sequence
+from datetime import date
+from typing import TYPE_CHECKING
+
+from propbench.clock import Clock, Progress
+from propbench.laboratory.bench import Laboratory
 from propbench.measuring import stating
+from propbench.measuring.quantities import Quantity, coverage_of
+from propbench.measuring.readings import reading_of
+from propbench.measuring.sensitivity import Improvements
 from propbench.measuring.terms import Law
-from propbench.model.answers import Answer, Conflict, NotSettled, ends_of
-from propbench.model.blaming import always, beyond
-from propbench.model.cells import (
-    Cell,
-    ElementCell,
-    NumberCell,
-    SymbolCell,
-    TruthCell,
-    gone,
-    words_of,
-)
-from propbench.model.choosing import MOST_ALTERNATIVES
-from propbench.model.events import (
-    CellMade,
-    Choice,
-    ConstraintChoice,
-    DomainMade,
-    Required,
-    Told,
-    ValueChoice,
-)
-from propbench.model.expressions import Expression, Truth, node_of, point_of
-from propbench.model.given import Given, alternative_of, given_of, values_of
-from propbench.model.kinds import Domain, Kind, Plain, kind_text
-from propbench.model.network import Network
-from propbench.model.nodes import Declared, Node, cells_in
-from propbench.model.overall import over_all_plans
-from propbench.model.reading import Reader
-from propbench.model.saving import read, saved
+from propbench.model.answers import Answer
+from propbench.model.cells import Cell
+from propbench.model.expressions import Truth
+from propbench.model.given import Given, given_of
+from propbench.model.nodes import Declared, Node
 from propbench.model.seam import BenchModel
-from propbench.model.shrinking import shrink
-from propbench.model.tabling import Table
-from propbench.nearby import near_names
-from propbench.overview import UNPROVED
+from propbench.plain import PlainWorkbench
 from propbench.planning import Calendar, Project
-from propbench.program import OutOfTime
+from propbench.planning.schedule import schedule_in
 from propbench.questions import Sensitivity
 from propbench.questions.asking import CellLike
-from propbench.questions.clock import Clock, Progress
-from propbench.questions.model import First
-from propbench.refusals import UnknownCommand
-from propbench.replies import Contradiction, Settled, Value, Worldview
-from propbench.session import Session
 
 if TYPE_CHECKING:
-    from propbench.page import Page
-    from propbench.pictures import Film, Picture
-    from propbench.watching import Claim
+    from propbench.laboratory.adjustment import Adjustment
+    from propbench.laboratory.report import Report
+    from propbench.model.tabling import Table
 
-# What each alternative of a choice states: one constraint or several.
-Stated = Truth | bool | Sequence[Truth | bool]
-SomeCell = TypeVar("SomeCell", bound=Cell)
-_UNTOLD = "what makes up a value is told by propwide, and this program is another"
-_MAY_BE_FEWER = "there was no time to find out whether fewer of these are in conflict"
-_LACKS = "The program has no rule of its own for {}: answers may be wider than those of propwide."
+# Seconds in which it is known how finely curves have to be told, or that isn't waited for.
+_SOON = 2.0
 
 
-class Workbench(Measuring, Closing):
+class Workbench(PlainWorkbench, Laboratory):
     """A network of cells with constraints, some of them under premises, and what follows.
 
-    Cells come from `number`, `truth`, `element` (of a `domain`) and `symbol`. What holds between
-    them is stated by `require`, values by `fix` and `tell`, alternatives by `choose`. With
-    `under=` a statement belongs to a premise, which `kick` takes out, `bring` takes in again, and
-    `forget` removes. Of a cell one asks `x.ask()`, `x.why()` and `x.core()`; `table` and `show`
-    tell of several. Where what is believed can't all hold, a question raises Conflict.
+    What it does, by what it is for:
 
-    Questions that take many asks are methods too: `conflicts`, `repairs`, `least`, `greatest`,
-    `plans`, `what_if` and others. `save` and `load` keep a workbench in a file.
+    - cells: `number`, `truth`, `element` (of a `domain`), `symbol`, `measured` with a unit; `cell`
+      gives one by its name, and `cells` all.
+    - what holds: `require` between cells, `fix` and `tell` for values, `choose` between
+      alternatives; `law` and `read` for quantities; `project` for tasks and people.
+    - premises: with `under=` a statement belongs to one, which `kick` takes out, `bring` takes in
+      again, and `forget` removes; `premises` and `believed` name them.
+    - what follows: `x.ask()`, `x.why()` and `x.core()` of a cell, `table` and `show` of several,
+      `how` as a tree, `settle` for whether all fits. A question raises Conflict where what is
+      believed can't all hold.
+    - what conflicts: `conflicts`, `repairs`, and of readings `outliers`.
+    - what is best: `solve`, `least`, `greatest`, `plans`, `slack`, `critical`; `try_first` says
+      which values come first.
+    - what if: `what_if`, `scenarios`, `sweep`, `sensitivity`, `snapshot`, `diff`, `compare`.
+    - quantities closer: `quantities`, `sought`, `device`, `devices`, `read_csv`,
+      `read_table`, `read_laws`, `results`, `shave`, `predict`, `improvements`, `room`,
+      `adjust`, `report`.
+    - to look at: `picture`, `film`, `serve`.
+    - files and lines: `save`, `load`, `lines`, `close`; `proved` and `lacks` tell of the program.
+    - within: `session`, `network`, `model`, `answer`, `constraint_of`; and `plan`, an older name of `project`.
+
+    Several names may be given as a list, or in one text with spaces between.
 
     Each call is carried out at once and whole. Where it is refused, by ValueError or TypeError, or
     ends by another exception, as at Ctrl-C, nothing of it is stated: answers are as before, but of
     several reasons that are all right others may be named where the program had to begin anew.
     """
 
-    def __init__(
-        self,
-        program: str | os.PathLike[str] | None = None,
-        *,
-        order: str = "fifo",
-        seed: int = 0,
-        limit: int | None = None,
-    ) -> None:
-        """Starts the program: the one given, else that of $PROPWIDE or $PROPBENCH, else propwide,
-        and else propbench, which has fewer rules (`lacks` tells what is missed). Its options are
-        those of a `Session`."""
-        found = find_wide(program).path
-        self._owner = object()
-        self._network = Network(Session(found, order=order, seed=seed, limit=limit))
-        # The cells that anyone has, by how they were declared.
-        self._cells: WeakValueDictionary[Declared, Cell] = WeakValueDictionary()
-
-    def close(self) -> None:
-        """Ends the program. Nothing can be stated or asked after that."""
-        self._network.close()
-
-    @property
-    def session(self) -> Session:
-        """The session that the workbench speaks through."""
-        return self._network.session
-
-    @property
-    def network(self) -> Network:
-        """What was stated, and how it stands on lines: what views are made of."""
-        return self._network
-
     @property
     def model(self) -> BenchModel:
-        """The workbench as questions see it, which take many asks."""
-        return BenchModel(self._network)
+        self._sharpen(self._network.cells.values(), Clock(_SOON, None))
+        return BenchModel(self._network, schedule_in)
 
-    @property
-    def proved(self) -> bool:
-        """Whether the program is known to be built from proofs."""
-        return self._network.session.proved
-
-    @property
-    def lacks(self) -> tuple[str, ...]:
-        """What was written so far for which the program has no procedure of its own. At single
-        values it is decided all the same; before that answers may be wider than propwide's."""
-        return tuple(self._network.lacks)
-
-    # --- cells ---
-
-    def number(self, name: str, low: int | None = None, high: int | None = None) -> NumberCell:
-        """A cell for a whole number from `low` to `high`, each of which may be left open."""
-        ends = [end if end is None else point_of(end, Plain.NUMBER) for end in (low, high)]
-        least, most = (None if end is None else int(end) for end in ends)
-        if least is not None and most is not None and least > most:
-            raise ValueError(f"from {low} to {high} there is no number, for {name!r}")
-        return self._added(NumberCell(self._declared(name, Plain.NUMBER, least, most), self))
-
-    def truth(self, name: str) -> TruthCell:
-        """A cell for a truth."""
-        return self._added(TruthCell(self._declared(name, Plain.TRUTH), self))
-
-    def domain(self, name: str, elements: str | Iterable[str]) -> Domain:
-        """A domain of these elements, given in one text with spaces between or one by one."""
-        names = words_of(elements)
-        if not 1 <= len(names) <= 64:
-            raise ValueError(f"a domain has one to 64 elements, and {name!r} {len(names)}")
-        is_there = name in self._network.domains
-        if is_there or len(set(names)) < len(names):
-            what = "there is one" if is_there else "an element stands twice"
-            raise ValueError(f"no domain {name!r} can be made: {what}")
-        made = Domain(name, names)
-        self._network.do(DomainMade(made))
-        return made
-
-    def element(self, name: str, domain: Domain) -> ElementCell:
-        """A cell for an element of a domain that this workbench has made."""
-        if not isinstance(domain, Domain) or self._network.domains.get(domain.name) is not domain:
-            raise TypeError(f"{domain!s} is no domain of this workbench: make one by `w.domain`")
-        return self._added(ElementCell(self._declared(name, domain), self))
-
-    def symbol(self, name: str) -> SymbolCell:
-        """A cell for a symbol, which is any name."""
-        return self._added(SymbolCell(self._declared(name, Plain.SYMBOL), self))
-
-    def cell(self, name: str) -> Cell:
-        """The cell of this name. Raises ValueError where there is none."""
-        if not isinstance(name, str):
-            raise TypeError(f"a cell is named by a text: {name!r}")
-        if name not in self._network.cells:
-            near = near_names(name, self._network.cells)
-            hint = f" Did you mean {' or '.join(map(repr, near))}?" if near else ""
-            raise ValueError(f"no cell is called {name!r}.{hint}")
-        return self._cell(self._network.cells[name])
-
-    @property
-    def cells(self) -> tuple[Cell, ...]:
-        """The cells, in the order in which they were made."""
-        return tuple(map(self._cell, self._network.cells.values()))
-
-    # --- statements ---
-
-    def require(self, constraint: Truth | bool, under: str | None = None) -> None:
-        """States a constraint, always or under a premise.
-
-        While the premise is kicked out the constraint has no effect at all, also where it is false
-        or can't be worked out; while it is believed it tells as much as one that holds always.
-        """
+    def constraint_of(self, constraint: Truth | bool) -> Node:
         if isinstance(constraint, Law):
             raise TypeError(f"`{constraint!r}` is a law of quantities: state it by `w.law(..)`")
-        if isinstance(constraint, Expression) and not isinstance(constraint, Truth):
-            raise TypeError(f"`{constraint!r}` is {kind_text(constraint.node.kind)}, no constraint")
-        node = node_of(constraint, Plain.TRUTH)
-        self._check_own(node)
-        if under is not None:
-            self._network.premises.check(under)
-        self._network.do(Required(node, under))
-
-    def fix(self, cell: Cell, value: Given, high: int | None = None) -> None:
-        """States that a cell has a value, always: a number, or the numbers up to `high`; a truth,
-        a name, or a list of elements of which it is one; of a quantity a reading."""
-        self._tell(None, cell, value, high)
-
-    def tell(self, premise: str, cell: Cell, value: Given, high: int | None = None) -> None:
-        """States the same under a premise."""
-        self._network.premises.check(premise)
-        self._tell(premise, cell, value, high)
-
-    def _tell(self, premise: str | None, cell: Cell, value: Given, high: object) -> None:
-        own = self._own(cell)
-        if isinstance(cell, Quantity):
-            self._network.do(
-                stating.read(own, reading_of(given_of(value, high), cell.unit), premise)
-            )
-        else:
-            self._network.do(Told(own, values_of(own, value, high), premise))
-
-    # --- premises ---
-
-    @property
-    def premises(self) -> tuple[str, ...]:
-        """The premises, in the order of their first mention."""
-        return tuple(self._network.premises.believed)
-
-    @property
-    def believed(self) -> tuple[str, ...]:
-        """The premises that are believed."""
-        return tuple(self._network.premises.in_force)
-
-    def kick(self, premise: str) -> None:
-        """What is stated under the premise does not count from now on."""
-        self._network.premises.check_known(premise)
-        self._network.kick(premise)
-
-    def bring(self, premise: str) -> None:
-        """What is stated under the premise counts again."""
-        self._network.premises.check_known(premise)
-        self._network.bring(premise)
-
-    def forget(self, premise: str) -> None:
-        """What is stated under the premise goes for good, and the premise with it."""
-        self._network.premises.check_known(premise)
-        self._network.forget(premise)
-
-    # --- choices ---
-
-    @overload
-    def choose(self, name: str, cell: Cell, alternatives: Sequence[object]) -> None:
-        ...
-
-    @overload
-    def choose(self, name: str, cell: Mapping[str, Stated]) -> None:
-        ...
-
-    def choose(
-        self,
-        name: str,
-        cell: Cell | Mapping[str, Stated],
-        alternatives: Sequence[object] | None = None,
-    ) -> None:
-        """Makes a choice between two to 64 alternatives, the one to be tried first in front.
-
-        They are values of a cell, or, by name, constraints that hold together:
-
-            w.choose("plan", price, [1400, 2000])
-            w.choose("venue", {"hotel": [days == 2, price == 4000], "uni": [days == 5]})
-
-        Answers are those of one plan, the first that fits: choices in the order in which they were
-        made, alternatives as they stand. A pair of numbers is from the one to the other.
-        """
-        self._network.premises.check_choice(name)
-        given = cell if isinstance(cell, Mapping) else alternatives
-        if not isinstance(given, Collection):
-            raise TypeError(
-                f"{name!r} is a choice between a list of values of a cell, as `w.choose(name, price, "
-                "[1400, 2000])`, or between constraints by name, as in a dict"
-            )
-        if not 2 <= len(given) <= MOST_ALTERNATIVES:
-            raise ValueError(
-                f"a choice has two to {MOST_ALTERNATIVES} alternatives, and {name!r} has {len(given)}"
-            )
-        event: Choice
-        if isinstance(cell, Mapping):
-            named = [(side, self._constraints(stated)) for side, stated in cell.items()]
-            event = ConstraintChoice(name, tuple(named))
-        else:
-            own = self._own(cell)
-            event = ValueChoice(name, own, tuple(alternative_of(own, each) for each in given))
-        self._network.do(event)
-
-    # --- questions ---
-
-    def try_first(self, *groups: tuple[Sequence[Cell], bool]) -> None:
-        """Has questions that take many asks try out values of these cells before those of others,
-        group by group, and in each the cell with the fewest values first. A group is some cells,
-        and whether of their values the greatest comes first. It changes no answer, but when it
-        comes."""
-        self._network.try_first(
-            tuple(
-                First(tuple(self._own(cell).name for cell in cells), is_from_top)
-                for cells, is_from_top in groups
-            )
-        )
-
-    def settle(self, *, seconds: float | None = None) -> bool:
-        """Whether all that follows was found, and nothing speaks against it: False at a conflict.
-
-        Raises NotSettled where the run is cut first, and OutOfTime where the program hangs.
-        """
-        reply = self.session.send("settle", seconds=seconds)
-        if isinstance(reply, (Settled, Contradiction)):
-            return isinstance(reply, Settled)
-        raise NotSettled("the run was cut before it settled: ask again, it goes on from there")
+        return super().constraint_of(constraint)
 
     def answer(
         self, command: str, cell: Declared, seconds: float | None, over: str | None
     ) -> Answer:
-        """What follows for a cell: by `why`, or by `core`."""
-        if self._network.cells.get(cell.name) is not cell:
-            self._check_there([cell])
-        if over is not None:
-            if over != "all plans":
-                raise ValueError(f'an answer may be over="all plans", and not over={over!r}')
-            return self._over_all_plans(cell, seconds)
-        # (these take a while each to be looked at, and cells are asked often)
-        session, names = self._network.session, self._network.vocabulary
-        premises, clock = self._network.premises, Clock(seconds, None)
-        reply = session.send(f"{command} {names.cells.line(cell.name)}", seconds=seconds)
-        if not isinstance(reply, Value):
-            assert isinstance(reply, Contradiction)
-            raise self._conflict(reply, clock.seconds_left())
-        read = Reader(names, premises)
-        if not premises.choices:
-            return read.answer(cell, reply, {})
-        if seconds is not None and not reply.settled:
-            return read.answer(cell, reply, {})
-        if command == "core" and reply.settled and not clock.is_over():
-            # (after a core every procedure is called once more, before the plan is known)
-            with suppress(OutOfTime):
-                session.send("worldview", seconds=clock.seconds_left())
-        return read.answer(cell, reply, self._plan(clock))
+        clock = Clock(seconds, None)
+        if over is None:
+            self._sharpen([cell], clock)
+        return super().answer(command, cell, clock.seconds_left(), over)
 
     def table(self, *cells: Cell, seconds: float | None = None) -> Table:
-        """What follows for these cells, of all where none is given, as a table.
-
-        Raises Conflict where what is believed can't all hold, and OutOfTime where values can't be
-        asked for in time, as the program is at work yet.
-        """
-        declared = [self._own(cell) for cell in cells] or list(self._network.cells.values())
         clock = Clock(seconds, None)
-        reply = self.session.send("settle", seconds=seconds)
-        if isinstance(reply, Contradiction):
-            raise self._conflict(reply, clock.seconds_left())
-        names = self._network.vocabulary.cells
-        asks = [f"why {names.line(cell.name)}" for cell in declared]
-        replies = self.session.look(asks, until=clock.last)
-        clash = next((each for each in replies if isinstance(each, Contradiction)), None)
-        if clash:
-            raise self._conflict(clash, clock.seconds_left())
-        plan, read = self._plan(clock), self._reader
-        answers = tuple(
-            read.answer(cell, reply, plan)
-            for cell, reply in zip(declared, replies)
-            if isinstance(reply, Value)
-        )
-        return Table(answers, read.choices(plan), tuple(self._notes(answers)))
-
-    def show(self, *cells: Cell) -> None:
-        """Prints what follows for these cells, or for all; at a conflict, what can't all hold."""
-        print(self._shown(*cells))
-
-    def _repr_html_(self) -> str:
-        shown = self._shown()
-        return shown if isinstance(shown, str) else shown._repr_html_()
-
-    def _shown(self, *cells: Cell) -> Table | str:
-        try:
-            return self.table(*cells)
-        except Conflict as conflict:
-            return f"CONFLICT: {conflict}"
+        self._sharpen(map(self._own, cells) if cells else self._network.cells.values(), clock)
+        return super().table(*cells, seconds=clock.seconds_left())
 
     # (of a quantity there is another table)
     def sensitivity(  # type: ignore[override]
@@ -413,74 +111,76 @@ class Workbench(Measuring, Closing):
         """What each believed premise is worth: the answer for a cell where that is left out, and
         where each range that it tells is half as wide. By `of="least"` or `of="greatest"` it is
         the least or greatest value in any plan that is asked for. Of a quantity it is told which
-        reading to improve."""
+        reading to improve.
+
+        >>> w = Workbench()
+        >>> x = w.number("x", 0, 100)
+        >>> w.tell("Ana", x, 10, 30)
+        >>> w.tell("Ben", x, 20, 90)
+        >>> [(worth.premise, str(worth.left_out)) for worth in w.sensitivity(x)]
+        [('Ana', '20..90'), ('Ben', '10..30')]
+        """
         if isinstance(cell, Quantity):
             return self.improvements(cell, seconds=seconds, progress=progress)
         return super().sensitivity(cell, of, seconds=seconds, progress=progress)
 
-    # --- views ---
+    def adjust(
+        self, *, k: float = 2, shape: str = "rectangular", seconds: float | None = None
+    ) -> "Adjustment":
+        """Estimates of quantities by weighted least squares over the same laws and readings, with
+        standard uncertainties u and U = k u, beside the bounds; `tests` of each reading and of all.
+        What is a bound is taken as `rectangular`, `triangular` or `normal` (three u). This is
+        tested and not proved. Laws with `<=` don't count.
 
-    def picture(self, cell: Cell | None = None) -> "Picture":
-        """A picture of the network, or of what bears on a cell: cells with their values, the
-        constraints between them, and premises, those that are out in grey. A notebook shows it;
-        `.svg` and `.save(path)` need Graphviz. Of more than 60 cells those that play the same part
-        are drawn as one."""
-        from propbench.pictures import picture_of
-        from propbench.watching.of_workbench import WorkbenchWatched
+        Needs SciPy, else raises ImportError; raises ValueError where no estimate is found.
 
-        name = None if cell is None else self._own(cell).name
-        return picture_of(WorkbenchWatched(self), name)
-
-    def how(self, cell: Cell, *, seconds: float | None = None) -> "Claim":
-        """What makes up what follows for a cell, as `cell.how()` gives it."""
-        from propbench.watching.of_workbench import WorkbenchWatched
-
-        declared, clock = self._own(cell), Clock(seconds, None)
-        self.answer("why", declared, seconds, None)
-        try:
-            return WorkbenchWatched(self).how(declared.name, clock.last)
-        except UnknownCommand:
-            raise ValueError(_UNTOLD) from None
-
-    def film(self, steps: int = 12) -> "Film":
-        """The first steps that change something, of a run from nothing, as a strip of pictures."""
-        from propbench.pictures import film_of
-        from propbench.watching.of_workbench import WorkbenchWatched
-
-        return film_of(WorkbenchWatched(self), steps)
-
-    def serve(self, *, port: int = 0, wait: bool = True) -> "Page":
-        """Serves the workbench as a page, on this machine alone, and prints its address; until
-        Ctrl-C. Where it is not to `wait`, the page is given at once: `page.address` is where it is,
-        and `page.close()` ends it; whoever uses the workbench meanwhile does so `with page.held()`.
+        >>> w = Workbench()
+        >>> height = w.measured("height", "m", 0, 100, step="0.1")
+        >>> w.read("tape", height, "12.0 m +- 0.5 m")
+        >>> w.read("laser", height, "12.2 m +- 0.5 m")
+        >>> w.adjust()  # doctest: +SKIP
         """
-        from propbench.page import serve
-        from propbench.watching.of_workbench import WorkbenchWatched
+        from propbench.laboratory.adjustment import adjustment_of
 
-        return serve(WorkbenchWatched(self), "a workbench", port=port, wait=wait)
+        return adjustment_of(self, k, shape, seconds)
 
-    # --- lines ---
+    def _suspects_first(self, names: Sequence[str]) -> list[str]:
+        from propbench.laboratory.adjustment import suspects_first
+
+        return suspects_first(self, names)
+
+    def report(
+        self,
+        title: str = "Report",
+        *,
+        seconds: float | None = None,
+        progress: Progress | None = None,
+    ) -> "Report":
+        """What was read of quantities, what follows, and what shows it: `.save("report.html")`
+        writes a page that prints, and `.text` is the same as text. Where readings conflict, the
+        results are those without the ones that `outliers` gives up first.
+
+        Raises OutOfTime where values can't be asked for in time.
+
+        >>> w = Workbench()
+        >>> height = w.measured("height", "m", 0, 100, step="0.1")
+        >>> w.read("tape", height, "12.0 m +- 0.5 m")
+        >>> "height" in w.report("The house").text
+        True
+        """
+        from propbench.laboratory.report import report_of
+
+        return report_of(self, title, Clock(seconds, progress))
 
     def lines(self, constraint: Truth | Law) -> list[str]:
-        """The lines of the language that state a constraint, where it was required.
+        if not isinstance(constraint, Law):
+            return super().lines(constraint)
+        stated = (it.constraint for it in self._laws() if it.law == constraint)
+        return self._lines(constraint, stated)
 
-        With them stand those that make the cells in them which have no name of yours. Raises
-        ValueError for one that was not required.
+    # --- projects ---
 
-        Lines may rest on other constraints: where `z == x + y` holds, `z` stands for that sum.
-        """
-        if isinstance(constraint, Law):
-            nodes = [it.constraint for it in self._laws() if it.law == constraint]
-        else:
-            nodes = [node_of(constraint, Plain.TRUTH)]
-        found = list(dict.fromkeys(line for node in nodes for line in self._network.lines_of(node)))
-        if not found:
-            raise ValueError(f"`{constraint!r}` was not required")
-        return found
-
-    # --- plans ---
-
-    def plan(
+    def project(
         self,
         *,
         days: int,
@@ -494,188 +194,50 @@ class Workbench(Measuring, Closing):
         Day 0 is the date `start`, where one is given, and weekdays (`off="sat sun"`) and dates that
         are off are no days of it. A date may be a text, as `2026-12-04`. Raises ValueError and
         TypeError for what is none of these.
+
+        >>> w = Workbench()
+        >>> p = w.project(days=30, people="ana ben")
+        >>> venue = p.task("venue", 3, who="ana")
+        >>> review = p.task("review", 5, who="ben", after=[venue])
+        >>> w.least(p.end).value
+        8
         """
         calendar = None if start is None else Calendar.of(start, off)
         return Project(self, days, people, calendar)
 
-    # --- files ---
+    def plan(
+        self,
+        *,
+        days: int,
+        people: str | Sequence[str] = (),
+        start: date | str | None = None,
+        off: str | date | Iterable[str | date] = (),
+    ) -> Project:
+        """The same as `project`, by its older name, which stays until 2.0. (`plans` are others.)
 
-    def save(self, path: str | os.PathLike[str]) -> None:
-        """Writes the workbench to a file, whole or not at all.
-
-        It is a session of the language, whose comments tell what its lines are for. Raises OSError;
-        a file that is there stays then."""
-        write_file(path_given(path), "".join(f"{line}\n" for line in saved(self._network)))
-
-    @classmethod
-    def load(
-        cls, path: str | os.PathLike[str], program: str | os.PathLike[str] | None = None
-    ) -> "Workbench":
-        """The workbench of a file that `save` has written; `cell` gives its cells by name.
-
-        Raises NotAWorkbench, a ValueError, where the file is none, or its lines were changed.
+        >>> w = Workbench()
+        >>> p = w.plan(days=30)
+        >>> p.task("venue", 3).days.ask().value
+        3
         """
-        with open(path_given(path), encoding="utf-8") as file:
-            lines = file.read().split("\n")
-        owner = object()
-        events, kicked = read(lines, owner)
-        with ExitStack() as closing:
-            made = closing.enter_context(cls(program))
-            made._owner = owner
-            for event in events:
-                made._network.do(event)
-            for premise in kicked:
-                made.kick(premise)
-            closing.pop_all()
-        return made
+        return self.project(days=days, people=people, start=start, off=off)
 
     # --- within ---
 
-    @contextmanager
-    def _set_aside(self) -> Iterator[None]:
-        """Has a copy of the network, in a session of its own, stand in its place for a while. All
-        that is stated is the network's, so what is stated meanwhile ends with the copy."""
-        kept = self._network
-        try:
-            self._network = kept.copy()
-            yield
-        finally:
-            copy, self._network = self._network, kept
-            if copy is not kept:
-                copy.close()
-
-    @property
-    def _reader(self) -> Reader:
-        """What reads replies as answers."""
-        return Reader(self._network.vocabulary, self._network.premises)
+    def _tell(self, premise: str | None, cell: Cell, value: Given, high: object) -> None:
+        if not isinstance(cell, Quantity):
+            return super()._tell(premise, cell, value, high)
+        own = self._own(cell)
+        reading = reading_of(given_of(value, high), cell.unit)
+        self._network.do(stating.read(own, reading, premise))
 
     def _notes(self, answers: Sequence[Answer]) -> Iterator[str]:
-        """What is to be known of the answers, and of the program."""
         if coverage := coverage_of(answers):
             yield coverage
-        if self.lacks:
-            yield _LACKS.format(", ".join(self.lacks))
-        if not self.proved:
-            yield UNPROVED
+        yield from super()._notes(answers)
 
-    def _read(self, cell: str, reply: Value, inside: Iterable[str]) -> Answer:
-        """A reply about a cell of a session that has this one's lines, with these sides."""
-        read = self._reader
-        return read.answer(self._network.cells[cell], reply, read.plan(inside))
-
-    def _over_all_plans(self, cell: Declared, seconds: float | None) -> Answer:
-        """What the cell may be in some plan, whatever the choices take."""
-        clock = Clock(seconds, None)
-        found = over_all_plans(self, cell, seconds)
-        if found is None:
-            conflict = next(iter(self.conflicts(most=1, seconds=clock.seconds_left())), ())
-            says = {name: self._network.premises.text(name) for name in conflict}
-            raise Conflict(tuple(says), says)
-        value, is_settled = found
-        low, high = ends_of(value)
-        return Answer(cell.name, value, low, high, is_settled, self.believed)
-
-    def _known(self, cell: Declared, clock: Clock) -> Answer:
-        """What follows for a cell as far as there is time, or what is known of it where there is
-        none. Raises OutOfTime."""
-        if not clock.is_over():
-            return self.answer("why", cell, clock.seconds_left(), None)
-        line = self._network.vocabulary.cells.line(cell.name)
-        [reply] = self.session.look([f"why {line}"], until=clock.last)
-        if isinstance(reply, Contradiction):
-            raise self._conflict(reply, 0)
-        assert isinstance(reply, Value)
-        return self._reader.answer(cell, reply, {})
-
-    def _plan(self, clock: Clock) -> dict[str, int]:
-        """For each choice the place of the alternative that it stands on, where a run has found
-        that, and it is told in time."""
-        if not self._network.premises.choices:
-            return {}
-        try:
-            [reply] = self.session.look(["worldview"], until=clock.last)
-        except OutOfTime:
-            return {}
-        return self._reader.plan(reply.inside) if isinstance(reply, Worldview) else {}
-
-    def _conflict(self, found: Contradiction, seconds: float | None = None) -> Conflict:
-        """The conflict, made small as far as there is time."""
-        names, clock = self._network.vocabulary.premises, Clock(seconds, None)
-        believed = [names.line(name) for name in self._network.premises.in_force]
-        kept = list(found.premises)
-        with suppress(OutOfTime), self._network.tried() as session:
-            shrink(session, believed, kept, clock)
-        says = {name: self._network.premises.text(name) for name in map(names.text, kept)}
-        if says and clock.is_over():
-            return Conflict(tuple(says), says, (_MAY_BE_FEWER,))
-        notes = beyond(self._network, list(says), clock.seconds_left())
-        texts = [] if says else always(self._network, clock.seconds_left())
-        if texts:
-            notes.append(f"not all of this: {'; '.join(texts)}")
-        return Conflict(tuple(says), says, tuple(notes))
-
-    def _declared(
-        self, name: str, kind: Kind, low: int | None = None, high: int | None = None
-    ) -> Declared:
-        self._check_name(name)
-        return Declared(name, kind, low, high, self._owner)
-
-    def _check_name(self, name: str) -> None:
-        if not isinstance(name, str) or not name:
-            raise TypeError(f"a cell is named by a text: {name!r}")
-        if name in self._network.cells:
-            raise ValueError(f"there is a cell of this name: {name!r}")
+    def _cell_of(self, declared: Declared) -> Cell:
+        return super()._cell_of(declared) if declared.measure is None else Quantity(declared, self)
 
     def _quantity(self, made: Declared) -> Quantity:
         return self._added(Quantity(made, self))
-
-    def _added(self, cell: SomeCell) -> SomeCell:
-        self._network.do(CellMade(cell.declared))
-        self._cells[cell.declared] = cell
-        return cell
-
-    def _cell(self, declared: Declared) -> Cell:
-        """The cell that was declared so, the same as long as anyone has it."""
-        found = self._cells.get(declared)
-        if found is None:
-            found = self._cells[declared] = _cell_of(declared, self)
-        return found
-
-    def _own(self, cell: object) -> Declared:
-        """The cell, where it is one of this workbench. Raises TypeError and ValueError."""
-        if not isinstance(cell, Cell):
-            hint = f": write `w.require({cell!r} == ..)`" if isinstance(cell, Expression) else ""
-            raise TypeError(f"`{cell!r}` is no cell{hint}")
-        self._check_own(cell.node)
-        return cell.declared
-
-    def _check_own(self, node: Node) -> None:
-        self._check_there(cells_in(node))
-
-    def _check_there(self, cells: Iterable[Declared]) -> None:
-        known = self._network.cells
-        for cell in cells:
-            if cell.owner is not self._owner:
-                raise ValueError(f"{cell.name!r} is a cell of another workbench")
-            if known.get(cell.name) is not cell:
-                raise gone(cell.name)
-
-    def _constraints(self, stated: Stated) -> tuple[Node, ...]:
-        """The constraints of an alternative."""
-        if not isinstance(stated, Expression | bool | Iterable):
-            raise TypeError(f"an alternative states constraints, and {stated!r} is none")
-        several = [stated] if isinstance(stated, (Expression, bool)) else list(stated)
-        nodes = tuple(node_of(each, Plain.TRUTH) for each in several)
-        for node in nodes:
-            self._check_own(node)
-        return nodes
-
-
-def _cell_of(declared: Declared, workbench: Workbench) -> Cell:
-    """The cell that was declared so, by its kind."""
-    if isinstance(declared.kind, Domain):
-        return ElementCell(declared, workbench)
-    if declared.measure is not None:
-        return Quantity(declared, workbench)
-    classes = {Plain.NUMBER: NumberCell, Plain.TRUTH: TruthCell, Plain.SYMBOL: SymbolCell}
-    return classes[declared.kind](declared, workbench)

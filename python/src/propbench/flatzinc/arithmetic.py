@@ -14,7 +14,7 @@ from propbench.model.nodes import number as number_node
 from propbench.model.ranges import range_of
 
 YES, NO = Truth(TRUE), Truth(FALSE)
-# Beyond so many values an exponent is too open to be gone through.
+# Beyond so many values from zero on an exponent is too open to be gone through.
 _MOST_POWERS = 64
 Some = TypeVar("Some", Number, Truth)
 
@@ -118,12 +118,26 @@ def remainder(left: Number, right: Number) -> Number:
     return if_else(left < 0, -found, found)
 
 
-def power(base: Number, exponent: Number) -> Number | None:
-    """The base times itself; None where the exponent is below zero, or may be too much."""
+def power(base: Number, exponent: Number) -> tuple[Number, Truth] | None:
+    """The base times itself, and what has to hold for that; None where that may be too often. Below
+    zero it is 1 divided by the power, rounded towards zero."""
     low, high = range_of(exponent.node)
-    if low < 0 or high - low >= _MOST_POWERS:
+    first = max(low, 0)
+    if high - first >= _MOST_POWERS:
         return None
-    return picked(exponent, low, [base**each for each in range(low, high + 1)])
+    if high < 0:
+        return _inverse(base, exponent), base != 0
+    raised = picked(exponent, first, [base**each for each in range(first, high + 1)])
+    if low >= 0:
+        return raised, YES
+    inverse = _inverse(base, exponent)
+    return if_else(exponent < 0, inverse, raised), (base != 0) | (exponent >= 0)
+
+
+def _inverse(base: Number, exponent: Number) -> Number:
+    """1 divided by a power, rounded towards zero: of 1 and -1 it is such a number, else zero."""
+    odd_power = if_else(exponent % 2 == 1, base, constant(1))
+    return if_else((base == 1) | (base == -1), odd_power, constant(0))
 
 
 def picked(index: Number, first: int, values: Sequence[Some]) -> Some:

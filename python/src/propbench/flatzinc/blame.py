@@ -10,15 +10,15 @@ from collections.abc import Iterable, Iterator, Sequence
 from dataclasses import dataclass
 from pathlib import Path
 
+from propbench.clock import Clock
 from propbench.flatzinc.building import Built
 from propbench.flatzinc.compiling import Compiled, compiled
 from propbench.flatzinc.picture import dot_of, draw
-from propbench.flatzinc.solving import solve
+from propbench.flatzinc.solving import Wanted, solve
 from propbench.flatzinc.writing import solution
-from propbench.questions.clock import Clock
+from propbench.plain import PlainWorkbench
 from propbench.questions.conflicts import Conflicts, Repair, Repairs, find_both
 from propbench.showing import printable, shown
-from propbench.workbench import Workbench
 
 
 # This part of the time is for conflicts and repairs, the rest for a solution.
@@ -41,7 +41,7 @@ def blame_file(model: Path, data: Sequence[Path], asked: Asked, program: str | N
     up. Gives the exit status: 0, and 1 where it wasn't found out in time, or no certificate can
     show it. Raises ValueError, OSError, and as `Session` does."""
     made = compiled(model, data)
-    with Workbench(program) as workbench:
+    with PlainWorkbench(program) as workbench:
         built = Built(made.flat, workbench)
         clock = Clock(asked.seconds, None)
         conflicts, repairs = blamed(built, made, asked)
@@ -87,7 +87,7 @@ def _repaired(built: Built, repair: Repair, seconds: float | None) -> Iterator[s
     workbench = built.workbench
     for name in repair:
         workbench.kick(name)
-    found = solve(built, 1, seconds)
+    found = solve(built, Wanted(seconds=seconds))
     for name in repair:
         workbench.bring(name)
     without = printable(f"Without {repair}")

@@ -7,9 +7,10 @@ stands in its place, and the other conditions of its definition hold always.
 from collections.abc import Iterable
 
 from propbench.flatzinc import meaning, symbolic
-from propbench.flatzinc.arithmetic import NO, YES, constant, every, same_truth, within
+from propbench.flatzinc.arithmetic import NO, YES, constant, every, same_truth, some, within
 from propbench.flatzinc.forms import check
 from propbench.flatzinc.meaning import differing
+from propbench.flatzinc.sets import Members, elements_of, is_same, places_of
 from propbench.flatzinc.terms import (
     BLAMED,
     Call,
@@ -32,8 +33,9 @@ from propbench.model.expressions import (
     element,
 )
 from propbench.model.kinds import Domain
-from propbench.workbench import Workbench
+from propbench.plain import PlainWorkbench
 
+_INTRODUCED = "var_is_introduced"
 # Definitions lie so deep within one another at the most; then a cell has the value.
 _DEEPEST = 30
 
@@ -41,11 +43,13 @@ _DEEPEST = 30
 class Built:
     """A model in a workbench."""
 
-    def __init__(self, flat: Flat, workbench: Workbench) -> None:
+    def __init__(self, flat: Flat, workbench: PlainWorkbench) -> None:
         """States all of the model. Raises NotSupported, and ValueError where there is no room."""
         check(flat)
         self.flat, self.workbench = flat, workbench
         self.cells: dict[str, Cell] = {}
+        # The truths of each set's elements.
+        self.sets: dict[str, dict[int, TruthCell]] = {}
         self._expressions: dict[str, Number | Truth | Element] = {}
         self._deep: dict[str, int] = {}
         self._titles = _titles(flat)
@@ -57,7 +61,8 @@ class Built:
             for each in flat.constraints
             if each.defined is not None
             and each.defined in flat.variables
-            and flat.variables[each.defined].has("var_is_introduced")
+            and flat.variables[each.defined].has(_INTRODUCED)
+            and not flat.variables[each.defined].is_set
             and each.defined not in kept
         }
         self._done: set[int] = set()
@@ -67,9 +72,16 @@ class Built:
             raise NotSupported(0, "definitions lie too deep within one another") from None
 
     def _state_all(self, flat: Flat) -> None:
+        sets = [variable for variable in flat.variables.values() if variable.is_set]
+        for variable in sets:
+            self._set(variable)
         for variable in flat.variables.values():
-            if variable.name not in self._definitions:
+            if not variable.is_set and variable.name not in self._definitions:
                 self._expression(variable.name)
+        for variable in sets:
+            if variable.value is not None:
+                given, told = self.members(Name(variable.name)), self.members(variable.value)
+                self._require(is_same(given, told))
         for each in flat.constraints:
             if each.defined in self._definitions:
                 self._expression(str(each.defined))
@@ -78,13 +90,23 @@ class Built:
 
     @property
     def own(self) -> list[Cell]:
-        """The cells of the variables that MiniZinc didn't bring in."""
-        variables = self.flat.variables
-        return [
-            cell
-            for name, cell in self.cells.items()
-            if not variables[name].has("var_is_introduced")
-        ]
+        """The cells of the variables that MiniZinc didn't bring in, or prints: in these solutions
+        differ."""
+        printed = {each.text for each in _printed(self.flat)}
+        variables = self.flat.variables.items()
+        names = [name for name, it in variables if name in printed or not it.has(_INTRODUCED)]
+        return [cell for name in names for cell in self.cells_of(name)]
+
+    @property
+    def count(self) -> int:
+        """How many cells there are."""
+        return len(self.cells) + sum(map(len, self.sets.values()))
+
+    def cells_of(self, name: str) -> list[Cell]:
+        """The cells of a variable: none where it is an expression, one, or those of a set."""
+        if name in self.sets:
+            return list(self.sets[name].values())
+        return [self.cells[name]] if name in self.cells else []
 
     # --- what terms stand for ---
 
@@ -132,12 +154,33 @@ class Built:
             return None
         name = constraint.name.removesuffix("_reif")
         if name == "set_in":
-            return self._one_of(elements[0], self.values(constraint.args[1]))
+            return self._is_in(elements[0], constraint.args[1])
+        if name == "array_set_element":
+            return self._is_set_at(elements[0], constraint)
         if name == "fzn_all_different_int":
             return differing(elements)
         first, second = sorted(elements, key=lambda each: isinstance(each, str))
         assert isinstance(first, Element)
         return first == second if name.endswith("eq") else first != second
+
+    def _is_in(self, made: Element | str, term: Term) -> Truth:
+        """That an element's number is in a set."""
+        values = self.values(term)
+        if values is not None:
+            return self._one_of(made, values)
+        held = self.members(term).truths.items()
+        is_one = [every([self._one_of(made, Numbers.of([it])), truth]) for it, truth in held]
+        return some(is_one)
+
+    def _is_set_at(self, made: Element | str, constraint: Constraint) -> Truth:
+        """That a set is the one of these constants whose place is an element's number."""
+        _, given, told = constraint.args
+        sets, member = self.sets_of(given), self.members(told)
+        found = {
+            element: self._one_of(made, places_of(element, sets)) for element in elements_of(sets)
+        }
+        is_place = self._one_of(made, Numbers.span(1, len(sets)))
+        return every([is_place, is_same(Members(found), member)])
 
     def _elements(self, term: Term) -> list[Element | str]:
         """The element that a term stands for, as a list; an empty one where it is none."""
@@ -153,11 +196,23 @@ class Built:
         kept = [each for each in names if values.has(int(each))]
         return made.among(*kept) if kept else NO
 
-    def values(self, term: Term) -> Numbers:
-        """A constant set."""
+    def values(self, term: Term) -> Numbers | None:
+        """A constant set; None for a variable."""
         found = self.flat.resolved(term)
-        assert isinstance(found, Numbers), f"no set: {term!r}"
-        return found
+        return found if isinstance(found, Numbers) else None
+
+    def members(self, term: Term) -> Members:
+        """A set."""
+        values = self.values(term)
+        if values is not None:
+            return Members.of(values)
+        found = self.flat.resolved(term)
+        assert isinstance(found, Name), f"no set: {term!r}"
+        return Members(self.sets[found.text])
+
+    def sets_of(self, term: Term) -> list[Members]:
+        """An array of sets."""
+        return [self.members(each) for each in self.elements(term)]
 
     def _value(self, term: Term) -> Number | Truth | Element:
         found = self.flat.resolved(term)
@@ -214,6 +269,15 @@ class Built:
         self._require(self._is_possible(variable, made))
         return made
 
+    def _set(self, variable: Variable) -> None:
+        """A truth for each element that a set may have."""
+        title = self._titles.get(variable.name, variable.name)
+        assert variable.values is not None
+        self.sets[variable.name] = {
+            element: self.workbench.truth(f"{element} in {title}")
+            for element in variable.values.each()
+        }
+
     def _domain(self, values: tuple[int, ...]) -> Domain:
         """The domain of these numbers, the same each time."""
         if values not in self._domains:
@@ -254,14 +318,19 @@ def _is_plain(truth: Truth) -> bool:
     return truth.node in (YES.node, NO.node)
 
 
-def _kept(flat: Flat) -> Iterable[Name]:
-    """The variables that have to be cells: those that are printed, sought, or tried out first."""
+def _printed(flat: Flat) -> Iterable[Name]:
+    """The variables that are printed."""
     for variable in flat.variables.values():
         if variable.has("output_var"):
             yield Name(variable.name)
     for array in flat.arrays.values():
         if array.printed is not None:
             yield from _names_in(array.elements)
+
+
+def _kept(flat: Flat) -> Iterable[Name]:
+    """The variables that have to be cells: those that are printed, sought, or tried out first."""
+    yield from _printed(flat)
     if flat.goal.objective is not None:
         yield from _names_in((flat.goal.objective,))
     for each in flat.goal.annotations:

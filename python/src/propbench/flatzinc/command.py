@@ -1,19 +1,24 @@
 """`fzn-propbench`: a solver as MiniZinc calls one, by a file of FlatZinc."""
 
 import argparse
+import signal
 import sys
+import threading
 import time
-from collections.abc import Sequence
+from collections.abc import Iterator, Sequence
+from contextlib import contextmanager
 
 from propbench.finding import NoProgram
 from propbench.flatzinc.building import Built
 from propbench.flatzinc.grammar import read
-from propbench.flatzinc.solving import ALL, solve
+from propbench.flatzinc.seeking import Way
+from propbench.flatzinc.solving import ALL, Wanted, solve
 from propbench.flatzinc.terms import NotSupported
-from propbench.flatzinc.writing import statistics, written
+from propbench.flatzinc.writing import SOLUTION, UNKNOWN, ending, solution, statistics
+from propbench.plain import PlainWorkbench
 from propbench.program import OutOfTime, ProgramEnded
+from propbench.questions import Plan
 from propbench.showing import said_of
-from propbench.workbench import Workbench
 
 DESCRIPTION = """\
 Solves a model in FlatZinc by the proved workbench: MiniZinc calls it, by `minizinc --solver
@@ -23,10 +28,16 @@ propbench MODEL DATA`. That there is no solution, and none that is better, is wh
 
 def parser() -> argparse.ArgumentParser:
     """The reader of the command line, with the options that MiniZinc gives a solver."""
-    made = argparse.ArgumentParser(prog="fzn-propbench", description=DESCRIPTION)
+    made = argparse.ArgumentParser(
+        prog="fzn-propbench", description=DESCRIPTION, allow_abbrev=False
+    )
     made.add_argument("file", metavar="FILE", help="the model in FlatZinc, or - for standard input")
     made.add_argument("-a", "--all", action="store_true", help="all solutions, not one alone")
     made.add_argument("-n", type=int, metavar="N", help="so many solutions (1)")
+    made.add_argument("-i", "--intermediate", action="store_true", help="each better solution too")
+    made.add_argument("-f", "--free", action="store_true", help="heed no search annotations")
+    made.add_argument("-p", type=int, metavar="N", default=1, help="so many searches side by side")
+    made.add_argument("-r", type=int, metavar="SEED", help="call procedures in another order")
     made.add_argument("-t", type=float, metavar="MS", help="milliseconds that it may take")
     made.add_argument("-s", "--statistics", action="store_true", help="statistics too")
     made.add_argument("-v", "--verbose", action="store_true", help="tell what is done")
@@ -37,9 +48,14 @@ def parser() -> argparse.ArgumentParser:
 def main(words: Sequence[str] | None = None) -> int:
     """Solves the model of a command line, and gives the exit status: 0, or 1 where it can't be
     read or the program ended."""
-    options = parser().parse_args(words)
+    options = _options(list(sys.argv[1:] if words is None else words))
     try:
-        return _solved(options)
+        with _ended_by_interrupt():
+            return _solved(options)
+    except KeyboardInterrupt:
+        # (before anything was sought)
+        print(UNKNOWN, flush=True)
+        return 0
     except (ValueError, NoProgram, ProgramEnded, OutOfTime, OSError) as error:
         place = f"{options.file}, " if isinstance(error, NotSupported) else ""
         print(f"fzn-propbench: {place}{said_of(error)}", file=sys.stderr)
@@ -49,29 +65,59 @@ def main(words: Sequence[str] | None = None) -> int:
 def _solved(options: argparse.Namespace) -> int:
     began = time.monotonic()
     flat = read(_text(options.file))
-    most = ALL if options.all and options.n is None else options.n or 1
-    with Workbench(options.program) as workbench:
+    with _workbench(options) as workbench:
         built = Built(flat, workbench)
         read_at = time.monotonic()
         if options.verbose:
-            print(f"% {len(built.cells)} cells, {len(flat.constraints)} constraints", flush=True)
-        left = None
-        if options.t is not None:
-            left = max(0.0, options.t / 1000 - (read_at - began))
-        found = solve(built, most, left)
-        for line in written(built, found):
-            print(line)
+            print(f"% {built.count} cells, {len(flat.constraints)} constraints", flush=True)
+
+        def tell(plan: Plan) -> None:
+            print("\n".join([*solution(built, plan), SOLUTION]), flush=True)
+
+        found = solve(built, _wanted(options, read_at - began), tell)
+        for line in ending(found):
+            print(line, flush=True)
         if options.statistics:
-            numbers = {
-                "initTime": f"{read_at - began:.3f}",
-                "solveTime": f"{time.monotonic() - read_at:.3f}",
-                "nSolutions": len(found.plans),
-                "variables": len(flat.variables),
-                "cells": len(built.cells),
-                "propagators": sum(line.startswith("attach ") for line in workbench.model.base()),
-            }
-            print("\n".join(statistics(numbers)))
+            times = {"initTime": read_at - began, "solveTime": time.monotonic() - read_at}
+            print("\n".join(statistics(built, found, times)))
     return 0
+
+
+def _options(words: list[str]) -> argparse.Namespace:
+    """The options of a command line. (Of a word like `-node` none is taken to be -n with a value.)"""
+    read = parser()
+    unknown = [word for word in words if len(word) > 2 and word[0] == "-" and word[1].isalpha()]
+    if unknown:
+        read.error(f"unrecognized arguments: {' '.join(unknown)}")
+    return read.parse_args(words)
+
+
+@contextmanager
+def _ended_by_interrupt() -> Iterator[None]:
+    """Has MiniZinc end a search as Ctrl-C does, with the best that was found."""
+    if threading.current_thread() is not threading.main_thread():
+        yield
+        return
+    before = signal.signal(signal.SIGTERM, signal.default_int_handler)
+    try:
+        yield
+    finally:
+        signal.signal(signal.SIGTERM, before)
+
+
+def _workbench(options: argparse.Namespace) -> PlainWorkbench:
+    """The workbench of a command line."""
+    if options.r is None:
+        return PlainWorkbench(options.program)
+    return PlainWorkbench(options.program, order="mixed", seed=options.r)
+
+
+def _wanted(options: argparse.Namespace, taken: float) -> Wanted:
+    """What is asked for, after so many seconds."""
+    most = ALL if options.all and options.n is None else options.n or 1
+    left = None if options.t is None else max(0.0, options.t / 1000 - taken)
+    way = Way(options.intermediate or options.all, options.p, options.r or 0)
+    return Wanted(most, left, options.free, way)
 
 
 def _text(file: str) -> str:

@@ -15,18 +15,25 @@ from propbench.flatzinc.terms import (
     Name,
     NotSupported,
     Numbers,
+    Sort,
     Term,
     Text,
+    Variable,
 )
 from propbench.showing import quoted
 
+# A set has so many elements at the most.
+MOST = 10_000
+
 # What constraints take: `v` a value, `V` an array of them, `c` a constant, `C` an array of them,
-# `S` a set, `s` a text.
+# `m` a set, `M` an array of sets, `s` a text.
 _TAKES = {
     "array_bool_and": "Vv",
     "array_bool_element": "vVv",
     "array_bool_or": "Vv",
     "array_bool_xor": "V",
+    "array_set_element": "vMm",
+    "array_var_set_element": "vMm",
     "array_int_element": "vVv",
     "array_int_maximum": "vV",
     "array_int_minimum": "vV",
@@ -39,7 +46,8 @@ _TAKES = {
     "int_abs": "vv",
     "int_negate": "vv",
     "propbench_count": "Vv",
-    "set_in": "vS",
+    "set_card": "mv",
+    "set_in": "vm",
     BLAMED: "vs",
 }
 _TAKES |= {f"int_{each}": "vv" for each in ("eq", "ne", "le", "lt", "ge", "gt")}
@@ -47,6 +55,8 @@ _TAKES |= {f"bool_{each}": "vv" for each in ("eq", "ne", "le", "lt")}
 _TAKES |= {f"int_lin_{each}": "CVc" for each in ("eq", "ne", "le")}
 _TAKES |= {f"bool_lin_{each}": "CVv" for each in ("eq", "ne", "le")}
 _TAKES |= {f"int_{each}": "vvv" for each in ("plus", "minus", "times", "div", "mod", "pow")}
+_TAKES |= {f"set_{each}": "mm" for each in ("eq", "ne", "le", "lt", "subset", "superset")}
+_TAKES |= {f"set_{each}": "mmm" for each in ("diff", "intersect", "symdiff", "union")}
 _TAKES |= {"int_pow_fixed": "vvv", "int_max": "vvv", "int_min": "vvv"}
 _TAKES |= {"bool_and": "vvv", "bool_or": "vvv", "bool_xor": "vvv"}
 _SORTS = {
@@ -54,7 +64,8 @@ _SORTS = {
     "V": "an array",
     "c": "a constant",
     "C": "an array of constants",
-    "S": "a set of numbers",
+    "m": "a set of numbers",
+    "M": "an array of sets",
     "s": "a text",
 }
 # What a constraint is called that no file of a user's has by itself.
@@ -67,17 +78,38 @@ def check(flat: Flat) -> None:
         _check_values(flat, array.elements, array.line)
         _check_printed(array)
     for variable in flat.variables.values():
-        if variable.value is not None:
-            _check_values(flat, [variable.value], variable.line)
+        _check_variable(flat, variable)
     for each in flat.constraints:
         _check_constraint(flat, each)
     if flat.goal.objective is not None:
         _check_values(flat, [flat.goal.objective], flat.goal.line)
+        if not _is_number(flat, flat.resolved(flat.goal.objective)):
+            raise NotSupported(flat.goal.line, f"what to {flat.goal.sort} has to be a number")
 
 
 def called(name: str) -> str:
     """What a constraint is called in a message."""
     return _OWN.get(name.removesuffix("_reif").removesuffix("_imp"), f"the constraint {name}")
+
+
+def _check_variable(flat: Flat, variable: Variable) -> None:
+    if variable.is_set:
+        if variable.values is None:
+            raise NotSupported(
+                variable.line, "of a set it has to be told which numbers it may have"
+            )
+        _check_size(variable.values, variable.line)
+    if variable.value is not None:
+        _check_values(flat, [variable.value], variable.line)
+        if _is_set(flat, flat.resolved(variable.value)) != variable.is_set:
+            raise NotSupported(variable.line, f"{variable.name} has a value of another kind")
+
+
+def _check_size(values: Numbers, line: int) -> None:
+    if values.count() > MOST:
+        raise NotSupported(
+            line, f"a set has up to {MOST:,} elements, and this one could have {values.count():,}"
+        )
 
 
 def _check_printed(array: Array) -> None:
@@ -99,13 +131,17 @@ def _check_constraint(flat: Flat, constraint: Constraint) -> None:
         )
     for place, (sort, each) in enumerate(zip(takes, args), 1):
         found = flat.resolved(each)
-        if sort in "vV":
-            _check_values(flat, [found] if sort == "v" else _elements(found), constraint.line)
+        if sort in "vmVM":
+            _check_values(flat, [found] if sort in "vm" else _elements(found), constraint.line)
         if not _is_of(sort, found, flat):
             raise NotSupported(
                 constraint.line,
                 f"argument {place} of {called(constraint.name)} has to be {_SORTS[sort]}",
             )
+        if sort in "mM" and not constraint.name.startswith("set_in"):
+            for one in [found] if sort == "m" else map(flat.resolved, _elements(found)):
+                if isinstance(one, Numbers):
+                    _check_size(one, constraint.line)
     if takes.startswith("CV") and len(_of_array(flat, args[0])) != len(_of_array(flat, args[1])):
         raise NotSupported(
             constraint.line, f"{called(constraint.name)} has as many factors as variables"
@@ -128,11 +164,26 @@ def _takes(constraint: Constraint) -> str:
 def _is_of(sort: str, found: Term, flat: Flat) -> bool:
     """Whether an argument is of a sort; names in it are looked at elsewhere."""
     if sort == "v":
-        return isinstance(found, int | Name)
-    if sort in "VC":
-        constants = (isinstance(flat.resolved(each), int) for each in _elements(found))
-        return isinstance(found, tuple) and (sort == "V" or all(constants))
-    return isinstance(found, {"c": int, "S": Numbers, "s": Text}[sort])
+        return isinstance(found, int | Name) and not _is_set(flat, found)
+    if sort == "m":
+        return _is_set(flat, found)
+    if sort in "VCM":
+        inner = {"V": "v", "C": "c", "M": "m"}[sort]
+        each_is = (_is_of(inner, flat.resolved(each), flat) for each in _elements(found))
+        return isinstance(found, tuple) and all(each_is)
+    return isinstance(found, int if sort == "c" else Text)
+
+
+def _is_number(flat: Flat, found: Term) -> bool:
+    if isinstance(found, Name):
+        return flat.variables[found.text].sort is Sort.NUMBER
+    return isinstance(found, int)
+
+
+def _is_set(flat: Flat, found: Term) -> bool:
+    if isinstance(found, Name):
+        return found.text in flat.variables and flat.variables[found.text].is_set
+    return isinstance(found, Numbers)
 
 
 def _elements(found: Term) -> Sequence[Term]:
@@ -149,5 +200,5 @@ def _check_values(flat: Flat, terms: Iterable[Term], line: int) -> None:
         found = flat.resolved(each)
         if isinstance(found, Name) and found.text not in flat.variables:
             raise NotSupported(line, f"nothing is called {quoted(found.text)}")
-        if not isinstance(found, int | Name):
+        if not isinstance(found, int | Name | Numbers):
             raise NotSupported(line, "a variable or a constant is wanted here")

@@ -1,6 +1,6 @@
 """FlatZinc read: words, and the items that they make.
 
-What is no FlatZinc, and floats and variables for sets, are refused by NotSupported, with the line.
+What is no FlatZinc, and floats, are refused by NotSupported, with the line.
 """
 
 import re
@@ -17,6 +17,7 @@ from propbench.flatzinc.terms import (
     Name,
     NotSupported,
     Numbers,
+    Sort,
     Term,
     Text,
     Variable,
@@ -172,7 +173,8 @@ class _Reader:
         self._term()
         self._want("]")
         self._want("of")
-        self._kind(may_be_set=not self._is("var"))
+        self._is("var")
+        self._kind()
         self._want(":")
         name = self._new_name()
         printed: tuple[Numbers, ...] | None = None
@@ -187,39 +189,37 @@ class _Reader:
 
     def _variable(self) -> None:
         line = self._next.line
-        is_truth, values = self._kind()
+        sort, values = self._kind()
         self._want(":")
         name = self._new_name()
         annotations = self._annotations()
         value = self._term() if self._is("=") else None
-        made = Variable(name, is_truth, values, annotations, value, line)
+        made = Variable(name, sort, values, annotations, value, line)
         self._flat.variables[name] = made
 
     def _parameter(self) -> None:
-        self._kind(may_be_set=True)
+        self._kind()
         self._want(":")
         name = self._new_name()
         self._annotations()
         self._want("=")
         self._flat.parameters[name] = self._term()
 
-    def _kind(self, may_be_set: bool = False) -> tuple[bool, Numbers | None]:
-        """Whether a kind is that of truths, and what numbers it has, None for all."""
+    def _kind(self) -> tuple[Sort, Numbers | None]:
+        """What a kind is for, and what numbers it has, None for all."""
         if self._is("bool"):
-            return True, None
+            return Sort.TRUTH, None
         if self._is("int"):
-            return False, None
+            return Sort.NUMBER, None
         if self._is("float") or self._next.sort == "float":
             raise self._error("floats are not supported: the workbench has whole numbers")
         if self._is("set"):
-            if not may_be_set:
-                raise self._error("variables for sets are not supported")
             self._want("of")
-            return self._kind()
+            return Sort.SET, self._kind()[1]
         values = self._term()
         if not isinstance(values, Numbers):
             raise self._error("a kind is bool, int, or a set of numbers")
-        return False, values
+        return Sort.NUMBER, values
 
     def _annotations(self) -> tuple[Term, ...]:
         found = []

@@ -8,9 +8,10 @@ from collections.abc import Callable, Sequence
 from functools import reduce
 from typing import Protocol
 
-from propbench.flatzinc import arithmetic
+from propbench.flatzinc import arithmetic, sets
 from propbench.flatzinc.arithmetic import every, picked, same_truth, sides_of, some, sum_of
 from propbench.flatzinc.forms import called
+from propbench.flatzinc.sets import Members
 from propbench.flatzinc.terms import Constraint, Name, NotSupported, Numbers, Term
 from propbench.model.expressions import (
     Expression,
@@ -51,8 +52,14 @@ class Terms(Protocol):
     def told_apart(self, constraint: Constraint) -> Truth | None:
         """What a constraint says of variables that are elements; None where they are none."""
 
-    def values(self, term: Term) -> Numbers:
-        """A constant set."""
+    def values(self, term: Term) -> Numbers | None:
+        """A constant set; None for a variable."""
+
+    def members(self, term: Term) -> Members:
+        """A set."""
+
+    def sets_of(self, term: Term) -> list[Members]:
+        """An array of sets."""
 
 
 Args = tuple[Term, ...]
@@ -126,7 +133,7 @@ def _is_value(terms: Terms, constraint: Constraint) -> Truth:
     given = _GIVES[constraint.name](terms, args[:-1])
     if given is None:
         raise NotSupported(
-            constraint.line, f"{constraint.name} is supported for exponents from 0 to 63 alone"
+            constraint.line, f"{constraint.name} is supported for exponents up to 63 alone"
         )
     value, beside = given
     if isinstance(value, Truth):
@@ -181,6 +188,40 @@ def _is_less(first: Truth, second: Truth) -> Truth:
     return ~first & second
 
 
+# --- sets ---
+
+
+def _is_in(terms: Terms, args: Args) -> Truth:
+    number, values = terms.number(args[0]), terms.values(args[1])
+    if values is not None:
+        return arithmetic.within(number, values)
+    return sets.has_number(terms.members(args[1]), number)
+
+
+def _compares_sets(compare: Callable[[Members, Members], Truth]) -> Says:
+    return lambda terms, args: compare(terms.members(args[0]), terms.members(args[1]))
+
+
+def _joins_sets(join: Callable[[Members, Members], Members]) -> Says:
+    def says(terms: Terms, args: Args) -> Truth:
+        first, second, joined = (terms.members(each) for each in args)
+        return sets.is_same(join(first, second), joined)
+
+    return says
+
+
+def _set_at(terms: Terms, args: Args) -> Truth:
+    index, values = terms.number(args[0]), terms.sets_of(args[1])
+    found = sets.is_same(sets.picked_set(index, values), terms.members(args[2]))
+    return every([_is_index(index, len(values)), found])
+
+
+def _constant_set_at(terms: Terms, args: Args) -> Truth:
+    index, values = terms.number(args[0]), terms.sets_of(args[1])
+    found = sets.is_same(sets.constant_at(index, values), terms.members(args[2]))
+    return every([_is_index(index, len(values)), found])
+
+
 _SAYS: dict[str, Says] = {
     "int_eq": _compares(lambda x, y: x == y),
     "int_ne": _compares(lambda x, y: x != y),
@@ -194,7 +235,19 @@ _SAYS: dict[str, Says] = {
     "bool_lin_eq": _compares_sum(lambda x, y: x == y),
     "bool_lin_ne": _compares_sum(lambda x, y: x != y),
     "bool_lin_le": _compares_sum(lambda x, y: x <= y),
-    "set_in": lambda terms, args: arithmetic.within(terms.number(args[0]), terms.values(args[1])),
+    "set_in": _is_in,
+    "set_eq": _compares_sets(sets.is_same),
+    "set_ne": _compares_sets(lambda x, y: ~sets.is_same(x, y)),
+    "set_le": _compares_sets(sets.is_at_most),
+    "set_lt": _compares_sets(sets.is_less),
+    "set_subset": _compares_sets(sets.is_within),
+    "set_superset": _compares_sets(lambda x, y: sets.is_within(y, x)),
+    "set_diff": _joins_sets(sets.without),
+    "set_intersect": _joins_sets(sets.both),
+    "set_symdiff": _joins_sets(sets.one_alone),
+    "set_union": _joins_sets(sets.either),
+    "array_set_element": _constant_set_at,
+    "array_var_set_element": _set_at,
     "bool_eq": _logic(same_truth),
     "bool_ne": _logic(_either),
     "bool_le": _logic(implies),
@@ -222,8 +275,7 @@ def _divides(give: Callable[[Number, Number], Number]) -> Gives:
 
 
 def _power(terms: Terms, args: Args) -> tuple[Number, Truth] | None:
-    found = arithmetic.power(terms.number(args[0]), terms.number(args[1]))
-    return None if found is None else (found, arithmetic.YES)
+    return arithmetic.power(terms.number(args[0]), terms.number(args[1]))
 
 
 def _extreme(give: Callable[[list[Number]], Number]) -> Gives:
@@ -282,6 +334,7 @@ _GIVES: dict[str, Gives] = {
     "bool_and": _joins_two(lambda x, y: x & y),
     "bool_or": _joins_two(lambda x, y: x | y),
     "bool_xor": _joins_two(_either),
+    "set_card": lambda terms, args: (sets.size(terms.members(args[0])), arithmetic.YES),
     "bool_not": lambda terms, args: (~terms.truth(args[0]), arithmetic.YES),
     "bool2int": lambda terms, args: (count([terms.truth(args[0])]), arithmetic.YES),
 }

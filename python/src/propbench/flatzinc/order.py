@@ -11,7 +11,7 @@ from propbench.flatzinc.building import Built
 from propbench.flatzinc.terms import Call, Name, Term
 from propbench.model.cells import Cell
 
-_SEARCHES = ("int_search", "bool_search")
+_SEARCHES = ("int_search", "bool_search", "set_search")
 _FROM_TOP = ("indomain_max", "indomain_reverse_split", "outdomain_min")
 
 
@@ -23,10 +23,11 @@ class Group:
     is_from_top: bool
 
 
-def order_of(built: Built) -> list[Group]:
-    """The cells that come first by the annotations of the goal, and behind them those that the
-    model itself has."""
-    groups = [group for each in built.flat.goal.annotations for group in _groups(built, each)]
+def order_of(built: Built, is_free: bool = False) -> list[Group]:
+    """The cells that come first by the annotations of the goal, unless the search is free of these,
+    and behind them those that the model itself has."""
+    annotations = () if is_free else built.flat.goal.annotations
+    groups = [group for each in annotations for group in _groups(built, each)]
     named = {cell.name for group in groups for cell in group.cells}
     others = tuple(cell for cell in built.own if cell.name not in named)
     return [*groups, Group(others, False)]
@@ -50,8 +51,8 @@ def _groups(built: Built, annotation: Term) -> Iterator[Group]:
 
 def _cells(built: Built, variables: Term) -> Iterator[Cell]:
     for each in _elements(built, variables):
-        if isinstance(each, Name) and each.text in built.cells:
-            yield built.cells[each.text]
+        if isinstance(each, Name):
+            yield from built.cells_of(each.text)
 
 
 def _elements(built: Built, term: Term) -> tuple[Term, ...]:

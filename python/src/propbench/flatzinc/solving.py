@@ -1,59 +1,154 @@
-"""Solutions of a model: by the workbench's questions for plans, and for the least and greatest."""
+"""Solutions of a model, told as they are found.
 
-from dataclasses import dataclass
+propwide searches itself; where that takes long it goes by cases too, in turns. Where the search
+stands still, and over propbench, it goes by cases alone.
+"""
 
+from collections.abc import Callable
+from contextlib import closing, suppress
+from dataclasses import dataclass, field, replace
+
+from propbench.flatzinc.asking import AnySolution, Asked, BestSolution, ManySolutions, Told
 from propbench.flatzinc.building import Built
 from propbench.flatzinc.order import order_of
+from propbench.flatzinc.seeking import Sought, Way
 from propbench.flatzinc.terms import Name
-from propbench.model.cells import ElementCell
-from propbench.questions import Interrupted, Optimum, Plan, Plans
+from propbench.model.cells import ElementCell, NumberCell
+from propbench.questions import Plan
+from propbench.questions.bounding import GREATEST, LEAST
+from propbench.questions.clock import Clock
+from propbench.questions.seeking import Unlike, seeks
 
 # More solutions than there can be time for.
 ALL = 10**9
+# So many seconds it goes by cases first, where the greatest values are to be tried first.
+_FROM_TOP = 0.5
+# Of a turn so much goes to the cases, and so much where a solution was found already.
+_SHARE, _SMALL_SHARE = 0.5, 0.125
+Tell = Callable[[Plan], None]
 
 
 @dataclass(frozen=True)
+class Wanted:
+    """What is asked of a model: so many solutions at the most, or the best, in so many seconds, and in
+    what way; search annotations don't count where it `is_free`."""
+
+    most: int = 1
+    seconds: float | None = None
+    is_free: bool = False
+    way: Way = Way()
+
+
+@dataclass
 class Solutions:
-    """Solutions that were found; `is_complete` says that there are no others, or no better ones."""
+    """Solutions that were found; `is_complete` says that there are no others, or no better ones.
+    `steps` is how many propwide's own search took, and `objective` the best value."""
 
-    plans: list[Plan]
-    is_complete: bool
+    plans: list[Plan] = field(default_factory=list)
+    is_complete: bool = False
+    steps: int = 0
+    objective: int | None = None
 
 
-def solve(built: Built, most: int, seconds: float | None) -> Solutions:
-    """So many solutions of the model at the most, or its best one; what was found in the time."""
-    groups = order_of(built)
+def solve(built: Built, wanted: Wanted, tell: Tell | None = None) -> Solutions:
+    """So many solutions of the model at the most, or its best one; what was found in the time. Each is
+    told when it is found, and of a best one those before it, where they are wanted. An interrupt ends
+    the search as the end of its time does."""
+    groups = order_of(built, wanted.is_free)
     built.workbench.try_first(*((group.cells, group.is_from_top) for group in groups))
-    shown = list(dict.fromkeys(cell.name for group in groups for cell in group.cells))
-    own = {cell.name for cell in built.own}
-    goal = built.flat.goal
-    try:
-        if not isinstance(goal.objective, Name) or goal.objective.text not in built.cells:
-            show = [name for name in shown if name in own]
-            found = built.workbench.plans(show, most=most, seconds=seconds)
-            is_best = goal.sort != "satisfy" and len(found) > 0
-            return Solutions(_whole(built, found), found.complete or is_best)
-        cell = built.cells[goal.objective.text]
-        is_least = goal.sort == "minimize"
-        ask = built.workbench.least if is_least else built.workbench.greatest
-        return _best(built, ask(cell, seconds=seconds))
-    except Interrupted as interrupted:
-        so_far = interrupted.so_far
-        if isinstance(so_far, Plans):
-            return Solutions(_whole(built, so_far), False)
-        assert isinstance(so_far, Optimum)
-        return _best(built, so_far)
+    search = _Search(built, wanted, tell)
+    with suppress(KeyboardInterrupt), closing(search):
+        search.run()
+    return search.found()
 
 
-def _whole(built: Built, found: Plans) -> list[Plan]:
-    return [_in_numbers(built, plan) for plan in found.whole]
+class _Search:
+    """A search for solutions of a model."""
 
+    def __init__(self, built: Built, wanted: Wanted, tell: Tell | None) -> None:
+        self._built, self._wanted, self._tell = built, wanted, tell
+        self._clock = Clock(wanted.seconds, None)
+        self._plans: list[Plan] = []
+        # The best solution, where it is told at the end.
+        self._best: Plan | None = None
+        self._steps = 0
+        cells = built.cells.values()
+        self._elements = {cell.name for cell in cells if isinstance(cell, ElementCell)}
+        self._told = Told(built.workbench.model, self._take)
+        self._asked = self._question()
 
-def _best(built: Built, found: Optimum) -> Solutions:
-    return Solutions([] if found.plan is None else [_in_numbers(built, found.plan)], found.proved)
+    def run(self) -> None:
+        """Searches, as long as there is time."""
+        model = self._built.workbench.model
+        if seeks(model):
+            with suppress(Unlike), Sought(model, self._clock, self._asked, self._way()) as sought:
+                try:
+                    self._take_turns(sought)
+                finally:
+                    self._steps = sought.steps
+                return
+        self._asked.go_by_cases(self._clock)
 
+    def close(self) -> None:
+        """Ends what was begun."""
+        self._asked.close()
 
-def _in_numbers(built: Built, plan: Plan) -> Plan:
-    """A plan in which elements are the numbers for which they stand."""
-    elements = {cell.name for cell in built.cells.values() if isinstance(cell, ElementCell)}
-    return {name: int(value) if name in elements else value for name, value in plan.items()}
+    def found(self) -> Solutions:
+        """What was found, all of it told."""
+        if self._best is not None:
+            self._say(self._best)
+        asked, is_complete = self._asked, self._told.is_complete
+        if isinstance(asked, BestSolution):
+            return Solutions(self._plans, is_complete, self._steps, asked.value)
+        return Solutions(self._plans, is_complete, self._steps)
+
+    def _way(self) -> Way:
+        """How the program is to search."""
+        # (of several solutions each would be told by all of them)
+        is_many = isinstance(self._asked, ManySolutions)
+        return replace(self._wanted.way, count=1) if is_many else self._wanted.way
+
+    def _question(self) -> Asked:
+        built, goal = self._built, self._built.flat.goal
+        named = goal.objective.text if isinstance(goal.objective, Name) else ""
+        cell = built.cells.get(named)
+        if isinstance(cell, NumberCell):
+            is_least = goal.sort == "minimize"
+            sort, sign = (LEAST, 1) if is_least else (GREATEST, -1)
+            return BestSolution(self._told, cell.name, sort, sign)
+        show = [each.name for each in built.own]
+        # (an objective that is given leaves nothing that would be better)
+        is_all = goal.objective is not None or not show
+        if is_all or self._wanted.most == 1:
+            return AnySolution(self._told, is_all)
+        return ManySolutions(self._told, show, self._wanted.most)
+
+    def _take_turns(self, sought: Sought) -> None:
+        """Has the program search, and goes by cases, in turns."""
+        asked, clock = self._asked, self._clock
+        first = self._built.workbench.model.first()
+        if any(each.is_from_top for each in first) and clock.seconds_left() != 0:
+            # (the program itself tries the least ones)
+            asked.go_by_cases(clock.turn(_FROM_TOP))
+        for seconds in clock.turns():
+            if not (asked.is_done or clock.is_over()):
+                sought.run(seconds)
+            if asked.is_done or clock.is_over():
+                return
+            part = seconds * (_SMALL_SHARE if self._told.count else _SHARE)
+            asked.go_by_cases(clock if sought.is_still else clock.turn(part))
+            if asked.is_done or sought.is_still:
+                return
+
+    def _take(self, plan: Plan) -> None:
+        """Takes in a solution: the best is told at the end, unless each is wanted."""
+        shown = {name: int(v) if name in self._elements else v for name, v in plan.items()}
+        if isinstance(self._asked, BestSolution) and not self._wanted.way.is_each:
+            self._best = shown
+        else:
+            self._say(shown)
+
+    def _say(self, plan: Plan) -> None:
+        self._plans.append(plan)
+        if self._tell is not None:
+            self._tell(plan)

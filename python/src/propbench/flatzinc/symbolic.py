@@ -20,7 +20,7 @@ def compared(flat: Flat, constraint: Constraint) -> list[Term] | None:
         return list(args[:2])
     if name == "fzn_all_different_int":
         return list(_array(flat, args[0]))
-    if name == "set_in":
+    if name in ("set_in", "array_set_element"):
         return [args[0]]
     if name in ("int_lin_eq", "int_lin_ne") and flat.resolved(args[2]) == 0:
         factors = tuple(flat.resolved(each) for each in _array(flat, args[0]))

@@ -2,6 +2,7 @@
 
 from collections.abc import Iterable, Iterator
 from dataclasses import dataclass, field
+from enum import Enum, auto
 from typing import Union
 
 
@@ -61,6 +62,14 @@ class Numbers:
         """The numbers from one to another."""
         return Numbers(((low, high),) if low <= high else ())
 
+    def each(self) -> Iterator[int]:
+        """The numbers one by one, in order."""
+        return (value for low, high in self.ranges for value in range(low, high + 1))
+
+    def count(self) -> int:
+        """How many there are."""
+        return sum(high - low + 1 for low, high in self.ranges)
+
     def has(self, value: int) -> bool:
         """Whether a number is one of these."""
         return any(low <= value <= high for low, high in self.ranges)
@@ -75,16 +84,35 @@ class Numbers:
 Term = Union[bool, int, Name, Text, Call, Numbers, tuple["Term", ...]]
 
 
+class Sort(Enum):
+    """What a variable is for."""
+
+    TRUTH = auto()
+    NUMBER = auto()
+    SET = auto()
+
+
 @dataclass(frozen=True)
 class Variable:
-    """A variable: for truths, or for whole numbers, of which `values` are the possible ones."""
+    """A variable: for truths, for whole numbers, of which `values` are the possible ones, or for sets
+    of these."""
 
     name: str
-    is_truth: bool
+    sort: Sort
     values: Numbers | None
     annotations: tuple[Term, ...]
     value: Term | None
     line: int
+
+    @property
+    def is_truth(self) -> bool:
+        """Whether it is for truths."""
+        return self.sort is Sort.TRUTH
+
+    @property
+    def is_set(self) -> bool:
+        """Whether it is for sets."""
+        return self.sort is Sort.SET
 
     def has(self, annotation: str) -> bool:
         """Whether it is annotated by this name."""

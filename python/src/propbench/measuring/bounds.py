@@ -4,6 +4,8 @@ from collections.abc import Callable
 from fractions import Fraction
 from math import isqrt
 
+from propbench.measuring.enclosing import pi_ends
+from propbench.measuring.shapes import Undefined, shape_of
 from propbench.measuring.terms import Real, Sort, text_of
 
 Bounds = tuple[Fraction, Fraction]
@@ -22,7 +24,8 @@ class BoundsOf:
         self._found: dict[Real, Bounds] = {}
 
     def __call__(self, real: Real) -> Bounds:
-        """The bounds of a term. Raises NoBound where a divisor may be zero."""
+        """The bounds of a term. Raises NoBound where a divisor may be zero, Undefined where a
+        function may have no value, and NoLibrary."""
         if real not in self._found:
             self._found[real] = self._bounds(real)
         return self._found[real]
@@ -34,6 +37,10 @@ class BoundsOf:
             return measure.low, measure.high
         if real.sort is Sort.CONSTANT:
             return real.number, real.number
+        if real.sort is Sort.PI:
+            return pi_ends()
+        if real.sort is Sort.FUNCTION:
+            return self._of_function(real)
         if real.sort is Sort.POWER:
             return power(self(real.args[0]), int(real.number))
         if real.sort is Sort.PRODUCT and real.args[0] == real.args[1]:
@@ -47,6 +54,19 @@ class BoundsOf:
                 )
             return product(self(real.args[0]), (1 / below[1], 1 / below[0]))
         return _OF_SORT[real.sort]([self(arg) for arg in real.args])
+
+    def _of_function(self, real: Real) -> Bounds:
+        [inner] = real.args
+        argument = self(inner)
+        try:
+            low, high = shape_of(real.applied, argument).bounds(argument)
+        except Undefined as undefined:
+            said = str(undefined).format(f"`{text_of(inner)}`")
+            raise Undefined(
+                f"`{text_of(real)}` {said}: give its quantities ends that leave this out"
+            ) from None
+        off = real.applied.off
+        return low - off, high + off
 
 
 def product(one: Bounds, other: Bounds) -> Bounds:

@@ -6,8 +6,9 @@ from collections.abc import Iterator, Sequence
 from dataclasses import dataclass
 from itertools import combinations
 
-from propbench.measuring.forms import Form, Monomial, Polynomial, factored
+from propbench.measuring.forms import Form
 from propbench.measuring.linear import linear_of
+from propbench.measuring.polynomials import Monomial, Polynomial, factored
 from propbench.measuring.terms import Real
 
 # So many laws that follow are told with one law at the most.

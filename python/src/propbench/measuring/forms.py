@@ -7,15 +7,18 @@ from dataclasses import dataclass
 from fractions import Fraction
 
 from propbench.measuring.bounds import BoundsOf, NoBound
-from propbench.measuring.linear import Linear, linear_of, real_of_linear, summed
-from propbench.measuring.terms import Law, Real, Sort, constant, power_of, text_of
-from propbench.measuring.units import BARE
+from propbench.measuring.linear import Linear, linear_of, real_of_linear
+from propbench.measuring.once import completed, divided_once, may_be_zero
+from propbench.measuring.polynomials import (
+    Monomial,
+    Polynomial,
+    joined,
+    linear_of_polynomial,
+    ordered,
+    polynomial_of,
+)
+from propbench.measuring.terms import Law, Real, Sort, power_of
 
-# A product of powers: atoms with exponents that are not zero, in order.
-Monomial = tuple[tuple[Real, int], ...]
-Polynomial = dict[Monomial, Fraction]
-# Of a law with more products than this no other form is looked for.
-_MOST_PRODUCTS = 24
 _ROUNDS = 6
 
 
@@ -43,8 +46,13 @@ def forms_of(law: Law, bounds: BoundsOf) -> list[Form]:
             break
         form, side = _squared(form, roots[0])
         found.append(Form(side, False))
-    once = each_once(form, bounds)
-    return [Form(form, True), *found, *([Form(once, True)] if once else [])]
+    polynomial = polynomial_of(form)
+    others = [
+        each_once(form, bounds),
+        divided_once(law, bounds),
+        completed(polynomial) if polynomial else None,
+    ]
+    return [Form(form, True), *found, *(Form(other, True) for other in others if other)]
 
 
 def _divisor_to_clear(form: Linear, bounds: BoundsOf) -> Real | None:
@@ -82,71 +90,6 @@ def _squared(form: Linear, root: Real) -> tuple[Linear, Linear]:
     return squared.plus(inner, Fraction(-1)), others.times(Fraction(-1))
 
 
-def polynomial_of(form: Linear) -> Polynomial | None:
-    """A sum with all products multiplied out; None where there are too many, or one is divided by a
-    sum."""
-    found: Polynomial = {(): form.constant} if form.constant else {}
-    for atom, coefficient in form.terms:
-        expanded = _expanded(atom)
-        if expanded is None or len(found) + len(expanded) > _MOST_PRODUCTS:
-            return None
-        _add(found, expanded, coefficient)
-    return found
-
-
-def _expanded(real: Real) -> Polynomial | None:
-    """A term with its products multiplied out."""
-    if real.sort is Sort.POWER:
-        [base] = real.args
-        inner = polynomial_of(linear_of(base)) if base.sort is not Sort.QUANTITY else None
-        if inner is None or len(inner) == 1:
-            return {((base, int(real.number)),): Fraction(1)}
-        made: Polynomial | None = inner
-        for _ in range(int(real.number) - 1):
-            made = _times(made, inner)
-        return made
-    if real.sort is Sort.PRODUCT:
-        left, right = (polynomial_of(linear_of(arg)) for arg in real.args)
-        return _times(left, right)
-    if real.sort is Sort.QUOTIENT:
-        above, below = (polynomial_of(linear_of(arg)) for arg in real.args)
-        if below is None or len(below) != 1:
-            return None
-        [(monomial, coefficient)] = below.items()
-        inverse = tuple((atom, -exponent) for atom, exponent in monomial)
-        return _times(above, {inverse: 1 / coefficient})
-    return {((real, 1),): Fraction(1)}
-
-
-def _times(left: Polynomial | None, right: Polynomial | None) -> Polynomial | None:
-    if left is None or right is None or len(left) * len(right) > _MOST_PRODUCTS:
-        return None
-    found: Polynomial = {}
-    for one, coefficient in left.items():
-        for other, factor in right.items():
-            _add(found, {_joined(one, other): coefficient * factor}, Fraction(1))
-    return found
-
-
-def _joined(one: Monomial, other: Monomial, sign: int = 1) -> Monomial:
-    powers = dict(one)
-    for atom, exponent in other:
-        powers[atom] = powers.get(atom, 0) + sign * exponent
-    return _ordered(powers)
-
-
-def _ordered(powers: dict[Real, int]) -> Monomial:
-    kept = [(atom, exponent) for atom, exponent in powers.items() if exponent]
-    return tuple(sorted(kept, key=lambda each: text_of(each[0])))
-
-
-def _add(found: Polynomial, more: Polynomial, factor: Fraction) -> None:
-    for monomial, coefficient in more.items():
-        found[monomial] = found.get(monomial, Fraction(0)) + coefficient * factor
-        if not found[monomial]:
-            del found[monomial]
-
-
 def each_once(form: Linear, bounds: BoundsOf) -> Linear | None:
     """An equation divided by a product, which is not zero, such that each of its atoms stands in it
     once; None where that is so already, or can't be."""
@@ -165,15 +108,10 @@ def each_once(form: Linear, bounds: BoundsOf) -> Linear | None:
         if not common:
             return None
         shift[atom] = min(common, key=abs)
-        if shift[atom] > 0 and _may_be_zero(atom, bounds):
+        if shift[atom] > 0 and may_be_zero(atom, bounds):
             return None
-    by = _ordered(shift)
-    return linear_of_polynomial({_joined(each, by, -1): it for each, it in made.items()})
-
-
-def _may_be_zero(atom: Real, bounds: BoundsOf) -> bool:
-    low, high = bounds(atom)
-    return low <= 0 <= high
+    by = ordered(shift)
+    return linear_of_polynomial({joined(each, by, -1): it for each, it in made.items()})
 
 
 def _with(made: Polynomial, atom: Real) -> Iterator[Monomial]:
@@ -190,31 +128,3 @@ def _is_repeated(terms: Iterable[Real], atoms: Collection[Real]) -> bool:
         else:
             waiting += each.args
     return found > len(atoms)
-
-
-def linear_of_polynomial(made: Polynomial) -> Linear:
-    """A sum of products as a sum of atoms."""
-    return linear_of(summed(_real(monomial, factor) for monomial, factor in made.items()))
-
-
-def _real(monomial: Monomial, factor: Fraction) -> Real:
-    """A product of powers, those with negative exponents below a line."""
-    made = constant(factor, BARE)
-    for sign, sort in ((1, Sort.PRODUCT), (-1, Sort.QUOTIENT)):
-        for atom, exponent in monomial:
-            if exponent * sign > 0:
-                raised = power_of(atom, Fraction(abs(exponent)))
-                made = Real(sort, (made, raised), BARE)
-    return made
-
-
-def factored(made: Polynomial) -> Real:
-    """A sum of products as a term, in which what stands in most of them stands once."""
-    atoms = [atom for monomial in made for atom, exponent in monomial if exponent == 1]
-    often = max(atoms, key=atoms.count, default=None)
-    within = {each: it for each, it in made.items() if often and (often, 1) in each}
-    if often is None or len(within) < 2:
-        return summed(_real(monomial, factor) for monomial, factor in made.items())
-    inner = summed(_real(_joined(each, ((often, 1),), -1), it) for each, it in within.items())
-    outer = [_real(each, it) for each, it in made.items() if each not in within]
-    return summed([Real(Sort.PRODUCT, (often, inner), BARE), *outer])

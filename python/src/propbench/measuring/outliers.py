@@ -149,7 +149,9 @@ class Weeding:
     def _outlier(self, hit: int) -> Outlier:
         """What is known of readings that are given up, against the others of which nothing
         speaks."""
-        made = Outlier(self.premises(hit))
+        # (named as the user first named them, in whatever order they are tried)
+        named = self.premises(hit)
+        made = Outlier(name for name in self.trial.premises if name in named)
         rest = self.premises((1 << len(self.names)) - 1 & ~hit)
         off: dict[str, Off] = {}
         share = Fraction(0)
@@ -215,7 +217,12 @@ def find_outliers(
             claims.append(("fails", {"given": evidence.lines_of(premises), "told": []}))
         certificate = evidence.certificate(claims)
         texts = {name: model.text(name) for name in readings}
-        ordered = sorted(weeding.found, key=lambda each: (len(each), -each.share))
+        # (where two are as good, in the order of the user's premises, however they were tried)
+        place = {name: number for number, name in enumerate(trial.premises)}
+        ordered = sorted(
+            weeding.found,
+            key=lambda each: (len(each), -each.share, [place[name] for name in each]),
+        )
         return Outliers(ordered, weeding.complete, texts, certificate)
 
     return tried(trial, run, result)

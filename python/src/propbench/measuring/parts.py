@@ -115,6 +115,8 @@ def coarser(part: Part, divisor: int) -> Part:
     """The same in steps of so many of its own, rounded to the nearest."""
     if divisor == 1:
         return part
+    if divisor > MOST_WHOLE:
+        return Part(number(0), part.step * divisor, Radius(part.most / divisor), part.bounds)
     node = ((Number(part.node) + divisor // 2) // divisor).node
     radius = part.radius.times(Fraction(1, divisor)).plus(Radius(HALF))
     return Part(node, part.step * divisor, radius, part.bounds)

@@ -1,18 +1,27 @@
 """Readings as laboratories write them, as bounds in base units.
 
 `468.0 +- 1.2 ohm`, `470 ohm +- 5%` and `330..345 ohm` are bounds; what may stand behind `+-` is in
-`tolerances`. `468.0(47) ohm` and `468.0 ohm u=4.7` tell a standard uncertainty, which as a bound
-would convict a third of innocent readings: it is taken so many times as its coverage says. `12.5
+`tolerances`. `468.0(47) ohm`, `468.0 ohm u=4.7` and `468.0 ohm U=9.4 k=2` tell a standard uncertainty, which as
+a bound would convict a third of innocent readings: it is taken so many times as its coverage says. `12.5
 kohm` holds half a unit of its last digit, and a number that is no text is exact.
 """
 
 import re
 from collections.abc import Sequence
-from dataclasses import dataclass
+from dataclasses import dataclass, replace
 from fractions import Fraction
 
 from propbench.measuring.amounts import UNIT, Amount, NoReading, amount_of, check_length, same
-from propbench.measuring.exact import EXPONENT, MOST_DIGITS, UNSIGNED, Exact, exact_of, short
+from propbench.measuring.angles import in_units
+from propbench.measuring.exact import (
+    EXPONENT,
+    MOST_DIGITS,
+    UNSIGNED,
+    Exact,
+    exact_of,
+    number_in,
+    short,
+)
 from propbench.measuring.tolerances import Part, Sort, parts_of, size_of, unit_in
 from propbench.measuring.units import SHARES, Unit, unit_of
 
@@ -24,6 +33,9 @@ MOST_CHARACTERS = 4000
 
 # A number whose uncertainty stands in brackets, in units of its last digit.
 _BRACKETS = re.compile(rf"([-+]?{UNSIGNED})\((\d+)\)({EXPONENT})(?!\d)\s*({UNIT})")
+# An expanded uncertainty, as certificates tell it, with its coverage factor.
+_EXPANDED = re.compile(rf"(.*?)[,;]?\s*U\s*=(.*?)[,;]?\s*\(?k\s*=\s*({UNSIGNED})\)?")
+_HAS_EXPANDED = re.compile(r"U\s*=")
 # A value with its tolerance in brackets, and the unit of both.
 _IN_BRACKETS = re.compile(rf"\((.*)\)\s*({UNIT})")
 
@@ -41,7 +53,7 @@ class Reading:
 
 def constant_of(text: str) -> tuple[Fraction, Unit]:
     """A constant in a law, as `9.81 m/s2`: exact, in base units. Raises NoReading."""
-    amount = amount_of(in_ascii(text), text)
+    amount = amount_of(in_units(in_ascii(text)), text)
     unit = unit_of(amount.unit or "1")
     return amount.value * unit.factor + unit.offset, unit
 
@@ -62,7 +74,7 @@ def reading_of(given: Given, unit: Unit, coverage: Exact = COVERAGE) -> Reading:
         real = number * unit.factor + unit.offset
         return Reading(real, real, _with_unit(str(given), unit))
     text = in_ascii(given)
-    read = _read(text, unit, times)
+    read = _read(in_units(text), unit, times)
     return _ordered(read.low, read.high, text, read.coverage)
 
 
@@ -83,10 +95,26 @@ def _coverage(given: Exact) -> Fraction:
     return found
 
 
+def _coverage_by(coverage: Fraction, factor: str, text: str) -> Fraction:
+    """How many times an expanded uncertainty is taken, so that its standard one is `coverage`
+    times."""
+    k = number_in(factor)
+    if not k:
+        raise NoReading(f"{short(text)!r}: a coverage factor is more than 0, as k=2")
+    return coverage / k
+
+
 def _read(text: str, unit: Unit, coverage: Fraction) -> Reading:
     """A reading, by the sign that it has."""
     if ".." in text:
         return _interval(text, unit)
+    if _HAS_EXPANDED.search(text):
+        expanded = _EXPANDED.fullmatch(text)
+        if not expanded:
+            raise NoReading(f"{short(text)!r}: behind `U=` stands its coverage factor: `U=0.5 k=2`")
+        value, size, factor = expanded.groups()
+        by = _coverage_by(coverage, factor, text)
+        return replace(_with_tolerance(f"{value} u={size}", "u=", unit, by), coverage=coverage)
     for sign, is_standard in (("u=", True), ("+-", False)):
         if sign in text:
             return _with_tolerance(text, sign, unit, coverage if is_standard else None)
@@ -153,7 +181,7 @@ def _around(
 def _end(given: object, unit: Unit) -> Fraction:
     """An end of an interval: exact."""
     if isinstance(given, str):
-        amount = amount_of(in_ascii(given), given)
+        amount = amount_of(in_units(in_ascii(given)), given)
         named = same(amount.unit, unit, given)
         return amount.value * named.factor + named.offset
     return exact_of(given) * unit.factor + unit.offset

@@ -47,7 +47,7 @@ class Bench(Protocol):
         """What follows for a cell as far as there is time, or what is known of it."""
         ...
 
-    def _related(self, quantity: Quantity) -> list[str]:
+    def _related(self, cell: Declared) -> list[str]:
         """The quantities that laws tie to this one, by name, those without readings in front."""
         ...
 
@@ -68,7 +68,7 @@ def find_shaved(
     believed = list(model.believed())
     clock = Clock(seconds, progress)
     trial = Trial(model, believed, clock)
-    narrowing = Narrowing(trial, believed, bench._related(quantity))
+    narrowing = Narrowing(trial, believed, bench._related(quantity.declared))
     state: dict[str, Numbers] = {}
     slices: list[tuple[str, Fork | None]] = []
 

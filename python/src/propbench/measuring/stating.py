@@ -1,17 +1,19 @@
 """What a user states of quantities, as events: cells, laws in whole numbers, and readings."""
 
-from collections.abc import Callable, Sequence
+from collections.abc import Iterable, Iterator, Sequence
 from dataclasses import dataclass, field, replace
 from fractions import Fraction
 
-from propbench.measuring.bounds import Bounds
+from propbench.measuring.bends import Bend, Piece
+from propbench.measuring.bounds import BoundsOf
 from propbench.measuring.combining import combined
-from propbench.measuring.forms import Form, Polynomial, forms_of, polynomial_of
-from propbench.measuring.quantities import measure_between
+from propbench.measuring.defining import Definitions, RootOf
+from propbench.measuring.forms import Form, forms_of
+from propbench.measuring.logarithms import by_logarithm
+from propbench.measuring.polynomials import Polynomial, polynomial_of
 from propbench.measuring.readings import Reading
 from propbench.measuring.terms import Law, Real, Sort, text_of
 from propbench.measuring.translation import Told, TooCoarse, Translator
-from propbench.measuring.units import Unit, dimension_text
 from propbench.model.events import CellMade, LawStated, Read
 from propbench.model.given import cells_of
 from propbench.model.kinds import Plain
@@ -20,9 +22,6 @@ from propbench.model.nodes import TRUE, Declared, Node, all_of
 
 # What is too coarse is tried with steps that are finer by up to so many powers of ten.
 _FINER = 10
-
-# Gives a quantity that the user didn't name: a root within a term, by what its cell counts.
-RootOf = Callable[[Real, Measure], Declared]
 
 
 @dataclass(frozen=True)
@@ -46,19 +45,40 @@ class LawTold(LawStated):
 
 
 @dataclass(frozen=True)
+class BendTold(LawStated):
+    """A piece of a curve between two quantities is told."""
+
+    piece: Piece = field(compare=False)
+
+    @property
+    def cells(self) -> tuple[Declared, Declared]:
+        """The cells between which it lies."""
+        return self.piece.bend.argument, self.piece.bend.value
+
+
+@dataclass(frozen=True)
 class RootMade(CellMade):
-    """A quantity is there for a root within a law."""
+    """A quantity is there for a root or a function within a law."""
 
     root: Real = field(compare=False)
 
 
+@dataclass(frozen=True)
+class Defined:
+    """What a law needs beside it: the laws and the curves that say what the roots and functions in it
+    are."""
+
+    laws: list[Stated]
+    bends: list[Bend]
+
+
 def stated(
     law: Law, before: Sequence[Polynomial], under: str | None, root_of: RootOf
-) -> tuple[Stated, list[Stated]]:
-    """A law as it is told, and those that say what the roots in it are. `before` are equations
-    that hold always as this one, with which it may be combined.
+) -> tuple[Stated, Defined]:
+    """A law as it is told, and what says what the roots and functions in it are. `before` are
+    equations that hold always as this one, with which it may be combined.
 
-    Raises NoBound, and TooCoarse, which says what would do, where the law can't be told.
+    Raises NoBound, Undefined, and TooCoarse, which says what would do, where the law can't be told.
     """
     try:
         return _stated(law, before, under, root_of)
@@ -68,27 +88,30 @@ def stated(
 
 def _stated(
     law: Law, before: Sequence[Polynomial], under: str | None, root_of: RootOf
-) -> tuple[Stated, list[Stated]]:
-    roots: dict[Real, Real] = {}
-    definitions: list[Law] = []
-
-    def hidden(root: Real, bounds: Bounds) -> Real:
-        if root not in roots:
-            made = root_of(root, _measure_of_root(root, bounds))
-            roots[root] = Real(Sort.QUANTITY, (), root.dimension, declared=made)
-            square = Real(Sort.POWER, (roots[root],), root.args[0].dimension, Fraction(2))
-            definitions.append(Law(square, root.args[0], True, f"{text_of(root)} is a root"))
-        return roots[root]
-
-    translator = Translator(hidden)
-    first, *forms = forms_of(law, translator.bounds)
+) -> tuple[Stated, Defined]:
+    bounds = BoundsOf()
+    defined = Definitions(root_of, bounds)
+    translator = Translator(bounds, defined.quantity)
+    first, *forms = forms_of(by_logarithm(law, bounds), bounds)
     written = translator.told(first.sum, first.is_equation)
     equation = polynomial_of(first.sum) if law.is_equation else None
     if before and equation:
         forms += combined(before, equation)
     constraints = [written.constraint, *(_constraint(translator, form) for form in forms)]
     found = Stated(law, written, under, all_of(constraints), equation)
-    return found, [_stated(each, (), under, root_of)[0] for each in definitions]
+    laws, bends = [], list(defined.bends)
+    for each in defined.laws:
+        inner, more = _stated(each, (), under, root_of)
+        laws += [inner, *more.laws]
+        bends += more.bends
+    return found, Defined(laws, bends)
+
+
+def told_pieces(pieces: Iterable[Piece | None], under: str | None) -> Iterator[BendTold]:
+    """Pieces of curves, as they are told; None stands for one of which there is nothing to tell."""
+    for piece in pieces:
+        if piece is not None:
+            yield BendTold(piece.constraint, under, piece.bend.written, piece)
 
 
 def _what_would_do(law: Law) -> str:
@@ -130,12 +153,6 @@ def _constraint(translator: Translator, form: Form) -> Node:
         return translator.told(form.sum, form.is_equation).constraint
     except ValueError:
         return TRUE
-
-
-def _measure_of_root(root: Real, bounds: Bounds) -> Measure:
-    """What the cell of a root counts, in base units."""
-    unit = Unit(dimension_text(root.dimension) if root.dimension else "1", root.dimension)
-    return measure_between(text_of(root), unit, bounds, None)
 
 
 def declared(name: str, measure: Measure, owner: object) -> Declared:

@@ -12,6 +12,7 @@ from typing import NoReturn
 
 from propbench.measuring.exact import Exact, exact_of, is_number
 from propbench.measuring.readings import constant_of
+from propbench.measuring.shapes import Function, Name
 from propbench.measuring.units import (
     BARE,
     Dimension,
@@ -42,12 +43,15 @@ class Sort(Enum):
     GREATEST = "maximum"
     LEAST = "minimum"
     MEAN = "mean"
+    PI = "pi"
+    FUNCTION = "function"
 
 
 @dataclass(frozen=True)
 class Real:
     """A term as data. `number` is a constant, in base units, or the exponent of a power; `text` is
-    how a constant was written, and `is_temperature` says that its unit has a zero of its own."""
+    how a constant was written, and `is_temperature` says that its unit has a zero of its own.
+    `function` is what is taken of the argument."""
 
     sort: Sort
     args: tuple["Real", ...]
@@ -56,6 +60,13 @@ class Real:
     declared: Declared | None = None
     text: str = ""
     is_temperature: bool = False
+    function: Function | None = None
+
+    @property
+    def applied(self) -> Function:
+        """The function that is taken of the argument."""
+        assert self.function is not None
+        return self.function
 
     @property
     def quantity(self) -> Declared:
@@ -80,11 +91,26 @@ class Term:
 
     @property
     def real(self) -> Real:
-        """The term as data."""
+        """The term as data.
+
+        >>> w = Workbench()
+        >>> side = w.measured("side", "m", 0, 10)
+        >>> (side * side).real.sort.name
+        'PRODUCT'
+        """
         raise NotImplementedError
 
     def sqrt(self) -> "Term":
-        """The square root, which is not negative."""
+        """The square root, which is not negative.
+
+        >>> w = Workbench()
+        >>> side, area = w.measured("side", "m", 0, 10), w.measured("area", "m^2", 0, 100)
+        >>> w.law(side == area.sqrt())
+        >>> w.read("plan", area, "25 m^2 +- 0 m^2")
+        >>> answer = side.ask()
+        >>> float(round(answer.low, 3)), float(round(answer.high, 3))
+        (5.0, 5.0)
+        """
         return Made(power_of(self.real, Fraction(1, 2)))
 
     def __add__(self, other: "Term | Exact | str") -> "Term":
@@ -233,17 +259,18 @@ def reals_of(terms: Iterable[object]) -> list[Real]:
     return [real_of(each) for each in given]
 
 
-# A power is by so much at the most: that of 1.04 is some 10^17.
-_MOST_POWER = 1000
+# A power is by so much at the most: that of 1.04 is some 10^17. Its fractions are of so many parts.
+_MOST_POWER, _MOST_ROOT = 1000, 1000
 
 
 def power_of(base: Real, power: Fraction) -> Real:
-    """A power by a whole number, or the square root."""
+    """A power by a whole number, the square root, or another fraction."""
     if power == Fraction(1, 2):
         return Real(Sort.ROOT, (base,), to_power(base.dimension, power))
-    if power.denominator != 1:
+    if power.denominator > _MOST_ROOT:
         raise ValueError(
-            f"a power is by a whole number, or by 0.5 for the root, and not by {power}"
+            f"a power is by a whole number, or by a fraction of {_MOST_ROOT}ths at the most as "
+            f"`Fraction(2, 3)`, and not by {power}"
         )
     if abs(power) > _MOST_POWER:
         raise ValueError(f"a power is by {_MOST_POWER} at the most, and not by {power}")
@@ -253,9 +280,20 @@ def power_of(base: Real, power: Fraction) -> Real:
         return _divided(ONE, power_of(base, -power))
     if power == 1:
         return base
+    if power.denominator != 1:
+        return function_of(Function(Name.POWER, exponent=power), base)
     if base.sort is Sort.POWER:
         return power_of(base.args[0], base.number * power)
     return Real(Sort.POWER, (base,), to_power(base.dimension, power), power)
+
+
+def function_of(function: Function, argument: Real) -> Real:
+    """A function of a term. Raises MixedUnits where it has none of what is in its unit."""
+    try:
+        dimension = function.dimension_of(argument.dimension)
+    except MixedUnits as mixed:
+        raise MixedUnits(f"`{text_of(argument)}` is {_unit(argument)}, and {mixed}") from None
+    return Real(Sort.FUNCTION, (argument,), dimension, function=function)
 
 
 def _multiplied(left: Real, right: Real) -> Real:
@@ -330,6 +368,12 @@ def _text(real: Real) -> tuple[str, int]:
         return f"-{_held(real.args[0], _UNARY)}", _UNARY
     if real.sort is Sort.POWER:
         return f"{_held(real.args[0], _WHOLE)}**{real.number}", _POWER
+    if real.sort is Sort.PI:
+        return "pi", _WHOLE
+    if real.sort is Sort.FUNCTION and real.applied.name is Name.POWER:
+        return f"{_held(real.args[0], _WHOLE)}**({real.applied.exponent})", _POWER
+    if real.sort is Sort.FUNCTION:
+        return f"{real.applied}({text_of(real.args[0])})", _WHOLE
     return f"{real.sort.value}({', '.join(text_of(arg) for arg in real.args)})", _WHOLE
 
 

@@ -7,7 +7,7 @@ from zero than all radii together. docs/MEASURING.md has the proof of each rule.
 from collections.abc import Callable
 from dataclasses import dataclass
 from fractions import Fraction
-from math import ceil, gcd
+from math import ceil, gcd, isqrt
 
 from propbench.measuring.bounds import Bounds, BoundsOf, power, product
 from propbench.measuring.linear import Linear, linear_of
@@ -32,6 +32,8 @@ from propbench.model.nodes import Node, cell, number
 # A part that has more steps than this may be made coarser in a sum; a quotient has as many as make
 # its radius this.
 _FINE, _SMALL = 10**9, 30
+# A part of a sum may be made coarser by ten whose steps are so small a part of how far another is off.
+_FINER = 50
 # A radius grows with a number that may be so many times as large as it is at least.
 _WIDE = 16
 
@@ -57,10 +59,11 @@ class Told:
 
 
 class Translator:
-    """Makes parts of terms. `hidden` gives the quantity that stands for a root within a term."""
+    """Makes parts of terms. `hidden` gives the quantity that stands for a root or a function within
+    a term."""
 
-    def __init__(self, hidden: Callable[[Real, Bounds], Real]) -> None:
-        self.bounds = BoundsOf()
+    def __init__(self, bounds: BoundsOf, hidden: Callable[[Real], Real]) -> None:
+        self.bounds = bounds
         self._hidden = hidden
         self._atoms: dict[Real, Part] = {}
 
@@ -88,11 +91,14 @@ class Translator:
             assert measure is not None
             bounds = measure.low, measure.high
             return Part(cell(atom.quantity), measure.step, Radius(HALF), bounds)
-        if atom.sort is Sort.ROOT:
-            return self._atom(self._hidden(atom, self.bounds(atom)))
         bounds = self.bounds(atom)
+        if _is_known(atom):
+            return _known(bounds)
+        if atom.sort in (Sort.ROOT, Sort.FUNCTION):
+            return self._atom(self._hidden(atom))
         if atom.sort is Sort.QUOTIENT:
-            above, below = (self._sum(linear_of(arg), MOST_DIVIDED) for arg in atom.args)
+            above = self._sum(linear_of(atom.args[0]), MOST_DIVIDED)
+            below = self._sum(linear_of(atom.args[1]), self._most_of_divisor(atom.args[1]))
             return divided(above, below, bounds, text_of(atom))
         if atom.sort is Sort.PRODUCT:
             one, other = (self._sum(linear_of(arg), MOST_DIVIDED) for arg in atom.args)
@@ -104,6 +110,12 @@ class Translator:
             [inner] = parts
             return Part(absolute(inner.node), inner.step, inner.radius, bounds)
         return extreme(atom.sort, parts, bounds)
+
+    def _most_of_divisor(self, divisor: Real) -> int:
+        """How large a divisor is at the most: the fewer steps it has, the more there is room for in
+        the quotient, and where it may be small, it needs enough for that."""
+        low, high = sorted(abs(end) for end in self.bounds(divisor))
+        return min(MOST_DIVIDED, MOST_FACTOR * max(1, isqrt(ceil(high / low))))
 
     def _powered(self, atom: Real, base: Part) -> Part:
         """A power: the square of half of it, and times the base where it is odd."""
@@ -145,7 +157,7 @@ def multiplied(one: Part, other: Part, bounds: Bounds) -> Part:
     """The product: with x and y rounded by at most r and s, xy is off by |x|s + |y|r + rs."""
     radius = _times_size(other.radius, one).plus(_times_size(one.radius, other))
     radius = radius.plus(Radius(one.radius.most * other.radius.most))
-    node = (Number(one.node) * Number(other.node)).node
+    node = one.node if other.node is number(1) else (Number(one.node) * Number(other.node)).node
     return Part(node, one.step * other.step, radius, bounds)
 
 
@@ -212,6 +224,20 @@ def extreme(sort: Sort, parts: list[Part], bounds: Bounds) -> Part:
     return smaller(Part(found.node, step, radius, bounds), MOST_FACTOR)
 
 
+def _is_known(atom: Real) -> bool:
+    """Whether no quantity stands in a term, so that it is one number, which no fraction need be."""
+    return atom.sort is not Sort.QUANTITY and all(map(_is_known, atom.args))
+
+
+def _known(bounds: Bounds) -> Part:
+    """One number that lies between these: one step of its own size, almost."""
+    middle = (bounds[0] + bounds[1]) / 2
+    if not middle:
+        return Part(number(0), Fraction(1), Radius(bounds[1]), bounds)
+    off = (bounds[1] - bounds[0]) / 2 / abs(middle)
+    return Part(number(1 if middle > 0 else -1), abs(middle), Radius(off), bounds)
+
+
 def _constant(value: Fraction) -> Part:
     """A constant: so many steps of its own size."""
     sign = (value > 0) - (value < 0)
@@ -233,7 +259,14 @@ def _common_step(
         for each in (exact, step):
             if size <= MOST_WHOLE * each:
                 return each, made
-        fine = [place for place, (part, _) in enumerate(made) if part.size > _FINE]
+        # (what is told much finer than another part is needs no more steps)
+        off = max(abs(coefficient) * part.step * part.radius.most for part, coefficient in made)
+        enough = off / _FINER
+        fine = [
+            place
+            for place, (part, coefficient) in enumerate(made)
+            if part.size > _FINE or abs(coefficient) * part.step <= enough
+        ]
         if not fine:
             return size / MOST_WHOLE, made
         place = min(fine, key=lambda at: abs(made[at][1]) * made[at][0].step)

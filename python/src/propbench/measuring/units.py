@@ -9,7 +9,7 @@ import re
 from collections.abc import Mapping
 from dataclasses import dataclass
 from fractions import Fraction
-from functools import cache
+from functools import cache, lru_cache
 from importlib import import_module
 from math import isqrt
 
@@ -70,17 +70,30 @@ def angles_mixed(one: Dimension, other: Dimension) -> str:
     """What an error says more where degrees are mixed with what has none, as radians."""
     if ("deg" in dict(one)) is ("deg" in dict(other)):
         return ""
-    return "; a degree is no exact number of radians, so write all angles in one of both"
+    return (
+        "; a degree is no exact number of radians: write all angles in one of both, or one as "
+        "`degrees(..)` or `radians(..)`"
+    )
 
 
 def unit_of(text: str) -> Unit:
     """The unit that a text names. Raises UnknownUnit, and TypeError for what is no text."""
     if not isinstance(text, str):
         raise TypeError(f"a unit is a text, as `mm` and `1`: {text!r}")
-    written = text.strip()
+    return _unit_of(text.strip())
+
+
+# (tables name few units many times)
+@lru_cache(maxsize=1000)
+def _unit_of(written: str) -> Unit:
+    """The unit that a text names, without spaces around it."""
     if written in _OFFSETS:
         factor, offset = _OFFSETS[written]
         return Unit(written, _base("K"), factor, offset)
+    if written in _LEVELS:
+        return Unit(written, _base("dB"), Fraction(1), Fraction(_LEVELS[written]))
+    if written == "pH":
+        return Unit(written, _base("pH"))
     dimension, factor = _product(written)
     if max(factor.numerator, factor.denominator) > 10**MOST_DIGITS:
         raise UnknownUnit(f"{short(written)!r} is beyond 1e{MOST_DIGITS} or 1e-{MOST_DIGITS}")
@@ -214,18 +227,23 @@ _PREFIXES = {
     "G": Fraction(10**9),
     "T": Fraction(10**12),
 }
-_PREFIXED = frozenset("m s g A K mol L l V ohm Ohm Ω W J N Hz F H C S T Wb Pa bar eV rad".split())
+_PREFIXED = frozenset(
+    "m s g A K mol L l V ohm Ohm Ω W J N Hz F H C S T Wb Pa bar eV rad gon".split()
+)
 # Names of shares: behind a value that has another unit they are of what is read.
 SHARES = frozenset(("%", "ppm", "ppb"))
 # What may mean one or another.
 _TWO_WAYS = {
-    "pH": "is it how acid something is, or a picohenry? A pH is a bare number: give its quantity "
-    "the unit `1`, and write its readings without one. A picohenry is written `picohenry`"
+    "pH": "is it how acid something is, or a picohenry? A pH stands alone in a unit, and a "
+    "picohenry is written `picohenry`"
 }
 _UNITS: dict[str, tuple[Dimension, Fraction]] = {
     **_units({"1 rad": "1", "%": "1/100", "ppm": "1/1000000", "ppb": "1/1000000000"}, ""),
     # angles, none of which is so many radians exactly
     **_units({"deg °": "1", "arcmin": "1/60", "arcsec": "1/3600", "turn": "360"}, "deg"),
+    **_units({"gon": "9/10"}, "deg"),
+    # levels, which are added
+    **_units({"dB": "1"}, "dB"),
     # lengths, areas by powers of these, and volumes
     **_units({"m": "1", "inch in": "0.0254", "ft": "0.3048", "yd": "0.9144"}, "m"),
     **_units({"mi": "1609.344", "nmi": "1852"}, "m"),
@@ -265,3 +283,5 @@ _OFFSETS = {
     "degF": (Fraction(5, 9), Fraction("459.67") * 5 / 9),
     "°F": (Fraction(5, 9), Fraction("459.67") * 5 / 9),
 }
+# Levels above something, as so many decibels above 1 W or 1 V.
+_LEVELS = {"dBW": 0, "dBm": -30, "dBV": 0, "dBmV": -60, "dBuV": -120, "dBµV": -120, "dBμV": -120}

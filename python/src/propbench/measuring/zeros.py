@@ -1,6 +1,7 @@
-"""Temperatures in units with a zero of their own, as degC: what is one, and what is a difference.
+"""Temperatures in units with a zero of their own, as degC, and levels, as dBm: what is one, and what
+is a difference.
 
-In a law all temperatures are in kelvin. So `inside - outside` is a difference in kelvin, and to
+In a law all temperatures are in kelvin, and levels above 1 W or 1 V. So `inside - outside` is a difference in kelvin, and to
 compare it with `5 degC`, which is 278.15 K, or to add `5 degC` to a temperature, is no law that
 anyone means. A temperature in K may be either.
 """
@@ -16,7 +17,8 @@ Zeros = int | None
 
 
 def check_zeros(law: Law) -> None:
-    """Raises MixedUnits where temperatures are compared with differences of them, or with sums."""
+    """Raises MixedUnits where temperatures, or levels, are compared with differences of them, or with
+    sums."""
     sides = [law.left, law.right]
     _alike(sides, [_zeros(side) for side in sides])
 
@@ -57,16 +59,24 @@ def _alike(reals: Sequence[Real], zeros: Sequence[Zeros]) -> Zeros:
     known = [(real, count) for real, count in zip(reals, zeros) if count is not None]
     for real, count in known:
         if count and any(_is_bare_zero(each) for each in reals):
+            written = "`0 dBm` or `0 dBW`" if _is_level(real) else "`0 degC` or `0 K`"
             raise MixedUnits(
-                f"`{text_of(real)}` is compared with 0: write `0 degC` or `0 K`, which are not the "
-                "same"
+                f"`{text_of(real)}` is compared with 0: write {written}, which are not the same"
             )
         if count != known[0][1]:
-            raise MixedUnits(f"{_told(*known[0])}, and {_told(real, count)}: {_WAY_OUT}")
+            way_out = _OF_LEVELS if _is_level(real) else _OF_TEMPERATURES
+            raise MixedUnits(f"{_told(*known[0])}, and {_told(real, count)}: {way_out}")
     return known[0][1] if known else None
 
 
-_WAY_OUT = "differences of temperatures are measured in K, so write `5 K` for 5 degrees more"
+_OF_TEMPERATURES = (
+    "differences of temperatures are measured in K, so write `5 K` for 5 degrees more"
+)
+_OF_LEVELS = "differences of levels are measured in dB, so write `5 dB` for 5 decibels more"
+
+
+def _is_level(real: Real) -> bool:
+    return "dB" in dict(real.dimension)
 
 
 def _is_bare_zero(real: Real) -> bool:
@@ -75,5 +85,6 @@ def _is_bare_zero(real: Real) -> bool:
 
 def _told(real: Real, zeros: int) -> str:
     """A term, and what it is."""
-    what = {0: "is a difference of temperatures", 1: "is a temperature"}
-    return f"`{text_of(real)}` {what.get(zeros, 'is a sum of temperatures')}"
+    one = "level" if _is_level(real) else "temperature"
+    what = {0: f"is a difference of {one}s", 1: f"is a {one}"}
+    return f"`{text_of(real)}` {what.get(zeros, f'is a sum of {one}s')}"

@@ -26,6 +26,13 @@ class Answer:
     `because` names premises that are enough for it, and alternatives of choices (`venue: uni`); of
     a `core` none of them can be left out where `reduced` is True. With choices the answer is that
     of one plan, the first that fits: `choices` has for each choice what it stands on.
+
+    >>> w = Workbench()
+    >>> x = w.number("x", 0, 9)
+    >>> w.tell("Ana", x, 3, 5)
+    >>> answer = x.ask()
+    >>> answer.low, answer.high, answer.because, answer.settled
+    (3, 5, ('Ana',), True)
     """
 
     name: str
@@ -74,7 +81,13 @@ class Answer:
 
     @property
     def value_text(self) -> str:
-        """The value as text, with an open end where a number has none."""
+        """The value as text, with an open end where a number has none.
+
+        >>> w = Workbench()
+        >>> x = w.number("x", 3)
+        >>> x.ask().value_text
+        '3..'
+        """
         return value_text(self.value)
 
 

@@ -5,6 +5,7 @@ can't hold by itself, which of it.
 from collections.abc import Iterable, Iterator, Sequence
 from dataclasses import replace
 
+from propbench.clock import Clock
 from propbench.model.events import ConstraintChoice, Event, Required, Told, premise_of
 from propbench.model.kinds import MOST, Plain
 from propbench.model.network import Network
@@ -13,7 +14,6 @@ from propbench.model.ranges import Range, Ranges, declared_range, range_of
 from propbench.model.shrinking import shrunk
 from propbench.model.writing import text_of
 from propbench.program import OutOfTime
-from propbench.questions.clock import Clock
 from propbench.replies import Contradiction, Value
 from propbench.values import Span
 

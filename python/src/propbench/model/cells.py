@@ -1,6 +1,5 @@
 """Cells: what a user declares, states and asks."""
 
-from collections.abc import Iterable, Mapping
 from typing import TYPE_CHECKING, Protocol
 
 from propbench.model.answers import Answer
@@ -38,12 +37,23 @@ class Cell(Expression):
 
     @property
     def name(self) -> str:
-        """The name, as it was given."""
+        """The name, as it was given.
+
+        >>> w = Workbench()
+        >>> w.number("days off", 0, 9).name
+        'days off'
+        """
         return self._declared.name
 
     @property
     def declared(self) -> Declared:
-        """The cell as it was declared."""
+        """The cell as it was declared.
+
+        >>> w = Workbench()
+        >>> days = w.number("days", 1, 30)
+        >>> days.declared.low, days.declared.high
+        (1, 30)
+        """
         return self._declared
 
     def ask(self, *, over: str | None = None, seconds: float | None = None) -> Answer:
@@ -52,15 +62,38 @@ class Cell(Expression):
 
         A run that isn't done after `seconds` is cut, and the answer says that it isn't settled.
         Raises Conflict where what is believed can't all hold.
+
+        >>> w = Workbench()
+        >>> x = w.number("x", 0, 9)
+        >>> w.choose("way", x, [2, 7])
+        >>> x.ask().value
+        2
+        >>> x.ask(over="all plans").value
+        Span(low=2, high=7)
         """
         return self._workbench.answer("why", self._declared, seconds, over)
 
     def why(self, *, seconds: float | None = None) -> Answer:
-        """The same as `ask`: `because` has premises that are enough for it."""
+        """The same as `ask`: `because` has premises that are enough for it.
+
+        >>> w = Workbench()
+        >>> x = w.number("x", 0, 9)
+        >>> w.tell("Ana", x, 3, 5)
+        >>> x.why().because
+        ('Ana',)
+        """
         return self._workbench.answer("why", self._declared, seconds, None)
 
     def core(self, *, seconds: float | None = None) -> Answer:
-        """The same, from premises of which none can be left out."""
+        """The same, from premises of which none can be left out.
+
+        >>> w = Workbench()
+        >>> x = w.number("x", 0, 9)
+        >>> w.tell("Ana", x, 3, 5)
+        >>> w.tell("Ben", x, 4)
+        >>> x.core().because
+        ('Ben',)
+        """
         return self._workbench.answer("core", self._declared, seconds, None)
 
     def how(self, *, seconds: float | None = None) -> "Claim":
@@ -68,11 +101,26 @@ class Cell(Expression):
         with what is known of other cells on the way. Printed it is a tree; `ways` are its branches.
 
         Raises Conflict where what is believed can't all hold, and ValueError where the program is
-        not propwide, which alone tells this."""
+        not propwide, which alone tells this.
+
+        >>> w = Workbench()
+        >>> x, y = w.number("x", 0, 9), w.number("y", 0, 9)
+        >>> w.require(y == x + 1)
+        >>> w.tell("Ana", x, 3)
+        >>> print(y.how())
+        y = 4, by y == x + 1
+          x = 3, told by Ana
+        """
         return self._workbench.how(self, seconds=seconds)
 
     def picture(self) -> "Picture":
-        """A picture of what bears on the cell, as a notebook shows it."""
+        """A picture of what bears on the cell, as a notebook shows it.
+
+        >>> w = Workbench()
+        >>> x = w.number("x", 0, 9)
+        >>> x.picture().dot.startswith("digraph")
+        True
+        """
         return self._workbench.picture(self)
 
 
@@ -89,7 +137,12 @@ class ElementCell(Cell, Element):
 
     @property
     def elements(self) -> tuple[str, ...]:
-        """The elements of the domain."""
+        """The elements of the domain.
+
+        >>> w = Workbench()
+        >>> w.element("review", w.domain("day", "mon tue")).elements
+        ('mon', 'tue')
+        """
         assert isinstance(self._declared.kind, Domain)
         return self._declared.kind.elements
 
@@ -101,14 +154,3 @@ class SymbolCell(Cell, Symbol):
 def gone(name: str) -> ValueError:
     """What is raised for a cell of this name that is not there any more."""
     return ValueError(f"{name!r} was made in a what-if that is over: make it anew")
-
-
-def words_of(given: "str | Iterable[str]") -> tuple[str, ...]:
-    """Names given as one text with spaces between them, or one by one. Raises TypeError for what
-    is neither."""
-    names = given.split() if isinstance(given, str) else given
-    if isinstance(names, Iterable) and not isinstance(names, Mapping):
-        found = tuple(names)
-        if all(isinstance(name, str) for name in found):
-            return found
-    raise TypeError(f"names are one text with spaces between, or a list of texts: {given!r}")

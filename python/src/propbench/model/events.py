@@ -1,14 +1,17 @@
 """What a user states, one event a call: all that a workbench is, in order."""
 
 from dataclasses import dataclass
+from typing import TYPE_CHECKING
 
-from propbench.measuring.readings import Reading
 from propbench.model.kinds import MOST, Domain, Plain, Point, point_text
 from propbench.model.meaning import Points, holds
 from propbench.model.measures import text_of_number
 from propbench.model.nodes import Declared, Node
 from propbench.model.writing import text_of
 from propbench.showing import printable
+
+if TYPE_CHECKING:
+    from propbench.measuring.readings import Reading
 
 # What is stated of a cell, or an alternative of it: numbers from a low to a high, some elements of
 # a domain, or one truth or symbol.
@@ -41,6 +44,11 @@ class Required:
         """What is stated."""
         return text_of(self.constraint)
 
+    @property
+    def told(self) -> str:
+        """What is stated, as somebody reads it who asks what a premise says."""
+        return self.text
+
     def is_met(self, points: Points) -> bool:
         """Whether the points fit it. Raises Beyond."""
         return holds(self.constraint, points)
@@ -59,6 +67,11 @@ class Told:
         """What is stated."""
         return f"{printable(self.cell.name)} = {values_text(self.cell, self.values)}"
 
+    @property
+    def told(self) -> str:
+        """What is stated, as somebody reads it who asks what a premise says."""
+        return self.text
+
     def is_met(self, points: Points) -> bool:
         """Whether the point of the cell is one of the values."""
         return is_among(points[self.cell], self.cell, self.values)
@@ -68,7 +81,7 @@ class Told:
 class Read(Told):
     """A reading of a quantity: its cell lies between what it holds for the ends."""
 
-    reading: Reading
+    reading: "Reading"
 
     @property
     def text(self) -> str:

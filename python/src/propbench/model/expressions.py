@@ -44,7 +44,13 @@ class Expression:
 
     @property
     def node(self) -> Node:
-        """The expression as data."""
+        """The expression as data.
+
+        >>> w = Workbench()
+        >>> x = w.number("x", 0, 9)
+        >>> (x + 1).node.op.name
+        'SUM'
+        """
         return self._node
 
     def __repr__(self) -> str:
@@ -206,7 +212,15 @@ class Element(Expression):
     __hash__ = object.__hash__
 
     def among(self, *elements: str) -> Truth:
-        """The constraint that it is one of these elements."""
+        """The constraint that it is one of these elements. Raises ValueError for a name that is
+        none of its domain.
+
+        >>> w = Workbench()
+        >>> review = w.element("review", w.domain("day", "mon tue wed"))
+        >>> w.require(review.among("mon", "wed"))
+        >>> print(review.ask().value)
+        {mon wed}
+        """
         domain = domain_of_element(self)
         for element in elements:
             _checked_element(element, domain)

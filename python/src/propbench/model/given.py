@@ -1,16 +1,17 @@
 """Values as a user gives them, and what is stated by them."""
 
 from collections.abc import Iterable, Sequence
-from typing import Any
+from typing import TYPE_CHECKING, Any
 
-from propbench.measuring.readings import Reading, reading_of
-from propbench.measuring.units import unit_of
-from propbench.model.cells import words_of
+from propbench.given import names_given
 from propbench.model.events import Values
 from propbench.model.expressions import point_of
 from propbench.model.kinds import MOST, Domain, Plain
 from propbench.model.measures import Measure
 from propbench.model.nodes import Declared
+
+if TYPE_CHECKING:
+    from propbench.measuring.readings import Reading
 
 # A number, a truth, a name, or several names of which one is it.
 Given = int | bool | str | Sequence[str]
@@ -23,6 +24,9 @@ def values_of(cell: Declared, value: object, high: object = None) -> Values:
     and one that the cell can't hold.
     """
     if cell.measure is not None:
+        from propbench.measuring.readings import reading_of
+        from propbench.measuring.units import unit_of
+
         found = reading_of(given_of(value, high), unit_of(cell.measure.unit))
         return cells_of(cell.measure, found)
     if high is not None and cell.kind is not Plain.NUMBER:
@@ -41,7 +45,7 @@ def values_of(cell: Declared, value: object, high: object = None) -> Values:
     return (point_of(value, cell.kind),)
 
 
-def cells_of(measure: Measure, reading: Reading) -> tuple[int, int]:
+def cells_of(measure: Measure, reading: "Reading") -> tuple[int, int]:
     """What the cell of a quantity may hold by a reading."""
     low, high = (measure.count(end) for end in (reading.low, reading.high))
     return min(max(low, -MOST), MOST), min(max(high, -MOST), MOST)
@@ -63,10 +67,10 @@ def alternative_of(cell: Declared, value: object) -> Values:
 
 
 def _several(cell: Declared, value: object) -> Iterable[object]:
-    """The names: one, several in one text with spaces between, or several one by one."""
+    """The names, as they are given."""
     assert isinstance(cell.kind, Domain)
     if isinstance(value, str):
-        return [value] if value in cell.kind.elements else words_of(value)
+        return names_given(value, cell.kind.elements)
     if not isinstance(value, Iterable):
         raise TypeError(f"{value!r} is no element of {cell.kind}: write its name as a text")
     return value

@@ -11,6 +11,7 @@ from typing import TypeVar
 
 from propbench.model.either import Either
 from propbench.model.events import ConstraintChoice, Event, Required, ValueChoice
+from propbench.model.first import First
 from propbench.model.kinds import Domain
 from propbench.model.kit import offered, written
 from propbench.model.nodes import Declared, Node
@@ -19,7 +20,6 @@ from propbench.model.record import Index, Record
 from propbench.model.script import Owner, Script
 from propbench.model.vocabulary import Vocabulary
 from propbench.model.writer import YES
-from propbench.questions.model import First
 from propbench.refusals import LimitReached, LineTooLong, NotAName, Refused
 from propbench.session import Session
 
@@ -28,7 +28,7 @@ Found = TypeVar("Found")
 
 
 @dataclass
-class Program:
+class ProgramKnown:
     """What is known of the program: procedures that it offers, and whether it takes words for
     names. It is the same for all copies."""
 
@@ -45,11 +45,11 @@ class Network:
     """
 
     def __init__(
-        self, session: Session, program: Program | None = None, record: Record | None = None
+        self, session: Session, program: ProgramKnown | None = None, record: Record | None = None
     ) -> None:
         """What a record has, or nothing as yet, in a session to which nothing was said."""
         self._session = session
-        self._program = program or Program()
+        self._program = program or ProgramKnown()
         self._record = record or Record()
         self._index = Index(self._record)
         self._script = self.new_script()
@@ -73,6 +73,11 @@ class Network:
     def events(self) -> Sequence[Event]:
         """What was stated, in order."""
         return self._now().events
+
+    @property
+    def record(self) -> Record:
+        """All that is kept: another one since anything was stated, kicked out or brought in."""
+        return self._record
 
     @property
     def cells(self) -> dict[str, Declared]:

@@ -2,7 +2,7 @@
 
 from fractions import Fraction
 
-from propbench.model.events import Choice, Read, Statement
+from propbench.model.events import Choice, Read, Required, Statement, Told
 from propbench.model.nodes import Declared
 from propbench.nearby import near_names
 
@@ -68,8 +68,18 @@ class Premises:
         del self.statements[name]
 
     def text(self, name: str) -> str:
-        """What is stated under a premise."""
-        return "; ".join(statement.text for statement in self.statements.get(name, ()))
+        """What is stated under a premise, for people."""
+        texts = [
+            each.told
+            for each in self.statements.get(name, ())
+            if isinstance(each, (Required, Told))
+        ]
+        return "; ".join(dict.fromkeys(texts))
+
+    def exactly(self, name: str) -> str:
+        """All that is stated under a premise, by its cells."""
+        # (of a curve that is told by pieces each is called the same)
+        return "; ".join(dict.fromkeys(each.text for each in self.statements.get(name, ())))
 
     @property
     def in_force(self) -> list[str]:

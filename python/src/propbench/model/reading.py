@@ -2,10 +2,10 @@
 
 from collections.abc import Iterable, Mapping
 
-from propbench.measuring.quantities import MeasuredAnswer, interval_of
 from propbench.model.answers import Answer, Left, numbers_left
 from propbench.model.choosing import alternative_of, alternatives_at, first_name
 from propbench.model.kinds import MOST, Domain
+from propbench.model.measured import MeasuredAnswer, interval_of
 from propbench.model.measures import Interval, Measure
 from propbench.model.nodes import Declared
 from propbench.model.premises import Premises

@@ -17,10 +17,10 @@ from propbench.model.events import (
     ValueChoice,
     premise_of,
 )
+from propbench.model.first import First
 from propbench.model.kinds import Domain
 from propbench.model.nodes import Declared
 from propbench.model.premises import Premises
-from propbench.questions.model import First
 
 
 @dataclass(frozen=True, eq=False)

@@ -3,26 +3,34 @@
 This is all that `propbench.questions` uses of a workbench beside what a user does.
 """
 
-from collections.abc import Mapping, Sequence
+from collections.abc import Callable, Mapping, Sequence
+from typing import TYPE_CHECKING
 
 from propbench.model.cells import Cell, gone
 from propbench.model.events import CellMade, DomainMade, Event, Statement, premise_of
+from propbench.model.first import First
 from propbench.model.given import values_of
 from propbench.model.kinds import Domain, Plain, Point
 from propbench.model.meaning import Beyond, Plan
-from propbench.model.nodes import Declared
 from propbench.model.network import Network
+from propbench.model.nodes import Declared
 from propbench.model.script import values_line
 from propbench.model.writing import text_of
-from propbench.questions.model import First
 from propbench.session import Session
+
+if TYPE_CHECKING:
+    from propbench.questions.planned import Scheduled
+
+
+# What makes a schedule of a plan and the alternatives in it, where a network has tasks.
+Scheduling = Callable[[Network, Mapping[str, Point], Mapping[str, object]], "Scheduled | None"]
 
 
 class BenchModel:
     """A network with named premises of the user's, and cells of the user's."""
 
-    def __init__(self, network: Network) -> None:
-        self._network = network
+    def __init__(self, network: Network, scheduling: Scheduling | None = None) -> None:
+        self._network, self._scheduling = network, scheduling
         self._last = Plan({})
 
     @property
@@ -137,6 +145,12 @@ class BenchModel:
             name: choices[name].stands_on(side) for name, side in sides.items() if side is not None
         }
 
+    def scheduled(self, plan: Mapping[str, Point]) -> "Scheduled | None":
+        """These points as a schedule, where there are tasks of one project."""
+        if self._scheduling is None:
+            return None
+        return self._scheduling(self._network, plan, self.chosen(plan))
+
     def first(self) -> Sequence[First]:
         """The cells of which values are tried out before those of others."""
         return self._network.first
@@ -155,6 +169,10 @@ class BenchModel:
     def text(self, premise: str) -> str:
         """What the premise states, for people."""
         return self._network.premises.text(premise)
+
+    def exactly(self, premise: str) -> str:
+        """All that the premise states, by its cells."""
+        return self._network.premises.exactly(premise)
 
     def _points(self, plan: Mapping[str, Point]) -> Plan:
         """The points of a plan; of the one that was looked at last, with what was worked out."""

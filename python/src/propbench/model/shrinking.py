@@ -3,8 +3,8 @@
 from collections.abc import Iterable, Sequence
 from contextlib import suppress
 
+from propbench.clock import Clock
 from propbench.program import OutOfTime
-from propbench.questions.clock import Clock
 from propbench.replies import Contradiction
 from propbench.session import Session
 

@@ -4,14 +4,12 @@ A saved workbench is a session of the language: its lines make the network, and 
 begins with `#:` tells in the user's words what the lines below it are for.
 """
 
-import json
 import re
 from collections.abc import Iterable, Iterator, Mapping, Sequence
 from dataclasses import dataclass, field, fields
 from fractions import Fraction
-from typing import Any
+from typing import TYPE_CHECKING, Any
 
-from propbench.measuring.readings import Reading
 from propbench.model.events import (
     CellMade,
     ConstraintChoice,
@@ -27,6 +25,9 @@ from propbench.model.kinds import Domain, Kind, Plain
 from propbench.model.measures import Measure
 from propbench.model.nodes import Declared, Node, Op, cell, constant, node
 
+if TYPE_CHECKING:
+    from propbench.measuring.readings import Reading
+
 # A comment begins so, and goes on so where a line is too short for it.
 BEGINS, GOES_ON = "#: ", "#+ "
 _LONGEST = 4000
@@ -34,19 +35,23 @@ _LONGEST = 4000
 _FRACTION = re.compile(r"-?[0-9]{1,2000}(/[0-9]{1,2000})?", re.ASCII)
 # What JSON gives may be anything: its parts are read by what stands there, and what has another form
 # than an event raises.
-Record = Mapping[str, Any]
+JsonRecord = Mapping[str, Any]
 Nested = Sequence[Any]
 
 
 def comments(event: Mapping[str, object]) -> Iterator[str]:
     """A record as comments."""
+    import json
+
     text = json.dumps(event)
     for first in range(0, len(text), _LONGEST):
         yield (GOES_ON if first else BEGINS) + text[first : first + _LONGEST]
 
 
-def records(lines: Iterable[str]) -> list[Record]:
+def records(lines: Iterable[str]) -> list[JsonRecord]:
     """The records that comments hold. Raises ValueError where one can't be read."""
+    import json
+
     texts: list[str] = []
     for line in lines:
         if line.startswith(BEGINS):
@@ -86,13 +91,15 @@ def _cell_record(declared: Declared) -> dict[str, object]:
     return {declared.kind.value: declared.name}
 
 
-def _reading_record(reading: Reading) -> list[str | None]:
+def _reading_record(reading: "Reading") -> list[str | None]:
     times = reading.coverage
     ends = str(reading.low), str(reading.high)
     return [*ends, reading.written, None if times is None else str(times)]
 
 
-def _reading(parts: Sequence[str | None]) -> Reading:
+def _reading(parts: Sequence[str | None]) -> "Reading":
+    from propbench.measuring.readings import Reading
+
     low, high, written, times = parts
     exact = _fraction(low), _fraction(high)
     return Reading(*exact, str(written), None if times is None else _fraction(times))
@@ -130,7 +137,7 @@ class Records:
     cells: dict[str, Declared] = field(default_factory=dict)
     domains: dict[str, Domain] = field(default_factory=dict)
 
-    def event(self, record: Record) -> Event:
+    def event(self, record: JsonRecord) -> Event:
         """The event that a record is. Raises KeyError, TypeError or ValueError for what is none."""
         if "domain" in record:
             made = Domain(record["domain"], tuple(record["elements"]))
@@ -149,7 +156,7 @@ class Records:
         self.cells[declared.name] = declared
         return CellMade(declared)
 
-    def _declared(self, record: Record) -> Declared:
+    def _declared(self, record: JsonRecord) -> Declared:
         if "element" in record:
             kind: Kind = self.domains[record["domain_of"]]
             return Declared(record["element"], kind, None, None, self.owner)
@@ -160,7 +167,7 @@ class Records:
         [(plain, name)] = record.items()
         return Declared(name, Plain(plain), None, None, self.owner)
 
-    def _choice(self, record: Record) -> ValueChoice | ConstraintChoice:
+    def _choice(self, record: JsonRecord) -> ValueChoice | ConstraintChoice:
         if "of" in record:
             alternatives = tuple(tuple(values) for values in record["values"])
             return ValueChoice(record["choose"], self.cells[record["of"]], alternatives)

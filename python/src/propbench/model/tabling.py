@@ -2,7 +2,6 @@
 
 from collections.abc import Iterable, Mapping
 from dataclasses import dataclass
-from html import escape
 
 from propbench.model.answers import Answer, plan_text
 from propbench.showing import printable
@@ -33,7 +32,7 @@ class Table:
     def _repr_html_(self) -> str:
         head = _html_row("th", _HEADS)
         rows = "".join(_html_row("td", row) for row in self.rows)
-        below = "".join(f"<p>{escape(printable(line))}</p>" for line in self._below())
+        below = "".join(f"<p>{_escaped(line)}</p>" for line in self._below())
         return f"<table>{head}{rows}</table>{below}"
 
     def _below(self) -> list[str]:
@@ -47,5 +46,11 @@ def _value(answer: Answer) -> str:
 
 
 def _html_row(tag: str, texts: Iterable[str]) -> str:
-    cells = "".join(f"<{tag}>{escape(printable(text))}</{tag}>" for text in texts)
+    cells = "".join(f"<{tag}>{_escaped(text)}</{tag}>" for text in texts)
     return f"<tr>{cells}</tr>"
+
+
+def _escaped(text: str) -> str:
+    from html import escape
+
+    return escape(printable(text))

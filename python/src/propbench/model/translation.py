@@ -39,10 +39,6 @@ class Translation:
         """Writes the lines by which a truth holds while the context does."""
         self._state(truth, True, context)
 
-    def deny(self, truth: Node, context: Context) -> None:
-        """Writes the lines by which a truth doesn't hold while the context does."""
-        self._state(truth, False, context)
-
     def cell_of(self, each: Node, context: Context) -> str:
         """The cell of an expression in a context, made where there is none yet."""
         if each not in context.cells:

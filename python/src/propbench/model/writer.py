@@ -177,11 +177,21 @@ class Writer:
     def narrow(self, cell: str, text: str, kind: Kind, context: Context) -> None:
         """States that a cell has a value, as written, while the context holds."""
         if context.premise is None:
-            self.attach("passer", context.gate, self.fixed(kind, text), cell)
+            self.attach("passer", context.gate, self._one_of(kind, text), cell)
         elif context.premise:
             self.line(f"tell {context.premise} {cell} {text}")
         else:
             self.line(f"fix {cell} {text}")
+
+    def _one_of(self, kind: Kind, text: str) -> str:
+        """A cell that has this value; where that is one of several, it is a new one each time, as
+        two cells that are handed what it holds would be the same in any plan."""
+        if not text.startswith("{") and ".." not in text:
+            return self.fixed(kind, text)
+        since = self.position
+        cell = self.new_cell(kind)
+        self.line(f"fix {cell} {text}")
+        return self.made(cell, since)
 
     def between(self, cell: str, low: int, high: int, context: Context) -> None:
         """States that a number lies between two, where that tells anything."""

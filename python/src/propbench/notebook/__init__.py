@@ -27,13 +27,13 @@ from typing import Any
 
 from IPython.display import display
 
+from propbench.clock import on_terminal, show_by
 from propbench.finding import find_for
 from propbench.grammar import ASKING
 from propbench.journal import Journal, left
 from propbench.notebook.bar import Bar
 from propbench.overview import UNPROVED
 from propbench.pictures import Film, Picture, film_of, picture_of
-from propbench.questions.clock import on_terminal, show_by
 from propbench.refusals import Refused
 from propbench.replies import Done, Reply, Silent
 from propbench.session import Session

@@ -6,6 +6,7 @@ from dataclasses import dataclass, field
 from datetime import date, datetime, timedelta
 
 _NAMES = ("mon", "tue", "wed", "thu", "fri", "sat", "sun")
+MONTHS = ("Jan", "Feb", "Mar", "Apr", "May", "Jun", "Jul", "Aug", "Sep", "Oct", "Nov", "Dec")
 # No more days off than these stand between two days of work.
 _LONGEST = 366
 _ISO = re.compile(r"\d{4}-\d\d-\d\d")
@@ -24,6 +25,21 @@ def date_given(given: object) -> date:
     except ValueError:
         pass
     raise ValueError(f"{given!r} is no date: write it as 2026-12-04")
+
+
+def date_said(day: date) -> str:
+    """A date as people read it: `Fri 4 Dec 2026`."""
+    return f"{_NAMES[day.weekday()].capitalize()} {day.day} {MONTHS[day.month - 1]} {day.year}"
+
+
+def dates_said(first: date, last: date) -> str:
+    """The days from one to another, in short: `4 Dec`, `4-9 Dec`, `28 Dec-2 Jan`."""
+    end = f"{last.day} {MONTHS[last.month - 1]}"
+    if first == last:
+        return end
+    if (first.year, first.month) == (last.year, last.month):
+        return f"{first.day}-{end}"
+    return f"{first.day} {MONTHS[first.month - 1]}-{end}"
 
 
 @dataclass(frozen=True)
@@ -65,6 +81,11 @@ class Calendar:
         for _ in range(day):
             found = self._next(found + timedelta(days=1))
         return found
+
+    def last_date(self, start: int, end: int) -> date:
+        """The date of the last day before the day `end`, of what begins with the day `start`; that
+        of its beginning where it takes no day."""
+        return self.date_of(max(start, end - 1))
 
     def day_of(self, wanted: date) -> int:
         """The day of the plan on a date, or the next one where that is off. Raises ValueError for a

@@ -1,17 +1,19 @@
 """A Gantt chart as SVG: a bar for each task, and behind it the room that it has over all plans."""
 
 import os
-from collections.abc import Mapping
+from collections.abc import Collection, Mapping
 from dataclasses import dataclass
 from html import escape
 from typing import TYPE_CHECKING
 
-from propbench.files import write_file
-from propbench.given import path_given
+from propbench.planning.exports import ENDINGS, written
+from propbench.planning.schedule import Entry, Schedule
+from propbench.planning.tasks import Away
 from propbench.questions.asking import tried
-from propbench.questions.bounding import LEAST, GREATEST, Bounding
+from propbench.questions.bounding import LEAST, GREATEST, Bounding, Optimum
 from propbench.questions.clock import Clock, Progress
 from propbench.questions.model import Plan
+from propbench.questions.planned import Planned
 from propbench.questions.shown import listed
 from propbench.questions.outcomes import Fits, NothingFits
 from propbench.questions.trial import Trial
@@ -22,6 +24,8 @@ if TYPE_CHECKING:
 
 # Sizes, in pixels: of a day, of a row, and of the names in front.
 _DAY, _ROW, _NAMES, _HEAD = 14, 24, 170, 28
+# So many letters of a name are shown.
+_LETTERS = 26
 _COLOURS = ("#3366aa", "#aa5533", "#338855", "#886699", "#997722", "#227788")
 
 
@@ -39,15 +43,12 @@ class Chart:
     def save(self, path: str | os.PathLike[str]) -> None:
         """Writes the chart to a file, as SVG, whole or not at all. Raises OSError, and ValueError
         for a name that ends as if it were something else."""
-        ending = os.path.splitext(path_given(path))[1]
-        if ending.lower() not in (".svg", ""):
-            raise ValueError(f"a chart is written as .svg, and not as {printable(ending)}")
-        write_file(path_given(path), f"{self.svg}\n")
+        written(f"{self.svg}\n", path, ENDINGS["svg"])
 
 
 def chart_of(
     project: "Project",
-    plan: Plan | None,
+    plan: Planned | Plan | None,
     has_rooms: bool,
     seconds: float | None,
     progress: Progress | None,
@@ -55,14 +56,13 @@ def chart_of(
     """The chart of a plan, or of the first that ends soonest, as far as there is time."""
     clock = Clock(seconds, progress)
     shown, is_best = (plan, True) if plan is not None else _soonest(project, has_rooms, clock)
-    if not isinstance(shown, Mapping):
-        raise TypeError(f"{shown!r} is no plan, as `w.least(p.end).plan` is one")
-    rooms = rooms_of(project, clock) if has_rooms else {}
-    is_all = is_best and (not has_rooms or len(rooms) == len(project.tasks))
-    return Chart(_drawn(project, shown, rooms), is_all)
+    schedule = project.schedule(shown)
+    rooms = rooms_of(project, clock, project.tasks) if has_rooms else {}
+    is_all = is_best and (not has_rooms or len(rooms) == len(schedule.entries))
+    return Chart(drawn(schedule, rooms, project.days), is_all)
 
 
-def _soonest(project: "Project", has_rooms: bool, clock: Clock) -> tuple[Plan, bool]:
+def _soonest(project: "Project", has_rooms: bool, clock: Clock) -> tuple[Optimum, bool]:
     """A plan that ends soonest, and whether that is proved; half the time is left for rooms where
     these are wanted. Raises NothingFits."""
     end, left = project.end, clock.seconds_left()
@@ -71,29 +71,33 @@ def _soonest(project: "Project", has_rooms: bool, clock: Clock) -> tuple[Plan, b
     if best.plan is None:
         why = "there is no plan" if best.proved else "no plan was found in time"
         raise NothingFits(f"{why}, so none can be drawn")
-    return best.plan, best.proved
+    return best, best.proved
 
 
-def _drawn(project: "Project", shown: Plan, rooms: Mapping[str, tuple[int, int]]) -> str:
-    """The picture of a plan, and of the rooms that are known."""
-    width, height = _NAMES + project.days * _DAY + 24, _HEAD + len(project.tasks) * _ROW + 10
+def drawn(schedule: Schedule, rooms: Mapping[str, tuple[int, int]], days: int) -> str:
+    """The picture of a schedule over so many days, and of the rooms that are known."""
+    width = _NAMES + days * _DAY + 24
+    height = _HEAD + len(schedule.entries) * _ROW + 10
     return "\n".join(
         [
             f'<svg xmlns="http://www.w3.org/2000/svg" width="{width}" height="{height}" '
+            f'viewBox="0 0 {width} {height}" '
             f'role="img" aria-label="Gantt chart" font-family="sans-serif" font-size="12">',
-            *_days(project, height),
+            *_days(schedule, days, height),
             *(
                 part
-                for row, name in enumerate(project.tasks)
-                for part in _row(project, name, shown, rooms.get(name), _HEAD + row * _ROW)
+                for row, entry in enumerate(schedule.entries)
+                for part in _row(schedule, entry, rooms.get(entry.task), _HEAD + row * _ROW)
             ),
             "</svg>",
         ]
     )
 
 
-def rooms_of(project: "Project", clock: Clock) -> dict[str, tuple[int, int]]:
-    """For each task the first day on which it starts in any plan, and the last on which it ends, as
+def rooms_of(
+    project: "Project", clock: Clock, tasks: Collection[str]
+) -> dict[str, tuple[int, int]]:
+    """For each of these tasks the first day on which it starts in any plan, and the last on which it ends, as
     far as there is time to find both."""
     model = project.workbench.model
     rooms: dict[str, tuple[int, int]] = {}
@@ -108,48 +112,65 @@ def rooms_of(project: "Project", clock: Clock) -> dict[str, tuple[int, int]]:
         return bounding.value if bounding.proved else None
 
     def run(trial: Trial) -> None:
-        for name, task in project.tasks.items():
+        for name in tasks:
+            task = project.tasks[name]
             ends = best(trial, task.start.name, LEAST), best(trial, task.end.name, GREATEST)
             if ends[0] is not None and ends[1] is not None:
                 rooms[name] = ends[0], ends[1]
-            clock.tell(f"the rooms of {len(rooms)} of {len(project.tasks)} tasks")
+            clock.tell(f"the rooms of {len(rooms)} of {len(tasks)} tasks")
 
     trial = Trial(model, model.believed(), clock)
     return tried(trial, lambda: run(trial), lambda: rooms)
 
 
-def _days(project: "Project", height: int) -> list[str]:
+def _days(schedule: Schedule, days: int, height: int) -> list[str]:
     """Lines at the beginning of every fifth day, with its number or its date."""
     parts = []
-    for day in range(0, project.days + 1, 5):
+    for day in range(0, days + 1, 5):
         x = _NAMES + day * _DAY
-        told = f"{project.calendar.date_of(day):%d.%m.}" if project.calendar else str(day)
+        told = f"{schedule.calendar.date_of(day):%d.%m.}" if schedule.calendar else str(day)
         parts.append(f'<line x1="{x}" y1="{_HEAD - 6}" x2="{x}" y2="{height}" stroke="#ccc"/>')
         parts.append(f'<text x="{x}" y="{_HEAD - 10}" text-anchor="middle">{told}</text>')
     return parts
 
 
-def _row(
-    project: "Project", name: str, plan: Plan, room: tuple[int, int] | None, top: int
-) -> list[str]:
+def _row(schedule: Schedule, entry: Entry, room: tuple[int, int] | None, top: int) -> list[str]:
     """The bar of a task, its room, and its name."""
-    task = project.tasks[name]
-    start, end = plan[task.start.name], plan[task.end.name]
-    assert isinstance(start, int) and isinstance(end, int)
-    people = project.people.index(task.people[0]) if task.people else -1
-    told = escape(printable(name))
-    who = f" ({', '.join(task.people)})" if task.people else ""
-    says = f"{told}{escape(printable(who))}: day {start} to {end}"
-    parts = [f'<text x="4" y="{top + 16}">{told}{escape(printable(who))}</text>']
+    who = f" ({', '.join(entry.people)})" if entry.people else ""
+    told = printable(f"{entry.task}{who}")
+    says = f"{escape(told)}: {_when(schedule, entry.start, entry.end)}"
+    label = told if len(told) <= _LETTERS else f"{told[: _LETTERS - 1]}\u2026"
+    parts = [f'<text x="4" y="{top + 16}">{escape(label)}</text>']
+    parts += [
+        _bar(away.first, away.last, top + 2, 20, "#eeddcc", _said_of(schedule, away))
+        for away in schedule.staff.aways
+        if away.person in entry.people and away.last <= schedule.staff.days
+    ]
     if room is not None:
-        says += f", in any plan from {room[0]} to {room[1]}"
+        within = schedule.days_said(*room)
+        says += f", in any plan {within if schedule.calendar else f'from {within}'}"
         parts.append(_bar(*room, top + 9, 6, "#bbbbbb", ""))
     if back := [
-        person for person, day in project.returns if day == start and person in task.people
+        away.person
+        for away in schedule.staff.aways
+        if away.last == entry.start and away.person in entry.people
     ]:
         says += f"; it starts when {escape(listed(back))} is back, as no task pauses"
-    colour = _COLOURS[people % len(_COLOURS)] if people >= 0 else "#555555"
-    return [*parts, _bar(start, end, top + 4, 16, colour, says)]
+    colour = "#555555"
+    if entry.people:
+        colour = _COLOURS[schedule.people.index(entry.people[0]) % len(_COLOURS)]
+    return [*parts, _bar(entry.start, entry.end, top + 4, 16, colour, says)]
+
+
+def _said_of(schedule: Schedule, away: Away) -> str:
+    """Who is away when."""
+    return f"{escape(printable(away.person))} away: {_when(schedule, away.first, away.last)}"
+
+
+def _when(schedule: Schedule, start: int, end: int) -> str:
+    """The days from one to another."""
+    said = schedule.days_said(start, end)
+    return said if schedule.calendar else f"day {said}"
 
 
 def _bar(start: int, end: int, top: int, height: int, colour: str, says: str) -> str:

@@ -5,15 +5,17 @@ from datetime import date
 from operator import index
 from typing import TYPE_CHECKING, SupportsIndex
 
-from propbench.model.cells import NumberCell, words_of
+from propbench.given import names_given
+from propbench.model.cells import NumberCell
 from propbench.model.events import Required, Told
 from propbench.model.expressions import Truth, maximum, total
 from propbench.model.given import values_of
 from propbench.model.nodes import TRUE
 from propbench.nearby import near_names
-from propbench.planning.calendar import Calendar, date_given
+from propbench.planning.calendar import Calendar, date_given, date_said, dates_said
 from propbench.planning.tasks import (
     Away,
+    KeptApart,
     KeptOff,
     Option,
     Task,
@@ -21,17 +23,26 @@ from propbench.planning.tasks import (
     TaskOrdered,
     TaskTold,
     Way,
+    Wished,
+    aways_of,
     checked_ways,
     tasks_in,
 )
-from propbench.questions.clock import Progress
+from propbench.questions.clock import Clock, Progress
 from propbench.questions.model import Plan
+from propbench.questions.outcomes import NothingFits
+from propbench.questions.planned import Planned
+from propbench.showing import printable
 
 if TYPE_CHECKING:
+    from propbench.planning.chain import Chain
     from propbench.planning.chart import Chart
+    from propbench.planning.schedule import Schedule
     from propbench.workbench import Workbench
 
 MOST_COST = 10**12
+# A day of a plan: its number, or a date where the plan has a calendar.
+Day = int | date | str
 
 
 class Project:
@@ -40,6 +51,13 @@ class Project:
     Each fact has a premise of its own (`review takes 5`, `review after venue`, `ana away 5 to 10`),
     so that questions speak of these; `facts` are those of the tasks, as wishes are not. Behind the
     last task `end` is the day by which all is done, and `total_cost` what it costs.
+
+    >>> w = Workbench()
+    >>> p = w.project(days=30, people="ana ben")
+    >>> venue = p.task("venue", 3, who="ana")
+    >>> review = p.task("review", 5, who="ana ben")
+    >>> w.least(p.end).value
+    8
     """
 
     def __init__(
@@ -60,26 +78,54 @@ class Project:
                 ' them. Where there are two of a kind, name two, as "hall1 hall2"'
             )
         self.workbench, self.days, self.calendar = workbench, days, calendar
-        self.people = words_of(people)
+        self.people = names_given(people)
         # The cells that were made last for these; the workbench says whether they are there.
         self._end: NumberCell | None = None
         self._total: NumberCell | None = None
 
     @property
     def tasks(self) -> dict[str, Task]:
-        """The tasks by name, in the order in which they were made."""
+        """The tasks by name, in the order in which they were made.
+
+        >>> w = Workbench()
+        >>> p = w.project(days=30, people="ana")
+        >>> venue = p.task("venue", 3, who="ana")
+        >>> list(p.tasks)
+        ['venue']
+        """
         made = (each for each in self.workbench.network.events if isinstance(each, TaskMade))
         return {each.task.name: each.task for each in made if each.project is self}
 
     @property
     def facts(self) -> tuple[str, ...]:
         """The premises that say what the tasks are: how long they take, what they cost, in which
-        order they come. `w.repairs(keep=p.facts)` gives up none of them."""
+        order they come. `w.repairs(keep=p.facts)` gives up none of them.
+
+        >>> w = Workbench()
+        >>> p = w.project(days=30)
+        >>> venue = p.task("venue", 3)
+        >>> p.facts
+        ('venue takes 3',)
+        """
         found: dict[str, None] = {}
         for each in self.workbench.network.events:
             if isinstance(each, (TaskTold, TaskOrdered)) and each.project is self and each.premise:
                 found[each.premise] = None
         return tuple(found)
+
+    @property
+    def limits(self) -> tuple[str, ...]:
+        """The premises that people do one thing at a time, of whoever has two tasks: as `ana does
+        one thing at a time`. Where one is given up, somebody has to help her.
+
+        >>> w = Workbench()
+        >>> p = w.project(days=30, start="2026-03-02", off="sat sun", people="ana")
+        >>> venue, review = p.task("venue", 3, who="ana"), p.task("review", 5, who="ana")
+        >>> p.limits
+        ('ana does one thing at a time',)
+        """
+        kept = (each for each in self.workbench.network.events if isinstance(each, KeptApart))
+        return tuple(dict.fromkeys(each.premise for each in kept if each.project is self))
 
     def task(
         self,
@@ -102,6 +148,14 @@ class Project:
         there is such a task, no such person, a task of another workbench before it, or `end` or
         `total_cost` was asked for before, and TypeError for days that are no whole number or an
         `after` that is no list of tasks. Then the plan is as it was.
+
+        >>> w = Workbench()
+        >>> p = w.project(days=30, people="ana ben")
+        >>> ways = {"hotel": dict(days=2, cost=4000), "uni": dict(days=5, cost=1500)}
+        >>> venue = p.task("venue", who="ana", options=ways)
+        >>> review = p.task("review", 5, who="ben", after=[venue])
+        >>> w.least(p.end).value, w.least(p.total_cost).value
+        (7, 1500)
         """
         people = self._checked(name, who)
         ways = checked_ways(name, days, cost, options)
@@ -109,7 +163,7 @@ class Project:
         others, aways = self.tasks.values(), self._aways()
 
         def state() -> Task:
-            task = self._made(name, people, any(way.cost for way in ways.values()))
+            task = self._made(name, people, list(ways.values()))
             if options is not None:
                 self._choose(task, ways)
             else:
@@ -118,24 +172,32 @@ class Project:
                     self._tell(under or f"{name} costs {cost}", task.cost, cost)
             for other in earlier:
                 before = (other.end <= task.start).node
-                self._state(TaskOrdered(before, under or f"{name} after {other.name}", self))
+                premise = under or f"{name} after {other.name}"
+                self._state(TaskOrdered(before, premise, self, other, task))
             self._keep_apart(task, others)
             self._keep_off([task], [away for away in aways if away.person in people])
             return task
 
         return self.workbench.network.whole(state)
 
-    def away(
-        self, person: str, first: int | date | str, last: int | date | str, under: str | None = None
-    ) -> str:
+    def away(self, person: str, first: Day, last: Day, under: str | None = None) -> str:
         """A person does nothing from the beginning of one day to the beginning of another; the
         premise of that, which is named `ana away 5 to 10` where no name is given. Days are numbers,
         or dates where the plan has a calendar. A task doesn't pause meanwhile: it ends before, or
-        begins behind. Where all of these days are off anyway, nothing more is stated."""
+        begins behind. Where all of these days are off anyway, nothing more is stated. Raises
+        ValueError for somebody else, and for a return before the leave.
+
+        >>> w = Workbench()
+        >>> p = w.project(days=30, people="ana")
+        >>> trip = p.away("ana", 2, 10)
+        >>> venue = p.task("venue", 3, who="ana")
+        >>> w.least(venue.start).value
+        10
+        """
         self._person(person)
         begin, end = self.day(first), self.day(last)
         if begin == end and _is_before(first, last):
-            premise = under or f"{person} away {date_given(first)} to {date_given(last)}"
+            premise = under or f"{person} away {self._said(first)} to {self._said(last)}"
             self.workbench.require(True, under=premise)
             return premise
         if begin >= end:
@@ -143,7 +205,8 @@ class Project:
                 f"{person} can't be away from {_day_text(first)} to {_day_text(last)}: the second is"
                 " the day of the return"
             )
-        away = Away(person, begin, end, under or f"{person} away {begin} to {end}")
+        premise = under or f"{person} away {self._said(first)} to {self._said(last)}"
+        away = Away(person, begin, end, premise, self._span(begin, end))
         theirs = [task for task in self.tasks.values() if person in task.people]
         if theirs:
             self.workbench.network.whole(lambda: self._keep_off(theirs, [away]))
@@ -152,43 +215,134 @@ class Project:
             self._state(KeptOff(TRUE, away.premise, away, self))
         return away.premise
 
-    @property
-    def returns(self) -> tuple[tuple[str, int], ...]:
-        """Who comes back on which day, by premises that are believed."""
-        believed = set(self.workbench.believed)
-        return tuple((away.person, away.last) for away in self._aways() if away.premise in believed)
+    def done_by(self, day: Day, under: str | None = None, task: Task | None = None) -> str:
+        """A task, or all, is done before the beginning of a day; the premise of that.
 
-    def done_by(
-        self, day: int | date | str, under: str | None = None, task: Task | None = None
-    ) -> str:
-        """A task, or all, is done before the beginning of a day; the premise of that."""
+        >>> w = Workbench()
+        >>> p = w.project(days=30)
+        >>> venue = p.task("venue", 3)
+        >>> wish = p.done_by(9, task=venue)
+        >>> w.greatest(venue.start).value
+        6
+        """
         last, what = self.day(day), "all" if task is None else task.name
-        premise = under or f"{what} done by {last}"
+        premise = under or f"{what} done by {self._said(day)}"
+        written = f"{printable(what)} done before {self._told(last)}"
 
         def state() -> None:
             end = self.end if task is None else task.end
-            self.workbench.require(end <= last, under=premise)
+            self.wish(end <= last, premise, written)
 
         self.workbench.network.whole(state)
         return premise
 
+    def not_before(self, day: Day, task: Task, under: str | None = None) -> str:
+        """A task doesn't begin before a day; the premise of that, which is named `review not before
+        2026-03-09` where no name is given.
+
+        >>> w = Workbench()
+        >>> p = w.project(days=30, start="2026-03-02", off="sat sun", people="ana")
+        >>> venue, review = p.task("venue", 3, who="ana"), p.task("review", 5, who="ana")
+        >>> p.not_before("2026-03-09", venue)
+        'venue not before 2026-03-09'
+        >>> w.least(venue.start).value
+        5
+        """
+        first = self.day(day)
+        premise = under or f"{task.name} not before {self._said(day)}"
+        written = f"{printable(task.name)} begins on {self._told(first)} or later"
+        constraint = self.workbench.constraint_of(task.start >= first)
+        self._state(Wished(constraint, premise, written, task.name, first))
+        return premise
+
+    def done(self, task: Task, first: Day, end: Day, under: str | None = None) -> str:
+        """A task was done, from the beginning of one day to that of another, however long it was to
+        take; the premise of that, which is one of `facts`, and named `venue done 2 to 5` where no
+        name is given. Of a task with several ways one has to take so long: else ValueError.
+
+        >>> w = Workbench()
+        >>> p = w.project(days=30, start="2026-03-02", off="sat sun", people="ana")
+        >>> venue, review = p.task("venue", 3, who="ana"), p.task("review", 5, who="ana")
+        >>> p.done(venue, "2026-03-02", "2026-03-04")
+        'venue done 2026-03-02 to 2026-03-04'
+        >>> w.least(review.start).value
+        2
+        """
+        from propbench.planning.progress import state_done
+
+        self._check_there(task)
+        premise = under or f"{task.name} done {self._said(first)} to {self._said(end)}"
+        state_done(self, task, (self.day(first), self.day(end)), premise)
+        return premise
+
+    def today(self, day: Day, under: str | None = None) -> str:
+        """What isn't done begins today or later; the premise of that, in place of that of an earlier
+        day. Say first what was done.
+
+        >>> w = Workbench()
+        >>> p = w.project(days=30, start="2026-03-02", off="sat sun", people="ana")
+        >>> venue, review = p.task("venue", 3, who="ana"), p.task("review", 5, who="ana")
+        >>> p.today("2026-03-09")
+        'today is 2026-03-09'
+        >>> w.least(venue.start).value
+        5
+        """
+        from propbench.planning.progress import state_today
+
+        premise = under or f"today is {self._said(day)}"
+        state_today(self, self.day(day), premise)
+        return premise
+
+    def wish(self, constraint: Truth, under: str, says: str) -> None:
+        """States a constraint under a premise, which is told in these words where somebody asks what
+        it says.
+
+        >>> w = Workbench()
+        >>> p = w.project(days=30, start="2026-03-02", off="sat sun", people="ana")
+        >>> venue, review = p.task("venue", 3, who="ana"), p.task("review", 5, who="ana")
+        >>> p.wish(venue.end <= review.start, "order", "the venue comes before the review")
+        >>> w.least(review.start).value
+        3
+        """
+        self._state(Wished(self.workbench.constraint_of(constraint), under, says))
+
     @property
     def end(self) -> NumberCell:
-        """The day by which all is done. No task can be added once it was asked for."""
+        """The day by which all is done. No task can be added once it was asked for.
+
+        >>> w = Workbench()
+        >>> p = w.project(days=30)
+        >>> venue = p.task("venue", 3)
+        >>> w.least(p.end).value
+        3
+        """
         if self._end is None or not self._has(self._end):
             self._end = self.workbench.network.whole(self._made_end)
         return self._end
 
     @property
     def total_cost(self) -> NumberCell:
-        """What all tasks cost. No task can be added once it was asked for."""
+        """What all tasks cost. No task can be added once it was asked for.
+
+        >>> w = Workbench()
+        >>> p = w.project(days=30)
+        >>> venue, review = p.task("venue", 3, cost=400), p.task("review", 5, cost=100)
+        >>> p.total_cost.ask().value
+        500
+        """
         if self._total is None or not self._has(self._total):
             self._total = self.workbench.network.whole(self._made_total)
         return self._total
 
-    def day(self, given: int | date | str) -> int:
+    def day(self, given: Day) -> int:
         """A day of the plan, by its number, or by a date where the plan has a calendar, as
-        `2026-12-04`. Raises ValueError for one that is none, and TypeError."""
+        `2026-12-04`. Raises ValueError for one that is none, and TypeError.
+
+        >>> w = Workbench()
+        >>> p = w.project(days=30, start="2026-03-02", off="sat sun")
+        >>> p.day("2026-03-09")
+        5
+        """
         if isinstance(given, SupportsIndex):
             return index(given)
         if self.calendar is None:
@@ -196,14 +350,73 @@ class Project:
         return self.calendar.day_of(date_given(given))
 
     def date(self, day: int) -> date:
-        """The date of a day. Raises ValueError where the plan has no calendar."""
+        """The date of a day. Raises ValueError where the plan has no calendar.
+
+        >>> w = Workbench()
+        >>> p = w.project(days=30, start="2026-03-02", off="sat sun")
+        >>> p.date(5).isoformat()
+        '2026-03-09'
+        """
         if self.calendar is None:
             raise ValueError("the plan has no calendar: give w.plan a start")
         return self.calendar.date_of(day)
 
+    def schedule(self, plan: Planned | Plan) -> "Schedule":
+        """A plan of the project as a schedule: of what `w.least(p.end)` or `w.solve()` gives, or one
+        of its plans. `w.least(p.end)` prints as one anyway where there is no other project.
+
+        >>> w = Workbench()
+        >>> p = w.project(days=30, start="2026-03-02", off="sat sun", people="ana")
+        >>> venue, review = p.task("venue", 3, who="ana"), p.task("review", 5, who="ana")
+        >>> print(p.schedule(w.least(p.end)))
+        From Mon 2 Mar 2026 to Wed 11 Mar 2026, 8 days of work:
+          from            to               days  task    who
+          Mon 2 Mar 2026  Wed 4 Mar 2026   3     venue   ana
+          Thu 5 Mar 2026  Wed 11 Mar 2026  5     review  ana
+          who  does
+          ana  2-4 Mar venue; 5-11 Mar review
+        """
+        from propbench.planning.schedule import schedule_of, values_in
+
+        values, ways = values_in(self.workbench.model, plan)
+        return schedule_of(self.workbench.network, self, values, ways)
+
+    def critical(
+        self,
+        plan: Planned | Plan | None = None,
+        *,
+        seconds: float | None = None,
+        progress: Progress | None = None,
+    ) -> "Chain":
+        """Why all ends no sooner: the chain of tasks, people and absences that makes the end, in
+        order, with what each task waits for, and the days that the other tasks can move; in this
+        plan, or in one that ends soonest. Raises NothingFits where there is no plan, or none was
+        found, and ValueError for one that doesn't end as soon as can be.
+
+        >>> w = Workbench()
+        >>> p = w.project(days=30, start="2026-03-02", off="sat sun", people="ana")
+        >>> venue, review = p.task("venue", 3, who="ana"), p.task("review", 5, who="ana")
+        >>> print(p.critical().headline())
+        All is done on Wed 11 Mar 2026, and no sooner because of:
+        """
+        from propbench.planning.chain import chain_of
+
+        clock = Clock(seconds, progress)
+        shown = self._soonest(clock) if plan is None else plan
+        return chain_of(self, self.schedule(shown), clock)
+
+    def _soonest(self, clock: Clock) -> Planned:
+        """A plan that ends as soon as can be. Raises NothingFits."""
+        left = clock.seconds_left()
+        seconds = None if left is None else left / 4
+        best = self.workbench.least(self.end, seconds=seconds, progress=clock.progress)
+        if best.value is None or not best.proved:
+            raise NothingFits(f"no end can be explained: {best.headline().rstrip(':')}")
+        return best
+
     def chart(
         self,
-        plan: Plan | None = None,
+        plan: Planned | Plan | None = None,
         *,
         rooms: bool = True,
         seconds: float | None = None,
@@ -211,7 +424,14 @@ class Project:
     ) -> "Chart":
         """A Gantt chart: of this plan, or of the first that ends soonest, and of the room
         that each task has over all plans, as far as `seconds` suffice for these. Raises NothingFits
-        where there is no plan, or none was found."""
+        where there is no plan, or none was found.
+
+        >>> w = Workbench()
+        >>> p = w.project(days=30)
+        >>> venue = p.task("venue", 3)
+        >>> "venue" in p.chart().svg
+        True
+        """
         from propbench.planning.chart import chart_of
 
         return chart_of(self, plan, rooms, seconds, progress)
@@ -222,7 +442,7 @@ class Project:
             raise ValueError(f"there is a task {name!r}")
         if any(cell is not None and self._has(cell) for cell in (self._end, self._total)):
             raise ValueError(f"{name}: add tasks before the end or the total cost is asked for")
-        people = words_of(who)
+        people = names_given(who, self.people)
         for person in people:
             self._person(person)
         return people
@@ -235,6 +455,65 @@ class Project:
                 raise ValueError(f"{name}: the task {task.name!r} is none of this workbench")
         return tasks
 
+    def unused(self, name: str) -> str:
+        """A name for a premise that is that of no other, nor of a choice.
+
+        >>> w = Workbench()
+        >>> p = w.project(days=30)
+        >>> venue = p.task("venue", 3)
+        >>> p.unused("venue takes 3")
+        "venue takes 3'"
+        """
+        known = self.workbench.network.premises
+        while name in known.believed or name in known.choices:
+            name += "'"
+        return name
+
+    def cells_told(self, tasks: Iterable[Task]) -> frozenset[str]:
+        """The cells and choices of which a schedule of these tasks tells the values.
+
+        >>> w = Workbench()
+        >>> p = w.project(days=30, start="2026-03-02", off="sat sun", people="ana")
+        >>> venue, review = p.task("venue", 3, who="ana"), p.task("review", 5, who="ana")
+        >>> "venue" in p.cells_told([venue])
+        True
+        """
+        cells = [cell for cell in (self._end, self._total) if cell is not None]
+        for task in tasks:
+            cells += [task.start, task.end, task.days, *([] if task.cost is None else [task.cost])]
+        return frozenset([*(cell.name for cell in cells), *(task.name for task in tasks)])
+
+    def _said(self, day: Day) -> str:
+        """A day as it was given, as names have it."""
+        return str(index(day) if isinstance(day, SupportsIndex) else date_given(day))
+
+    def _span(self, begin: int, end: int) -> str:
+        """The days from one to the beginning of another, by their dates where there are such."""
+        if self.calendar is None or begin < 0:
+            return f"{begin} to {end}"
+        return dates_said(self.calendar.date_of(begin), self.calendar.last_date(begin, end))
+
+    def day_said(self, day: int) -> str:
+        """A day in a sentence: `on Fri 6 Mar 2026`, `on day 4`.
+
+        >>> w = Workbench()
+        >>> p = w.project(days=30, start="2026-03-02", off="sat sun", people="ana")
+        >>> venue, review = p.task("venue", 3, who="ana"), p.task("review", 5, who="ana")
+        >>> p.day_said(4)
+        'on Fri 6 Mar 2026'
+        """
+        return f"on {self._told(day)}"
+
+    def _check_there(self, task: Task) -> None:
+        """Raises ValueError for a task of another workbench, or one that is gone."""
+        self.workbench.constraint_of(task.start >= 0)
+
+    def _told(self, day: int) -> str:
+        """The date of a day, or its number where there is none."""
+        if self.calendar is None or day < 0:
+            return f"day {day}"
+        return date_said(self.calendar.date_of(day))
+
     def _has(self, cell: NumberCell) -> bool:
         """Whether the workbench has the cell: one that was made for a what-if is gone behind it."""
         return self.workbench.network.cells.get(cell.name) is cell.declared
@@ -245,15 +524,17 @@ class Project:
             hint = f" Did you mean {near[0]}?" if near else ""
             raise ValueError(f"nobody in the plan is called {person!r}.{hint}")
 
-    def _made(self, name: str, people: tuple[str, ...], has_cost: bool) -> Task:
+    def _made(self, name: str, people: tuple[str, ...], ways: Sequence[Way]) -> Task:
         """The cells of a task, and that it ends when its days are over."""
         number = self.workbench.number
         start, end, days = (
             number(f"{name} {what}", 0, self.days) for what in ("start", "end", "days")
         )
+        has_cost = any(way.cost for way in ways)
         cost = number(f"{name} cost", 0, MOST_COST) if has_cost else None
         task = Task(name, people, start, end, days, cost)
-        self._state(TaskMade((end == start + days).node, None, task, self))
+        takes = tuple(way.days for way in ways)
+        self._state(TaskMade((end == start + days).node, None, task, self, takes))
         return task
 
     def _tell(self, premise: str, cell: NumberCell, value: int) -> None:
@@ -268,8 +549,7 @@ class Project:
 
     def _aways(self) -> list[Away]:
         """When somebody is away."""
-        kept = (each for each in self.workbench.network.events if isinstance(each, KeptOff))
-        return list(dict.fromkeys(each.away for each in kept if each.project is self))
+        return aways_of(self, self.workbench.network.events)
 
     def _choose(self, task: Task, ways: Mapping[str, Way]) -> None:
         def stated(way: Way) -> list[Truth]:
@@ -281,9 +561,9 @@ class Project:
     def _keep_apart(self, task: Task, others: Iterable[Task]) -> None:
         """Its people do one thing at a time."""
         for other in others:
-            if set(other.people) & set(task.people):
+            for person in (each for each in task.people if each in other.people):
                 apart = (other.end <= task.start) | (task.end <= other.start)
-                self.workbench.require(apart)
+                self._state(KeptApart(apart.node, limit_of(person), person, self))
 
     def _keep_off(self, tasks: Iterable[Task], aways: Sequence[Away]) -> None:
         """Nothing of these tasks is done while somebody is away."""
@@ -311,16 +591,22 @@ class Project:
         for person in self.people:
             work = [task.days for task in self.tasks.values() if person in task.people]
             if len(work) > 1:
-                self.workbench.require(total(work) <= end)
+                bound = (total(work) <= end).node
+                self._state(KeptApart(bound, limit_of(person), person, self))
 
 
-def _is_before(first: int | date | str, last: int | date | str) -> bool:
+def limit_of(person: str) -> str:
+    """The premise that a person does one thing at a time."""
+    return f"{person} does one thing at a time"
+
+
+def _is_before(first: Day, last: Day) -> bool:
     """Whether a date comes before another; numbers of days tell nothing of dates."""
     if isinstance(first, int) or isinstance(last, int):
         return False
     return date_given(first) < date_given(last)
 
 
-def _day_text(day: int | date | str) -> str:
+def _day_text(day: Day) -> str:
     """A day as it was given."""
     return f"day {day}" if isinstance(day, int) else str(day)

@@ -5,11 +5,15 @@ What a project knows stands in what was stated to its workbench, and nowhere els
 
 from collections.abc import Iterable, Mapping, Sequence
 from dataclasses import dataclass
-from typing import SupportsIndex
+from typing import TYPE_CHECKING, SupportsIndex
 
 from propbench.model.cells import NumberCell
-from propbench.model.events import Required, Told
+from propbench.model.events import Event, Required, Told
 from propbench.model.expressions import Number
+from propbench.showing import printable
+
+if TYPE_CHECKING:
+    from propbench.planning.project import Project
 
 # An alternative of a task: its days, and maybe its cost.
 Option = Mapping[str, int]
@@ -26,7 +30,15 @@ class Way:
 @dataclass(frozen=True, eq=False)
 class Task:
     """A task. Its cells can be asked, and may stand in constraints as any others: it is done from
-    the beginning of the day `start` to the beginning of the day `end`, `days` later."""
+    the beginning of the day `start` to the beginning of the day `end`, `days` later.
+
+    >>> w = Workbench()
+    >>> p = w.project(days=30)
+    >>> venue = p.task("venue", 3)
+    >>> w.require(venue.start >= 4)
+    >>> w.least(venue.end).value
+    7
+    """
 
     name: str
     people: tuple[str, ...]
@@ -36,7 +48,15 @@ class Task:
     cost: NumberCell | None
 
     def before(self, other: "Task") -> Number:
-        """How many days there are between the end of this task and the start of another."""
+        """How many days there are between the end of this task and the start of another.
+
+        >>> w = Workbench()
+        >>> p = w.project(days=30)
+        >>> venue, review = p.task("venue", 3), p.task("review", 5)
+        >>> w.require(venue.before(review) >= 2)
+        >>> w.least(review.start).value
+        5
+        """
         return other.start - self.end
 
     def __repr__(self) -> str:
@@ -46,34 +66,89 @@ class Task:
 
 @dataclass(frozen=True)
 class TaskMade(Required):
-    """There is a task of a project: it ends when its days are over."""
+    """There is a task of a project: it ends when its days are over, in each of its ways so many."""
 
     task: Task
-    project: object
+    project: "Project"
+    ways: tuple[int, ...]
 
 
 @dataclass(frozen=True)
 class TaskTold(Told):
     """What a task of a project takes, or costs."""
 
-    project: object
+    project: "Project"
+
+
+@dataclass(frozen=True)
+class TaskDone(TaskTold):
+    """When a task was done: its first day, or the day by which it was over."""
+
+    task: str
+
+
+@dataclass(frozen=True)
+class NotYet(Required):
+    """A task that isn't done yet doesn't begin before today, which is the day `first`."""
+
+    project: "Project"
+    written: str
+    first: int
+
+    @property
+    def told(self) -> str:
+        """What is stated, of all such tasks."""
+        return self.written
 
 
 @dataclass(frozen=True)
 class TaskOrdered(Required):
     """A task of a project comes after another."""
 
-    project: object
+    project: "Project"
+    earlier: Task
+    later: Task
+
+
+@dataclass(frozen=True)
+class KeptApart(Required):
+    """What somebody does is done one thing at a time."""
+
+    premise: str
+    person: str
+    project: "Project"
+
+    @property
+    def told(self) -> str:
+        """What is stated, of all that the person does."""
+        return f"no two tasks of {printable(self.person)} at once"
+
+
+@dataclass(frozen=True)
+class Wished(Required):
+    """What is wished for of a plan, in words: that something is done before a day, or that a task
+    doesn't begin before the day `first`."""
+
+    written: str
+    task: str | None = None
+    first: int | None = None
+
+    @property
+    def told(self) -> str:
+        """What is stated, as the day was given."""
+        return self.written
 
 
 @dataclass(frozen=True)
 class Away:
-    """Somebody does nothing from the beginning of one day to that of another, under a premise."""
+    """Somebody does nothing from the beginning of one day to that of another, under a premise; these
+    are the days of `written`."""
 
     person: str
     first: int
     last: int
     premise: str
+    written: str
 
 
 @dataclass(frozen=True)
@@ -81,7 +156,18 @@ class KeptOff(Required):
     """Somebody is away: that a task is not done then, or nothing more, where there is none."""
 
     away: Away
-    project: object
+    project: "Project"
+
+    @property
+    def told(self) -> str:
+        """What is stated, of all that the person does."""
+        return f"no task of {printable(self.away.person)} {self.away.written}"
+
+
+def aways_of(project: object, events: Iterable[Event]) -> list[Away]:
+    """When somebody of a project is away."""
+    kept = (each for each in events if isinstance(each, KeptOff))
+    return list(dict.fromkeys(each.away for each in kept if each.project is project))
 
 
 def checked_ways(

@@ -3,9 +3,10 @@
 from collections.abc import Callable, Collection, Iterable
 from typing import Protocol, TypeVar
 
+from propbench.clock import Clock
+from propbench.given import names_given
 from propbench.nearby import near_names
 from propbench.program import OutOfTime
-from propbench.questions.clock import Clock
 from propbench.questions.model import Model
 from propbench.questions.trial import Trial
 from propbench.showing import quoted
@@ -97,17 +98,16 @@ def whole_named(model: Model, cell: CellLike) -> str:
     return name
 
 
-def several(given: str | Iterable[str]) -> tuple[str, ...]:
-    """Names that are given one by one; a text is the one name. Raises TypeError for what is
-    neither."""
-    if not isinstance(given, Iterable):
-        raise TypeError(f"names are a text, or a list of texts: {given!r}")
-    return (given,) if isinstance(given, str) else tuple(given)
+def cells_given(model: Model, cells: str | Iterable[CellLike]) -> Iterable[CellLike]:
+    """Cells that are given one by one, or by their names in one text, as `names_given` has them."""
+    return names_given(cells, model.cells()) if isinstance(cells, str) else cells
 
 
 def premises_named(model: Model, names: str | Iterable[str]) -> list[str]:
-    """The names of premises of the model. Raises NoSuchName for another."""
-    found, known = list(several(names)), model.premises()
+    """The names of premises of the model, as `names_given` has them. Raises NoSuchName for
+    another."""
+    known = model.premises()
+    found = list(names_given(names, known))
     for name in found:
         _demand(name, known, "premise")
     return found

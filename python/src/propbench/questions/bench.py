@@ -8,15 +8,6 @@ from propbench.questions.model import Model
 from propbench.replies import Value
 
 
-class AskedCell(Protocol):
-    """A cell that can be asked."""
-
-    @property
-    def name(self) -> str:
-        """The name that the user gave it."""
-        ...
-
-
 class Bench(Protocol):
     """A workbench. What stands in for a cell or a value is the workbench's own, which questions only
     pass on: that is what is Any here."""

@@ -5,10 +5,11 @@ from dataclasses import dataclass, field, replace
 
 from propbench.questions.certificate import Certificate, Evidence
 from propbench.questions.checker import MOST
-from propbench.questions.model import Plan
+from propbench.questions.model import Model, Plan
 from propbench.questions.outcomes import Cannot, Fits, Fork
 from propbench.questions.rooms import Numbers
-from propbench.questions.shown import NOT_REFUTED, Shown
+from propbench.questions.planned import Planned, Scheduled
+from propbench.questions.shown import NOT_REFUTED
 from propbench.questions.searching import decided
 from propbench.questions.trial import Trial
 from propbench.showing import quoted
@@ -17,14 +18,21 @@ LEAST, GREATEST = "least", "greatest"
 
 
 @dataclass(frozen=True, repr=False)
-class Optimum(Shown):
+class Optimum(Planned):
     """The least or greatest value of a cell in any plan.
 
     `value` is that of the best plan that was found, and `plan` has the values of all cells in it but
     quantities; both are None where none was found. `choices` has for each choice the alternative
     that the plan takes. `bound` is a number beyond which nothing fits. `proved` says that there is
     nothing better than `value`, or no plan at all where that is None; by what the premises `because`
-    say, where the program searches itself.
+    say, where the program searches itself. `schedule` is the plan of a project's tasks.
+
+    >>> w = Workbench()
+    >>> x = w.number("x", 3, 9)
+    >>> print(w.least(x))
+    The least x is 3:
+      cell  value
+      x     3
     """
 
     cell: str
@@ -36,14 +44,37 @@ class Optimum(Shown):
     _certificate: Certificate | None
     choices: Mapping[str, object] = field(default_factory=dict)
     because: tuple[str, ...] = ()
+    schedule: Scheduled | None = field(default=None, compare=False)
 
     def shown_by(self, certificate: Certificate | None) -> "Optimum":
-        """The same with a certificate."""
+        """The same with a certificate.
+
+        >>> w = Workbench()
+        >>> x = w.number("x", 3, 9)
+        >>> w.least(x).shown_by(None).value
+        3
+        """
         return replace(self, _certificate=certificate)
+
+    def seen_by(self, model: Model, plan: Plan) -> "Optimum":
+        """The same with what a model knows of its plan in all cells.
+
+        >>> w = Workbench()
+        >>> x = w.number("x", 3, 9)
+        >>> w.least(x).seen_by(w.model, {"x": 3}).choices
+        {}
+        """
+        return replace(self, choices=model.chosen(plan), schedule=model.scheduled(plan))
 
     @property
     def complete(self) -> bool:  # type: ignore[override]  # (what `proved` says)
-        """Whether that is proved."""
+        """Whether that is proved.
+
+        >>> w = Workbench()
+        >>> x = w.number("x", 3, 9)
+        >>> w.least(x).complete
+        True
+        """
         return self.proved
 
     def headline(self) -> str:
@@ -158,9 +189,9 @@ class Bounding:
         claim = self.show(evidence)
         certificate = evidence.certificate([claim] if claim else [])
         plan = self.trial.shown(self.fits.plan) if self.fits else None
-        choices = self.trial.model.chosen(self.fits.plan) if self.fits else {}
         known = self.value, plan, self.bound, self.proved
-        return Optimum(self.cell, self.sort, *known, certificate, choices)
+        found = Optimum(self.cell, self.sort, *known, certificate)
+        return found if self.fits is None else found.seen_by(self.trial.model, self.fits.plan)
 
 
 def bounding_in(trial: Trial, premises: Sequence[str], cell: str, sort: str) -> Bounding:

@@ -1,7 +1,5 @@
 """Certificates: claims about a network with what shows them, which anyone can ask a program again."""
 
-import hashlib
-import json
 import os
 from collections import Counter
 from collections.abc import Callable, Iterable, Mapping, Sequence
@@ -9,7 +7,6 @@ from dataclasses import dataclass, field
 from functools import partial
 
 from propbench.finding import find_wide
-from propbench.files import write_file
 from propbench.given import path_given
 from propbench.questions import checker
 from propbench.questions.checker import CertificateError
@@ -32,7 +29,12 @@ Tree = list[object] | dict[str, str] | str | None
 
 
 class Certificate:
-    """Claims, what shows them, and the lines that make the network, its base."""
+    """Claims, what shows them, and the lines that make the network, its base.
+
+    >>> w = Workbench()
+    >>> x = w.number("x", 3, 9)
+    >>> w.least(x).certificate.save("least.claim")
+    """
 
     def __init__(
         self, lines: Iterable[str], finish: Callable[[], Sequence[str]] | None = None
@@ -42,19 +44,38 @@ class Certificate:
 
     def finished(self) -> "Certificate":
         """Itself, once it has its lines. Raises ValueError where a plan can't be shown, and as
-        `Session` does."""
+        `Session` does.
+
+        >>> w = Workbench()
+        >>> x = w.number("x", 3, 9)
+        >>> certificate = w.least(x).certificate
+        >>> certificate.finished() is certificate
+        True
+        """
         if self._finish is not None:
             self._lines, self._finish = tuple(self._finish()), None
         return self
 
     @property
     def lines(self) -> tuple[str, ...]:
-        """The lines of the certificate. Raises as `finished`."""
+        """The lines of the certificate. Raises as `finished`.
+
+        >>> w = Workbench()
+        >>> x = w.number("x", 3, 9)
+        >>> w.least(x).certificate.lines[0]
+        'propbench certificate 1'
+        """
         return self.finished()._lines
 
     @property
     def base(self) -> tuple[str, ...]:
-        """The lines that make the network, as they are saved."""
+        """The lines that make the network, as they are saved.
+
+        >>> w = Workbench()
+        >>> x = w.number("x", 3, 9)
+        >>> "fix x 3..9" in w.least(x).certificate.base
+        True
+        """
         return self.lines[3:-1]
 
     def check(
@@ -67,6 +88,12 @@ class Certificate:
         The program is the one given, or the one that a workbench finds. Where a base is given, lines or the
         file that a workbench was saved to, the network has to be made of these lines. Raises
         CertificateError where something differs, OSError and NoProgram.
+
+        >>> w = Workbench()
+        >>> x = w.number("x", 3, 9)
+        >>> w.save("plan.prop")
+        >>> w.least(x).certificate.check(base="plan.prop")
+        True
         """
         if base is not None:
             check_base(self.lines, base)
@@ -74,7 +101,17 @@ class Certificate:
 
     def save(self, path: str | os.PathLike[str]) -> None:
         """Writes the certificate into a file, for `propdesk check`. Raises OSError; and as
-        `finished`, where nothing is written."""
+        `finished`, where nothing is written.
+
+        >>> w = Workbench()
+        >>> x = w.number("x", 3, 9)
+        >>> w.least(x).certificate.save("least.claim")
+        >>> with open("least.claim", encoding="utf-8") as file:
+        ...     print(next(file).strip())
+        propbench certificate 1
+        """
+        from propbench.files import write_file
+
         write_file(path_given(path), "".join(f"{line}\n" for line in self.lines))
 
 
@@ -201,6 +238,9 @@ class Evidence:
         claims: Sequence[tuple[str, dict[str, object]]],
         plans: Sequence[tuple[list[str], dict[str, str]]],
     ) -> list[str]:
+        import hashlib
+        import json
+
         evidence = {
             "mark": self.mark,
             "basis": self.basis,

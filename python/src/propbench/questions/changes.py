@@ -5,8 +5,9 @@ from dataclasses import dataclass
 from numbers import Integral
 from operator import index
 
+from propbench.given import names_given
 from propbench.nearby import near_names
-from propbench.questions.asking import cell_named, premises_named, several
+from propbench.questions.asking import cell_named, premises_named
 from propbench.questions.model import Model
 from propbench.showing import quoted
 
@@ -18,8 +19,8 @@ ToldValue = Sequence[object]
 class Change:
     """Premises to kick out and to bring in, and what to tell in addition."""
 
-    kick: tuple[str, ...] = ()
-    bring: tuple[str, ...] = ()
+    kick: str | tuple[str, ...] = ()
+    bring: str | tuple[str, ...] = ()
     tell: tuple[tuple[object, ...], ...] = ()
 
     @staticmethod
@@ -45,10 +46,13 @@ def changed(
     bring: str | Iterable[str] = (),
     tell: Iterable[ToldValue] = (),
 ) -> Change:
-    """The change; a text stands for the one premise of that name. Raises TypeError and ValueError
-    where it has another form."""
-    told = tuple(map(_told, tell))
-    return Change(several(kick), several(bring), told)
+    """The change. Raises TypeError and ValueError where it has another form."""
+    return Change(_given(kick), _given(bring), tuple(map(_told, tell)))
+
+
+def _given(names: object) -> str | tuple[str, ...]:
+    """Names of premises. (Which of them a text has is known once the premises are.)"""
+    return names if isinstance(names, str) else names_given(names)
 
 
 def _told(given: object) -> tuple[object, ...]:
@@ -75,6 +79,8 @@ class Line:
 class Resolved:
     """A change, as lines make it, and which of the user's premises are believed then."""
 
+    kicked: tuple[str, ...]
+    brought: tuple[str, ...]
     believed: tuple[str, ...]
     told: tuple[Line, ...]
     lines: tuple[str, ...]
@@ -100,7 +106,7 @@ def resolved(model: Model, change: Change) -> Resolved:
         for name in dict.fromkeys(each.premise for each in told)
         if name not in out
     ]
-    return Resolved(believed, tuple(told), tuple(lines))
+    return Resolved(tuple(kicked), tuple(brought), believed, tuple(told), tuple(lines))
 
 
 def value_text(model: Model, premise: str, cell: str, value: object, high: object = None) -> str:
@@ -124,5 +130,5 @@ def _plain(value: object) -> object:
 
 def _several(value: object) -> list[object]:
     if isinstance(value, str):
-        return list(value.split())
+        return list(names_given(value))
     return list(value) if isinstance(value, Iterable) else [value]

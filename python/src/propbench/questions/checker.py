@@ -5,10 +5,7 @@ lines that make it. What is asked is derived from the claims. A plan fits where 
 with it and each cell has one value, also those within compounds, which get names by what it lists.
 Nothing fits where the program contradicts each of some cases that cover everything."""
 
-import hashlib
-import json
 import re
-import subprocess
 import sys
 from collections.abc import Callable, Iterable, Iterator, Sequence
 from functools import partial
@@ -103,6 +100,8 @@ def whole(said: Iterator[str], first: str) -> str:
 
 def replies(program: str, asks: Asks) -> list[str]:
     """What the program answers behind these lines, each of which it has to answer as wanted."""
+    import subprocess
+
     pairs = [(ask, "ok".__eq__) if isinstance(ask, str) else ask for ask in asks]
     sent = "".join(f"{line}\n" for line, _ in pairs)
     ran = subprocess.run([program], input=sent, capture_output=True, encoding="utf-8")
@@ -317,6 +316,9 @@ class Checker:
 
 def check(lines: Sequence[str], program: str) -> bool:
     """True where the program answers so that the claims hold, else CertificateError is raised."""
+    import hashlib
+    import json
+
     digest = hashlib.sha256("\n".join(lines[:-1]).encode("utf-8", "replace")).hexdigest()
     demand(len(lines) > 3 and lines[0] == HEAD and lines[-1] == digest, "not as it was written")
     base = lines[3:-1]

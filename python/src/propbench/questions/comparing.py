@@ -3,11 +3,11 @@
 from collections.abc import Iterable, Mapping, Sequence
 from dataclasses import dataclass
 
+from propbench.clock import Clock
 from propbench.model.answers import Answer
 from propbench.questions.asking import answered
 from propbench.questions.bench import Bench
 from propbench.questions.certificate import Certificate
-from propbench.questions.clock import Clock
 from propbench.questions.scenarios import Asking, Row
 from propbench.questions.shown import Shown, listed, said, shortened
 
@@ -44,7 +44,15 @@ class Difference:
 
 class Differences(Shown, list[Difference]):
     """What differs: first what was stated, then what follows for the cells. It is `complete` where
-    both are known as far as they are settled. The certificate is of the answers now."""
+    both are known as far as they are settled. The certificate is of the answers now.
+
+    >>> w = Workbench()
+    >>> x = w.number("x", 0, 9)
+    >>> before = w.snapshot()
+    >>> w.require(x >= 3, under="much")
+    >>> print(w.diff(before).headline())
+    2 things that differ:
+    """
 
     def __init__(
         self, found: Iterable[Difference], certificate: Certificate | None, complete: bool
@@ -101,7 +109,7 @@ def _snapshot(bench: Bench, asking: Asking) -> Snapshot:
     """The snapshot of what was asked."""
     model, table = bench.model, asking.result()
     row = table.get("now", Row())
-    says = {premise: model.text(premise) for premise in model.premises()}
+    says = {premise: model.exactly(premise) for premise in model.premises()}
     conflict = None if row.conflict is None else row.conflict.names
     believed = frozenset(model.believed())
     return Snapshot(says, believed, dict(row), conflict, table._certificate, table.complete)

@@ -4,9 +4,9 @@ from collections.abc import Callable, Iterable, Iterator, Mapping, Sequence
 from dataclasses import dataclass
 from numbers import Real
 
+from propbench.clock import Clock, Progress
 from propbench.questions.asking import Result, premises_named, tried
 from propbench.questions.certificate import Certificate, Evidence
-from propbench.questions.clock import Clock, Progress
 from propbench.questions.exploring import Exploring, Refuted
 from propbench.questions.hitting import bits_of
 from propbench.questions.model import Model
@@ -36,7 +36,7 @@ class Premises(frozenset[str]):
         return str(self)
 
 
-class Conflict(Premises):
+class Conflicting(Premises):
     """Premises that can't all hold. `least` says that without any one of them the rest has a plan;
     where no time was left to find these plans, it is False."""
 
@@ -50,12 +50,23 @@ class Repair(Premises):
     cost: float
 
 
-class Conflicts(Shown, list[Conflict]):
-    """Conflicts among the premises that are believed; all there are where it is `complete`."""
+class Conflicts(Shown, list[Conflicting]):
+    """Conflicts among the premises that are believed; all there are where it is `complete`.
+
+    >>> w = Workbench()
+    >>> x = w.number("x", 0, 9)
+    >>> w.require(x >= 3, under="much")
+    >>> w.require(x <= 2, under="little")
+    >>> print(w.conflicts())
+    1 conflict, no others:
+      conflict  premise  says
+      1         much     x >= 3
+                little   x <= 2
+    """
 
     def __init__(
         self,
-        found: Iterable[Conflict],
+        found: Iterable[Conflicting],
         complete: bool,
         texts: Mapping[str, str],
         kept: Sequence[str],
@@ -87,7 +98,18 @@ class Conflicts(Shown, list[Conflict]):
 
 
 class Repairs(Shown, list[Repair]):
-    """Repairs of what is believed, the cheapest first; all there are where it is `complete`."""
+    """Repairs of what is believed, the cheapest first; all there are where it is `complete`.
+
+    >>> w = Workbench()
+    >>> x = w.number("x", 0, 9)
+    >>> w.require(x >= 3, under="much")
+    >>> w.require(x <= 2, under="little")
+    >>> print(w.repairs(weight={"little": 2}))
+    2 repairs, no others:
+      cost  give up
+      1     much
+      2     little
+    """
 
     def __init__(
         self,
@@ -180,7 +202,7 @@ def find_repairs(
 def _check_weight(model: Model, weight: Mapping[str, float]) -> None:
     if not isinstance(weight, Mapping):
         raise TypeError(f"the weight is a dict of premises and numbers: {weight!r} is none")
-    premises_named(model, weight)
+    premises_named(model, list(weight))
     for premise, value in weight.items():
         if isinstance(value, bool) or not isinstance(value, Real):
             raise TypeError(f"the weight of {premise} is no number: {value!r}")
@@ -192,7 +214,7 @@ def _conflicts(explored: Exploring, texts: Mapping[str, str], most: int) -> Conf
     """The conflicts that are known, so many at the most."""
     found = []
     for refuted in explored.conflicts[:most]:
-        found.append(Conflict(explored.names(refuted.mask)))
+        found.append(Conflicting(explored.names(refuted.mask)))
         found[-1].least = refuted.least
     complete = explored.complete and len(explored.conflicts) <= most
     certificate = _certificate(explored, explored.conflicts[:most], [], complete)

@@ -4,17 +4,17 @@ from collections.abc import Sequence
 from contextlib import suppress
 from dataclasses import dataclass
 
+from propbench.clock import Clock, Progress
 from propbench.questions.asking import CellLike, tried, tried_by, whole_named
 from propbench.questions.bounding import GREATEST, LEAST, Bounding, bounding_in
 from propbench.questions.certificate import Certificate, Evidence
-from propbench.questions.clock import Clock, Progress
 from propbench.questions.conflicts import Premises
 from propbench.questions.ends import Ending
 from propbench.questions.exploring import Exploring, Refuted
 from propbench.questions.hitting import bits_of
 from propbench.questions.model import Model, Point
 from propbench.questions.outcomes import NothingFits
-from propbench.questions.plans import Listing, listed_in_turns
+from propbench.questions.plans import PlanListing, listed_in_turns
 from propbench.questions.rooms import Numbers
 from propbench.questions.seeking import Seeker, Unlike, seeks
 from propbench.questions.shown import NOT_REFUTED, Shown, shortened
@@ -24,7 +24,15 @@ from propbench.questions.trial import Trial
 @dataclass(frozen=True, repr=False)
 class Slack(Shown):
     """The room of a cell over all plans: of a number from `low` to `high`, which plans have; of
-    another cell all `values` that plans have. `room` is how much that is beyond one value."""
+    another cell all `values` that plans have. `room` is how much that is beyond one value.
+
+    >>> w = Workbench()
+    >>> x = w.number("x", 3, 9)
+    >>> print(w.slack(x))
+    Over all plans:
+      cell  least  greatest  room
+      x     3      9         6
+    """
 
     cell: str
     low: int | None
@@ -36,7 +44,13 @@ class Slack(Shown):
     @property
     def room(self) -> int | None:
         """How much a number may move, or how many other values there are; None where nothing
-        fits."""
+        fits.
+
+        >>> w = Workbench()
+        >>> x = w.number("x", 3, 9)
+        >>> w.slack(x).room
+        6
+        """
         if self.low is not None and self.high is not None:
             return self.high - self.low
         return len(self.values) - 1 if self.values else None
@@ -59,7 +73,16 @@ class Slack(Shown):
 
 class Critical(Shown, Premises):
     """Premises that leave a cell no less than `value`, or no more: a least set of them, none of
-    which can be left out. Iterates over their names."""
+    which can be left out. Iterates over their names.
+
+    >>> w = Workbench()
+    >>> x = w.number("x", 0, 9)
+    >>> w.require(x >= 3, under="much")
+    >>> print(w.critical(x))
+    x can't be less than 3 because of:
+      premise  says
+      much     x >= 3
+    """
 
     cell: str
     sort: str
@@ -153,7 +176,7 @@ def _slack_by(seeker: Seeker, cell: str) -> Slack:
 
 
 def _slack_of_names(trial: Trial, cell: str) -> Slack:
-    listing = Listing(trial, [cell], len(trial.rooms[cell] or ""))
+    listing = PlanListing(trial, [cell], len(trial.rooms[cell] or ""))
 
     def result() -> Slack:
         plans = listing.result()
@@ -187,7 +210,9 @@ def find_critical(
 
     def result() -> Critical:
         if not found or bounding.value is None:
-            raise NothingFits(f"there is no {sort} {name} to be explained: {bounding.result()}")
+            raise NothingFits(
+                f"there is no {sort} {name} to be explained: {bounding.result().headline()}"
+            )
         explored, refuted = found[0]
         made = Critical(explored.names(refuted.mask))
         made.cell, made.sort, made.value = name, sort, bounding.value

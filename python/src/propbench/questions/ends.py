@@ -4,11 +4,11 @@ them itself, or else by bounds that close in."""
 from collections.abc import Sequence
 from contextlib import suppress
 
+from propbench.clock import Clock, Progress
 from propbench.points import Best, NoneFits
 from propbench.questions.asking import CellLike, tried, tried_by, whole_named
 from propbench.questions.bounding import Optimum, bounding_in, check_numbers
 from propbench.questions.certificate import Evidence
-from propbench.questions.clock import Clock, Progress
 from propbench.questions.model import Model
 from propbench.questions.outcomes import Cannot, Fits, NothingFits, Outcome
 from propbench.questions.searching import decided
@@ -69,8 +69,8 @@ class Ending:
             return Optimum(cell, sort, None, None, bound, proved, None, {}, because)
         value, plan = fits.plan[cell], seeker.shown(fits.plan)
         assert isinstance(value, int)
-        chosen = seeker.model.chosen(fits.plan)
-        return Optimum(cell, sort, value, plan, bound, proved, None, chosen, because)
+        found = Optimum(cell, sort, value, plan, bound, proved, None, because=because)
+        return found.seen_by(seeker.model, fits.plan)
 
     def optimum(self) -> Optimum:
         """What is known by now. Raises Unlike."""
@@ -86,10 +86,10 @@ def find_optimum(
     if seeks(model):
         with suppress(Unlike), Seeker(model, clock) as seeker:
             return _in_turns(Ending(seeker, name, sort), seeker, name, sort)
-    return _by_cases(model, name, sort, clock)
+    return optimum_by_cases(model, name, sort, clock)
 
 
-def _by_cases(model: Model, cell: str, sort: str, clock: Clock) -> Optimum:
+def optimum_by_cases(model: Model, cell: str, sort: str, clock: Clock) -> Optimum:
     """The optimum by bounds that close in."""
     trial = Trial(model, model.believed(), clock)
     bounding = bounding_in(trial, model.believed(), cell, sort)
@@ -107,7 +107,7 @@ def _in_turns(ending: Ending, seeker: Seeker, cell: str, sort: str) -> Optimum:
                 break
             # (a search that has a plan is getting on: so it has most of the time)
             part = seconds if points_of(seeker.reply) is None else seconds / 8
-            found.append(_by_cases(model, cell, sort, clock.turn(part)))
+            found.append(optimum_by_cases(model, cell, sort, clock.turn(part)))
             if found[-1].proved:
                 break
 
@@ -125,7 +125,7 @@ def find_solution(model: Model, seconds: float | None, progress: Progress | None
     """A plan with what is believed. Raises NothingFits where there is none, or none was found in
     time."""
     clock = Clock(seconds, progress)
-    found = _sought(model, clock) or _searched(model, clock)
+    found = _sought(model, clock) or solution_by_cases(model, clock)
     if isinstance(found, NothingFits):
         raise found
     return found
@@ -144,7 +144,7 @@ def _sought(model: Model, clock: Clock) -> Solution | NothingFits | None:
                 seeker.ask(" ".join(["solve", *seeker.first()]), seconds)
                 if seeker.is_settled or clock.is_over():
                     break
-                found.append(_searched(model, clock.turn(seconds)))
+                found.append(solution_by_cases(model, clock.turn(seconds)))
                 if not _is_open(found[-1]):
                     break
 
@@ -172,7 +172,7 @@ def _solution_by(seeker: Seeker) -> Solution | NothingFits:
     return solution_of(seeker.model, fits, seeker.certificate([("fits", claim)], [fits]))
 
 
-def _searched(model: Model, clock: Clock) -> Solution | NothingFits:
+def solution_by_cases(model: Model, clock: Clock) -> Solution | NothingFits:
     """A plan by a search in cases."""
     trial, outcomes = Trial(model, model.believed(), clock), list[Outcome]()
 

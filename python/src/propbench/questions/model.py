@@ -1,24 +1,15 @@
 """What the questions ask of a workbench: all that they know of one."""
 
 from collections.abc import Mapping, Sequence
-from dataclasses import dataclass
 from typing import Protocol
 
+from propbench.model.first import First as First
+from propbench.model.kinds import Point as Point
+from propbench.questions.planned import Scheduled
 from propbench.session import Session
 
-# A value told for one of the user's cells: a number, a name, or whether a truth holds.
-Point = int | str | bool
 # Points by the names of cells.
 Plan = dict[str, Point]
-
-
-@dataclass(frozen=True)
-class First:
-    """Cells of which values are tried out, that with the fewest values first; of values the smallest
-    comes first, or the greatest."""
-
-    cells: tuple[str, ...]
-    is_from_top: bool = False
 
 
 class Model(Protocol):
@@ -92,6 +83,10 @@ class Model(Protocol):
         """For each choice the alternative that holds at these points, as the user wrote it."""
         ...
 
+    def scheduled(self, plan: Mapping[str, Point]) -> Scheduled | None:
+        """These points as a schedule, where they are those of one project's tasks."""
+        ...
+
     def is_measured(self, cell: str) -> bool:
         """Whether the cell counts steps of a measured quantity."""
         ...
@@ -104,6 +99,10 @@ class Model(Protocol):
 
     def text(self, premise: str) -> str:
         """What the premise states, for people."""
+        ...
+
+    def exactly(self, premise: str) -> str:
+        """All that the premise states, the same wherever the same is stated."""
         ...
 
     def first(self) -> Sequence[First]:

@@ -4,10 +4,10 @@ from collections.abc import Iterable, Sequence
 from contextlib import suppress
 from dataclasses import dataclass, field
 
+from propbench.clock import Clock, Progress
 from propbench.points import NoneFits, Points, Several
-from propbench.questions.asking import CellLike, tried, tried_by, whole_named
+from propbench.questions.asking import CellLike, cells_given, tried, tried_by, whole_named
 from propbench.questions.certificate import Certificate, Evidence, Tree, as_json, on_lines
-from propbench.questions.clock import Clock, Progress
 from propbench.questions.model import Model, Plan
 from propbench.questions.outcomes import Cannot, Fits, Open, Outcome
 from propbench.questions.rooms import Names, Room, around, values_of
@@ -38,7 +38,16 @@ class _Branch:
 class Plans(Shown, list[Plan]):
     """Plans over the cells that are shown, each a dict by their names; all there are where it is
     `complete`, by what the premises `because` say, where the program searches itself. In `whole` the
-    same plans have all cells but quantities."""
+    same plans have all cells but quantities.
+
+    >>> w = Workbench()
+    >>> x, y = w.number("x", 0, 9), w.number("y", 0, 9)
+    >>> w.require(x * y == 49)
+    >>> print(w.plans())
+    1 plan, no others:
+      x  y
+      7  7
+    """
 
     def __init__(
         self,
@@ -67,7 +76,7 @@ class Plans(Shown, list[Plan]):
         return [[plan[cell] for cell in self.show] for plan in self]
 
 
-class Listing:
+class PlanListing:
     """The search for all plans: the tree of cases, as far as it has grown."""
 
     def __init__(self, trial: Trial, show: Sequence[str], most: int) -> None:
@@ -263,7 +272,7 @@ class Listed:
 
 def find_plans(
     model: Model,
-    show: Iterable[CellLike] | None,
+    show: str | Iterable[CellLike] | None,
     most: int,
     seconds: float | None,
     progress: Progress | None,
@@ -271,11 +280,11 @@ def find_plans(
     """All plans with what is believed, over these cells, or over all but quantities and those for
     symbols. Raises ValueError for one for symbols, and TypeError for a quantity."""
     clock = Clock(seconds, progress)
-    names = None if show is None else [whole_named(model, cell) for cell in show]
+    names = None if show is None else [whole_named(model, it) for it in cells_given(model, show)]
     if seeks(model):
         with suppress(Unlike), Seeker(model, clock) as seeker:
             return listed_in_turns(seeker, names, most)
-    return _by_cases(model, names, most, clock)
+    return plans_by_cases(model, names, most, clock)
 
 
 def listed_in_turns(seeker: Seeker, names: Sequence[str] | None, most: int) -> Plans:
@@ -288,7 +297,7 @@ def listed_in_turns(seeker: Seeker, names: Sequence[str] | None, most: int) -> P
         for seconds in clock.turns():
             if listed.run(seconds) or clock.is_over():
                 break
-            found.append(_by_cases(seeker.model, names, most, clock.turn(seconds)))
+            found.append(plans_by_cases(seeker.model, names, most, clock.turn(seconds)))
             if found[-1].complete or len(found[-1]) >= most:
                 break
 
@@ -301,7 +310,7 @@ def listed_in_turns(seeker: Seeker, names: Sequence[str] | None, most: int) -> P
     return tried_by(clock, run, result)
 
 
-def _by_cases(model: Model, names: Sequence[str] | None, most: int, clock: Clock) -> Plans:
+def plans_by_cases(model: Model, names: Sequence[str] | None, most: int, clock: Clock) -> Plans:
     """Plans by going through cases."""
     trial = Trial(model, model.believed(), clock)
     try:
@@ -309,5 +318,5 @@ def _by_cases(model: Model, names: Sequence[str] | None, most: int, clock: Clock
     except ValueError:
         trial.close()
         raise
-    listing = Listing(trial, shown, most)
+    listing = PlanListing(trial, shown, most)
     return tried(trial, listing.run, listing.result)

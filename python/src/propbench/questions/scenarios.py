@@ -5,18 +5,18 @@ A row is a job that can be sent to another process or machine: the lines to send
 
 import os
 from collections.abc import Callable, Iterable, Iterator, Mapping, Sequence
-from concurrent.futures import Executor, Future, ThreadPoolExecutor
 from dataclasses import dataclass, replace
 from functools import partial
+from typing import TYPE_CHECKING
 
+from propbench.clock import Clock, Progress
 from propbench.model.answers import Answer
 from propbench.model.shrinking import shrunk
 from propbench.program import OutOfTime
-from propbench.questions.asking import CellLike, answered, cell_named
+from propbench.questions.asking import CellLike, answered, cell_named, cells_given
 from propbench.questions.bench import Bench
 from propbench.questions.certificate import Certificate, Evidence
 from propbench.questions.changes import Change, resolved
-from propbench.questions.clock import Clock, Progress
 from propbench.questions.conflicts import Premises
 from propbench.questions.model import Model
 from propbench.questions.shown import Shown
@@ -24,6 +24,9 @@ from propbench.questions.trial import mark_for
 from propbench.replies import Contradiction, Value, Worldview, reply_of
 from propbench.session import Session
 from propbench.words import is_silent
+
+if TYPE_CHECKING:
+    from concurrent.futures import Executor, Future
 
 Scenario = Change | Mapping[str, object]
 
@@ -90,7 +93,17 @@ class Row(dict[str, Answer]):
 
 class Scenarios(Shown, dict[str, Row]):
     """Rows by name, in the order in which they were given, with an answer for each column. Of those
-    for which there was no time there is no row."""
+    for which there was no time there is no row.
+
+    >>> w = Workbench()
+    >>> x = w.number("x", 0, 9)
+    >>> w.require(x >= 3, under="much")
+    >>> print(w.scenarios({"now": {}, "all": dict(kick=["much"])}, [x]))
+    2 scenarios:
+      scenario  x
+      now       3..9
+      all       0..9
+    """
 
     def __init__(
         self,
@@ -131,14 +144,14 @@ class Asking:
         self,
         bench: Bench,
         scenarios: Mapping[str, Scenario],
-        columns: Iterable[CellLike],
+        columns: str | Iterable[CellLike],
         clock: Clock,
     ) -> None:
         """Raises NoSuchName, TypeError and ValueError for a scenario that can't be."""
         model = self._model = bench.model
         self._bench, self._clock = bench, clock
         self._base = tuple(line for line in model.base() if not is_silent(line))
-        self.columns = [cell_named(model, cell) for cell in columns]
+        self.columns = [cell_named(model, it) for it in cells_given(model, columns)]
         self._changes = {n: resolved(model, Change.of(s)) for n, s in scenarios.items()}
         cells = tuple(map(model.cell_name, self.columns))
         self.jobs = {
@@ -164,10 +177,12 @@ class Asking:
 
     def by_threads(self) -> None:
         """Asks them side by side, each by a program of its own."""
+        from concurrent.futures import ThreadPoolExecutor
+
         with ThreadPoolExecutor(os.cpu_count()) as threads:
             self._by({n: _submitted(threads, self._asked, job) for n, job in self.jobs.items()})
 
-    def by(self, executor: Executor) -> None:
+    def by(self, executor: "Executor") -> None:
         """Has an executor ask all scenarios. One that it has no answer for is asked again here: so
         a worker that dies costs the time of its scenario."""
         self._by({name: _submitted(executor, run_job, job) for name, job in self.jobs.items()})
@@ -248,7 +263,7 @@ def _replies(model: Model, columns: Sequence[str], heard: Heard) -> Iterator[Val
 
 
 def _submitted(
-    executor: Executor, ask: Callable[[Job], Heard | None], job: Job
+    executor: "Executor", ask: Callable[[Job], Heard | None], job: Job
 ) -> "Future[Heard | None] | None":
     """A job on its way, None where the executor takes none any more."""
     try:
@@ -270,7 +285,7 @@ def _result(future: "Future[Heard | None] | None", clock: Clock) -> Heard | None
 def find_scenarios(
     bench: Bench,
     rows: Mapping[str, Scenario],
-    columns: Iterable[CellLike],
+    columns: str | Iterable[CellLike],
     seconds: float | None,
     progress: Progress | None,
 ) -> Scenarios:
@@ -284,8 +299,8 @@ def find_scenarios(
 def sweep(
     bench: Bench,
     scenarios: Mapping[str, Scenario] | Iterable[Scenario],
-    show: Iterable[CellLike],
-    executor: Executor | None,
+    show: str | Iterable[CellLike],
+    executor: "Executor | None",
     clock: Clock,
 ) -> Scenarios:
     """The same table, asked by an executor; where that is None, by as many threads as there are

@@ -5,21 +5,22 @@ at here once more, constraint by constraint in exact whole numbers; where one do
 stated says more than its lines), nothing is said, and the search of this package has its turn.
 """
 
-from collections.abc import Iterable, Mapping, Sequence
+from collections.abc import Callable, Iterable, Mapping, Sequence
 from contextlib import suppress
 
+from propbench.clock import Clock
 from propbench.closing import Closing
 from propbench.points import Best, NoneFits, Points, Several, SoFar
 from propbench.program import OutOfTime
 from propbench.questions.bounding import LEAST
 from propbench.questions.certificate import Certificate, Evidence
-from propbench.questions.clock import Clock
 from propbench.questions.model import Model, Plan
 from propbench.questions.outcomes import Fits
 from propbench.questions.trial import mark_for
 from propbench.refusals import Refused
 from propbench.replies import UNSETTLED, Contradiction, Reply, Settled, Unsettled, Value
 from propbench.runs import is_settled
+from propbench.session import Session
 from propbench.values import Held, Nothing, Span
 from propbench.words import MOST_NUMBER, MOST_STEPS, is_silent, is_well_encoded
 
@@ -52,8 +53,9 @@ class Seeker(Closing):
     """A second session of a model's network, whose program is asked for points. Where its clock has
     an end, it lasts no longer."""
 
-    def __init__(self, model: Model, clock: Clock) -> None:
-        """A session in which what is believed is that of the model. Raises as `Session` does."""
+    def __init__(self, model: Model, clock: Clock, session: Session | None = None) -> None:
+        """A session in which what is believed is that of the model: one that begins as the model's
+        did, or this one, which is empty as yet. Raises as `Session` does."""
         self.model, self.clock = model, clock
         self.base = [line for line in model.base() if not is_silent(line)]
         self.mark = mark_for(self.base)
@@ -64,10 +66,12 @@ class Seeker(Closing):
         # What any symbol is that may be any.
         self._other = f"{mark_for(self.base, 'other{}_')}0"
         self.reply: Reply = UNSETTLED
+        # Called with what is known, slice by slice; what it raises ends the question.
+        self.heard: Callable[[Reply], None] | None = None
         # Premises that can't all hold, where that follows without any search.
         self._clash: tuple[str, ...] | None = None
         self._held: dict[str, Reply | Refused] = {}
-        self.session = model.session.fresh()
+        self.session = session or model.session.fresh()
         self.session.end_by(clock.latest)
         try:
             with suppress(OutOfTime):
@@ -77,16 +81,23 @@ class Seeker(Closing):
             raise
 
     def _begin(self) -> None:
-        """Has the network made, and what follows whatever the choices take."""
-        session, left = self.session, self.clock.seconds_left()
-        chosen = [line for line in self.base if line.split()[0] == "choose"]
-        session.send_all([line for line in self.base if line not in chosen])
+        """Has the network made, and what follows found out."""
+        self.session.send_all(self.base)
+        self.session.send(f"limit {MOST_STEPS}")
+        # (in a session of its own: behind a run the search may stand still)
+        with self.model.session.fresh() as session:
+            session.end_by(self.clock.latest)
+            self._look_around(session)
+
+    def _look_around(self, session: Session) -> None:
+        """Has a session find out what follows whatever the choices take."""
+        left = self.clock.seconds_left()
+        session.send_all([line for line in self.base if line.split()[0] != "choose"])
         session.send(f"limit {_STEPS}")
         end = session.send("settle", seconds=None if left is None else left / 2)
         if isinstance(end, Contradiction):
             self._clash = end.premises
         self._held = dict(zip(self.lines, session.look(f"ask {it}" for it in self.lines.values())))
-        session.send_all([f"limit {MOST_STEPS}", *chosen])
 
     def close(self) -> None:
         """Ends the session."""
@@ -109,6 +120,8 @@ class Seeker(Closing):
         def hear(steps: int, reply: Reply) -> None:
             self.reply = _joined(before, reply)
             self.clock.tell(_told(self.reply))
+            if self.heard is not None:
+                self.heard(self.reply)
 
         # (what takes longer than that goes on, and the next question waits for it)
         with suppress(OutOfTime):

@@ -3,6 +3,7 @@
 from collections.abc import Iterable, Iterator, Sequence
 from dataclasses import dataclass
 
+from propbench.clock import Clock, Progress
 from propbench.listing import Statement, told_by
 from propbench.questions.asking import CellLike, answered, cell_named, tried, whole_named
 from propbench.questions.bench import Bench
@@ -10,7 +11,6 @@ from propbench.questions.bounding import Bounding, Optimum, bounding_in
 from propbench.questions.certificate import Certificate, Evidence
 from propbench.questions.changes import Change
 from propbench.questions.checker import MOST
-from propbench.questions.clock import Clock, Progress
 from propbench.questions.model import Model
 from propbench.questions.scenarios import Asking, Row
 from propbench.questions.shown import Shown, shortened
@@ -34,7 +34,15 @@ class Worth:
 
 
 class Sensitivity(Shown, list[Worth]):
-    """What each believed premise is worth to a cell, whose value now is `now`."""
+    """What each believed premise is worth to a cell, whose value now is `now`.
+
+    >>> w = Workbench()
+    >>> x = w.number("x", 0, 9)
+    >>> w.require(x >= 3, under="much")
+    >>> sensitivity = w.sensitivity(x)
+    >>> print(sensitivity.now, sensitivity[0].left_out)
+    3..9 0..9
+    """
 
     def __init__(
         self,

@@ -1,6 +1,5 @@
 """How results are shown: as text, as a table of a notebook, as a table of pandas where it is there."""
 
-import html
 from collections.abc import Sequence
 from importlib import import_module
 from typing import TYPE_CHECKING, Any
@@ -24,21 +23,45 @@ class Shown:
     _certificate: "Certificate | None"
 
     def headline(self) -> str:
-        """The result in a sentence."""
+        """The result in a sentence.
+
+        >>> w = Workbench()
+        >>> x = w.number("x", 3, 9)
+        >>> w.least(x).headline()
+        'The least x is 3:'
+        """
         raise NotImplementedError
 
     def heads(self) -> Sequence[str]:
-        """The heads of the table."""
+        """The heads of the table.
+
+        >>> w = Workbench()
+        >>> x = w.number("x", 3, 9)
+        >>> w.plans([x]).heads()
+        ('x',)
+        """
         raise NotImplementedError
 
     def rows(self) -> Sequence[Sequence[object]]:
-        """The rows of the table."""
+        """The rows of the table.
+
+        >>> w = Workbench()
+        >>> x = w.number("x", 3, 4)
+        >>> sorted(w.plans([x]).rows())
+        [[3], [4]]
+        """
         raise NotImplementedError
 
     @property
     def certificate(self) -> "Certificate":
         """What anyone can ask the program again. Raises ValueError where there is nothing to show, or
-        no way to show it, and as `Session` does."""
+        no way to show it, and as `Session` does.
+
+        >>> w = Workbench()
+        >>> x = w.number("x", 3, 9)
+        >>> w.least(x).certificate.check()
+        True
+        """
         if self._certificate is None:
             raise ValueError("there is nothing that a certificate could show")
         return self._certificate.finished()
@@ -63,7 +86,13 @@ class Shown:
 
     # (a DataFrame, which has no type here: pandas need not be there)
     def to_pandas(self) -> Any:
-        """The table as a DataFrame. Raises ImportError where pandas isn't there."""
+        """The table as a DataFrame. Raises ImportError where pandas isn't there.
+
+        >>> w = Workbench()
+        >>> x = w.number("x", 3, 4)
+        >>> sorted(w.plans([x]).to_pandas()["x"])  # doctest: +SKIP
+        [3, 4]
+        """
         try:
             pandas = import_module("pandas")
         except ImportError:
@@ -92,4 +121,6 @@ def listed(names: Sequence[str], joint: str = "and") -> str:
 
 
 def _escaped(value: object) -> str:
+    import html
+
     return html.escape(printable(said(value)))

@@ -7,10 +7,10 @@ here; what is supposed for a while is told under premises of the trial's own, wh
 from collections import OrderedDict
 from collections.abc import Callable, Collection, Iterable, Sequence
 
+from propbench.clock import Clock
 from propbench.closing import Closing
 from propbench.program import OutOfTime
 from propbench.questions.checker import MOST, digits
-from propbench.questions.clock import Clock
 from propbench.questions.model import Model, Plan
 from propbench.questions.rooms import (
     Names,

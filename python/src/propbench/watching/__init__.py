@@ -9,10 +9,10 @@ from collections.abc import Sequence
 from dataclasses import dataclass
 from typing import Protocol
 
-from propbench.questions.clock import Progress as Told
-from propbench.runs import Progress
-from propbench.session import Session
+from propbench.clock import Progress
 from propbench.refusals import UnknownCommand
+from propbench.runs import RunProgress
+from propbench.session import Session
 from propbench.watching.bearing import Bearing, bearing, resting
 from propbench.watching.claims import Claim, Source, Way
 from propbench.watching.mending import Mending
@@ -60,7 +60,7 @@ class Watched(Protocol):
         """What was stated."""
         ...
 
-    def see(self, progress: Progress | None = None) -> Seen:
+    def see(self, progress: RunProgress | None = None) -> Seen:
         """What follows now, by a run."""
         ...
 
@@ -73,7 +73,7 @@ class Watched(Protocol):
         program doesn't tell."""
         ...
 
-    def core(self, cell: str, progress: Progress | None = None) -> Shown | None:
+    def core(self, cell: str, progress: RunProgress | None = None) -> Shown | None:
         """The value of a cell with reasons of which none can be left out, None at a conflict."""
         ...
 
@@ -90,16 +90,16 @@ class Watched(Protocol):
         """For each choice the place of the side that is wished for, where one is."""
         ...
 
-    def mend(self, progress: Told | None = None, seconds: float | None = None) -> Mending:
+    def mend(self, progress: Progress | None = None, seconds: float | None = None) -> Mending:
         """Conflicts among what is believed, and repairs."""
         ...
 
-    def without(self, premises: Sequence[str], progress: Progress | None = None) -> Seen:
+    def without(self, premises: Sequence[str], progress: RunProgress | None = None) -> Seen:
         """What would follow without these premises; nothing is changed."""
         ...
 
     def best(
-        self, cell: str, sort: str, progress: Told | None = None, seconds: float | None = None
+        self, cell: str, sort: str, progress: Progress | None = None, seconds: float | None = None
     ) -> Best:
         """The "least" or "greatest" value of a cell in any plan. Raises ValueError where that can't
         be asked."""

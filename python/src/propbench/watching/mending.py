@@ -9,9 +9,9 @@ from collections.abc import Sequence
 from contextlib import suppress
 from dataclasses import dataclass
 
+from propbench.clock import Clock
 from propbench.model.shrinking import shrunk
 from propbench.program import OutOfTime
-from propbench.questions.clock import Clock
 from propbench.questions.hitting import Hitting
 from propbench.replies import Contradiction, Settled
 from propbench.session import Session

@@ -3,6 +3,8 @@
 from collections.abc import Sequence
 from contextlib import suppress
 
+from propbench.clock import Clock
+from propbench.clock import Progress
 from propbench.grammar import ASKING
 from propbench.known import Known
 from propbench.listing import Told
@@ -11,10 +13,8 @@ from propbench.program import OutOfTime
 from propbench.questions.asking import so_far
 from propbench.questions.bounding import Optimum
 from propbench.questions.ends import find_optimum
-from propbench.questions.clock import Clock
-from propbench.questions.clock import Progress as Telling
 from propbench.replies import Called, Contradiction, Stated, Value, Worldview
-from propbench.runs import Progress
+from propbench.runs import RunProgress
 from propbench.session import Session
 from propbench.values import Nothing
 from propbench.watching import Best
@@ -49,14 +49,14 @@ class SessionWatched:
     def network(self) -> Network:
         return self._read().network(self._known)
 
-    def see(self, progress: Progress | None = None) -> Seen:
+    def see(self, progress: RunProgress | None = None) -> Seen:
         self.session.send("settle", progress=progress)
         return self._known_in(self.session)
 
     def known(self) -> Seen:
         return self._known_in(self.session)
 
-    def core(self, cell: str, progress: Progress | None = None) -> Shown | None:
+    def core(self, cell: str, progress: RunProgress | None = None) -> Shown | None:
         reply = self.session.send(f"core {cell}", progress=progress)
         return self._shown(reply) if isinstance(reply, Value) else None
 
@@ -83,7 +83,7 @@ class SessionWatched:
         believed = set(self._believed())
         return {choice: side for (choice, side), each in self._wishes.items() if each in believed}
 
-    def mend(self, progress: Telling | None = None, seconds: float | None = None) -> Mending:
+    def mend(self, progress: Progress | None = None, seconds: float | None = None) -> Mending:
         clock = Clock(seconds, progress)
         with self.session.fresh() as other:
             other.end_by(clock.latest)
@@ -93,14 +93,14 @@ class SessionWatched:
                 return mended(other, believed, _MOST_MENDS, clock)
         return NOT_MENDED
 
-    def without(self, premises: Sequence[str], progress: Progress | None = None) -> Seen:
+    def without(self, premises: Sequence[str], progress: RunProgress | None = None) -> Seen:
         with self.session.fresh() as other:
             other.send_all([*self.lines(), *(f"kick {premise}" for premise in premises)])
             other.send("settle", progress=progress)
             return self._known_in(other)
 
     def best(
-        self, cell: str, sort: str, progress: Telling | None = None, seconds: float | None = None
+        self, cell: str, sort: str, progress: Progress | None = None, seconds: float | None = None
     ) -> Best:
         clock = Clock(seconds, progress)
         model = SessionModel(self.session, self.lines(), self._read(clock.last).told)

@@ -2,6 +2,8 @@
 
 from collections.abc import Sequence
 
+from propbench.clock import Clock
+from propbench.clock import Progress
 from propbench.model.answers import value_text
 from propbench.model.blaming import always
 from propbench.model.choosing import first_name
@@ -19,13 +21,12 @@ from propbench.model.kinds import MOST, Plain, kind_text, point_text
 from propbench.model.nodes import Declared, cells_in
 from propbench.model.reading import Reader
 from propbench.model.saving import saved
+from propbench.plain import PlainWorkbench
 from propbench.questions.asking import so_far
 from propbench.questions.bounding import Optimum
-from propbench.questions.clock import Clock
-from propbench.questions.clock import Progress as Telling
 from propbench.questions.conflicts import Conflicts, Repairs, find_conflicts, find_repairs
 from propbench.replies import Called, Contradiction, Value, Worldview
-from propbench.runs import Progress
+from propbench.runs import RunProgress
 from propbench.session import Session
 from propbench.values import Nothing
 from propbench.watching import Best
@@ -46,7 +47,6 @@ from propbench.watching.network import (
 )
 from propbench.watching.owned import Owned, is_use, wording_of
 from propbench.watching.steps import Call, Reading, Steps
-from propbench.workbench import Workbench
 
 # What is said of a plan.
 PLAN = "Each constraint was evaluated on this plan."
@@ -61,7 +61,7 @@ class WorkbenchWatched:
 
     is_workbench = True
 
-    def __init__(self, workbench: Workbench) -> None:
+    def __init__(self, workbench: PlainWorkbench) -> None:
         self.workbench = workbench
         self._wishes: dict[tuple[str, int], str] = {}
         self._events: list[Event] = []
@@ -89,7 +89,7 @@ class WorkbenchWatched:
             (*map(_declared, made.cells.values()), *says.get("", ())),
         )
 
-    def see(self, progress: Progress | None = None) -> Seen:
+    def see(self, progress: RunProgress | None = None) -> Seen:
         self.session.send("settle", progress=progress)
         return self.known()
 
@@ -105,7 +105,7 @@ class WorkbenchWatched:
         shown = [self._shown(reply, plan) for reply in replies if isinstance(reply, Value)]
         return Seen({each.cell: each for each in shown}, isinstance(stands, Worldview), None, plan)
 
-    def core(self, cell: str, progress: Progress | None = None) -> Shown | None:
+    def core(self, cell: str, progress: RunProgress | None = None) -> Shown | None:
         made = self.workbench.network
         line = f"core {made.vocabulary.cells.line(cell)}"
         reply = made.session.send(line, progress=progress)
@@ -149,7 +149,7 @@ class WorkbenchWatched:
         believed = self.workbench.network.premises.believed
         return {choice: side for (choice, side), each in self._wishes.items() if believed.get(each)}
 
-    def mend(self, progress: Telling | None = None, seconds: float | None = None) -> Mending:
+    def mend(self, progress: Progress | None = None, seconds: float | None = None) -> Mending:
         model, clock = self.workbench.model, Clock(seconds, progress)
         conflicts = so_far(
             lambda: find_conflicts(model, (), _MOST_MENDS, seconds, progress), Conflicts
@@ -163,12 +163,12 @@ class WorkbenchWatched:
             FITS,
         )
 
-    def without(self, premises: Sequence[str], progress: Progress | None = None) -> Seen:
+    def without(self, premises: Sequence[str], progress: RunProgress | None = None) -> Seen:
         with self.workbench.what_if(kick=list(premises)):
             return self.see(progress)
 
     def best(
-        self, cell: str, sort: str, progress: Telling | None = None, seconds: float | None = None
+        self, cell: str, sort: str, progress: Progress | None = None, seconds: float | None = None
     ) -> Best:
         ask = self.workbench.least if sort == "least" else self.workbench.greatest
         found = so_far(lambda: ask(cell, seconds=seconds, progress=progress), Optimum)

@@ -7,7 +7,8 @@ with one value for each cell: the procedures find nothing against these values.
 from collections.abc import Mapping, Sequence
 
 from propbench.listing import Told
-from propbench.questions.model import First, Point
+from propbench.model.first import First
+from propbench.questions.model import Point
 from propbench.session import Session
 
 
@@ -89,6 +90,10 @@ class SessionModel:
         """What the premise states."""
         return "; ".join(map(str, self._told.premises.get(premise, ())))
 
+    def exactly(self, premise: str) -> str:
+        """The same."""
+        return self.text(premise)
+
     def first(self) -> Sequence[First]:
         """None that are known."""
         return ()
@@ -96,6 +101,10 @@ class SessionModel:
     def chosen(self, plan: Mapping[str, Point]) -> dict[str, object]:
         """Nothing: what a choice of a session takes is a value of a cell."""
         return {}
+
+    def scheduled(self, plan: Mapping[str, Point]) -> None:
+        """A session has no tasks."""
+        return None
 
     def is_measured(self, cell: str) -> bool:
         """No cell of a session has a unit."""

@@ -1,10 +1,10 @@
 """What a cell may be over all plans: by questions that take many asks."""
 
+from propbench.clock import Clock
 from propbench.model.answers import Left
 from propbench.model.kinds import Domain, Plain
 from propbench.model.nodes import Declared
 from propbench.questions import Questions
-from propbench.questions.clock import Clock
 from propbench.values import Elements, Span
 
 _MOST_ELEMENTS = 64

@@ -1,0 +1,348 @@
+#!/usr/bin/python3
+"""Runs MiniZinc's own test suite over propbench, and says what passed, was refused, or ran out of time.
+
+usage: python/measure/suite.py SPEC [--tenth] [--again FILE] [--seconds N] [--solver FILE] [--list FILE]
+
+SPEC is the folder tests/spec of MiniZinc's sources (`apt-get source minizinc`). A test passes where
+what is found is one of the results that it expects. Where it is another, Gecode is asked whether
+that is a solution too, and as good a one: then it agrees. Else it is wrong, and the exit status 1.
+With --tenth every tenth file is run. Needs `minizinc` with Gecode, and python3-yaml.
+"""
+
+import argparse
+import json
+import subprocess
+import sys
+import tempfile
+import time
+from collections import Counter
+from collections.abc import Iterable, Iterator
+from dataclasses import dataclass, field
+from pathlib import Path
+from typing import Any
+
+import yaml
+
+PYTHON = Path(__file__).resolve().parents[1]
+CONFIGURATION = PYTHON / "src/propbench/flatzinc/propbench.msc"
+SATISFIED = ("SATISFIED", "ALL_SOLUTIONS", "OPTIMAL_SOLUTION")
+# Debian's Gecode, by MiniZinc's own library: its own doesn't fit this MiniZinc.
+GECODE = {
+    "id": "gecode.std",
+    "name": "Gecode",
+    "version": "6.2",
+    "executable": "/usr/bin/fzn-gecode",
+    "tags": ["cp", "int", "float", "set"],
+    "stdFlags": ["-a", "-n"],
+    "supportsMzn": False,
+    "supportsFzn": True,
+    "needsSolns2Out": True,
+}
+# What a test may come to that is right.
+RIGHT = ("passed", "agrees with Gecode", "error as expected", "beyond Gecode's numbers")
+# Checks of a solution by Gecode take so many seconds at the most.
+CHECKING = 20.0
+
+
+@dataclass(frozen=True)
+class Tagged:
+    """What stands behind a tag of the suite, as `!Solution`."""
+
+    tag: str
+    value: Any
+
+
+class Loader(yaml.SafeLoader):
+    """Reads the suite's tags as `Tagged`."""
+
+
+def tagged(loader: Loader, suffix: str, node: yaml.Node) -> Tagged:
+    """What stands behind a tag."""
+    if isinstance(node, yaml.MappingNode):
+        return Tagged(suffix, loader.construct_mapping(node, deep=True))
+    if isinstance(node, yaml.SequenceNode):
+        return Tagged(suffix, loader.construct_sequence(node, deep=True))
+    return Tagged(suffix, loader.construct_scalar(node))
+
+
+Loader.add_multi_constructor("!", tagged)
+
+
+@dataclass
+class Test:
+    """A test of the suite: a model, its data and options, and the results that are right."""
+
+    model: Path
+    data: list[Path]
+    options: dict[str, Any]
+    expected: list[Tagged]
+    solvers: list[str] = field(default_factory=list)
+
+    @property
+    def wants_all(self) -> bool:
+        """Whether all solutions are asked for."""
+        return bool(self.options.get("all_solutions") or self.options.get("-a"))
+
+
+@dataclass(frozen=True)
+class Ran:
+    """What a solver has said of a test."""
+
+    solutions: list[dict[str, Any]]
+    status: str
+    error: str
+    seconds: float
+
+
+def tests_in(folder: Path) -> Iterator[Test]:
+    """The tests that are solved, in order."""
+    for model in sorted(folder.rglob("*.mzn")):
+        text = model.read_text(encoding="utf-8", errors="replace")
+        if not text.startswith("/***"):
+            continue
+        for each in yaml.load_all(text[4 : text.index("***/")], Loader):
+            if isinstance(each, Tagged) and each.tag == "Test":
+                told = each.value if isinstance(each.value, dict) else {}
+                if told.get("type", "solve") == "solve":
+                    yield test_of(model, told)
+
+
+def test_of(model: Path, told: dict[str, Any]) -> Test:
+    """The test that a comment tells of."""
+    expected = told.get("expected", [])
+    several = expected if isinstance(expected, list) else [expected]
+    data = [model.parent / each for each in told.get("extra_files", [])]
+    solvers = told.get("solvers", ["gecode", "cbc", "chuffed"])
+    return Test(model, data, told.get("options", {}), several, solvers)
+
+
+def words_of(options: dict[str, Any]) -> list[str]:
+    """The options of a test as words."""
+    words = []
+    for name, value in options.items():
+        name = {"all_solutions": "-a", "nr_solutions": "-n", "optimise": "-O"}.get(name, name)
+        name = name if name.startswith("-") else f"--{name.replace('_', '-')}"
+        if value is True:
+            words.append(name)
+        elif value is not False and value is not None:
+            words += [f"-O{value}"] if name == "-O" else [name, str(value)]
+    return words
+
+
+def run(test: Test, solver: str, seconds: float) -> Ran:
+    """What a solver says of a test in so many seconds."""
+    words = ["minizinc", "--solver", solver, "--output-mode", "json", "--output-objective"]
+    words += ["--soln-sep", "%%next", *words_of(test.options), str(test.model)]
+    for each in test.data:
+        words += ["--param-file", str(each)] if each.suffix == ".mpc" else [str(each)]
+    began = time.monotonic()
+    try:
+        ran = subprocess.run(
+            words,
+            text=True,
+            errors="replace",
+            capture_output=True,
+            timeout=seconds,
+            stdin=subprocess.DEVNULL,
+        )
+    except subprocess.TimeoutExpired:
+        return Ran([], "TIMEOUT", "", seconds)
+    took = time.monotonic() - began
+    status = next(
+        (s for s in ("UNSATISFIABLE", "UNKNOWN", "ERROR") if f"====={s}" in ran.stdout), ""
+    )
+    parts = ran.stdout.split("%%next")
+    solutions = [found for part in parts[:-1] if (found := json_in(part)) is not None]
+    if ran.returncode and not solutions and not status:
+        status = "ERROR"
+    if solutions:
+        status = "COMPLETE" if "==========" in ran.stdout else "SATISFIED"
+    return Ran(solutions, status or "NONE", ran.stderr.strip(), took)
+
+
+def json_in(text: str) -> dict[str, Any] | None:
+    """The solution that a text holds."""
+    begin, end = text.find("{"), text.rfind("}")
+    try:
+        found = json.loads(text[begin : end + 1])
+    except ValueError:
+        return None
+    return found if isinstance(found, dict) else None
+
+
+def plain(value: Any) -> Any:
+    """A value of the suite or of a solution, so that equal ones are the same."""
+    if isinstance(value, Tagged):
+        if value.tag == "Range":
+            low, _, high = str(value.value).partition("..")
+            return ("set", tuple(range(int(low), int(high) + 1)))
+        if value.tag == "Unordered":
+            return ("unordered", tuple(sorted(map(repr, map(plain, value.value)))))
+        return plain(value.value)
+    if isinstance(value, dict) and set(value) == {"set"}:
+        return ("set", tuple(sorted(elements_of(value["set"]), key=repr)))
+    if isinstance(value, dict) and set(value) == {"e"}:
+        return str(value["e"])
+    if isinstance(value, set):
+        return ("set", tuple(sorted(map(plain, value), key=repr)))
+    if isinstance(value, list):
+        return [plain(each) for each in value]
+    return value
+
+
+def elements_of(parts: Iterable[Any]) -> Iterator[Any]:
+    """The elements of a set in JSON: one by one, or from one to another."""
+    for part in parts:
+        if isinstance(part, list) and all(isinstance(each, int) for each in part):
+            yield from range(part[0], part[1] + 1)
+        else:
+            yield plain(part)
+
+
+def is_same(wanted: Any, found: Any) -> bool:
+    """Whether a value is what is wanted; numbers that are not whole nearly so."""
+    if isinstance(wanted, float) and isinstance(found, (int, float)):
+        return abs(wanted - found) <= 1e-4 * max(1.0, abs(wanted))
+    if isinstance(wanted, list) and isinstance(found, list):
+        return len(wanted) == len(found) and all(map(is_same, wanted, found))
+    if isinstance(wanted, tuple) and isinstance(found, tuple) and "set" in (wanted[0], found[0]):
+        return sorted(wanted[1], key=repr) == sorted(found[1], key=repr)
+    return bool(wanted == found)
+
+
+def meets(wanted: Any, found: dict[str, Any]) -> bool:
+    """Whether a solution is the wanted one, as far as that tells."""
+    if isinstance(wanted, Tagged) and wanted.tag == "SolutionSet":
+        return any(meets(each, found) for each in wanted.value)
+    told = wanted.value if isinstance(wanted, Tagged) else wanted
+    if not isinstance(told, dict):
+        return not told
+    known = {"objective": found.get("_objective"), **found}
+    return all(
+        name in known and is_same(plain(value), plain(known[name]))
+        for name, value in told.items()
+        if name != "_output_item"
+    )
+
+
+def are_those(wanted: list[Any], found: list[dict[str, Any]]) -> bool:
+    """Whether the solutions are those that are wanted, in any order."""
+    left = list(wanted)
+    for each in found:
+        match = next((one for one in left if meets(one, each)), None)
+        if match is None:
+            return False
+        left.remove(match)
+    return not left
+
+
+def is_expected(test: Test, ran: Ran, wanted: Tagged) -> bool:
+    """Whether this is the result that is wanted."""
+    if wanted.tag == "Error":
+        return ran.status == "ERROR"
+    if wanted.tag != "Result":
+        return False
+    told = wanted.value if isinstance(wanted.value, dict) else {}
+    status, solution = told.get("status"), told.get("solution")
+    if status is not None and (status in SATISFIED) != bool(ran.solutions):
+        return False
+    if status == "UNSATISFIABLE" and ran.status != "UNSATISFIABLE":
+        return False
+    if solution is None:
+        return bool(ran.solutions) or ran.status in ("UNSATISFIABLE", "NONE")
+    if isinstance(solution, list):
+        return are_those(solution, ran.solutions)
+    if isinstance(solution, Tagged) and solution.tag == "SolutionSet" and test.wants_all:
+        return bool(ran.solutions) and all(meets(solution, each) for each in ran.solutions)
+    return bool(ran.solutions) and meets(solution, ran.solutions[-1])
+
+
+def agrees(test: Test, ran: Ran, gecode: str) -> bool:
+    """Whether Gecode says that this is right."""
+    theirs = run(test, gecode, CHECKING)
+    if not ran.solutions:
+        return ran.status == theirs.status and not theirs.solutions
+    found = {k: v for k, v in ran.solutions[-1].items() if not k.startswith("_")}
+    if not found:
+        return bool(theirs.solutions)
+    best = ran.solutions[-1].get("_objective")
+    if best is not None and theirs.solutions and theirs.status == "COMPLETE":
+        if not is_same(theirs.solutions[-1].get("_objective"), best):
+            return False
+    with tempfile.NamedTemporaryFile("w", suffix=".json") as file:
+        json.dump(found, file)
+        file.flush()
+        # (as data, the values of a solution have to be one)
+        checked = run(Test(test.model, [*test.data, Path(file.name)], {}, []), gecode, CHECKING)
+    if checked.solutions:
+        return True
+    is_assigned = "multiple assignment" in checked.error or "type error" in checked.error
+    return is_assigned and bool(theirs.solutions)
+
+
+def judged(test: Test, ran: Ran, gecode: str) -> str:
+    """What became of a test."""
+    if any(is_expected(test, ran, each) for each in test.expected):
+        return "error as expected" if ran.status == "ERROR" else "passed"
+    if ran.status == "TIMEOUT" or ran.status == "UNKNOWN":
+        return "out of time"
+    if ran.status == "ERROR":
+        is_ours = "fzn-propbench" in ran.error and "Traceback" not in ran.error
+        return "refused" if is_ours else "failed"
+    if agrees(test, ran, gecode):
+        return "agrees with Gecode"
+    return "beyond Gecode's numbers" if is_beyond(ran.solutions) else "WRONG"
+
+
+def is_beyond(value: Any) -> bool:
+    """Whether there is a number that Gecode has no room for."""
+    if isinstance(value, dict):
+        return any(map(is_beyond, value.values()))
+    if isinstance(value, list):
+        return any(map(is_beyond, value))
+    return isinstance(value, int) and abs(value) >= 2**31 - 2
+
+
+def main() -> int:
+    assert __doc__
+    read = argparse.ArgumentParser(description=__doc__.split("\n", maxsplit=1)[0])
+    read.add_argument("spec", type=Path, metavar="SPEC", help="tests/spec of MiniZinc's sources")
+    read.add_argument("--tenth", action="store_true", help="every tenth file alone")
+    read.add_argument("--seconds", type=float, default=40, metavar="N", help="for each test (40)")
+    read.add_argument("--solver", default=str(CONFIGURATION), help="the solver (propbench)")
+    read.add_argument("--list", type=Path, metavar="FILE", help="write what became of each test")
+    read.add_argument("--again", type=Path, metavar="FILE", help="what did not pass in such a list")
+    read.add_argument("--only", default="", metavar="TEXT", help="models whose path has this text")
+    options = read.parse_args()
+    tests = list(tests_in(options.spec))
+    if not tests:
+        read.error(f"no tests are in {options.spec}")
+    models = sorted({test.model for test in tests})[:: 10 if options.tenth else 1]
+    if options.again:
+        lines = [line.split("\t") for line in options.again.read_text().splitlines()]
+        again = {options.spec / line[2] for line in lines if line[0] not in RIGHT}
+        models = [model for model in models if model in again]
+    counts: Counter[str] = Counter()
+    with (
+        open(options.list or "/dev/null", "w", encoding="utf-8") as file,
+        tempfile.NamedTemporaryFile("w", suffix=".msc") as gecode,
+    ):
+        json.dump(GECODE, gecode)
+        gecode.flush()
+        for test in tests:
+            if test.model not in models or options.only not in str(test.model):
+                continue
+            ran = run(test, options.solver, options.seconds)
+            what = judged(test, ran, gecode.name)
+            counts[what] += 1
+            name = test.model.relative_to(options.spec)
+            said = ran.error.replace("\n", " ")[-160:] if what in ("refused", "failed") else ""
+            print(f"{what}\t{ran.seconds:.1f}\t{name}\t{said}", file=file, flush=True)
+            if what in ("failed", "WRONG"):
+                print(f"{what}: {name} {said}")
+    print(", ".join(f"{count} {what}" for what, count in counts.most_common()))
+    return 1 if counts["WRONG"] else 0
+
+
+if __name__ == "__main__":
+    sys.exit(main())

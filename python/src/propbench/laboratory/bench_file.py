@@ -1,0 +1,149 @@
+"""A bench as a file in TOML: its quantities, devices and laws, so that no Python is needed.
+
+    title = "The density of a ring"
+    laws = ["density == mass / volume"]
+
+    [quantities]
+    density = { unit = "g/cm3", low = 1, high = 25, step = 0.01 }
+
+    [devices]
+    balance = { offset = "0.02 g" }
+"""
+
+import os
+from collections.abc import Callable, Mapping, Sequence
+from dataclasses import dataclass
+from decimal import Decimal
+from functools import partial
+from importlib import import_module
+from pathlib import Path
+from typing import Any, Protocol
+
+from propbench.nearby import near_names
+from propbench.showing import printable, quoted
+
+_TOP = ("title", "laws", "quantities", "devices")
+_QUANTITY = ("unit", "low", "high", "step")
+_DEVICE = ("offset", "scale")
+_LAW = ("law", "under")
+
+
+class BadBench(ValueError):
+    """A file is no bench: which part of it, and what would do."""
+
+
+class Stating(Protocol):
+    """What a bench is stated to: a workbench."""
+
+    def measured(
+        self, name: str, unit: str = "1", low: Any = None, high: Any = None, step: Any = None
+    ) -> object:
+        """Makes a quantity."""
+
+    def device(self, name: str, offset: Any = None, scale: Any = None) -> object:
+        """Makes a device."""
+
+    def law(self, law: str, under: str | None = None) -> None:
+        """States a law."""
+
+    def read_laws(self, path: Path) -> int:
+        """States the laws of a file."""
+
+
+@dataclass(frozen=True)
+class BenchFile:
+    """A bench as it is written: laws by themselves, or the file that has them."""
+
+    path: Path
+    title: str
+    quantities: Mapping[str, Mapping[str, Any]]
+    devices: Mapping[str, Mapping[str, Any]]
+    laws: Sequence[Mapping[str, str]] | Path
+
+    def state(self, to: Stating) -> None:
+        """States all of it. Raises BadBench, which names the part, and OSError."""
+        for name, given in self.quantities.items():
+            self._state(f"quantities.{name}", partial(to.measured, name, **given))
+        for name, given in self.devices.items():
+            self._state(f"devices.{name}", partial(to.device, name, **given))
+        if isinstance(self.laws, Path):
+            to.read_laws(self.laws)
+            return
+        for place, law in enumerate(self.laws, 1):
+            self._state(f"laws, {place}", partial(to.law, law["law"], law.get("under")))
+
+    def _state(self, part: str, call: Callable[[], object]) -> None:
+        try:
+            call()
+        except (ValueError, TypeError) as error:
+            raise BadBench(f"{printable(str(self.path))}: {printable(part)}: {error}") from None
+
+
+def bench_in(path: str | os.PathLike[str]) -> BenchFile:
+    """The bench of a file. Raises BadBench and OSError."""
+    with open(path, "rb") as file:
+        data = file.read()
+    try:
+        read: Mapping[str, Any] = _toml().loads(data.decode("utf-8"), parse_float=Decimal)
+        return _bench(Path(path), read)
+    except ValueError as error:
+        raise BadBench(f"{printable(os.fspath(path))}: {error}") from None
+
+
+def _toml() -> Any:
+    """What reads TOML: Python's own from 3.11 on."""
+    for name in ("tomllib", "tomli"):
+        try:
+            return import_module(name)
+        except ImportError:
+            continue
+    raise BadBench("to read TOML Python 3.11 is needed, or the package tomli (python3-tomli)")
+
+
+def _bench(path: Path, read: Mapping[str, Any]) -> BenchFile:
+    _check_keys("the file", read, _TOP)
+    quantities = _tables("quantities", read.get("quantities", {}), _QUANTITY)
+    if not quantities:
+        raise BadBench(
+            'it has no `[quantities]`, each as `mass = { unit = "g", low = 0, high = 9 }`'
+        )
+    title = read.get("title", path.stem)
+    if not isinstance(title, str):
+        raise BadBench("`title` is a text")
+    devices = _tables("devices", read.get("devices", {}), _DEVICE)
+    return BenchFile(path, title, quantities, devices, _laws(path, read.get("laws", [])))
+
+
+def _laws(path: Path, given: object) -> Sequence[Mapping[str, str]] | Path:
+    if isinstance(given, str):
+        return path.parent / given
+    if not isinstance(given, list):
+        raise BadBench("`laws` are a list of texts, or the name of a file that has them")
+    found = [{"law": each} if isinstance(each, str) else each for each in given]
+    for place, law in enumerate(found, 1):
+        if not isinstance(law, dict) or not all(isinstance(it, str) for it in law.values()):
+            raise BadBench(f"laws, {place}: a law is a text, or has `law` and `under`")
+        _check_keys(f"laws, {place}", law, _LAW)
+        if "law" not in law:
+            raise BadBench(f"laws, {place}: `law` is missing")
+    return found
+
+
+def _tables(name: str, given: object, keys: Sequence[str]) -> Mapping[str, Mapping[str, Any]]:
+    """Tables by name, which have no other keys than these."""
+    if not isinstance(given, dict) or not all(isinstance(it, dict) for it in given.values()):
+        raise BadBench(f"`{name}` has a table for each, as `name = {{ {keys[0]} = .. }}`")
+    for each, table in given.items():
+        _check_keys(f"{name}.{each}", table, keys)
+        wrong = [key for key, it in table.items() if not isinstance(it, str | int | Decimal)]
+        if wrong:
+            raise BadBench(f"{name}.{each}: `{wrong[0]}` is a text or a number")
+    return given
+
+
+def _check_keys(where: str, table: Mapping[str, Any], keys: Sequence[str]) -> None:
+    for key in table:
+        if key not in keys:
+            near = near_names(key, keys)
+            hint = f"did you mean `{near[0]}`?" if near else f"there are {', '.join(keys)}"
+            raise BadBench(f"{printable(where)} has {quoted(key)}, which is not known: {hint}")

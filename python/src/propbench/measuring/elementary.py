@@ -1,0 +1,254 @@
+"""Functions of measured quantities as a user writes them: `exp`, `sin`, `atan2`, and `pi`."""
+
+from collections.abc import Callable, Iterable, Sequence
+from dataclasses import replace
+from fractions import Fraction
+from functools import partial
+
+from propbench.measuring.bounds import BoundsOf
+from propbench.measuring.exact import Exact, exact_of, number_in
+from propbench.measuring.shapes import DEGREES, Function, Name, Table, Undefined
+from propbench.measuring.terms import (
+    Made,
+    Real,
+    Sort,
+    Term,
+    constant,
+    function_of,
+    real_of,
+    text_of,
+)
+from propbench.measuring.units import BARE, MixedUnits, UnknownUnit, dimension_text, unit_of
+
+# A term, or a constant as a text or a number.
+Given = Term | Exact | str
+
+pi = Made(Real(Sort.PI, (), BARE))
+
+
+def exp(term: Given) -> Term:
+    """e to the power of a bare number."""
+    return _of(Name.EXP, term)
+
+
+def ln(term: Given) -> Term:
+    """The natural logarithm of a bare number, which is more than 0."""
+    return _of(Name.LN, term)
+
+
+def exp10(term: Given) -> Term:
+    """10 to the power of a bare number."""
+    return _of(Name.EXP10, term)
+
+
+def log10(term: Given) -> Term:
+    """The logarithm to the base of 10 of a bare number, which is more than 0."""
+    return _of(Name.LOG10, term)
+
+
+def sin(angle: Given) -> Term:
+    """The sine of an angle, in degrees or in radians."""
+    return _of_angle(Name.SIN, angle)
+
+
+def cos(angle: Given) -> Term:
+    """The cosine of an angle, in degrees or in radians."""
+    return _of_angle(Name.COS, angle)
+
+
+def tan(angle: Given) -> Term:
+    """The tangent of an angle, in degrees or in radians, between two of its poles."""
+    return _of_angle(Name.TAN, angle)
+
+
+def asin(term: Given) -> Term:
+    """The angle from -pi/2 to pi/2, in radians, whose sine this is; `degrees(asin(..))` has it in
+    degrees."""
+    return _of(Name.ASIN, term)
+
+
+def acos(term: Given) -> Term:
+    """The angle from 0 to pi, in radians, whose cosine this is."""
+    return _of(Name.ACOS, term)
+
+
+def atan(term: Given) -> Term:
+    """The angle between -pi/2 and pi/2, in radians, whose tangent this is."""
+    return _of(Name.ATAN, term)
+
+
+def degrees(angle: Given) -> Term:
+    """An angle in radians, in degrees."""
+    real = real_of(angle)
+    if real.dimension == DEGREES:
+        return Made(real)
+    if _is_of_angles(real, in_degrees=False):
+        return Made(function_of(replace(real.applied, in_degrees=True), real.args[0]))
+    return Made(real) * (Made(constant(Fraction(180), DEGREES, "180 deg")) / pi)
+
+
+def radians(angle: Given) -> Term:
+    """An angle in degrees, in radians."""
+    real = real_of(angle)
+    if real.dimension != DEGREES:
+        return Made(real)
+    if _is_of_angles(real, in_degrees=True):
+        return Made(function_of(replace(real.applied, in_degrees=False), real.args[0]))
+    return Made(real) * (pi / Made(constant(Fraction(180), DEGREES, "180 deg")))
+
+
+def hypot(*sides: Given) -> Term:
+    """The root of the sum of squares, of sides at right angles."""
+    squares = [Made(real_of(side)) ** 2 for side in sides]
+    if not squares:
+        raise ValueError("of no sides there is no root")
+    return sum(squares[1:], squares[0]).sqrt()
+
+
+def atan2(above: Given, beside: Given) -> Term:
+    """The angle, in radians, at which a point stands that is so far above an origin and so far
+    beside it: from -pi to pi.
+
+    The one or the other surely isn't 0, and where it is beside on the left it is surely above or
+    below. Raises Undefined where it may be anywhere about the origin.
+    """
+    rise, run = real_of(above), real_of(beside)
+    ends = BoundsOf()
+    if ends(run)[0] > 0:
+        return atan(Made(rise) / Made(run))
+    rises = ends(rise)
+    if rises[0] > 0:
+        return pi / 2 - atan(Made(run) / Made(rise))
+    if rises[1] < 0:
+        return -pi / 2 - atan(Made(run) / Made(rise))
+    told = f"`atan2({text_of(rise)}, {text_of(run)})`"
+    raise Undefined(
+        f"{told} has no value at the origin, and two beside it on the left: give quantities ends "
+        f"by which `{text_of(run)}` is above 0, or `{text_of(rise)}` is not 0"
+    )
+
+
+def curve(
+    name: str,
+    points: Iterable[tuple[Exact | str, Exact | str]],
+    *,
+    of: str = "1",
+    unit: str = "1",
+    within: Exact | str = 0,
+) -> "Callable[[Given], Term]":
+    """A function by its points, as a curve of calibration: straight lines between them, from which
+    it is off by no more than `within`. An argument is in the unit `of`, a value in `unit`.
+
+    Raises ValueError where the points are too few, out of order, or two have one argument.
+    """
+    argument, value = unit_of(of), unit_of(unit)
+    made = sorted(
+        (at * argument.factor + argument.offset, to * value.factor + value.offset)
+        for at, to in map(_pair, points)
+    )
+    for (first, _), (second, _) in zip(made, made[1:]):
+        if first == second:
+            raise ValueError(f"the curve {name!r} has two points at one argument")
+    if len(made) < 2:
+        raise ValueError(f"the curve {name!r} has {len(made)} points, and needs two or more")
+    off = _exact(within) * value.factor
+    if off < 0:
+        raise ValueError(f"the curve {name!r} is off by 0 or more, and not by {within}")
+    known = Table(name, tuple(made), off, argument.dimension, value.dimension)
+    return partial(_of_table, known)
+
+
+def level(term: Given) -> Term:
+    """So many decibels: of a ratio of powers, of a power above 1 W, or of a voltage above 1 V."""
+    real = real_of(term)
+    for of, tenths in _LEVELS.items():
+        unit = unit_of(of)
+        if real.dimension == unit.dimension:
+            one = Made(constant(unit.factor, unit.dimension, f'"1 {of}"'))
+            return log10(Made(real) / one if of != "1" else Made(real)) * _decibels(tenths)
+    raise MixedUnits(
+        f"`{text_of(real)}` is in {dimension_text(real.dimension)}: a level is that of a ratio of "
+        "powers, of a power, or of a voltage"
+    )
+
+
+def at_level(decibels: Given, of: str = "1") -> Term:
+    """What has so many decibels: a ratio of powers, a power (`of="W"`), or a voltage (`of="V"`)."""
+    if of not in _LEVELS:
+        raise UnknownUnit(f'a level is that of "1", of "W" or of "V", and not of {of!r}')
+    unit = unit_of(of)
+    one = Made(constant(unit.factor, unit.dimension, f'"1 {of}"'))
+    return one * exp10(Made(real_of(decibels)) / _decibels(_LEVELS[of]))
+
+
+def pH(activity: Given) -> Term:
+    """How acid something is, by the hydrogen ions in it: `pH("0.01 mol/L")` is 2."""
+    return log10(Made(real_of(activity)) / "1 mol/L") * "-1 pH"
+
+
+def at_pH(acid: Given) -> Term:
+    """The hydrogen ions of what is so acid, in mol/L."""
+    return exp10(Made(real_of(acid)) / "-1 pH") * "1 mol/L"
+
+
+# How many decibels ten times as much is: of a ratio of powers, of a power, of a voltage.
+_LEVELS = {"1": 10, "W": 10, "V": 20}
+
+
+def _decibels(count: int) -> Term:
+    return Made(real_of(f"{count} dB"))
+
+
+def _of_table(known: Table, term: Given) -> Term:
+    """What a table has for a term."""
+    return Made(function_of(Function(Name.TABLE, table=known), real_of(term)))
+
+
+def _pair(point: object) -> tuple[Fraction, Fraction]:
+    """A point of a curve. Raises TypeError for what is none."""
+    if not isinstance(point, Sequence) or isinstance(point, str) or len(point) != 2:
+        raise TypeError(f"a point of a curve is an argument and a value: {point!r}")
+    return _exact(point[0]), _exact(point[1])
+
+
+def _exact(given: Exact | str) -> Fraction:
+    return number_in(given) if isinstance(given, str) else exact_of(given)
+
+
+def _is_of_angles(real: Real, in_degrees: bool) -> bool:
+    """Whether a term is an arcsine or the like that gives an angle in this."""
+    names = (Name.ASIN, Name.ACOS, Name.ATAN)
+    is_function = real.sort is Sort.FUNCTION and real.applied.name in names
+    return is_function and real.applied.in_degrees is in_degrees
+
+
+def _of(name: Name, term: Given) -> Term:
+    return Made(function_of(Function(name), real_of(term)))
+
+
+def _of_angle(name: Name, angle: Given) -> Term:
+    real = real_of(angle)
+    return Made(function_of(Function(name, in_degrees=real.dimension == DEGREES), real))
+
+
+# The functions of terms by name, for laws that are written as texts.
+FUNCTIONS: dict[str, Callable[..., Term]] = {
+    "exp": exp,
+    "ln": ln,
+    "exp10": exp10,
+    "log10": log10,
+    "sin": sin,
+    "cos": cos,
+    "tan": tan,
+    "asin": asin,
+    "acos": acos,
+    "atan": atan,
+    "atan2": atan2,
+    "hypot": hypot,
+    "degrees": degrees,
+    "radians": radians,
+    "level": level,
+    "at_level": at_level,
+    "pH": pH,
+    "at_pH": at_pH,
+}

@@ -1,0 +1,66 @@
+"""Functions at a point in floating numbers, with their slopes: for estimates, which prove nothing."""
+
+import math
+from collections.abc import Callable
+
+from propbench.measuring.shapes import Function, Name
+
+Sloped = tuple[float, float]
+_HALF_TURN, _LOG_10 = 180.0, math.log(10)
+
+
+def value_and_slope(function: Function, at: float) -> Sloped:
+    """What a function is there, and how much it grows with its argument. Raises ValueError where it
+    has no value or no slope."""
+    scale = math.pi / _HALF_TURN if function.in_degrees else 1.0
+    try:
+        if function.table is not None:
+            return _on_table(function, at)
+        if function.name is Name.POWER:
+            exponent = float(function.exponent)
+            return at**exponent, exponent * at ** (exponent - 1)
+        if function.name in _OF_ANGLES:
+            value, slope = _OF_ANGLES[function.name](at * scale)
+            return value, slope * scale
+        value, slope = _OTHERS[function.name](at)
+        return value / scale, slope / scale
+    except (OverflowError, ZeroDivisionError, TypeError) as error:
+        raise ValueError(f"`{function}` has no value or no slope at {at:g}") from error
+
+
+def _on_table(function: Function, at: float) -> Sloped:
+    assert function.table is not None
+    points = [(float(first), float(value)) for first, value in function.table.points]
+    for (first, begun), (last, ended) in zip(points, points[1:]):
+        if first <= at <= last:
+            slope = (ended - begun) / (last - first)
+            return begun + slope * (at - first), slope
+    raise ValueError(f"`{function}` has no value or no slope at {at:g}")
+
+
+def _sine(at: float) -> Sloped:
+    return math.sin(at), math.cos(at)
+
+
+def _cosine(at: float) -> Sloped:
+    return math.cos(at), -math.sin(at)
+
+
+def _tangent(at: float) -> Sloped:
+    return math.tan(at), 1 + math.tan(at) ** 2
+
+
+_OF_ANGLES: dict[Name, Callable[[float], Sloped]] = {
+    Name.SIN: _sine,
+    Name.COS: _cosine,
+    Name.TAN: _tangent,
+}
+_OTHERS: dict[Name, Callable[[float], Sloped]] = {
+    Name.EXP: lambda at: (math.exp(at), math.exp(at)),
+    Name.EXP10: lambda at: (10.0**at, _LOG_10 * 10.0**at),
+    Name.LN: lambda at: (math.log(at), 1 / at),
+    Name.LOG10: lambda at: (math.log10(at), 1 / at / _LOG_10),
+    Name.ASIN: lambda at: (math.asin(at), 1 / math.sqrt(1 - at**2)),
+    Name.ACOS: lambda at: (math.acos(at), -1 / math.sqrt(1 - at**2)),
+    Name.ATAN: lambda at: (math.atan(at), 1 / (1 + at**2)),
+}

@@ -1,0 +1,278 @@
+"""Why a plan ends no sooner: the tasks, people and absences that make its end, in order, and how
+much room the other tasks have."""
+
+from collections.abc import Iterator, Mapping, Sequence
+from dataclasses import dataclass
+from typing import TYPE_CHECKING
+
+from propbench.model.network import Network
+from propbench.planning.schedule import Entry, Schedule
+from propbench.planning.tasks import (
+    Away,
+    KeptApart,
+    KeptOff,
+    NotYet,
+    TaskOrdered,
+    TaskTold,
+    Wished,
+)
+from propbench.questions.clock import Clock
+from propbench.questions.outcomes import NothingFits
+from propbench.questions.shown import NOT_REFUTED, Shown, listed
+from propbench.showing import printable
+from propbench.tables import table
+
+if TYPE_CHECKING:
+    from propbench.planning.project import Project
+
+
+@dataclass(frozen=True)
+class Link:
+    """A task of the chain, and what it waits for, in words."""
+
+    entry: Entry
+    waits: str
+
+
+@dataclass(frozen=True)
+class Reasons:
+    """Premises because of which nothing ends before the day `value`; none of them can be left out
+    where they are `least`."""
+
+    value: int
+    premises: tuple[str, ...]
+    least: bool
+
+
+class Chain(Shown):
+    """What makes the end of a plan: `links` in order, and `premises` because of which nothing ends
+    sooner, none of which can be left out where it is `complete`. `rooms` are the days that each
+    other task can move, in plans that end as soon, as far as there was time to find them."""
+
+    _certificate = None
+
+    def __init__(
+        self,
+        schedule: Schedule,
+        links: Sequence[Link],
+        reasons: Reasons,
+        others: Sequence[str],
+        rooms: Mapping[str, tuple[int, int]],
+    ) -> None:
+        """The chain in a schedule, with premises that are no task's and nobody's."""
+        self.schedule, self.links = schedule, tuple(links)
+        self.reasons, self.others = reasons, tuple(others)
+        self._windows = dict(rooms)
+        self.complete = reasons.least and len(rooms) == len(self._left())
+
+    @property
+    def premises(self) -> tuple[str, ...]:
+        """Because of which the plan ends no sooner."""
+        return self.reasons.premises
+
+    @property
+    def tasks(self) -> tuple[str, ...]:
+        """The tasks of the chain, in order."""
+        return tuple(link.entry.task for link in self.links)
+
+    @property
+    def rooms(self) -> dict[str, int]:
+        """The days that each other task can move while all ends as soon."""
+        return {
+            entry.task: self._windows[entry.task][1]
+            - self._windows[entry.task][0]
+            - (entry.end - entry.start)
+            for entry in self._left()
+            if entry.task in self._windows
+        }
+
+    def _left(self) -> list[Entry]:
+        """The tasks that are not in the chain."""
+        return [entry for entry in self.schedule.by_date() if entry.task not in self.tasks]
+
+    def headline(self) -> str:
+        when = self.schedule.end_said()
+        why = "" if self.reasons.least else f" (that less would do is {NOT_REFUTED})"
+        return f"All is done {when}, and no sooner because of{why}:"
+
+    def heads(self) -> Sequence[str]:
+        return (*self.schedule.heads()[:2], "task", "who", "waits for")
+
+    def rows(self) -> Sequence[Sequence[object]]:
+        return [
+            (*self.schedule.ends(link.entry), link.entry.task, link.entry.people, link.waits)
+            for link in self.links
+        ]
+
+    def __str__(self) -> str:
+        lines = [super().__str__()]
+        if self.others:
+            lines.append(f"and of {listed(self.others)}.")
+        if left := list(self._rooms_told()):
+            lines.append("The others can move:")
+            lines.append(table(("task", "days", "within"), left, "  "))
+        return "\n".join(lines)
+
+    def _rooms_told(self) -> Iterator[tuple[str, str, str]]:
+        for task, room in self.rooms.items():
+            yield task, str(room), self.schedule.days_said(*self._windows[task])
+
+
+def chain_of(project: "Project", schedule: Schedule, clock: Clock) -> Chain:
+    """What makes the end of a schedule that ends soonest, as far as there is time; half of it is for
+    the rooms. Raises ValueError where there is one that ends sooner."""
+    w, left = project.workbench, clock.seconds_left()
+    half = Clock(None if left is None else left / 2, clock.progress)
+    reasons = reasons_of(project, schedule.end, half)
+    links = list(_Walk(w.network, project, schedule, reasons.premises).links())
+    on_it = {link.entry.task for link in links}
+    others = [entry.task for entry in schedule.entries if entry.task not in on_it]
+    rooms = _rooms(project, others, schedule.end, clock)
+    wishes = [it for it in reasons.premises if not _is_own(w.network, project, it)]
+    return Chain(schedule, links, reasons, wishes, rooms)
+
+
+def reasons_of(project: "Project", value: int, clock: Clock) -> Reasons:
+    """Premises because of which nothing ends before a day: each is tried to be left out in turn, as
+    far as there is time. Raises ValueError where something does."""
+    if value == 0:
+        return Reasons(value, (), True)
+    w, name = project.workbench, project.unused("all ends sooner")
+    with w.what_if(tell=[(name, project.end, 0, value - 1)]):
+        kept, is_least = _clash(project, clock, w.believed), True
+        if kept is None:
+            raise ValueError(f"there is a plan that ends before day {value}: ask why of that")
+        _keep(project, kept)
+        for premise in kept:
+            if premise not in w.believed or premise == name:
+                continue
+            w.kick(premise)
+            found = _clash(project, clock, ())
+            if found:
+                _keep(project, found)
+            else:
+                w.bring(premise)
+                is_least = is_least and found is None
+        return Reasons(value, tuple(it for it in w.believed if it != name), is_least)
+
+
+def _clash(project: "Project", clock: Clock, unknown: tuple[str, ...]) -> tuple[str, ...] | None:
+    """Premises that can't all hold, None where all fit, and `unknown` where there was no time."""
+    try:
+        project.workbench.solve(seconds=clock.seconds_left(), progress=clock.progress)
+    except NothingFits as none:
+        return unknown if none.premises is None else none.premises
+    return None
+
+
+def _keep(project: "Project", premises: Sequence[str]) -> None:
+    """Believes these premises alone."""
+    w = project.workbench
+    for premise in w.believed:
+        if premise not in premises:
+            w.kick(premise)
+
+
+def _rooms(
+    project: "Project", tasks: Sequence[str], value: int, clock: Clock
+) -> dict[str, tuple[int, int]]:
+    """For each of these tasks the first day on which it starts in a plan that ends by a day, and the
+    last on which it ends, as far as there is time to find both."""
+    w, name = project.workbench, project.unused("all ends as soon")
+    rooms: dict[str, tuple[int, int]] = {}
+    with w.what_if(tell=[(name, project.end, 0, value)]):
+        for task in (project.tasks[it] for it in tasks):
+            first = w.least(task.start, seconds=clock.seconds_left(), progress=clock.progress)
+            last = w.greatest(task.end, seconds=clock.seconds_left(), progress=clock.progress)
+            if first.proved and last.proved and first.value is not None and last.value is not None:
+                rooms[task.name] = first.value, last.value
+    return rooms
+
+
+def _is_own(network: Network, project: "Project", premise: str) -> bool:
+    """Whether what is stated under a premise is all of tasks and people."""
+    stated = network.premises.statements[premise]
+    kinds = TaskTold, TaskOrdered, KeptApart, KeptOff
+    return all(isinstance(each, kinds) and each.project is project for each in stated)
+
+
+class _Walk:
+    """The way back from the end of a schedule, from each task to what ends when it starts, by what
+    these premises say."""
+
+    def __init__(
+        self, network: Network, project: "Project", schedule: Schedule, premises: Sequence[str]
+    ) -> None:
+        self._stated = [
+            each for name in premises for each in network.premises.statements.get(name, ())
+        ]
+        self._schedule, self._project = schedule, project
+        self._entries = {entry.task: entry for entry in schedule.entries}
+        self._busy = {it.person for it in self._stated if isinstance(it, KeptApart)}
+
+    def links(self) -> Iterator[Link]:
+        """The tasks of the chain, by their first days."""
+        last = [entry for entry in self._entries.values() if entry.end == self._schedule.end]
+        named = self._named()
+        waiting = [entry for entry in last if entry.task in named] or last[:1]
+        waiting += [self._entries[task] for task in named if self._is_told_alone(task)]
+        seen: dict[str, str] = {}
+        while waiting:
+            entry = waiting.pop()
+            if entry.task not in seen:
+                seen[entry.task], before = self._before(entry)
+                waiting += before
+        for entry in self._schedule.by_date():
+            if entry.task in seen:
+                yield Link(entry, seen[entry.task])
+
+    def _named(self) -> dict[str, None]:
+        """The tasks that the premises speak of."""
+        cells = {task.days.declared: name for name, task in self._project.tasks.items()}
+        found: dict[str, None] = {}
+        for each in self._stated:
+            if isinstance(each, TaskTold) and each.cell in cells:
+                found[cells[each.cell]] = None
+            elif isinstance(each, TaskOrdered):
+                found |= {each.earlier.name: None, each.later.name: None}
+        return found
+
+    def _is_told_alone(self, task: str) -> bool:
+        """Whether a premise says nothing but how long a task takes: so that is a reason."""
+        days = self._project.tasks[task].days.declared
+        told = [it.premise for it in self._stated if isinstance(it, TaskTold) and it.cell is days]
+        count = [it.premise for it in self._stated]
+        return any(count.count(premise) == 1 for premise in told)
+
+    def _before(self, entry: Entry) -> tuple[str, list[Entry]]:
+        """What a task waits for in words, and the tasks among that."""
+        words: list[str] = []
+        before: list[Entry] = []
+        for each in self._stated:
+            if isinstance(each, TaskOrdered) and each.later.name == entry.task:
+                self._take(self._entries[each.earlier.name], "", entry, (words, before))
+        for person in (it for it in entry.people if it in self._busy):
+            for other in self._entries.values():
+                if person in other.people and other.start < other.end:
+                    self._take(other, person, entry, (words, before))
+        for away in self._aways(entry):
+            days = self._schedule.days_said(away.first, away.last)
+            words.append(f"{printable(away.person)}, away {days}")
+        for each in self._stated:
+            if isinstance(each, NotYet) or isinstance(each, Wished) and each.task == entry.task:
+                if each.first == entry.start:
+                    words.append(printable(str(each.premise)))
+        return "; ".join(dict.fromkeys(words)), before
+
+    def _take(
+        self, other: Entry, person: str, entry: Entry, into: tuple[list[str], list[Entry]]
+    ) -> None:
+        """Takes in a task that ends when another starts, which waits for it or for its person."""
+        words, before = into
+        if other.end == entry.start and other.task != entry.task and other not in before:
+            words.append(printable(f"{person}, busy with {other.task}" if person else other.task))
+            before.append(other)
+
+    def _aways(self, entry: Entry) -> list[Away]:
+        found = dict.fromkeys(it.away for it in self._stated if isinstance(it, KeptOff))
+        return [it for it in found if it.person in entry.people and it.last == entry.start]

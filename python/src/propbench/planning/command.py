@@ -1,0 +1,120 @@
+"""`propdesk plan`: a schedule of a planner's tables, and what stands in its way."""
+
+from collections.abc import Callable, Sequence
+from dataclasses import dataclass, field
+from pathlib import Path
+
+from propbench.planning.brief import Given
+from propbench.planning.exports import ENDINGS, check_ending
+from propbench.planning.planner import Plan, best_of, plan_of
+from propbench.planning.project import Project
+from propbench.planning.reading import brief_of
+from propbench.planning.schedule import Schedule
+from propbench.planning.sheets import sheets_of
+from propbench.planning.what_ifs import suppose
+from propbench.questions.bounding import Optimum
+from propbench.questions.shown import listed
+from propbench.showing import printable, shown
+from propbench.workbench import Workbench
+
+# A plan has so many days more where something is to be supposed, by which it may end later.
+_SPARE = 400
+
+
+@dataclass(frozen=True)
+class Asked:
+    """What is asked of a plan: to give up the cheapest that stands in the way, what to suppose, why
+    it ends no sooner, where to write it, and how long all that may take."""
+
+    given: Given = Given()
+    gives_up: bool = False
+    what_ifs: Sequence[str] = ()
+    why: bool = False
+    files: dict[str, str] = field(default_factory=dict)
+    seconds: float | None = None
+
+
+def plan_file(path: str, asked: Asked, program: str | None) -> int:
+    """Plans what the tables of a file or a folder want, tells the schedule and writes it; and gives
+    the exit status: 1 where there is no plan, or none was found in time. Raises SheetError and
+    ValueError for what can't be taken, OSError, NoSheetReader, and as `Workbench` does."""
+    for what, file in asked.files.items():
+        check_ending(file, ENDINGS[what])
+    brief = brief_of(sheets_of(path), asked.given)
+    if "ics" in asked.files and brief.calendar is None:
+        raise ValueError("a calendar needs dates: say when the plan begins, as --start 2026-03-02")
+    for name in brief.unread:
+        print(f"The sheet {printable(name)} is not read: it is called like none of a plan's.")
+    with Workbench(program) as w:
+        plan = plan_of(w, brief, _SPARE if asked.what_ifs else 0)
+        best = best_of(plan.project, asked.seconds)
+        if best.plan is None:
+            if not _is_mended(plan, best, asked):
+                return 1
+            best = best_of(plan.project, asked.seconds)
+            if best.plan is None:
+                print(shown(best.headline()))
+                return 1
+        elif asked.gives_up:
+            print("All fits: nothing has to be given up.")
+        _tell(plan.project, best, Path(path).stem, asked)
+        for text in asked.what_ifs:
+            _suppose(plan.project, plan.project.schedule(best), text, asked.seconds)
+    return 0
+
+
+def _tell(project: Project, best: Optimum, title: str, asked: Asked) -> None:
+    """Prints the schedule, and writes it."""
+    schedule = project.schedule(best)
+    print(shown(str(schedule)))
+    if not best.proved:
+        print("That there is a better plan is not refuted: there was no time.")
+    writers: dict[str, Callable[[str], str]] = {
+        "html": lambda file: schedule.to_html(file, title),
+        "csv": schedule.to_csv,
+        "ics": schedule.to_ics,
+        "svg": schedule.to_svg,
+    }
+    for what, file in asked.files.items():
+        writers[what](file)
+        print(f"The schedule is in {printable(file)}.")
+    if asked.why:
+        print(shown(str(project.critical(best, seconds=asked.seconds))))
+
+
+def _is_mended(plan: Plan, best: Optimum, asked: Asked) -> bool:
+    """Tells what stands in the way; whether the cheapest of what helps is given up then."""
+    w, facts = plan.project.workbench, plan.project.facts
+    if not best.proved:
+        print(shown(best.headline()))
+        return False
+    print(shown(str(w.conflicts(keep=facts, seconds=asked.seconds))))
+    repairs = w.repairs(plan.weights_of(w.premises), keep=facts, seconds=asked.seconds)
+    print(shown(str(repairs)))
+    if not repairs or not asked.gives_up:
+        if repairs:
+            print("With --give-up the first of these is given up.")
+        return False
+    for premise in repairs[0]:
+        w.kick(premise)
+    print(f"Without {listed(sorted(repairs[0]))}:")
+    return True
+
+
+def _suppose(project: Project, before: Schedule, text: str, seconds: float | None) -> None:
+    """Tells what becomes of a schedule where something is otherwise."""
+    w = project.workbench
+    print(f"\nWhat if {printable(text)}?")
+    with w.what_if():
+        suppose(project, text)
+        best = best_of(project, seconds)
+        if best.plan is None:
+            print(f"Then there is no plan: {shown(best.headline())}")
+            if best.proved:
+                print(shown(str(w.conflicts(keep=project.facts, seconds=seconds))))
+            return
+        behind = project.schedule(best)
+    cost = behind.cost - before.cost
+    more = f" It costs {abs(cost)} {'more' if cost > 0 else 'less'}." if cost else ""
+    print(f"All is done {behind.end_said()}.{more}")
+    print(shown(str(behind.since(before))))

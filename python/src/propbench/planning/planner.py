@@ -1,0 +1,118 @@
+"""A project of what a planner wants, and its best plan."""
+
+from collections.abc import Iterable, Mapping
+from dataclasses import dataclass
+
+from propbench.planning.brief import Brief, Job, Wish
+from propbench.planning.project import Project, limit_of
+from propbench.planning.tasks import Option, Task
+from propbench.questions.bounding import Optimum
+from propbench.questions.clock import Clock
+from propbench.showing import printable
+from propbench.workbench import Workbench
+
+
+@dataclass(frozen=True)
+class Plan:
+    """A project, and what it costs to give up its premises."""
+
+    project: Project
+    weights: Mapping[str, float]
+
+    def weights_of(self, premises: Iterable[str]) -> dict[str, float]:
+        """The weights of those of these premises that have one."""
+        return {name: self.weights[name] for name in premises if name in self.weights}
+
+
+def plan_of(workbench: Workbench, brief: Brief, spare: int = 0) -> Plan:
+    """The project of what a planner wants, in a workbench, with so many days more than it needs.
+    Raises ValueError where two things have one name."""
+    weights = {limit_of(person): weight for person, weight in brief.people.items()}
+    project = Project(workbench, _days(brief, spare), list(brief.people), brief.calendar)
+    for job in brief.jobs.values():
+        _add(project, job)
+    for job in brief.jobs.values():
+        if job.done is not None:
+            project.done(project.tasks[job.name], *job.done, f"{job.name} was done")
+    if brief.today is not None:
+        project.today(brief.today, f"today is {_told(project, brief.today)}")
+    for leave in brief.leaves:
+        if leave.first < leave.back:
+            name = project.away(leave.person, leave.first, leave.back, leave.name)
+            weights[name] = leave.weight
+    for wish in brief.wishes:
+        _wish(project, wish, brief)
+        weights[wish.name] = wish.weight
+    return Plan(project, weights)
+
+
+def _days(brief: Brief, spare: int) -> int:
+    """How many days the plan has at the most: as many as are given, or are enough for all tasks one
+    behind another, and some more."""
+    if brief.days is not None:
+        return brief.days
+    work = sum(max(way.days for way in job.ways) for job in brief.jobs.values())
+    away = sum(leave.back - leave.first for leave in brief.leaves)
+    late = [job.earliest or 0 for job in brief.jobs.values()]
+    late += [wish.earliest or 0 for wish in brief.wishes]
+    late += [leave.back for leave in brief.leaves]
+    late += [job.done[1] for job in brief.jobs.values() if job.done is not None]
+    late.append(brief.today or 0)
+    return max(1, work + away + max(late, default=0)) + spare
+
+
+def _add(project: Project, job: Job) -> Task:
+    """Adds a task, with its first and its last day."""
+    after = [project.tasks[name] for name in job.after]
+    if len(job.ways) > 1:
+        options: dict[str, Option] = {
+            way.name: {"days": way.days, "cost": way.cost} for way in job.ways
+        }
+        task = project.task(job.name, who=job.people, after=after, options=options)
+    else:
+        [way] = job.ways
+        task = project.task(job.name, way.days, cost=way.cost, who=job.people, after=after)
+    if job.earliest is not None:
+        project.not_before(
+            job.earliest, task, f"{job.name} not before {_told(project, job.earliest)}"
+        )
+    if job.latest is not None:
+        project.done_by(job.latest, f"{job.name} done before {_told(project, job.latest)}", task)
+    return task
+
+
+def _told(project: Project, day: int) -> str:
+    """A day, as names have it."""
+    return str(day) if project.calendar is None else str(project.calendar.date_of(day))
+
+
+def _wish(project: Project, wish: Wish, brief: Brief) -> None:
+    task = None if wish.task is None else project.tasks[wish.task]
+    require = project.workbench.require
+    if wish.earliest is not None and task is not None:
+        project.not_before(wish.earliest, task, wish.name)
+    if wish.latest is not None:
+        project.done_by(wish.latest, wish.name, task)
+    if wish.cost is not None:
+        cost = project.total_cost if task is None else task.cost
+        require(True if cost is None else cost <= wish.cost, wish.name)
+    if wish.way is not None and task is not None:
+        [way] = [way for way in brief.jobs[task.name].ways if way.name == wish.way]
+        takes = task.days == way.days
+        if task.cost is not None:
+            takes = takes & (task.cost == way.cost)
+        project.wish(takes, wish.name, printable(f"{task.name} by way of {way.name}"))
+
+
+def best_of(project: Project, seconds: float | None) -> Optimum:
+    """The plan that ends soonest, and of those the cheapest, as far as there is time."""
+    clock, w = Clock(seconds, None), project.workbench
+    soonest = w.least(project.end, seconds=seconds)
+    is_free = all(task.cost is None for task in project.tasks.values())
+    if soonest.value is None or is_free or clock.is_over():
+        return soonest
+    cost = project.total_cost
+    name = project.unused("all ends as soon")
+    with w.what_if(tell=[(name, project.end, 0, soonest.value)]):
+        cheapest = w.least(cost, seconds=clock.seconds_left())
+    return soonest if cheapest.plan is None else cheapest

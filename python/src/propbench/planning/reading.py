@@ -1,0 +1,380 @@
+"""Reads what a planner wants out of tables.
+
+Each text is judged where it stands, so that what can't be taken is told by sheet, row and column.
+"""
+
+import re
+from collections.abc import Callable, Iterable, Iterator, Sequence
+from datetime import date, timedelta
+
+from propbench.nearby import near_names
+from propbench.planning.brief import HELP, LEAVE, WISH, Brief, Given, Job, Leave, Way, Wish
+from propbench.planning.calendar import Calendar, date_said
+from propbench.planning.days import date_in
+from propbench.planning.headings import (
+    ABSENCES,
+    PEOPLE,
+    PLAN,
+    SORTS,
+    TASKS,
+    WISHES,
+    rows_of,
+)
+from propbench.planning.sheets import Field, Sheet, SheetError
+from propbench.questions.shown import listed
+from propbench.showing import cut, printable
+
+# The fields of a row by their columns.
+Row = dict[str, Field]
+# So many names are listed for somebody who has written another.
+_MOST = 12
+# A date before that names no year.
+_FIRST_YEAR = 1900
+_WEEKDAYS = ("mon", "tue", "wed", "thu", "fri", "sat", "sun")
+_BETWEEN = re.compile(r"[,;\n]")
+_WHOLE = re.compile(r"\n")
+_BETWEEN_PEOPLE = re.compile(r"[,;\n&+]|\band\b")
+
+
+def brief_of(sheets: Sequence[Sheet], given: Given) -> Brief:
+    """What the tables say. Raises SheetError where something can't be taken."""
+    # (a new file has empty sheets, which nobody has written)
+    written = [sheet for sheet in sheets if sheet.rows]
+    if not written:
+        raise SheetError("there is nothing in these sheets: write tasks, with their days")
+    sorts = _sorted(written)
+    unread = [sheet.name for sheet in written if sheet not in sorts.values()]
+    reader = _Reader(Brief(unread=unread))
+    reader.read_plan(sorts.get("plan"), given)
+    reader.read_people(sorts.get("people"))
+    reader.read_tasks(sorts["tasks"])
+    reader.read_absences(sorts.get("absences"))
+    reader.read_wishes(sorts.get("wishes"))
+    return reader.brief
+
+
+def _sorted(sheets: Sequence[Sheet]) -> dict[str, Sheet]:
+    """The sheets by what they tell. One alone tells the tasks, whatever it is called."""
+    found: dict[str, Sheet] = {}
+    for sheet in sheets:
+        for sort, called in SORTS.items():
+            if sheet.name.strip().lower() in called:
+                if sort in found:
+                    raise SheetError(
+                        f"{printable(sheet.name)} and {printable(found[sort].name)} both tell the"
+                        f" {sort}: join them"
+                    )
+                found[sort] = sheet
+    if len(sheets) == 1:
+        return {"tasks": sheets[0]}
+    if "tasks" not in found:
+        names = listed([sheet.name for sheet in sheets])
+        raise SheetError(f"none of the sheets {names} is called `tasks`")
+    return found
+
+
+class _Reader:
+    """Reads tables one after the other: each may speak of those before it."""
+
+    def __init__(self, brief: Brief) -> None:
+        self.brief = brief
+        # Whether people are those of a table, and no others.
+        self._is_closed = False
+
+    # --- the days ---
+
+    def read_plan(self, sheet: Sheet | None, given: Given) -> None:
+        """When the plan begins, which days are off, and how many there are."""
+        rows = list(rows_of(sheet, PLAN)) if sheet else []
+        starts = [row["start"] for row in rows if "start" in row]
+        days = [_whole(row["days"], 1) for row in rows if "days" in row]
+        off = [row["off"] for row in rows if "off" in row and given.off is None]
+        today = [row["today"] for row in rows if "today" in row]
+        if starts[1:]:
+            raise starts[1].wrong("the plan begins once: there is a start above")
+        start = _start(given.start) if given.start else None
+        if start is None and starts:
+            start = _judged(starts[0], _start)
+        if start is not None:
+            self.brief.calendar = _calendar(start, given.off, off)
+        elif off:
+            raise off[0].wrong("days off need a start of the plan: add a column `start`")
+        elif given.off:
+            raise ValueError("days off need a start of the plan: --start 2026-03-02")
+        if given.today is not None:
+            self.brief.today = self._day(Field(given.today, "the command line", 1, "--today"))
+        elif today:
+            self.brief.today = self._day(today[0])
+        self.brief.days = given.days
+        if given.days is None and days:
+            self.brief.days = days[0]
+
+    def _day(self, given: Field, is_within: bool = False) -> int:
+        """The number of a day; of a date that is within, that of the day behind it."""
+        calendar = self.brief.calendar
+        if calendar is None:
+            return _whole(given, 0, "a day of the plan, as 5; dates need a `start` of the plan")
+        start = calendar.start
+        found = _judged(given, lambda text: date_in(text, start))
+        if found < start:
+            raise given.wrong(f"the plan begins on {date_said(start)}")
+        return calendar.day_of(found + timedelta(days=1) if is_within else found)
+
+    # --- the rows ---
+
+    def read_people(self, sheet: Sheet | None) -> None:
+        """Who there is; without a table all that the tasks name."""
+        if sheet is None:
+            return
+        self._is_closed = True
+        for row in rows_of(sheet, PEOPLE):
+            person = _first(row, "person")
+            if person.text in self.brief.people:
+                raise person.wrong(f"`{cut(person.text)}` stands here twice")
+            self.brief.people[person.text] = _weight(row, HELP)
+
+    def read_tasks(self, sheet: Sheet) -> None:
+        """The tasks; rows of one task are the ways in which it may be done."""
+        rows: dict[str, list[Row]] = {}
+        for row in rows_of(sheet, TASKS):
+            rows.setdefault(_first(row, "task").text, []).append(row)
+        if not rows:
+            raise SheetError(f"{printable(sheet.name)}: there is no task below the headings")
+        jobs = {name: self._job(name, own) for name, own in rows.items()}
+        for own in rows.values():
+            for row in own:
+                _known(row.get("after"), _BETWEEN, jobs, "task")
+        self.brief.jobs = _ordered(jobs, rows)
+
+    def _job(self, name: str, rows: Sequence[Row]) -> Job:
+        after = _once(rows, "after")
+        earliest, latest = _once(rows, "earliest"), _once(rows, "latest")
+        return Job(
+            name,
+            tuple(_ways(name, rows)),
+            tuple(self._people(_once(rows, "who"))),
+            tuple(_split(after, _BETWEEN)),
+            None if earliest is None else self._day(earliest),
+            None if latest is None else self._day(latest, True),
+            self._done(_once(rows, "started"), _once(rows, "finished")),
+        )
+
+    def _done(self, started: Field | None, finished: Field | None) -> tuple[int, int] | None:
+        """When a task was done, where both its ends are told."""
+        if started is None or finished is None:
+            told = started or finished
+            if told is not None:
+                other = "finished" if started else "started"
+                raise told.wrong(
+                    f"say `{other}` too; a task under way has its days left, and neither"
+                )
+            return None
+        first, back = self._day(started), self._day(finished, True)
+        if back < first:
+            raise finished.wrong("it was over before it began")
+        return first, back
+
+    def _people(self, given: Field | None) -> list[str]:
+        if self._is_closed:
+            return _known(given, _BETWEEN_PEOPLE, self.brief.people, "person")
+        people = _split(given, _BETWEEN_PEOPLE)
+        for person in people:
+            self.brief.people.setdefault(person, HELP)
+        return people
+
+    def read_absences(self, sheet: Sheet | None) -> None:
+        """Who is away when, each by a premise of its own."""
+        for row in rows_of(sheet, ABSENCES) if sheet else ():
+            person = _first(row, "person")
+            _known(person, _WHOLE, self.brief.people, "person")
+            if "from" not in row:
+                raise person.wrong("say under `from` on which day the absence begins")
+            last = row.get("to", row["from"])
+            first, back = self._day(row["from"]), self._day(last, True)
+            if self.brief.calendar is None and "to" not in row:
+                back += 1
+            if back < first or (back == first and self.brief.calendar is None):
+                raise row["from"].wrong("the absence ends before it begins")
+            why = row["reason"].text if "reason" in row else "away"
+            to = f" to {row['to'].text}" if "to" in row else ""
+            name = f"{person.text} {why} {row['from'].text}{to}"
+            self.brief.leaves.append(Leave(person.text, first, back, name, _weight(row, LEAVE)))
+
+    def read_wishes(self, sheet: Sheet | None) -> None:
+        """What may be given up."""
+        for row in rows_of(sheet, WISHES) if sheet else ():
+            self.brief.wishes.append(self._wish(row))
+
+    def _wish(self, row: Row) -> Wish:
+        wish = _first(row, "wish")
+        task = next(iter(_known(row.get("task"), _WHOLE, self.brief.jobs, "task")), None)
+        if wish.text in self.brief.jobs:
+            raise wish.wrong("a task is called so: give the wish a name of its own")
+        says = [column for column in ("earliest", "latest", "cost", "way") if column in row]
+        if not says:
+            raise wish.wrong("say what is wished for, under earliest, latest, cost or way")
+        for column in ("earliest", "way"):
+            if column in says and task is None:
+                raise row[column].wrong("say under `task` of which task")
+        if "way" in says and task is not None:
+            ways = [way.name for way in self.brief.jobs[task].ways if way.name]
+            _known(row["way"], _WHOLE, ways, f"way of {printable(task)}")
+        return Wish(
+            wish.text,
+            task,
+            self._day(row["earliest"]) if "earliest" in row else None,
+            self._day(row["latest"], True) if "latest" in row else None,
+            _whole(row["cost"], 0) if "cost" in row else None,
+            row["way"].text if "way" in row else None,
+            _weight(row, WISH),
+        )
+
+
+# --- tasks ---
+
+
+def _ways(name: str, rows: Sequence[Row]) -> Iterator[Way]:
+    """The ways in which a task may be done, one for each of its rows."""
+    known: set[str] = set()
+    for row in rows:
+        if "days" not in row:
+            raise row["task"].wrong(f"say under `days` how long `{cut(name)}` takes, as 5")
+        way = row["way"].text if "way" in row else ""
+        if len(rows) > 1 and (not way or way in known):
+            raise row["task"].wrong(
+                f"`{cut(name)}` stands here twice: give each a `way` of its own, or another name"
+            )
+        known.add(way)
+        yield Way(way, _whole(row["days"], 0), _whole(row["cost"], 0) if "cost" in row else 0)
+
+
+def _once(rows: Sequence[Row], column: str) -> Field | None:
+    """What the rows of a task say in a column, which has to be one thing."""
+    told = [row[column] for row in rows if column in row]
+    for each in told:
+        if each.text != told[0].text:
+            raise each.wrong("another row of this task says something else")
+    return told[0] if told else None
+
+
+def _ordered(jobs: dict[str, Job], rows: dict[str, list[Row]]) -> dict[str, Job]:
+    """The tasks, each behind those that it comes after. Raises SheetError where some come after one
+    another in a ring."""
+    waiting, done = dict(jobs), dict[str, Job]()
+    while waiting:
+        ready = [job for job in waiting.values() if all(it in done for it in job.after)]
+        if not ready:
+            ring = _ring(waiting)
+            where = next(row["after"] for row in rows[ring[0]] if "after" in row)
+            raise where.wrong(f"these come after one another in a ring: {listed(ring)}")
+        for job in ready:
+            done[job.name] = waiting.pop(job.name)
+    return done
+
+
+def _ring(waiting: dict[str, Job]) -> list[str]:
+    """Tasks of which each comes after the next, and the last after the first."""
+    way = [next(iter(waiting))]
+    while True:
+        before = next(it for it in waiting[way[-1]].after if it in waiting)
+        if before in way:
+            return way[way.index(before) :]
+        way.append(before)
+
+
+# --- texts ---
+
+
+def _first(row: Row, column: str) -> Field:
+    """The name that a row begins with."""
+    if column not in row:
+        other = next(iter(row.values()))
+        raise other.wrong(f"this row has no {column}")
+    return row[column]
+
+
+def _split(given: Field | None, between: re.Pattern[str]) -> list[str]:
+    """The names in a field, each once."""
+    names = between.split(given.text) if given else []
+    return list(dict.fromkeys(name.strip() for name in names if name.strip()))
+
+
+def _known(
+    given: Field | None, between: re.Pattern[str], known: Iterable[str], what: str
+) -> list[str]:
+    """The names in a field, each of which has to be known."""
+    names = list(known)
+    found = _split(given, between)
+    for name in found:
+        if given is not None and name not in names:
+            near = near_names(name, names)
+            there = f"There are {listed(names[:_MOST])}." if names else "There is none."
+            hint = f"Did you mean {near[0]}?" if near else there
+            raise given.wrong(f"no {what} is called `{cut(name)}`. {hint}")
+    return found
+
+
+def _whole(given: Field, least: int, wanted: str = "a whole number, as 5") -> int:
+    found = re.fullmatch(r"(\d{1,12})(\.0*)?", given.text, re.ASCII)
+    if found is None or int(found[1]) < least:
+        raise given.wrong(f"`{cut(given.text)}` is not {wanted}")
+    return int(found[1])
+
+
+def _weight(row: Row, usual: float) -> float:
+    """What it costs to give something up."""
+    if "weight" not in row:
+        return usual
+    text = row["weight"].text
+    if not re.fullmatch(r"\d{1,9}(\.\d{1,9})?", text, re.ASCII):
+        raise row["weight"].wrong(f"`{cut(text)}` is not a weight, as 2 or 0.5")
+    return float(text)
+
+
+def _judged(given: Field, read: Callable[[str], date]) -> date:
+    """The date that a field is."""
+    try:
+        return read(given.text)
+    except ValueError as error:
+        raise given.wrong(str(error)) from None
+
+
+def _start(text: str) -> date:
+    """When a plan begins, with the year."""
+    found = date_in(text, date.min)
+    if found.year < _FIRST_YEAR:
+        raise ValueError(f"`{text}` names no year: write it as 2026-03-02")
+    return found
+
+
+def _calendar(start: date, given: str | None, off: Sequence[Field]) -> Calendar:
+    """The days of a plan from its start on."""
+    if given is not None:
+        return Calendar.of(start, _days_off(given, start))
+    found: list[str | date] = []
+    for each in off:
+        try:
+            found += _days_off(each.text, start)
+            Calendar.of(start, found)
+        except ValueError as error:
+            raise each.wrong(str(error)) from None
+    return Calendar.of(start, found)
+
+
+def _days_off(text: str, start: date) -> list[str | date]:
+    """Weekdays, and dates: `sat sun, 3 April`."""
+    found: list[str | date] = []
+    for part in _BETWEEN.split(text):
+        weekdays = [_weekdays(word) for word in part.lower().split()]
+        if all(weekdays):
+            found += [day for days in weekdays for day in days]
+        else:
+            found.append(date_in(part.strip(), start))
+    return found
+
+
+def _weekdays(word: str) -> list[str]:
+    """The weekdays that a word names: `sat`, `Saturdays`, `weekends`."""
+    if word in ("weekend", "weekends"):
+        return ["sat", "sun"]
+    return [day for day in _WEEKDAYS if re.fullmatch(rf"{day}(\w*days?)?", word)]

@@ -1,0 +1,271 @@
+"""A plan as a schedule: which task is done when and by whom, and who is away."""
+
+import os
+from collections.abc import Iterator, Mapping, Sequence
+from contextlib import suppress
+from dataclasses import dataclass
+from datetime import date, datetime
+from typing import TYPE_CHECKING, TypeVar
+
+from propbench.model.network import Network
+from propbench.planning.calendar import Calendar, date_said, dates_said
+from propbench.planning.tasks import Away, Task, TaskMade, aways_of
+from propbench.questions.bounding import Optimum
+from propbench.questions.model import Model, Point
+from propbench.questions.planned import Planned
+from propbench.questions.shown import Shown
+from propbench.questions.solution import Solution
+from propbench.showing import printable
+from propbench.tables import table
+
+if TYPE_CHECKING:
+    from propbench.planning.moves import Moves
+    from propbench.planning.project import Project
+
+Value = TypeVar("Value")
+# Lines of a schedule are no longer than this, and its chart ends so many days behind it.
+_WIDE, _BEHIND = 100, 2
+
+
+@dataclass(frozen=True)
+class Entry:
+    """A task in a plan, from the beginning of the day `start` to that of the day `end`; `way` is the
+    option that is taken, where there are some."""
+
+    task: str
+    people: tuple[str, ...]
+    start: int
+    end: int
+    way: str | None
+    cost: int | None
+
+
+@dataclass(frozen=True)
+class Staff:
+    """Who there is, in which days, and who is away when."""
+
+    people: tuple[str, ...]
+    days: int
+    calendar: Calendar | None
+    aways: tuple[Away, ...]
+
+
+class Schedule(Shown):
+    """What is done when, and by whom: `entries` in the order of the tasks. It prints by date and by
+    person, and is written for spreadsheets, calendars, browsers and pictures."""
+
+    complete = True
+    _certificate = None
+
+    def __init__(
+        self, entries: Sequence[Entry], staff: Staff, told: frozenset[str] = frozenset()
+    ) -> None:
+        """Of these entries, which tell the values of these cells and choices."""
+        self.entries, self.staff, self.told = tuple(entries), staff, told
+
+    @property
+    def people(self) -> tuple[str, ...]:
+        """Who there is."""
+        return self.staff.people
+
+    @property
+    def calendar(self) -> Calendar | None:
+        """The dates of the days, where the plan has any."""
+        return self.staff.calendar
+
+    @property
+    def end(self) -> int:
+        """The day by which all is done."""
+        return max((entry.end for entry in self.entries), default=0)
+
+    @property
+    def cost(self) -> int:
+        """What all tasks cost."""
+        return sum(entry.cost or 0 for entry in self.entries)
+
+    def end_said(self) -> str:
+        """When all is done, in words."""
+        if self.calendar is None:
+            return f"by day {self.end}"
+        return f"on {date_said(self.calendar.last_date(0, self.end))}"
+
+    def by_date(self) -> list[Entry]:
+        """The entries by their first days."""
+        return sorted(self.entries, key=lambda entry: (entry.start, entry.end))
+
+    def dates(self, entry: Entry) -> tuple[date, date]:
+        """The first date of a task and the last. Raises ValueError where there is no calendar."""
+        if self.calendar is None:
+            raise ValueError("the plan has no calendar, so no dates: give w.plan a start")
+        return self.calendar.date_of(entry.start), self.calendar.last_date(entry.start, entry.end)
+
+    # --- as text ---
+
+    def headline(self) -> str:
+        if self.calendar is None:
+            says = f"From day 0 to {self.end}"
+        else:
+            last = self.calendar.last_date(0, self.end)
+            says = f"From {date_said(self.calendar.date_of(0))} to {date_said(last)}"
+            says += f", {self.end} {'day' if self.end == 1 else 'days'} of work"
+        return f"{says}{f', at a cost of {self.cost}' if self.cost else ''}:"
+
+    def heads(self) -> Sequence[str]:
+        ends = ("start", "end") if self.calendar is None else ("from", "to")
+        return (*ends, *self._rest_of(("days", "task", "who", "how", "cost")))
+
+    def rows(self) -> Sequence[Sequence[object]]:
+        return [
+            (
+                *self.ends(entry),
+                *self._rest_of(_said_of(entry)),
+            )
+            for entry in self.by_date()
+        ]
+
+    def _rest_of(self, columns: Sequence[Value]) -> Iterator[Value]:
+        """Those of the columns for days, task, people, way and cost in which something stands."""
+        has_ways = any(entry.way is not None for entry in self.entries)
+        has_people = any(entry.people for entry in self.entries)
+        for column, is_there in zip(columns, (True, True, has_people, has_ways, self.cost > 0)):
+            if is_there:
+                yield column
+
+    def ends(self, entry: Entry) -> tuple[object, object]:
+        """The first and the last date of a task in words, or its days where there are no dates."""
+        if self.calendar is None:
+            return entry.start, entry.end
+        first, last = map(date_said, self.dates(entry))
+        return first, last
+
+    def doings(self) -> list[tuple[str, str]]:
+        """Of each person what is done when, in order, in a text."""
+        return [(person, "; ".join(self._doings(person))) for person in self.people]
+
+    def _doings(self, person: str) -> Iterator[str]:
+        when = [(e.start, e.end, e.task) for e in self.by_date() if person in e.people]
+        when += [(a.first, a.last, "away") for a in self.staff.aways if a.person == person]
+        for start, end, what in sorted(when):
+            yield f"{self.days_said(start, end)} {what}"
+
+    def told_in_short(self, entry: Entry) -> str:
+        """When a task is done, and how where there are several ways."""
+        way = "" if entry.way is None else f", {entry.way}"
+        return f"{self.days_said(entry.start, entry.end)}{way}"
+
+    def days_said(self, start: int, end: int) -> str:
+        """The days from one to another, in short."""
+        if self.calendar is None:
+            return f"{start} to {end}"
+        return dates_said(self.calendar.date_of(start), self.calendar.last_date(start, end))
+
+    def __str__(self) -> str:
+        lines = [super().__str__()]
+        if doings := self.doings():
+            lines.append(table(("who", "does"), doings, "  ", _WIDE))
+        return "\n".join(lines)
+
+    def since(self, before: "Schedule") -> "Moves":
+        """What moved since an earlier schedule of the plan."""
+        from propbench.planning.moves import Moves
+
+        return Moves(before, self)
+
+    # --- for others ---
+
+    def to_csv(self, path: str | os.PathLike[str] | None = None) -> str:
+        """The schedule for a spreadsheet, a row for each task, written to a file where one is named;
+        and its text."""
+        from propbench.planning.exports import ENDINGS, csv_of, written
+
+        return written(csv_of(self), path, ENDINGS["csv"])
+
+    def to_ics(
+        self,
+        path: str | os.PathLike[str] | None = None,
+        *,
+        who: str | None = None,
+        now: datetime | None = None,
+    ) -> str:
+        """The schedule for a calendar (iCalendar), all of it, or what one person does. Raises
+        ValueError where the plan has no dates, and where nobody is called so."""
+        from propbench.planning.exports import ENDINGS, ics_of, written
+
+        return written(ics_of(self, who, now), path, ENDINGS["ics"])
+
+    def to_html(self, path: str | os.PathLike[str] | None = None, title: str = "Schedule") -> str:
+        """The schedule as one page for a browser and a printer: chart, days, people."""
+        from propbench.planning.exports import ENDINGS, written
+        from propbench.planning.paper import page_of
+
+        return written(page_of(self, title), path, ENDINGS["html"])
+
+    def to_svg(self, path: str | os.PathLike[str] | None = None) -> str:
+        """The schedule as a Gantt chart."""
+        from propbench.planning.chart import drawn
+        from propbench.planning.exports import ENDINGS, written
+
+        days = min(self.end + _BEHIND, max(self.end, self.staff.days))
+        return written(f"{drawn(self, {}, days)}\n", path, ENDINGS["svg"])
+
+
+def _said_of(entry: Entry) -> tuple[object, ...]:
+    """What the last columns of a schedule say of a task."""
+    days, cost = entry.end - entry.start, entry.cost or None
+    return days, entry.task, entry.people, entry.way, cost
+
+
+def schedule_in(
+    network: Network, plan: Mapping[str, Point], ways: Mapping[str, object]
+) -> Schedule | None:
+    """The schedule of a plan, with the alternatives that it takes of choices; None where a network
+    has no tasks, or those of several projects."""
+    made = [each for each in network.events if isinstance(each, TaskMade)]
+    projects = {id(each.project): each.project for each in made}
+    if len(projects) != 1:
+        return None
+    return schedule_of(network, made[0].project, plan, ways)
+
+
+def schedule_of(
+    network: Network, project: "Project", plan: Mapping[str, Point], ways: Mapping[str, object]
+) -> Schedule:
+    """The schedule of what a plan says of a project. Raises ValueError where it lacks a task."""
+    tasks = [
+        each.task
+        for each in network.events
+        if isinstance(each, TaskMade) and each.project is project
+    ]
+    entries = [_entry(task, plan, ways.get(task.name)) for task in tasks]
+    believed = set(network.premises.in_force)
+    aways = [away for away in aways_of(project, network.events) if away.premise in believed]
+    staff = Staff(project.people, project.days, project.calendar, tuple(aways))
+    return Schedule(entries, staff, project.cells_told(tasks))
+
+
+def values_in(
+    model: Model, given: Planned | Mapping[str, Point]
+) -> tuple[Mapping[str, Point], Mapping[str, object]]:
+    """The values in a plan, and which alternatives it takes. Raises TypeError for what is none, and
+    ValueError for a result without one."""
+    if isinstance(given, Optimum):
+        if given.plan is None:
+            raise ValueError(f"there is no plan here: {given.headline()}")
+        return given.plan, given.choices
+    if isinstance(given, Solution):
+        return given, given.choices
+    if not isinstance(given, Mapping):
+        raise TypeError(f"{given!r} is no plan, as `w.least(p.end)` gives one")
+    with suppress(KeyError):
+        return given, model.chosen(given)
+    return given, {}
+
+
+def _entry(task: Task, plan: Mapping[str, Point], way: object) -> Entry:
+    """What a plan says of a task."""
+    cells = [task.start, task.end, *([] if task.cost is None else [task.cost])]
+    if any(cell.name not in plan for cell in cells):
+        raise ValueError(f"the plan doesn't say when {printable(task.name)} is done")
+    start, end, *cost = (int(plan[cell.name]) for cell in cells)
+    told = way if isinstance(way, str) else None
+    return Entry(task.name, task.people, start, end, told, cost[0] if cost else None)

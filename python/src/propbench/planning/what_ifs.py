@@ -1,0 +1,96 @@
+"""What might be otherwise in a plan, as a planner says it: `ana ill 3-7 March`, `review takes 8`."""
+
+import re
+from collections.abc import Iterable
+from datetime import timedelta
+
+from propbench.nearby import near_names
+from propbench.planning.days import days_in
+from propbench.planning.project import Project
+from propbench.planning.tasks import TaskTold
+from propbench.showing import quoted
+
+_AWAY = re.compile(
+    r"\s+(?:is\s+)?(?:ill|sick|away|off|out|absent|on\s+leave|on\s+holiday)\s+", re.I
+)
+_TAKES = re.compile(r"\s+takes\s+(\d{1,6})(?:\s+days?)?\s*", re.I)
+_LATE = re.compile(r"\s+(?:not\s+before|from|begins)\s+", re.I)
+_WITHOUT = re.compile(r"\s*without\s+(.+)", re.I)
+_FORMS = (
+    "say `ana ill 3-7 March`, `review takes 8`, `review not before 9 March` or `without in time`"
+)
+
+
+def suppose(project: Project, text: str) -> None:
+    """States what is supposed. Raises ValueError for what can't be read, and for what there isn't."""
+    w = project.workbench
+    if (without := _WITHOUT.fullmatch(text)) is not None:
+        w.kick(_one_of(without[1].strip(), w.premises, text))
+    elif (told := _begin(text, project.people, _AWAY)) is not None:
+        project.away(told[0], *_days(project, told[1], text), under=f"what if {text}")
+    elif (told := _begin(text, project.tasks, _LATE)) is not None:
+        first, _ = _days(project, told[1], text)
+        project.not_before(first, project.tasks[told[0]], under=f"what if {text}")
+    elif (takes := _TAKES.search(text)) is not None:
+        name = _one_of(text[: takes.start()].strip(), project.tasks, text)
+        _take(project, name, int(takes[1]), text)
+    else:
+        raise ValueError(f"{quoted(text)} can't be read: {_FORMS}")
+
+
+def _begin(text: str, names: Iterable[str], words: re.Pattern[str]) -> tuple[str, str] | None:
+    """The name in front of these words, and what stands behind them."""
+    found = words.search(text)
+    if found is None:
+        return None
+    before = text[: found.start()].strip()
+    for name in names:
+        if name.casefold() == before.casefold():
+            return name, text[found.end() :].strip()
+    return None if words is _AWAY and _LATE.search(text) else (_one_of(before, names, text), "")
+
+
+def _one_of(name: str, names: Iterable[str], text: str) -> str:
+    """The one of some names that is meant. Raises ValueError where there is none."""
+    known = list(names)
+    for each in known:
+        if each.casefold() == name.casefold():
+            return each
+    near = near_names(name, known)
+    hint = f"Did you mean {near[0]}?" if near else _FORMS
+    raise ValueError(f"{quoted(text)}: nothing in the plan is called {quoted(name)}. {hint}")
+
+
+def _days(project: Project, text: str, whole: str) -> tuple[int, int]:
+    """The first of some days, and the day behind them."""
+    if project.calendar is None:
+        found = re.fullmatch(r"(?:days?\s+)?(\d{1,6})(?:\s*(?:-|to)\s*(\d{1,6}))?", text)
+        if found is None:
+            raise ValueError(f"{quoted(whole)}: the plan has no dates: write its days, as 5 to 8")
+        return int(found[1]), int(found[2] or int(found[1]) + 1)
+    days, calendar = days_in(text, project.calendar.start), project.calendar
+    first = max(days.first, calendar.start)
+    if days.last < calendar.start:
+        raise ValueError(f"{quoted(whole)}: these days are before the plan begins")
+    return calendar.day_of(first), calendar.day_of(days.last + timedelta(days=1))
+
+
+def _take(project: Project, name: str, days: int, text: str) -> None:
+    """A task takes so many days, in place of those that it takes."""
+    w, task = project.workbench, project.tasks[name]
+    told = [
+        each.premise
+        for each in w.network.events
+        if isinstance(each, TaskTold) and each.cell is task.days.declared and each.premise
+    ]
+    if not told:
+        raise ValueError(
+            f"{quoted(text)}: {name} is done in one of several ways: each says its days"
+        )
+    for premise in told:
+        w.kick(premise)
+    if days > project.days:
+        raise ValueError(
+            f"{quoted(text)}: the plan has {project.days} days: give it more by --days"
+        )
+    w.tell(f"what if {text}", task.days, days)

@@ -1,0 +1,201 @@
+"""Why a plan ends no sooner, beside all plans of a few tasks, gone through one by one."""
+
+from collections.abc import Collection, Iterator
+from dataclasses import dataclass
+from itertools import product
+
+import pytest
+from conftest import TIMES
+from hypothesis import given, settings
+from hypothesis import strategies as st
+
+from propbench import Workbench
+from propbench.planning import Project, Task
+from propbench.questions import NothingFits
+
+DAYS = 8
+PEOPLE = ("ana", "ben")
+Starts = tuple[int, ...]
+
+
+@dataclass(frozen=True)
+class Drawn:
+    """A task: its days, who does it, and the tasks before it."""
+
+    days: int
+    who: tuple[str, ...]
+    after: tuple[int, ...]
+
+
+@dataclass(frozen=True)
+class Case:
+    """Some tasks, and when ana is away."""
+
+    tasks: tuple[Drawn, ...]
+    away: tuple[int, int]
+
+
+@st.composite
+def cases(draw: st.DrawFn) -> Case:
+    tasks = []
+    for number in range(draw(st.integers(1, 4))):
+        who = draw(st.sampled_from([(), ("ana",), ("ana",), ("ben",), PEOPLE]))
+        after = tuple(it for it in range(number) if draw(st.integers(0, 3)) == 0)
+        tasks.append(Drawn(draw(st.integers(1, 3)), who, after))
+    first = draw(st.integers(0, 3))
+    return Case(tuple(tasks), (first, first + draw(st.integers(1, 2))))
+
+
+def project_of(w: Workbench, case: Case) -> Project:
+    p = w.plan(days=DAYS, people=PEOPLE)
+    made: list[Task] = []
+    for number, each in enumerate(case.tasks):
+        after = [made[before] for before in each.after]
+        made.append(p.task(f"t{number}", each.days, who=each.who, after=after))
+    p.away("ana", *case.away, under="ana away")
+    return p
+
+
+def plans(case: Case, premises: Collection[str]) -> Iterator[Starts]:
+    """The starts in each plan in which these premises hold. A task that may take any days takes
+    none: whatever else holds of it holds then."""
+    days = days_in(case, premises)
+    for starts in product(range(DAYS + 1), repeat=len(case.tasks)):
+        ends = [start + long for start, long in zip(starts, days)]
+        if max(ends) <= DAYS and fits(case, starts, ends, premises):
+            yield starts
+
+
+def days_in(case: Case, premises: Collection[str]) -> list[int]:
+    told = enumerate(each.days for each in case.tasks)
+    return [days if f"t{number} takes {days}" in premises else 0 for number, days in told]
+
+
+def fits(case: Case, starts: Starts, ends: list[int], premises: Collection[str]) -> bool:
+    for number, each in enumerate(case.tasks):
+        for before in each.after:
+            if f"t{number} after t{before}" in premises and ends[before] > starts[number]:
+                return False
+        for other in range(number):
+            shared = [it for it in each.who if it in case.tasks[other].who]
+            if any(f"{person} does one thing at a time" in premises for person in shared):
+                if starts[number] < ends[other] and starts[other] < ends[number]:
+                    return False
+        if "ana away" in premises and "ana" in each.who:
+            if ends[number] > case.away[0] and starts[number] < case.away[1]:
+                return False
+    return True
+
+
+def end_of(case: Case, starts: Starts, premises: Collection[str]) -> int:
+    return max(start + long for start, long in zip(starts, days_in(case, premises)))
+
+
+def soonest(case: Case, premises: Collection[str]) -> int:
+    return min(end_of(case, starts, premises) for starts in plans(case, premises))
+
+
+@settings(max_examples=20 * TIMES)
+@given(cases())
+def test_a_chain_is_the_reason(case: Case) -> None:
+    """Its premises leave no sooner end, and without any of them there is one. It ends with the end,
+    each task starts when what it waits for is over, and the others have the room that they have in
+    all plans that end as soon."""
+    with Workbench() as w:
+        p = project_of(w, case)
+        found = list(plans(case, w.premises))
+        if not found:
+            with pytest.raises(NothingFits, match="no end can be explained"):
+                p.critical()
+            return
+        end = soonest(case, w.premises)
+        chain = p.critical()
+        assert chain.complete and chain.reasons.value == end == chain.schedule.end
+        assert soonest(case, chain.premises) == end
+        for premise in chain.premises:
+            assert soonest(case, {*chain.premises} - {premise}) < end
+        assert max(link.entry.end for link in chain.links) == end
+        over = {case.away[1]}
+        for link in chain.links:
+            assert link.entry.start in over or not link.waits
+            over.add(link.entry.end)
+        best = [starts for starts in found if end_of(case, starts, w.premises) == end]
+        rooms = {f"t{number}": max(each) - min(each) for number, each in enumerate(zip(*best))}
+        assert chain.rooms == {task: rooms[task] for task in rooms if task not in chain.tasks}
+        assert {*rooms} <= {*str(chain).split()}
+
+
+def test_a_chain_prints_what_is_waited_for() -> None:
+    """Ana has 7 days of work, from the day on which she is back; c can wait for as many as b takes
+    less two."""
+    with Workbench() as w:
+        p = w.plan(days=40, people="ana ben", start="2026-03-02", off="sat sun")
+        a = p.task("a", 3, who="ana")
+        p.task("b", 4, who="ana", after=[a])
+        p.task("c", 2, who="ben", after=[a])
+        p.away("ana", "2026-03-02", "2026-03-04")
+        p.done_by("2026-04-01", under="in spring")
+        assert str(p.critical()) == (
+            "All is done on Thu 12 Mar 2026, and no sooner because of:\n"
+            "  from            to               task  who  waits for\n"
+            "  Wed 4 Mar 2026  Fri 6 Mar 2026   a     ana  ana, away 2-3 Mar\n"
+            "  Mon 9 Mar 2026  Thu 12 Mar 2026  b     ana  a\n"
+            "The others can move:\n"
+            "  task  days  within\n"
+            "  c     2     9-12 Mar"
+        )
+
+
+def test_who_is_needed_twice() -> None:
+    """Three tasks of 2 days by one person take 6; where somebody helps her, 2."""
+    with Workbench() as w:
+        p = w.plan(days=9, people="ana")
+        for name in "abc":
+            p.task(name, 2, who="ana")
+        chain = p.critical()
+        assert p.limits == ("ana does one thing at a time",)
+        assert {*chain.premises} == {"a takes 2", "b takes 2", "c takes 2", *p.limits}
+        told = str(chain)
+        assert len(chain.tasks) == 3 and not chain.rooms and told.count("ana, busy with ") == 2
+        p.done_by(4, under="soon")
+        assert {*map(frozenset, w.repairs(keep=p.facts))} == {
+            frozenset(p.limits),
+            frozenset({"soon"}),
+        }
+        assert "no two tasks of ana at once" in str(w.conflicts(keep=p.facts))
+        w.kick(p.limits[0])
+        assert w.least(p.end).value == 2 and not p.critical().others
+
+
+def test_a_wish_is_told_beside_the_chain() -> None:
+    with Workbench() as w:
+        p = w.plan(days=20, people="ana")
+        a = p.task("a", options={"quick": dict(days=1), "good": dict(days=4)})
+        b = p.task("b", 2, after=[a])
+        w.require(a.days >= 4, under="good work")
+        p.not_before(9, b)
+        chain = p.critical()
+        assert chain.tasks == ("b",) and chain.links[0].waits == "b not before 9"
+        assert chain.rooms == {"a": 5} and chain.others == ("b not before 9",)
+        w.forget("b not before 9")
+        told = str(p.critical())
+        assert "and of good work." in told and p.critical().tasks == ("a", "b")
+        late = w.greatest(p.end)
+        with pytest.raises(ValueError, match="there is a plan that ends before day 20: ask why of"):
+            p.critical(late)
+        w.kick("good work")
+        assert p.critical(w.least(p.end)).premises == p.critical().premises
+        assert p.critical().rooms == {} and p.critical().schedule.end == 3
+
+
+def test_what_is_the_same_does_not_differ() -> None:
+    """However it is told: a project's statements, and the same by hand."""
+    with Workbench() as w, Workbench() as other:
+        p = w.plan(days=9, people="ana")
+        p.task("a", 2, who="ana")
+        p.away("ana", 3, 5, under="ill")
+        start, end, days = (other.number(f"a {it}", 0, 9) for it in ("start", "end", "days"))
+        other.require(end == start + days)
+        other.tell("a takes 2", days, 2)
+        other.require((end <= 3) | (start >= 5), under="ill")
+        assert not w.compare(other)
