@@ -1,5 +1,7 @@
 -- How large products of ends are, and what comes back of them from 128 bits.
-use Rattle.std.proofs.Common.{refl, ◌<ℤ◌, List, [], ◌∷◌, length, take, drop, get_or, ap, ◌-◌, ◌-ℤ◌, ◌≡◌, ◌∙◌, ◌*◌, ◌^◌, ◌≤◌, ◌<◌, ℕ, ℤ, pos, neg_ℤ, ◌+ℤ◌, ◌*ℤ◌, ◌≤ℤ◌, FitsSigned, w64, arith, unsigned_abs, to_z, of_z}
+use Rattle.std.proofs.Common.{refl, ◌<ℤ◌, List, [], ◌∷◌, length, take, drop, get_or, ap, ◌-◌, ◌-ℤ◌, ◌≡◌, ◌∙◌, ◌*◌}
+use Rattle.std.proofs.Common.{◌^◌, ◌≤◌, ◌<◌, ℕ, ℤ, pos, neg_ℤ, ◌+ℤ◌, ◌*ℤ◌, ◌≤ℤ◌, FitsSigned, w64, arith}
+use Rattle.std.proofs.Common.{unsigned_abs, to_z, of_z}
 use Rattle.std.specs.Int.{int_min, int_max, w128}
 use Rattle.std.proofs.lemmas.Int.{ints, clamps}
 use lib.Signed.{mag}

@@ -161,7 +161,8 @@ parts_exact m c x r = by (int_lt (pos 0) c) refl (int_lt c (pos 0)) refl
     by false e false f h =
         ap (λ t. t *ℤ x) (none c e f) ∙ by_zero x ∙ at_none m (both_le m (pos 0) (pos 0) m) refl h
 
-addend_exact : (z c : Info) (pairs : List Info) (v w x s : ℤ) → IsInRange x → IsSingle z (Number v) → IsSingle c (Number w)
+addend_exact : (z c : Info) (pairs : List Info) (v w x s : ℤ) → IsInRange x → IsSingle z (Number v)
+    → IsSingle c (Number w)
     → total int_min pairs ≡ s → total int_max pairs ≡ s → Holds (addend_of z c pairs) (Number x)
     → v ≡ s +ℤ (w *ℤ x)
 addend_exact z c pairs v w x s r e f g h k =
@@ -303,7 +304,8 @@ summed : (any : Shape → Kinded) (ins : List Shape) (param : Param) (args : Lis
     → IsPointOf kinds.Span 0 point → Holds (value_of Sum param args) point → Related Sum param points point
 summed any ins param args points point f l o e p h =
     number_out 0 point (λ w. Holds (value_of Sum param args) w → Related Sum param points w) p
-    (λ z i k. by z i (subst (λ a. Holds a (Number z)) (not_more 128 sum_of args (omega (arith, l, as_long any ins args o)))
+    (λ z i k. by z i (subst (λ a. Holds a (Number z)) (not_more 128 sum_of args
+    (omega (arith, l, as_long any ins args o)))
     k)) h
   where
     by : (z : ℤ) → IsInRange z → Holds (sum_of args) (Number z) → z ≡ sum_at points

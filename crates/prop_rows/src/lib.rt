@@ -1,9 +1,9 @@
 //! Rules over rows of cells: sums of products, and the entry of a number in a row.
 //!
-//! A coefficient is a cell as any other, so a constant one is a cell that is fixed. Each rule is its
-//! plain function, which is its formula; it is monotone, keeps kinds, and holds every related point
-//! (`Row`). A number of which nothing is known may be any in range. Rows have up to 128 places in
-//! all, and nothing here takes memory.
+//! A coefficient is a cell as any other, so a constant one is a cell that is fixed. Each rule is
+//! its plain function, which is its formula; it is monotone, keeps kinds, and holds every related
+//! point (`Row`). A number of which nothing is known may be any in range. Rows have up to 128
+//! places in all, and nothing here takes memory.
 #![tactic(auto)]
 
 pub mod entries;

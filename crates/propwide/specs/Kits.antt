@@ -1,5 +1,5 @@
--- What the program comes with: the kit, the wider procedures, the excluders, those of many cells and
--- of rows, and their preludes.
+-- What the program comes with: the kit, the wider procedures, the excluders, those of many cells
+-- and of rows, and their preludes.
 use Rattle.std.specs.Prelude.{ℕ, List, ◌++◌, map}
 use Rattle.prop_lattice.specs.Points.{Point}
 use Rattle.prop_lattice.specs.declared.info.Info.{Info}

@@ -24,4 +24,5 @@ pub returns-in-Element : goal.returns-in-Element
 returns-in-Element c = rw (c.min-many.ensures, c.in-Element.is) (behind_one (min c.args.many 64) Span (few c.args.many))
 
 pub returns-in-Index : goal.returns-in-Index
-returns-in-Index c = rw (c.min-many.ensures, c.in-Index.is) (behind_two (min c.args.many 64) (Any 0) Span (few c.args.many))
+returns-in-Index c = rw (c.min-many.ensures, c.in-Index.is) (behind_two (min c.args.many 64) (Any 0) Span
+    (few c.args.many))

@@ -18,11 +18,12 @@ returns-clause-value c =
     c.product-3.ensures.value c.high_of-2.ensures.value c.low_of-4.ensures.value (high_fits k) (low_fits x) in
     let e = product_of_ends c.high_of-3.result c.high_of-4.result (high_of k) (high_of x) c.product-4.result
     c.product-4.ensures.value c.high_of-3.ensures.value c.high_of-4.ensures.value (high_fits k) (high_fits x) in
-    let low = greatest_of_back c.product.result c.product-2.result (low_of k *ℤ low_of x) (low_of k *ℤ high_of x) c.max-low.result
-    c.product.type_inv c.product-2.type_inv c.max-low.ensures.value a b in
+    let low = greatest_of_back c.product.result c.product-2.result (low_of k *ℤ low_of x) (low_of k *ℤ high_of x)
+    c.max-low.result c.product.type_inv c.product-2.type_inv c.max-low.ensures.value a b in
     let high = greatest_of_back c.product-3.result c.product-4.result (high_of k *ℤ low_of x) (high_of k *ℤ high_of x)
     c.max-high.result c.product-3.type_inv c.product-4.type_inv c.max-high.ensures.value d e in
-    let all = greatest_of_back c.max-low.result c.max-high.result (int_max (low_of k *ℤ low_of x) (low_of k *ℤ high_of x))
+    let all = greatest_of_back c.max-low.result c.max-high.result 
+    (int_max (low_of k *ℤ low_of x) (low_of k *ℤ high_of x))
     (int_max (high_of k *ℤ low_of x) (high_of k *ℤ high_of x)) c.max.result c.max-low.type_inv c.max-high.type_inv
     c.max.ensures.value low high in
     back_128 c.max.result (corner int_max k x) c.max.type_inv all

@@ -18,8 +18,8 @@ returns-clause-value c =
     c.product-3.ensures.value c.high_of-2.ensures.value c.low_of-4.ensures.value (high_fits k) (low_fits x) in
     let e = product_of_ends c.high_of-3.result c.high_of-4.result (high_of k) (high_of x) c.product-4.result
     c.product-4.ensures.value c.high_of-3.ensures.value c.high_of-4.ensures.value (high_fits k) (high_fits x) in
-    let low = least_of_back c.product.result c.product-2.result (low_of k *ℤ low_of x) (low_of k *ℤ high_of x) c.min-low.result
-    c.product.type_inv c.product-2.type_inv c.min-low.ensures.value a b in
+    let low = least_of_back c.product.result c.product-2.result (low_of k *ℤ low_of x) (low_of k *ℤ high_of x)
+    c.min-low.result c.product.type_inv c.product-2.type_inv c.min-low.ensures.value a b in
     let high = least_of_back c.product-3.result c.product-4.result (high_of k *ℤ low_of x) (high_of k *ℤ high_of x)
     c.min-high.result c.product-3.type_inv c.product-4.type_inv c.min-high.ensures.value d e in
     let all = least_of_back c.min-low.result c.min-high.result (int_min (low_of k *ℤ low_of x) (low_of k *ℤ high_of x))
