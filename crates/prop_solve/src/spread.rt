@@ -110,11 +110,7 @@ fn gather(present: &Present, inputs: &[usize], args: &mut [Info; FEW]) {
 }
 
 /// What is believed of these cells, of any count.
-fn gathered(
-    alloc: Global,
-    present: &Present,
-    inputs: &[usize],
-) -> Result<Vec<Info>, AllocError> {
+fn gathered(alloc: Global, present: &Present, inputs: &[usize]) -> Result<Vec<Info>, AllocError> {
     let mut args = Vec::new(alloc);
     for input in inputs {
         args.push(present.info(*input))?;

@@ -14,8 +14,10 @@ use prop_hall::{EXCLUDERS, Excluder};
 use prop_lattice::Info;
 use prop_many::{Many, PROCEDURES as MANY_PROCEDURES, procedures_are_stated as many_are_stated};
 use prop_procedures::{Both, Named, Need, Param, Shape};
-use prop_rows::{PRELUDE as ROW_PRELUDE, PROCEDURES as ROW_PROCEDURES, Row};
-use prop_rows::{ins as row_ins, prelude_is_stated, procedures_are_stated as rows_are_stated};
+use prop_rows::{
+    PRELUDE as ROW_PRELUDE, PROCEDURES as ROW_PROCEDURES, Row, ins as row_ins, prelude_is_stated,
+    procedures_are_stated as rows_are_stated,
+};
 use prop_wide::{DIFFERENT, PRELUDE as WIDE_PRELUDE, PROCEDURES, Wide, procedures_are_stated};
 use std::alloc::{AllocError, Global};
 

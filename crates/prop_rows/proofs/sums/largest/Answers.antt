@@ -22,7 +22,7 @@ returns-clause-value c =
     c.max-low.result c.product.type_inv c.product-2.type_inv c.max-low.ensures.value a b in
     let high = greatest_of_back c.product-3.result c.product-4.result (high_of k *ℤ low_of x) (high_of k *ℤ high_of x)
     c.max-high.result c.product-3.type_inv c.product-4.type_inv c.max-high.ensures.value d e in
-    let all = greatest_of_back c.max-low.result c.max-high.result 
+    let all = greatest_of_back c.max-low.result c.max-high.result
     (int_max (low_of k *ℤ low_of x) (low_of k *ℤ high_of x))
     (int_max (high_of k *ℤ low_of x) (high_of k *ℤ high_of x)) c.max.result c.max-low.type_inv c.max-high.type_inv
     c.max.ensures.value low high in
