@@ -3,14 +3,14 @@ ghost use Rattle.std.specs.Prelude.{◌≡◌, IfOk, IfSome};
 ghost use Rattle.prop_procedures.specs.Kept.{AllMean, stored_of};
 ghost use Rattle.prop_cells.specs.Data.{IsKept};
 ghost use Rattle.prop_plans.specs.Held.{attached_of};
-ghost use Rattle.prop_deriving.specs.Known.{AlwaysStays, Follows, Stays};
+ghost use Rattle.prop_deriving.specs.Known.{AlwaysFollows, AlwaysStays, Follows, Stays};
 
 use crate::clash::{Clash, Pair};
 use crate::derivation::Derivation;
 use crate::ground::Ground;
 use crate::reading::{is_decided, is_later, level_of};
 use crate::reason::Reason;
-use prop_facts::Fact;
+use prop_facts::{Fact, Literal};
 use prop_lattice::Info;
 use prop_learned::weights::Weights;
 use prop_procedures::Rule;
@@ -124,6 +124,28 @@ impl Learning {
         Ok(Some(Learning::begun(basis, derivation)?))
     }
 
+    /// Begins with two facts about a place that no value has together: one that is no more than
+    /// supposed, and stays to the end, and one that is so where nothing is. None where they may be
+    /// so together.
+    pub fn of_end<R: Rule + Drop>(
+        basis: &Ground<'_, R>,
+        supposed: Literal,
+        end: Fact,
+    ) -> Result<Option<Learning>, AllocError>
+        ensures { IfOk result (λ o. IfSome o AlwaysFollows) }
+    {
+        let pair = Pair {
+            one: supposed.fact,
+            other: end,
+        };
+        let Some(derivation) = Derivation::clashing(basis.alloc, supposed.place, pair)? else {
+            return Ok(None);
+        };
+        let mut learning = Learning::begun(basis, derivation)?;
+        learning.suppose_first(basis.trail);
+        Ok(Some(learning))
+    }
+
     /// The nogood as it stands.
     pub fn nogood(&self) -> &Nogood
         ensures { result.now ≡ self.now }
@@ -215,6 +237,16 @@ impl Learning {
         learning.find_makers(basis, basis.trail.len())?;
         learning.level = learning.last_level(basis.trail);
         Ok(learning)
+    }
+
+    /// The first literal counts as supposed next, behind all that is on the trail.
+    fn suppose_first(&mut self, trail: &Trail)
+        ensures { self.new ≡ self.old }
+    {
+        if !self.makers.is_empty() {
+            self.makers[0] = Some(trail.len());
+        }
+        self.level = self.last_level(trail);
     }
 
     /// The level of the last of the literals.

@@ -278,6 +278,25 @@ impl Solver {
         !self.excuses.is_empty()
     }
 
+    /// What is believed where nothing is supposed of the number of which an end is asked for.
+    pub(crate) fn at_root(&self, goal: Goal) -> Info {
+        match goal {
+            Goal::Least(place) | Goal::Greatest(place) => self.spread.at_root(place),
+            _ => Info::Nothing,
+        }
+    }
+
+    pub(crate) fn spread(&self) -> &Spread
+        ensures { result.now ≡ self.now.spread }
+    {
+        &self.spread
+    }
+
+    /// Whether it is known that no others fit, or the question stays unsettled.
+    pub fn is_over(&self) -> bool {
+        self.is_lost || self.refuted.is_some()
+    }
+
     /// What was done so far.
     pub fn tally(&self) -> Tally {
         self.tally

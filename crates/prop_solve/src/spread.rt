@@ -174,6 +174,19 @@ impl Spread {
         None
     }
 
+    /// What is believed of a place where nothing is supposed.
+    pub(crate) fn at_root(&self, place: usize) -> Info {
+        if self.trail.level() > 0 {
+            for at in self.trail.start_of(1)..self.trail.len() {
+                let entry = self.trail.entry(at);
+                if entry.place == place {
+                    return entry.was;
+                }
+            }
+        }
+        self.present.info(place)
+    }
+
     /// What can't be, once.
     pub(crate) fn take_clash(&mut self) -> Option<Clash>
         ensures same { self.new ≡ self.old }

@@ -6,6 +6,7 @@ use Rattle.prop_procedures.specs.declared.both.Both.{Both}
 use Rattle.prop_procedures.specs.declared.both.Both.TheVariants.{One, Two}
 use Rattle.prop_procedures.specs.declared.shape.Param.{Param}
 use Rattle.prop_procedures.specs.Both.{either_of}
+use Rattle.prop_procedures.specs.Stored.{Stored}
 use Rattle.prop_procedures.specs.Forms.{Form, form, library_of, related_in}
 use Rattle.prop_arith.specs.declared.kit.Kit.{Kit}
 use Rattle.prop_arith.specs.Kit.{in_order as kits, form_of}
@@ -23,7 +24,6 @@ use Rattle.prop_hall.specs.Excluder.{in_order as excluders, ins_of, name_of}
 use Rattle.prop_hall.specs.Excluder.{need_of as excluder_need, out_of as excluder_out}
 use Rattle.prop_hall.specs.Excluder.{Related as ExcluderRelated, value_of as excluder_value}
 use Rattle.prop_points.specs.Kit.{KitTells}
-use Rattle.prop_seeking.specs.Answering.{Stock, stocked}
 use Rattle.propwide.specs.declared.entries.Entry as entries
 
 -- a rule of the kit, a wider one or an excluder
@@ -74,9 +74,9 @@ in_order = map of_kit kits ++ (map of_wide named ++ map of_excluder excluders)
 abbrev pub lines_in_order : List (List ℕ)
 lines_in_order = kit_lines ++ (wide_lines ++ different_lines)
 
--- the procedures and the compounds of the preludes
-abbrev pub wide : Stock
-wide = stocked (library_of (λ p. p.form) (λ p. answer_of p.rule) in_order) lines_in_order
+-- their library
+abbrev pub wide : List Stored
+wide = library_of (λ p. p.form) (λ p. answer_of p.rule) in_order
 
 -- the points that belong together at the procedure of this number
 abbrev pub wide_related : ℕ → Param → List Point → Point → Type 0
