@@ -41,7 +41,7 @@ least_number : (found alone : SpanOf) (end : ℤ) (size : ℕ) (p : Point) → I
     → (IsSo (AtMost (end -ℤ pos 1)) p → IsNoBetter aims.Least (Span found) p) → IsNoBetter aims.Least (Span alone) p
 least_number found alone end size (Number v) of above same excused =
     by_lt_z (end -ℤ pos 1) v (λ l. omega (arith, ints, same, l))
-    (λ l. let no_less = excused l in omega (arith, ints, above, same, no_less))
+    (λ l. let least = excused l in omega (arith, ints, above, same, least))
 least_number found alone end size (Element i) of above same excused = absurd of
 least_number found alone end size (Symbol a) of above same excused = absurd of
 
@@ -51,7 +51,7 @@ greatest_number : (found alone : SpanOf) (end : ℤ) (size : ℕ) (p : Point) �
     → IsNoBetter aims.Greatest (Span alone) p
 greatest_number found alone end size (Number v) of below same excused =
     by_lt_z v (end +ℤ pos 1) (λ l. omega (arith, ints, same, l))
-    (λ l. let no_more = excused l in omega (arith, ints, below, same, no_more))
+    (λ l. let most = excused l in omega (arith, ints, below, same, most))
 greatest_number found alone end size (Element i) of below same excused = absurd of
 greatest_number found alone end size (Symbol a) of below same excused = absurd of
 

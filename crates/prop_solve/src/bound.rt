@@ -31,9 +31,12 @@ pub struct Bound {
 
 /// The end that is asked for of what is believed of a number, where that is no end of all numbers.
 fn end_of(goal: Goal, info: Info) -> Option<i64> {
-    match (goal, info) {
-        (Goal::Least(_), Info::Span(span)) if -B < span.lo() => Some(span.lo()),
-        (Goal::Greatest(_), Info::Span(span)) if span.hi() < B => Some(span.hi()),
+    let Info::Span(span) = info else {
+        return None;
+    };
+    match goal {
+        Goal::Least(_) if -B < span.lo() => Some(span.lo()),
+        Goal::Greatest(_) if span.hi() < B => Some(span.hi()),
         _ => None,
     }
 }
