@@ -68,8 +68,10 @@ fn better(goal: Goal, end: i64) -> Option<Literal>
 fn is_only(nogood: &Nogood, literal: Literal) -> bool
     ensures { IsTrue result → nogood.now.literals ≡ literal ∷ [] }
 {
-    let literals = nogood.literals();
-    literals.len() == 1 && literals[0] == literal
+    match nogood.literals() {
+        [only] => *only == literal,
+        _ => false,
+    }
 }
 
 impl Solver {
