@@ -44,6 +44,34 @@ pub struct Learning {
     asserting: usize,
 }
 
+/// The literal that came to be so last, the entry that made it so, and the entry that made the last
+/// of the others so.
+#[derive(Clone, Copy)]
+struct Latest {
+    at: usize,
+    maker: Option<usize>,
+    second: Option<usize>,
+}
+
+impl Latest {
+    /// The same with one literal more.
+    fn beside(self, at: usize, maker: Option<usize>) -> Latest {
+        if is_later(maker, self.maker) {
+            return Latest {
+                at,
+                maker,
+                second: self.maker,
+            };
+        }
+        let is_second = is_later(maker, self.second);
+        Latest {
+            at: self.at,
+            maker: self.maker,
+            second: if is_second { maker } else { self.second },
+        }
+    }
+}
+
 impl Model for Learning {
     ghost use Rattle.prop_refuting.specs.Nogoods.{Nogood};
 
@@ -167,8 +195,8 @@ impl Learning {
         second
     }
 
-    /// Takes one step back from the contradiction, of what came last. `is_whole`: it goes on to
-    /// what was decided itself.
+    /// Takes one step back from the contradiction, of what came last, and at the end of what was so
+    /// where nothing was supposed. `is_whole`: it goes on to what was decided itself.
     pub fn step<R: Rule + Drop>(
         &mut self,
         basis: &Ground<'_, R>,
@@ -182,21 +210,19 @@ impl Learning {
             (attached_of basis.now.network.now.cells) basis.now.choices.now basis.now.root.now
             basis.now.store.now self.old self.new }
     {
-        let trail = basis.trail;
         if self.makers.len() != self.nogood().literals().len() {
             return Ok(State::Failed);
         }
-        if let Some(at) = self.last_of(trail, 0) {
+        let latest = self.latest();
+        self.level = level_of(basis.trail, latest.maker);
+        if self.level > 0 && !self.can_end(basis, latest, is_whole) {
+            return self.resolve(basis, latest.at, weights);
+        }
+        if let Some(at) = self.first_of_root(basis.trail) {
             return self.resolve(basis, at, weights);
         }
-        let Some(at) = self.last_of(trail, self.level) else {
-            return Ok(self.next_level(trail));
-        };
-        if self.can_end(basis, at, is_whole) {
-            self.asserting = at;
-            return Ok(State::Learned);
-        }
-        self.resolve(basis, at, weights)
+        self.asserting = latest.at;
+        Ok(State::Learned)
     }
 
     /// A derivation that begins with a nogood all of which is so.
@@ -219,56 +245,40 @@ impl Learning {
 
     /// The level of the last of the literals.
     fn last_level(&self, trail: &Trail) -> usize {
-        let mut last = 0;
-        for maker in &self.makers {
-            last = last.max(level_of(trail, *maker));
-        }
-        last
+        level_of(trail, self.latest().maker)
     }
 
-    /// Goes on with the last level of which there is a literal.
-    fn next_level(&mut self, trail: &Trail) -> State
-        ensures { self.new ≡ self.old }
-    {
-        let last = self.last_level(trail);
-        if last == 0 {
-            return State::Learned;
-        }
-        self.level = last;
-        State::Going
-    }
-
-    /// Of the literals of a level that which came to be so last.
-    fn last_of(&self, trail: &Trail, level: usize) -> Option<usize> {
-        let mut last = None;
-        let mut last_maker = None;
+    /// The literal that came to be so last, and what made the last of the others so.
+    fn latest(&self) -> Latest {
+        let mut latest = Latest {
+            at: 0,
+            maker: None,
+            second: None,
+        };
         for (at, maker) in self.makers.iter().enumerate() {
-            if level_of(trail, *maker) == level
-                && (last.is_none() || is_later(*maker, last_maker))
-            {
-                last = Some(at);
-                last_maker = *maker;
-            }
+            latest = latest.beside(at, *maker);
         }
-        last
+        latest
     }
 
-    /// Whether the derivation may end with a literal of the last level: it is the only one, can be
-    /// denied, and was decided, where that is wanted.
-    fn can_end<R: Rule + Drop>(&self, basis: &Ground<'_, R>, at: usize, is_whole: bool) -> bool {
-        self.is_alone(basis.trail, at)
-            && (!is_whole || is_decided(basis.trail, self.maker(at)))
-            && self.can_be_denied(basis, at)
+    /// The first literal that was so where nothing was supposed.
+    fn first_of_root(&self, trail: &Trail) -> Option<usize> {
+        self.makers
+            .iter()
+            .position(|maker| level_of(trail, *maker) == 0)
     }
 
-    /// Whether no other literal is of the last level.
-    fn is_alone(&self, trail: &Trail, at: usize) -> bool {
-        for (other, maker) in self.makers.iter().enumerate() {
-            if other != at && level_of(trail, *maker) == self.level {
-                return false;
-            }
-        }
-        true
+    /// Whether the derivation may end with the literal that came last: no other is of its level, it
+    /// can be denied, and was decided, where that is wanted.
+    fn can_end<R: Rule + Drop>(
+        &self,
+        basis: &Ground<'_, R>,
+        latest: Latest,
+        is_whole: bool,
+    ) -> bool {
+        level_of(basis.trail, latest.second) < self.level
+            && (!is_whole || is_decided(basis.trail, latest.maker))
+            && self.can_be_denied(basis, latest.at)
     }
 
     /// Whether a literal has a denial that the trail keeps. A number within a span is kept out of

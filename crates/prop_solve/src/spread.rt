@@ -488,11 +488,15 @@ impl Spread {
         }
         let mut at = 0;
         for _ in 0..self.store.watching(place) {
+            let Some(next) = self.store.next(&self.trail, place, at) else {
+                return Ok(true);
+            };
+            at = next;
             match self.store.look(&self.trail, place, at)? {
                 Look::Moved => {}
-                Look::Silent => at += 1,
+                Look::Silent => at = at.saturating_add(1),
                 Look::Denies { literal, number } => {
-                    at += 1;
+                    at = at.saturating_add(1);
                     if !self.deny(Unit { literal, number })? {
                         return Ok(false);
                     }
