@@ -175,3 +175,15 @@ def test_who_ends_it_gets_the_best_so_far(program: str, tmp_path: Path, searches
         said, _ = ran.communicate(timeout=20)
     assert "==========" not in said and ran.returncode == 0
     assert said.endswith(("----------\n", "=====UNKNOWN=====\n"))
+
+
+def test_a_search_whose_answers_nobody_reads_ends(program: str, tmp_path: Path) -> None:
+    file = tmp_path / "m.fzn"
+    file.write_text(ruler(10, 200))
+    solver = REPOSITORY / "python/src/propbench/flatzinc/fzn-propbench"
+    words = [sys.executable, str(solver), str(file), "--program", program]
+    with subprocess.Popen(words, stdout=subprocess.PIPE, stderr=subprocess.PIPE) as ran:
+        time.sleep(4)
+        assert ran.poll() is None and ran.stdout is not None
+        ran.stdout.close()
+        assert ran.wait(timeout=20) is not None

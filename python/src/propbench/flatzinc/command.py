@@ -1,6 +1,8 @@
 """`fzn-propbench`: a solver as MiniZinc calls one, by a file of FlatZinc."""
 
 import argparse
+import os
+import select
 import signal
 import sys
 import threading
@@ -19,6 +21,9 @@ from propbench.plain import PlainWorkbench
 from propbench.program import OutOfTime, ProgramEnded
 from propbench.questions import Plan
 from propbench.showing import said_of
+
+# How many milliseconds an end of the search, and one of its readers, may go unnoticed.
+_LOOK = 500
 
 DESCRIPTION = """\
 Solves a model in FlatZinc by the proved workbench: MiniZinc calls it, by `minizinc --solver
@@ -99,10 +104,25 @@ def _ended_by_interrupt() -> Iterator[None]:
         yield
         return
     before = signal.signal(signal.SIGTERM, signal.default_int_handler)
+    over = threading.Event()
+    threading.Thread(target=_watch_reader, args=(over,), daemon=True).start()
     try:
         yield
     finally:
+        over.set()
         signal.signal(signal.SIGTERM, before)
+
+
+def _watch_reader(over: threading.Event) -> None:
+    """Ends a search whose answers nobody reads any more: MiniZinc that was killed tells nobody."""
+    written = select.poll()
+    # (that the other end of a pipe was closed is always told)
+    written.register(1, 0)
+    while not over.is_set():
+        if written.poll(_LOOK):
+            if not over.is_set():
+                os.kill(os.getpid(), signal.SIGTERM)
+            return
 
 
 def _workbench(options: argparse.Namespace) -> PlainWorkbench:
