@@ -9,7 +9,8 @@ PROGRAM is a workbench that answers these, as propwide; of networks that are dra
 
 - a plan has each cell that has a name and a side of each choice, in order; it satisfies what is
   believed and said by these sides, and its points belong together at each rule and compound;
-- the best number is the best one, and what was the best so far gets better;
+- the best number is the best one, and what was the best so far gets better; no number is better
+  than the bound that is told beside it, which gets no worse;
 - `plans`, asked to the end, tells just the rows that there are, each once, and no more at a time
   than were asked for;
 - `none:` stands where nothing fits, and else nowhere;
@@ -17,7 +18,9 @@ PROGRAM is a workbench that answers these, as propwide; of networks that are dra
   no other row;
 - each question comes to its end, by slices of 1, 10 and 1,000 steps in about as many steps as by
   more; there it is answered the same again; and after another question it begins anew;
-- what changes nothing between two `plans`, a `limit` too, changes nothing of the rows that are told.
+- what changes nothing between two `plans`, a `limit` too, changes nothing of the rows that are told;
+- each nogood that `step` tells of a `solve` under way leaves no points by the premises that it names,
+  and step by step it comes to the same end.
 
 A question may stay unsettled for ever where nothing is stated of a symbol, since none is tried, or
 little is stated of a number but by choices (FAR). How many did is told; so is of how many premises that were named nothing is known here, since with them
@@ -37,7 +40,7 @@ from case import Case, Check, as_bytes
 from networks import Draw
 from points import Box, Network, Trial
 from relations import BOUND, MAY, OTHERS, Point, Points, Values
-from relations import count, is_in, only, points_of, wrong_rooms
+from relations import both, count, either, is_in, only, points_of, wrong_rooms
 from talking import Cut, Reply, Talk
 from wide_rules import PROGRAM
 
@@ -53,6 +56,8 @@ FIRST, LINES, FAR, FEW_LINES = 1000, 100, 100, 5
 SLICES = {100_000: 1, 10: 20, 1: 150}
 TWICE = "is told twice"
 NO_REPLY = "that is no reply to it"
+# So many steps are told of a question, each of which begins so.
+STRIDES, STRIDE = 200, "supposed: |called: |denied:|side: |nogood:|back: "
 
 # ---- what is true
 
@@ -136,6 +141,22 @@ class Truth:
                 return f"with {names} alone there is {box}"
         self.unknown += not trial.is_whole
         return None
+
+    def wrong_stride(self, reply: Reply) -> Optional[str]:
+        """What is wrong with a step of a question that excuses nothing."""
+        first, *lines = reply
+        if first != f"step {len(lines)}" or not lines or not re.match(STRIDE, lines[0]):
+            return NO_REPLY
+        if not lines[0].startswith("nogood:"):
+            return None
+        less: dict[str, Values] = {}
+        for fact in facts_in(lines[0].removeprefix("nogood:")):
+            told = told_of(self.network, fact)
+            if told is None:
+                return None
+            cell, values = told
+            less[cell] = both(less.get(cell, MAY[self.network.kinds[cell]]), values)
+        return self.wrong_premises(lines[1].removeprefix("because"), less=less)
 
     def wrong_plan(self, lines: list[str]) -> Optional[str]:
         """What is wrong with the lines of a plan."""
@@ -229,14 +250,42 @@ class Best(Question):
     """A question for an end of a number, the first of the cells."""
 
     so_far: Optional[int] = None
+    bound: Optional[int] = None
 
     def wrong_found(self, reply: Reply) -> Optional[str]:
+        if reply[0].startswith("bound "):
+            return self.wrong_bound(reply[:2]) or self.wrong_so_far(reply[2:])
         if reply[0].startswith("plan "):
-            return self.wrong_plan(reply, " unsettled") or self.wrong_step(reply[1:])
+            return self.wrong_so_far(reply)
         self.end = reply
         if len(reply) < 3 or not reply[1].startswith("because "):
             return NO_REPLY
         return self.wrong_plan(reply[2:], "") or self.wrong_best(reply)
+
+    def wrong_so_far(self, reply: Reply) -> Optional[str]:
+        """What is wrong with the best plan so far."""
+        if not reply:
+            return NO_REPLY
+        return self.wrong_plan(reply, " unsettled") or self.wrong_step(reply[1:])
+
+    def wrong_bound(self, reply: Reply) -> Optional[str]:
+        """What is wrong with how good others are said to be at the best."""
+        told = re.fullmatch(r"bound (0|-?[1-9]\d*)", reply[0])
+        if not told or not reply[1:] or not reply[1].startswith("because "):
+            return NO_REPLY
+        before, now = self.bound, int(told[1])
+        self.bound = now
+        is_better = before is None or before == now or (now < before) == (self.word == "greatest")
+        if not is_better:
+            return f"before it was {before}"
+        return self.wrong_end(now, reply[1])
+
+    def wrong_end(self, end: int, because: str) -> Optional[str]:
+        """What is wrong with the premises by which nothing is better than this end."""
+        better = (end + 1, BOUND) if self.word == "greatest" else (-BOUND, end - 1)
+        return self.truth.wrong_premises(
+            because.removeprefix("because"), less={self.cells[0]: (better,)}
+        )
 
     def number_in(self, lines: list[str]) -> Optional[Point]:
         """The number of the cell in a plan."""
@@ -257,10 +306,7 @@ class Best(Question):
         best = self.truth.best(self.cells[0], is_greatest)
         if best is None or reply[0] != f"{self.word} {best}" or self.number_in(reply[3:]) != best:
             return f"the best is {best}"
-        better = (best + 1, BOUND) if is_greatest else (-BOUND, best - 1)
-        return self.truth.wrong_premises(
-            reply[1].removeprefix("because"), less={self.cells[0]: (better,)}
-        )
+        return self.wrong_end(best, reply[1])
 
 
 @dataclass
@@ -326,6 +372,31 @@ class Rows(Question):
 
 
 # ---- what is tried
+
+
+def told_of(network: Network, fact: str) -> Optional[tuple[str, Values]]:
+    """The cell of a fact with what it leaves of it, None where the cell has no name."""
+    found = re.fullmatch(r"(\S+?)(=|<=|>=|<>)(.*)", fact)
+    assert found, fact
+    name, sign, text = found.groups()
+    if name in network.choices:
+        cell, sides = network.choices[name]
+        return cell, either([sides[int(number) - 1] for number in text.split("|")])
+    if name not in network.kinds:
+        return None
+    if network.kinds[name] != "span":
+        return name, frozenset(text.strip("{}").split())
+    number = int(text.partition("..")[0])
+    last = int(text.partition("..")[2] or number)
+    less, more = (-BOUND, number), (number, BOUND)
+    spans = {"<=": (less,), ">=": (more,), "=": ((number, last),)}
+    return name, spans.get(sign, ((-BOUND, number - 1), (number + 1, BOUND)))
+
+
+def facts_in(text: str) -> list[str]:
+    """The facts of a line: a set of elements has spaces within its braces."""
+    return re.findall(r"[^\s{]+\{[^}]*\}|\S+", text)
+
 
 # What is said between two questions and changes nothing.
 ASIDES = [
@@ -429,6 +500,8 @@ class Session:
             return
         self.tried.counts[question.end[0].split()[0].rstrip(":")] += 1
         self.follow(question, FIRST, 1)
+        if question.word == "solve" and slices:
+            self.stride(question.again())
         for limit in self.chance.sample(slices, len(slices)):
             again = question.again()
             self.begin_anew(question, limit)
@@ -448,11 +521,29 @@ class Session:
         while asked < most and (question.end is None or not asked):
             for reply in self.talk.say(question.line(), at_a_time):
                 what = question.wrong(reply)
+                self.tried.counts["bounds"] += reply[0].startswith("bound ")
                 if what:
                     self.complain(question, f"{what}, by {limit} steps: {' / '.join(reply)}")
                     return None
                 asked, before = asked + 1, before + (question.end is None)
         return before + (question.end is not None)
+
+    def stride(self, question: Question) -> None:
+        """Asks a question step by step, and then to its end."""
+        self.talk.all(["limit 0"])
+        self.talk.say(f"plans 1 {next(iter(question.truth.network.kinds))}")
+        self.talk.say(question.line())
+        self.talk.all([f"limit {FIRST}"])
+        for _ in range(STRIDES):
+            (reply,) = self.talk.say("step")
+            if reply[1:] in (["plan"], ["end"]):
+                break
+            what = question.truth.wrong_stride(reply)
+            if what:
+                self.complain(question, f"step: {what}: {' / '.join(reply)}")
+                return
+            self.tried.counts["steps told"] += 1
+        self.follow(question, FIRST, LINES)
 
     def complain(self, question: Question, what: str) -> None:
         text = f"{question.line()}: {what}"

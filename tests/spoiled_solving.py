@@ -3,7 +3,8 @@
 
 usage: tests/spoiled_solving.py SPOIL PROGRAM
 
-answers as PROGRAM does but for what SPOIL changes: twice, better, worse, fewer, elsewhere or early.
+answers as PROGRAM does but for what SPOIL changes: twice, better, worse, nearer, fewer, elsewhere or
+early.
 """
 import os
 import re
@@ -49,12 +50,20 @@ def better(line: str, reply: Reply) -> Reply:
 
 def worse(line: str, reply: Reply) -> Reply:
     """The best so far is told as the best."""
+    reply = reply[2:] if reply[0].startswith("bound ") else reply
     if not reply[0].endswith(" unsettled"):
         return reply
     word, cell, *_ = line.split()
     (number,) = (it.split()[2] for it in reply if it.startswith(f"{cell} = "))
     plan = reply[0].removesuffix(" unsettled")
     return [f"{word} {number}", "because no premise", plan, *reply[1:]]
+
+
+def nearer(line: str, reply: Reply) -> Reply:
+    """How good others can still be is told as one less good."""
+    if not reply[0].startswith("bound "):
+        return reply
+    return [moved(reply[0], -1 if line.startswith("greatest ") else 1), *reply[1:]]
 
 
 def fewer(_line: str, reply: Reply) -> Reply:
@@ -80,13 +89,14 @@ def early(_line: str, reply: Reply) -> Reply:
     return [f"plans {len(reply) - 3}", *reply[1:-2], reply[-1]]
 
 
-SPOILS = {it.__name__: it for it in (twice, better, worse, fewer, elsewhere, early)}
+SPOILS = {it.__name__: it for it in (twice, better, worse, nearer, fewer, elsewhere, early)}
 IS_NONE = "is no point of|don't belong together"
 # What the networks have to say of it.
 SAYS = {
     "twice": TWICE,
     "better": f"the best is|{IS_NONE}",
     "worse": "the best is",
+    "nearer": "alone there is",
     "fewer": "alone there is",
     "elsewhere": IS_NONE,
     "early": "there is also",

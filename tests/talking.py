@@ -19,7 +19,7 @@ def has_reply(line: str) -> bool:
 def reply_of(line: str, read: Callable[[], str]) -> Reply:
     """The lines of the reply to a line."""
     word, reply = line.split()[0], [read()]
-    if word in ("least", "greatest") and reply[0].startswith(f"{word} "):
+    if word in ("least", "greatest") and reply[0].startswith((f"{word} ", "bound ")):
         reply += [read(), read()]
     counted = re.match(r"(plans?|list|how|step|nogoods) (\d+)(?: unsettled)?$", reply[-1])
     more = int(counted[2]) + (counted[1] == "plans") if counted else reply[0].startswith("in:")

@@ -17,7 +17,7 @@ import subprocess
 import sys
 import tempfile
 import time
-from itertools import chain, islice
+from itertools import chain, islice, starmap
 from random import Random
 from typing import Callable, Iterable, Iterator, Optional
 
@@ -254,6 +254,7 @@ def cases() -> Iterator[Case]:
     yield from small()
     yield from sudokus()
     yield ruler()
+    yield from one_ways()
 
 
 def over_propwide(case: Case) -> Check:
@@ -293,10 +294,39 @@ def ruler() -> Case:
     return Case("a ruler's last mark", as_bytes(*lines, "settle", "least m6"), wrong)
 
 
+# ---- procedures in one direction
+
+
+def one_way(first: int, second: int) -> Case:
+    """All that differ by `first` less c and `second` less c, and together are c: what each procedure
+    says of one cell no other says the other way round, though it looks so."""
+    lines = [
+        *(f"cell {it} span" for it in "cabkl"),
+        *("fix c 1..9", "fix a -20..20", "fix b -20..20", f"fix k {first}", f"fix l {second}"),
+        *("attach subtracter k c a", "attach subtracter l c b", "attach adder a b c"),
+    ]
+    rows = [(c, first - c, second - c) for c in range(1, 10) if first + second - 2 * c == c]
+    told = [f"c = {c} a = {a} b = {b}" for c, a, b in rows]
+    wanted = (
+        [f"plans {len(told)}", *told, "others none: no premise"] if told else ["none: no premise"]
+    )
+    return Case(
+        f"one way: {first} and {second}",
+        as_bytes(*lines, "plans 9 c a b"),
+        as_bytes(*["ok"] * len(lines), *wanted),
+    )
+
+
+def one_ways() -> Iterator[Case]:
+    return starmap(one_way, ((7, 7), (7, 8), (3, 0), (20, 7), (20, 8)))
+
+
 def built() -> Iterator[Check]:
-    """The Sudokus and a ruler over propwide, where it is built, and one of each STEP small ones."""
+    """The Sudokus, a ruler and procedures in one direction over propwide, where it is built, and one
+    of each STEP small ones."""
     if os.path.exists(PROGRAM):
-        yield from map(over_propwide, chain(sudokus(), [ruler()], islice(small(), 0, None, STEP)))
+        few = islice(small(), 0, None, STEP)
+        yield from map(over_propwide, chain(sudokus(), [ruler()], one_ways(), few))
 
 
 def instructions(program: str, sent: bytes) -> str:

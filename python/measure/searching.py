@@ -1,10 +1,10 @@
 #!/usr/bin/python3
 """Searches for points by propwide, beside MiniZinc with Gecode, and clingo.
 
-usage: measure/searching.py [--only WORD] [--seconds N] [--seeds N]
+usage: measure/searching.py [--only WORD] [--seconds N] [--seeds N] [--sketch PROGRAM]
 
-- the shortest plans of 30, 80, 160 and 300 tasks of three or four people, of so many seeds (3), and
-  of job shops, whose shortest are known: `least end`;
+- the shortest plans of 30, 80, 160 and 300 tasks of three, four or eight people, of so many seeds
+  (10), and of job shops, whose shortest are known: `least end`;
 - all ways to put eight and ten queens: `plans`, with the cells of all queens;
 - a ruler with seven marks of which no two are as far apart as two others, the shortest: `least`;
 - five Sudokus: `solve`, and `plans`, to see that there is no other.
@@ -14,6 +14,9 @@ anything is measured. Told are seconds of one processor of one run of each tool,
 it is given to the end of its process: the median of what a row stands for, and the most. What takes
 more than N is cut, and told as `>`. So is what takes more than 4 GB of memory. What isn't installed
 is named, and nothing stands for it. Each tool has to come to the same, or the status is 1.
+
+PROGRAM is the search that was tried before there was one with a proof, as a program that answers
+the same questions in words of its own.
 """
 
 import argparse
@@ -50,7 +53,7 @@ MEMORY = 4 << 30
 ALL = 1_000_000
 RULER, LONGEST = 7, 30
 SUDOKUS = [*wide_puzzles.HARD, *peers.SUDOKUS[1:2]]
-TASKS = ((30, 3), (80, 4), (160, 4), (300, 4))
+TASKS = ((30, 3), (80, 4), (160, 4), (300, 8))
 
 
 @dataclass(frozen=True)
@@ -65,6 +68,7 @@ class Search:
     rules: str
     clingo: tuple[str, ...]
     known: int | None = None
+    sketch: str = "-wd"
 
 
 # ---- what is searched for
@@ -102,7 +106,8 @@ def queens(count: int) -> Search:
         :- at(R,C), at(S,D), R<S, S-R=|C-D|. #show."""
     named = " ".join(f"q{row}" for row in range(count))
     known = {8: 92, 10: 724}[count]
-    return Search(lines, f"plans {ALL} {named}", model, ("-a",), rules, ("0", "-q"), known)
+    words = ("0", "-q")
+    return Search(lines, f"plans {ALL} {named}", model, ("-a",), rules, words, known, "-ff -chrono")
 
 
 def ruler() -> Search:
@@ -154,6 +159,7 @@ def sudoku(given: str, is_all: bool) -> Search:
         "\n".join([*facts, rules]),
         ("0", "-q") if is_all else ("1", "-q"),
         1,
+        "-ff -chrono",
     )
 
 
@@ -250,6 +256,24 @@ def by_propwide(search: Search, lines: list[str], seconds: int) -> int:
         return found
 
 
+def by_sketch(program: str, search: Search, lines: list[str], seconds: int) -> int:
+    """What the search finds that was tried first."""
+    pipe, limits = subprocess.PIPE, partial(limited, seconds)
+    with subprocess.Popen([program], stdin=pipe, stdout=pipe, text=True, preexec_fn=limits) as ran:
+        run = Run(ran)
+        run.carry_out(lines)
+        run.say([f"{search.question} {search.sketch}"])
+        told = run.read()
+        read = re.fullmatch(r"plans (\d+) whole (true|false) .*", told)
+        assert read, told
+        count, is_whole = read.groups()
+        plans = [run.read() for _ in range(int(count))]
+    best = re.search(r"=(-?\d+)", plans[-1]) if search.question.startswith("least") else None
+    if is_whole == "false" and search.question != "solve":
+        raise Cut(f"{best[1] if best else count} so far")
+    return int(best[1] if best else count)
+
+
 def printed(words: list[str], text: str, ending: str, seconds: int) -> str:
     """What a tool prints of a text in a file, whose name stands last."""
     with tempfile.NamedTemporaryFile("w", suffix=ending) as file:
@@ -286,7 +310,8 @@ def by_clingo(search: Search, _lines: list[str], seconds: int) -> int:
     return int(models[1])
 
 
-TOOLS = {"propwide": by_propwide, "Gecode": by_gecode, "clingo": by_clingo}
+Tool = Callable[[Search, list[str], int], int]
+TOOLS: dict[str, Tool] = {"propwide": by_propwide, "Gecode": by_gecode, "clingo": by_clingo}
 PROGRAMS = {"Gecode": ("minizinc", "fzn-gecode"), "clingo": ("clingo",)}
 
 
@@ -352,8 +377,11 @@ def main(words: list[str]) -> int:
     )
     read.add_argument("--only", default="", metavar="WORD", help="rows that have this word")
     read.add_argument("--seconds", type=int, default=60, metavar="N", help="of each run (60)")
-    read.add_argument("--seeds", type=int, default=3, metavar="N", help="of tasks (3)")
+    read.add_argument("--sketch", metavar="PROGRAM", help="the search that was tried first")
+    read.add_argument("--seeds", type=int, default=10, metavar="N", help="of tasks (10)")
     options = read.parse_args(words)
+    if options.sketch:
+        TOOLS["sketch"] = partial(by_sketch, options.sketch)
     for tool in (it for it in TOOLS if missing(it)):
         print(f"{missing(tool)} not installed: nothing stands for {tool}")
     print(f"{'':24}{'':>4}" + "".join(f"{tool:>16}" for tool in TOOLS) + "  found")

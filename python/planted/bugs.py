@@ -654,6 +654,36 @@ BUGS = [
     ),
     # What a laboratory reads.
     Bug(
+        "measuring/means.py",
+        "if each < count)",
+        "if each <= count)",
+        "means::how_often_it_is_taken_is_what_student_has",
+    ),
+    Bug(
+        "laboratory/tabled.py",
+        'unit = "" if quantity.unit.text == "1" else quantity.unit.text',
+        "pass",
+        "tables::a_number_is_in_the_quantity_s_unit_whatever_its_uncertainty_is_in",
+    ),
+    Bug(
+        "laboratory/adjustment.py",
+        "divisor if reading.shape is None else SHAPES[reading.shape]",
+        "divisor",
+        "means::distributions_of_readings",
+    ),
+    Bug(
+        "laboratory/paths.py",
+        "fewer.interval == path.interval",
+        "fewer.interval",
+        "laboratory_report::a_quantity_that_is_not_read_has_bars_by_each_path",
+    ),
+    Bug(
+        "laboratory/curve_files.py",
+        'cell if between == "," else cell.replace(",", ".")',
+        "cell",
+        "curves::points_of_a_file",
+    ),
+    Bug(
         "measuring/devices.py",
         "_times_gain(factored(part), device, degree - lowest)",
         "_times_gain(factored(part), device, 0)",

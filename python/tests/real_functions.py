@@ -1,34 +1,41 @@
-"""Random laws with functions over random reals that fit them, worked out to 80 digits.
+"""Random laws with functions over random reals that fit them, worked out by intervals of 60 digits.
 
-What a term is, is worked out here by mpmath's numbers, and not by the curves and intervals of the
-package. A real that is off by less than 10^-60 of its size is none that a cell or an answer loses.
+What a term is, is worked out here by mpmath's intervals, and not by the curves of the package: a
+real is drawn as a fraction, and what a law gives is an interval that holds it. It is lost where all
+of the interval lies beyond an answer.
 """
 
 import random
 from collections.abc import Callable
 from dataclasses import dataclass, field, replace
 from fractions import Fraction
-from typing import Any
-
-from mpmath import MPContext
 
 from propbench import Workbench, maximum, mean, minimum
 from propbench.measuring import elementary
 from propbench.measuring.bounds import BoundsOf
 from propbench.measuring.curves import Segments, Wave
 from propbench.measuring.quantities import Quantity
-from propbench.measuring.shapes import Function, Name, shape_of
+from propbench.measuring.shapes import Name, shape_of
 from propbench.measuring.stating import RootMade
-from propbench.measuring.terms import Law, Real, Sort, Term, real_of
+from propbench.measuring.terms import Law, Real, Sort, Term
 from propbench.model.events import Required, Told
-from propbench.model.kinds import Point
 from propbench.model.nodes import Declared
+from real_devices import Drawn, device_for, reals_of_devices
+from real_intervals import (
+    Number,
+    Unsure,
+    applied,
+    count_of,
+    ends_of,
+    on_branch,
+    on_lines,
+    powered,
+    worked_out,
+)
 
-EXACT = MPContext()
-EXACT.dps = 80
-TINY = Fraction(1, 10**60)
 STEPS = [None, Fraction(1, 10), Fraction(1, 1000), Fraction(1, 10**5), Fraction(1, 10**8)]
-Number = Any
+# Units of temperatures, and between what they are drawn there.
+_TEMPERATURES = {"K": (250, 420), "degC": (-20, 140), "degF": (0, 280)}
 
 
 class Unfit(Exception):
@@ -50,6 +57,9 @@ class Case:
     off: dict[Real, Fraction] = field(default_factory=dict)
     # What quantities that stand for terms in laws are, by name.
     roots: dict[str, Real] = field(default_factory=dict)
+    devices: dict[str, Drawn] = field(default_factory=dict)
+    # What parts of terms are, for the reals as they are now.
+    found: dict[int, Number] = field(default_factory=dict)
 
     def quantity(self, low: Fraction, high: Fraction, unit: str = "1") -> Quantity:
         """A quantity between two ends."""
@@ -117,28 +127,56 @@ def _pi(case: Case, depth: int) -> Term:
 
 
 def _exponential(case: Case, depth: int) -> Term:
-    function = case.draw.choice([elementary.exp, elementary.exp10, elementary.at_level])
+    function = case.draw.choice([elementary.exp, elementary.exp10])
     most = 6 if function is elementary.exp else 3
-    inner = case.within(-most, most, depth)
-    return function(inner * "10 dB" if function is elementary.at_level else inner)
+    return function(case.within(-most, most, depth))
+
+
+def _level(case: Case, depth: int) -> Term:
+    """Decibels of a ratio, of a power or of a voltage, and back."""
+    of = case.draw.choice(["1", "W", "V"])
+    if case.draw.random() < 0.5:
+        found = elementary.at_level(case.within(-30, 40, depth) * "1 dB", of)
+        return found if of == "1" else found / f"1 {of}"
+    inner = case.within(0.001, 50, depth)
+    return elementary.level(inner if of == "1" else inner * f"1 {of}") / "1 dB"
+
+
+def _acid(case: Case, depth: int) -> Term:
+    """A pH, and back."""
+    if case.draw.random() < 0.5:
+        return elementary.at_pH(case.within(0, 4, depth) * "1 pH") / "1 mol/L"
+    return elementary.pH(case.within(0.00001, 2, depth) * "1 mol/L") / "1 pH"
+
+
+def _temperature(case: Case, depth: int) -> Term:
+    """A temperature in some scale, within an exponential of a thermistor or by itself."""
+    unit = case.draw.choice(list(_TEMPERATURES))
+    low, high = _TEMPERATURES[unit]
+    ends = sorted(case.draw.sample(range(low, high), 2))
+    kelvins = case.quantity(Fraction(ends[0]), Fraction(ends[1]), unit) / "1 K"
+    if case.draw.random() < 0.3:
+        return kelvins / 10
+    return elementary.exp(3950 / kelvins - Fraction("13.25"))
 
 
 def _logarithm(case: Case, depth: int) -> Term:
     low, high = case.draw.choice([(0.001, 10), (1, 1000), (0.5, 2), (0.9, 1.1)])
-    inner = case.within(low, high, depth)
-    shape = case.draw.random()
-    if shape < 0.4:
-        return elementary.ln(inner)
-    if shape < 0.8:
-        return elementary.log10(inner)
-    return elementary.level(inner) / "1 dB"
+    function = case.draw.choice([elementary.ln, elementary.log10])
+    return function(case.within(low, high, depth))
 
 
 def _angle(case: Case, depth: int, low: float, high: float) -> Term:
-    """An angle between so many degrees: in degrees or in radians."""
-    if case.draw.random() < 0.5:
+    """An angle between so many degrees: in degrees, in gons or in radians, or the one as another."""
+    shape = case.draw.random()
+    if shape < 0.4:
         return case.within(low, high, depth) * "1 deg"
-    return case.within(low / 57.3, high / 57.3, depth)
+    if shape < 0.5:
+        return case.within(low / 0.9, high / 0.9, depth) * "1 gon"
+    if shape < 0.6:
+        return elementary.radians(case.within(low, high, depth) * "1 deg")
+    inner = case.within(low / 57.3, high / 57.3, depth)
+    return elementary.degrees(inner) if shape < 0.7 else inner
 
 
 def _wave(case: Case, depth: int) -> Term:
@@ -166,7 +204,13 @@ def _around(case: Case, depth: int) -> Term:
 
 
 def _hypot(case: Case, depth: int) -> Term:
-    return elementary.hypot(case.within(-3, 5, depth), case.within(0, 4, depth))
+    sides = [case.within(-3, 5, depth) for _ in range(case.draw.randint(1, 2))]
+    return elementary.hypot(case.within(0, 4, depth), *sides)
+
+
+def _root(case: Case, depth: int) -> Term:
+    inner = case.within(0, 30, depth)
+    return inner.sqrt() if case.draw.random() < 0.7 else abs(inner - 9)
 
 
 def _power(case: Case, depth: int) -> Term:
@@ -193,16 +237,20 @@ _MAKERS: list[Callable[[Case, int], Term]] = [
     _several,
     _pi,
     *[_exponential, _logarithm, _wave, _tangent, _arc, _power, _curve] * 2,
+    _level,
+    _acid,
+    _temperature,
     _around,
     _hypot,
+    _root,
 ]
 
 
-def stated_case(w: Workbench, draw: random.Random) -> Case:
-    """A case with a law or two that are stated. Raises Unfit, and ValueError for a law that can't
-    be told."""
+def stated_case(w: Workbench, draw: random.Random, count: int | None = None) -> Case:
+    """A case with a law or two that are stated, or so many. Raises Unfit, and ValueError for a law
+    that can't be told."""
     case = Case(w, draw)
-    for _ in range(draw.choice([1, 1, 1, 2])):
+    for _ in range(count or draw.choice([1, 1, 1, 2])):
         term = draw.choice(_MAKERS[4:])(case, draw.choice([0, 0, 0, 1, 1, 2]))
         low, high = BoundsOf()(term.real)
         room = max(high - low, Fraction(1, 10))
@@ -216,20 +264,24 @@ def stated_case(w: Workbench, draw: random.Random) -> Case:
     return case
 
 
-def redraw(case: Case) -> None:
-    """Other reals that fit the laws."""
+def redraw(case: Case, *, is_good: bool = True) -> None:
+    """Other reals that fit the laws, and other errors of devices: where devices are good, as small as
+    is said of them. Raises Unfit."""
     given = dict(case.given)
-    reals: dict[str, Number] = {}
+    case.reals = {}
     case.off.clear()
+    case.found.clear()
     for name, quantity in case.quantities.items():
+        measure = quantity.measure
         if name in given:
-            reals[name] = value_of(case, given[name], reals)
-            measure = quantity.measure
-            if not measure.low <= fraction_of(reals[name]) <= measure.high:
+            case.reals[name] = value_of(case, given[name])
+            low, high = ends_of(case.reals[name])
+            if not measure.low <= low <= high <= measure.high:
                 raise Unfit
         else:
-            reals[name] = _exact(_within(case.draw, quantity))
-    case.reals = reals
+            case.reals[name] = _within(case.draw, quantity)
+    for device in case.devices.values():
+        device.redraw(case.draw, is_good=is_good)
 
 
 def _within(draw: random.Random, quantity: Quantity) -> Fraction:
@@ -245,141 +297,124 @@ def _within(draw: random.Random, quantity: Quantity) -> Fraction:
 
 
 def read_some(case: Case) -> None:
-    """Reads some quantities: what is read holds."""
+    """Reads some quantities, some by devices: what is read holds."""
     draw = case.draw
     for name, quantity in case.quantities.items():
         if draw.random() < 0.6:
-            number, measure = fraction_of(case.reals[name]), quantity.measure
+            measure, real = quantity.measure, case.reals[name]
             width = (measure.high - measure.low) * Fraction(draw.choice([0, 1, 20, 200]), 1000)
-            below, above = (Fraction(draw.randint(0, 10), 10) for _ in range(2))
-            ends = number - width * below - TINY, number + width * above + TINY
-            case.w.read(f"read {name}", quantity, ends)
+            room = (measure.high - measure.low) / measure.factor / 10
+            by = device_for(case.w, draw, case.devices, quantity, room)
+            below, above = (width * Fraction(draw.randint(0, 10), 10) for _ in range(2))
+            low, high = ends_of(real if by is None else by.shows(real))
+            ends = (low - below - measure.offset, high + above - measure.offset)
+            given = (ends[0] / measure.factor, ends[1] / measure.factor)
+            case.w.read(f"read {name}", quantity, given, by=by and by.device)
 
 
 def lost(case: Case, *, is_shaved: bool = False) -> list[str]:
     """The quantities whose real does not lie in their answer."""
-    found = []
+    return [each for it in case.quantities for each in lost_of(case, it, is_shaved=is_shaved)]
+
+
+def lost_of(case: Case, name: str, *, is_shaved: bool = False) -> list[str]:
+    """The same of one quantity."""
+    quantity = case.quantities[name]
+    answer = case.w.shave(quantity, seconds=20) if is_shaved else quantity.ask(seconds=20)
+    if answer.low is None or answer.high is None:
+        return []
+    return beyond(case, name, Fraction(answer.low), Fraction(answer.high))
+
+
+def beyond(case: Case, name: str, low: Fraction, high: Fraction) -> list[str]:
+    """That a quantity's real surely lies beyond two ends in its unit."""
+    measure = case.quantities[name].measure
+    ends = ends_of(case.reals[name])
+    least, most = (low * measure.factor + measure.offset, high * measure.factor + measure.offset)
+    if least <= ends[1] and ends[0] <= most:
+        return []
+    return [f"{name} = {float(ends[0])} is not in {low}..{high}"]
+
+
+def numbers(case: Case) -> dict[Declared, int]:
+    """What each cell holds for its real. Raises Unfit where that is not sure."""
+    reals: dict[Declared, Number] = reals_of_devices(case.w, case.devices, case.reals)
+    for event in case.w._network.events:
+        if isinstance(event, RootMade):
+            case.roots[event.cell.name] = event.root
+            reals[event.cell] = quantity_of(case, event.cell.name)
     for name, quantity in case.quantities.items():
-        answer = case.w.shave(quantity, seconds=20) if is_shaved else quantity.ask(seconds=20)
-        number = fraction_of(case.reals[name])
-        if answer.low is not None and answer.high is not None:
-            if not Fraction(answer.low) - TINY <= number <= Fraction(answer.high) + TINY:
-                found.append(f"{name} = {float(number)} is not in {answer.low}..{answer.high}")
-    return found
+        reals[quantity.declared] = case.reals[name]
+    try:
+        measures = {cell: cell.measure for cell in reals}
+        return {cell: count_of(it, reals[cell]) for cell, it in measures.items() if it}
+    except Unsure:
+        raise Unfit from None
 
 
 def unmet(case: Case, *, is_read: bool = True) -> list[str]:
     """What is stated that does not hold where each cell holds what it does for its real, with what
-    `is_read` or without: worked out in whole numbers, without the program."""
-    points: dict[Declared, Point] = {}
-    made = [each for each in case.w._network.events if isinstance(each, RootMade)]
-    case.roots = {each.cell.name: each.root for each in made}
-    for each in made:
-        assert each.cell.measure is not None
-        real = fraction_of(value_of(case, each.root, case.reals))
-        points[each.cell] = each.cell.measure.count(real)
-    for name, quantity in case.quantities.items():
-        points[quantity.declared] = quantity.measure.count(fraction_of(case.reals[name]))
+    `is_read` or without: worked out in whole numbers, without the program. Raises Unfit."""
+    points = numbers(case)
     sorts = (Required, Told) if is_read else Required
     events = [it for it in case.w._network.events if isinstance(it, sorts)]
     return [it.text for it in events if not it.is_met(points)]
 
 
-def fraction_of(number: Number) -> Fraction:
-    """A number of mpmath's."""
-    sign, digits, exponent, _ = EXACT.mpf(number)._mpf_
-    return Fraction(-int(digits) if sign else int(digits)) * Fraction(2) ** int(exponent)
+def quantity_of(case: Case, name: str) -> Number:
+    """What a quantity is, or one that stands for a term."""
+    if name not in case.reals:
+        case.reals[name] = value_of(case, case.roots[name])
+    return case.reals[name]
 
 
-def _exact(number: Fraction) -> Number:
-    return EXACT.mpf(number.numerator) / number.denominator
-
-
-def value_of(case: Case, real: Real, reals: dict[str, Number]) -> Number:
+def value_of(case: Case, real: Real) -> Number:
     """What a term is, in base units."""
     if real.sort is Sort.QUANTITY:
-        name = real.quantity.name
-        return reals[name] if name in reals else value_of(case, case.roots[name], reals)
+        return quantity_of(case, real.quantity.name)
     if real.sort is Sort.CONSTANT:
-        return _exact(real.number)
-    values = [value_of(case, arg, reals) for arg in real.args]
+        return real.number
+    found = case.found.get(id(real))
+    if found is None:
+        found = case.found[id(real)] = _value_of(case, real)
+    return found
+
+
+def _value_of(case: Case, real: Real) -> Number:
+    values = [value_of(case, arg) for arg in real.args]
     if real.sort is Sort.FUNCTION:
         return _applied(case, real, values[0])
     if real.sort is Sort.POWER:
-        return values[0] ** int(real.number)
-    return _VALUES[real.sort](values)
+        return powered(values[0], real.number)
+    return worked_out(real.sort, values)
 
 
 def _applied(case: Case, real: Real, value: Number) -> Number:
     """A function of a value; of a curve that is one of several, beyond its ends as there."""
     function = real.applied
-    if function.branch is None:
-        return _of(case, real, function, value)
-    whole = replace(real, function=replace(function, branch=None))
-    shape = shape_of(whole.applied, BoundsOf()(real.args[0]))
-    curve = shape.curves[function.branch]
-    if isinstance(curve, Wave):
-        half = EXACT.mpf(180) if curve.in_degrees else EXACT.pi
-        first = curve.branch if curve.is_cosine else curve.branch - EXACT.mpf(1) / 2
-        return _of(case, whole, whole.applied, min(max(value, first * half), (first + 1) * half))
-    assert isinstance(curve, Segments)
-    ends = _exact(curve.points[0][0]), _exact(curve.points[-1][0])
-    found = _on_lines(curve.points, min(max(value, ends[0]), ends[1]))
-    return found + (_off(case, whole) if function.branch == 0 else 0)
-
-
-def _of(case: Case, real: Real, function: Function, value: Number) -> Number:
-    scale = EXACT.pi / 180 if function.in_degrees else EXACT.mpf(1)
     if function.name is Name.TABLE:
-        assert function.table is not None
-        return _on_lines(function.table.points, value) + _off(case, real)
-    if function.name is Name.POWER:
-        exponent = _exact(function.exponent)
-        return value**exponent if value > 0 else EXACT.mpf(0)
-    if function.name in _OF_ANGLES:
-        return _OF_ANGLES[function.name](value * scale)
-    if function.name in (Name.ASIN, Name.ACOS):
-        value = min(max(value, EXACT.mpf(-1)), EXACT.mpf(1))
-    if function.name in _ANGLES:
-        return _ANGLES[function.name](value) / scale
-    return _PLAIN[function.name](value)
+        return _looked_up(case, real, value)
+    if function.branch is None:
+        return applied(function, value)
+    whole = replace(function, branch=None)
+    curve = shape_of(whole, BoundsOf()(real.args[0])).curves[function.branch]
+    assert isinstance(curve, Wave)
+    return applied(whole, on_branch(value, function, curve.branch))
 
 
-def _on_lines(points: Any, value: Number) -> Number:
-    """A value on straight lines between points."""
-    for (first, begun), (last, ended) in zip(points, points[1:]):
-        if value <= _exact(last) or last == points[-1][0]:
-            share = (value - _exact(first)) / _exact(last - first)
-            return _exact(begun) + _exact(ended - begun) * share
-    raise AssertionError(points)
-
-
-def _off(case: Case, real: Real) -> Number:
-    """By how much a table is off: what it is once, it is again."""
-    assert real.applied.table is not None
-    if real not in case.off:
-        case.off[real] = Fraction(case.draw.choice([-8, 8, case.draw.randint(-8, 8)]), 8)
-    return _exact(real.applied.table.off * case.off[real])
-
-
-_OF_ANGLES = {Name.SIN: EXACT.sin, Name.COS: EXACT.cos, Name.TAN: EXACT.tan}
-_ANGLES = {Name.ASIN: EXACT.asin, Name.ACOS: EXACT.acos, Name.ATAN: EXACT.atan}
-_PLAIN = {
-    Name.EXP: EXACT.exp,
-    Name.LN: EXACT.ln,
-    Name.EXP10: lambda value: EXACT.power(10, value),
-    Name.LOG10: EXACT.log10,
-}
-_VALUES: dict[Sort, Callable[[list[Number]], Number]] = {
-    Sort.PI: lambda values: +EXACT.pi,
-    Sort.SUM: lambda values: EXACT.fsum(values),
-    Sort.DIFFERENCE: lambda values: values[0] - values[1],
-    Sort.NEGATIVE: lambda values: -values[0],
-    Sort.PRODUCT: lambda values: values[0] * values[1],
-    Sort.QUOTIENT: lambda values: values[0] / values[1],
-    Sort.ROOT: lambda values: EXACT.sqrt(values[0]),
-    Sort.ABSOLUTE: lambda values: abs(values[0]),
-    Sort.GREATEST: max,
-    Sort.LEAST: min,
-    Sort.MEAN: lambda values: EXACT.fsum(values) / len(values),
-}
+def _looked_up(case: Case, real: Real, value: Number) -> Number:
+    """What a table has, as far off as was drawn: what that is once, it is again."""
+    table, branch = real.applied.table, real.applied.branch
+    assert table is not None
+    points = table.points
+    whole = replace(real, function=replace(real.applied, branch=None))
+    if branch is not None:
+        curve = shape_of(whole.applied, BoundsOf()(real.args[0])).curves[branch]
+        assert isinstance(curve, Segments)
+        points = curve.points
+    found = on_lines(points, value)
+    if branch:
+        return found
+    if whole not in case.off:
+        case.off[whole] = Fraction(case.draw.choice([-8, 8, case.draw.randint(-8, 8)]), 8)
+    return worked_out(Sort.SUM, [found, table.off * case.off[whole]])

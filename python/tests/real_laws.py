@@ -1,17 +1,19 @@
 """Random laws over random reals that fit them: exact fractions, worked out beside the terms."""
 
 import random
-from collections.abc import Callable, Iterator
+from collections.abc import Callable
 from dataclasses import dataclass, field
 from fractions import Fraction
 from math import isqrt
 
 from propbench import Workbench, maximum, mean, minimum, total
 from propbench.measuring.quantities import Quantity
-from propbench.measuring.terms import Law, Made, Real, Sort, Term, real_of, text_of
+from propbench.measuring.stating import RootMade
+from propbench.measuring.terms import Law, Made, Real, Sort, Term, real_of
 from propbench.model.events import Required, Told
-from propbench.model.kinds import Point
 from propbench.model.nodes import Declared
+from real_devices import Drawn as DrawnDevice
+from real_devices import device_for, reals_of_devices
 
 # Of these sorts a quantity is: units in base units, so that sums fit, and a bare number.
 UNITS = [("mm", Fraction(1, 1000)), ("m", Fraction(1)), ("inch", Fraction(254, 10_000))]
@@ -42,8 +44,7 @@ class Case:
     laws: list[Law] = field(default_factory=list)
     # The quantities that laws give, in order, and what they give for each.
     given: list[tuple[str, Real]] = field(default_factory=list)
-    # The roots in laws by their texts, once they are needed.
-    roots: dict[str, Real] = field(default_factory=dict)
+    devices: dict[str, DrawnDevice] = field(default_factory=dict)
 
     def quantity(self, value: Fraction, *, is_positive: bool = False) -> Drawn:
         """A quantity that has this value, in base units, between ends around it."""
@@ -194,10 +195,13 @@ def law_of(case: Case, depth: int) -> Law:
     return made.term >= other.term
 
 
-def stated_case(w: Workbench, draw: random.Random) -> Case:
-    """A case whose law is stated. Raises Unfit, and ValueError where a term has no bound."""
+def stated_case(w: Workbench, draw: random.Random, count: int = 1) -> Case:
+    """A case whose law is stated, or so many. Raises Unfit, and ValueError where a term has no
+    bound."""
     case = Case(w, draw)
-    _state(case, law_of(case, draw.randint(1, 4)), draw.choice([None, None, "law"]))
+    for _ in range(count):
+        depth = draw.randint(1, 4 if count == 1 else 2)
+        _state(case, law_of(case, depth), draw.choice([None, None, "law"]))
     if draw.random() < 0.15:
         case.leaf()
         for _ in range(draw.randint(2, 4)):
@@ -230,8 +234,9 @@ def shared_law(case: Case) -> Law:
     return case.quantity(value).term == term
 
 
-def redraw(case: Case) -> None:
-    """Other reals that fit the law. Raises Unfit where what was drawn doesn't."""
+def redraw(case: Case, *, is_good: bool = True) -> None:
+    """Other reals that fit the law, and other errors of devices: where devices are good, as small as
+    is said of them. Raises Unfit where what was drawn doesn't fit."""
     reals = {name: _within(case, name) for name in case.reals}
     for name, real in case.given:
         reals[name] = value_of(real, reals)
@@ -242,6 +247,8 @@ def redraw(case: Case) -> None:
         if not law.is_equation and value_of(law.left, reals) > value_of(law.right, reals):
             raise Unfit
     case.reals = reals
+    for device in case.devices.values():
+        device.redraw(case.draw, is_good=is_good)
 
 
 def _within(case: Case, name: str) -> Fraction:
@@ -262,51 +269,58 @@ def _within(case: Case, name: str) -> Fraction:
 
 
 def read_some(case: Case) -> None:
-    """Reads some quantities: what is read holds."""
+    """Reads some quantities, some by devices: what is read holds."""
     draw = case.draw
     for name, quantity in case.quantities.items():
         if draw.random() < 0.6:
             number = case.reals[name] / case.units[name]
+            by = device_for(case.w, draw, case.devices, quantity, abs(number) / 10)
+            shown = number if by is None else by.shows(case.reals[name]) / case.units[name]
             width = abs(number) * Fraction(draw.choice([0, 1, 5, 100]), 1000)
-            below, above = (Fraction(draw.randint(0, 10), 10) for _ in range(2))
-            case.w.read(f"read {name}", quantity, (number - width * below, number + width * above))
+            below, above = (width * Fraction(draw.randint(0, 10), 10) for _ in range(2))
+            given = (shown - below, shown + above)
+            case.w.read(f"read {name}", quantity, given, by=by and by.device)
 
 
 def lost(case: Case, *, is_shaved: bool = False) -> list[str]:
     """The quantities whose real does not lie in their answer."""
-    found = []
+    return [each for it in case.quantities for each in lost_of(case, it, is_shaved=is_shaved)]
+
+
+def lost_of(case: Case, name: str, *, is_shaved: bool = False) -> list[str]:
+    """The same of one quantity."""
+    quantity = case.quantities[name]
+    answer = case.w.shave(quantity, seconds=2) if is_shaved else quantity.ask(seconds=2)
+    if answer.low is None or answer.high is None:
+        return []
+    return beyond(case, name, Fraction(answer.low), Fraction(answer.high))
+
+
+def beyond(case: Case, name: str, low: Fraction, high: Fraction) -> list[str]:
+    """That a quantity's real lies beyond two ends in its unit."""
+    number = case.reals[name] / case.units[name]
+    return [] if low <= number <= high else [f"{name} = {number} is not in {low}..{high}"]
+
+
+def numbers(case: Case) -> dict[Declared, int]:
+    """What each cell holds for its real. Raises Unfit for a root that is no fraction."""
+    reals = reals_of_devices(case.w, case.devices, case.reals)
+    for event in case.w._network.events:
+        if isinstance(event, RootMade):
+            reals[event.cell] = value_of(event.root, case.reals)
     for name, quantity in case.quantities.items():
-        answer = case.w.shave(quantity, seconds=2) if is_shaved else quantity.ask(seconds=2)
-        number = case.reals[name] / case.units[name]
-        if answer.low is not None and answer.high is not None:
-            if not Fraction(answer.low) <= number <= Fraction(answer.high):
-                found.append(f"{name} = {number} is not in {answer.low}..{answer.high}")
-    return found
+        reals[quantity.declared] = case.reals[name]
+    return {cell: cell.measure.count(real) for cell, real in reals.items() if cell.measure}
 
 
 def unmet(case: Case, *, is_read: bool = True) -> list[str]:
     """What is stated that does not hold where each cell holds what it does for its real, with what
     `is_read` or without: worked out in whole numbers, without the program. Raises Unfit for a root
     that is no fraction."""
-    points: dict[Declared, Point] = {}
-    for cell in case.w._network.cells.values():
-        if cell.name not in case.reals and not case.roots:
-            sides = [side for law in case.laws for side in (law.left, law.right)]
-            case.roots = {text_of(it): it for side in sides for it in _parts(side)}
-        real = case.reals.get(cell.name)
-        assert cell.measure is not None
-        found = value_of(case.roots[cell.name], case.reals) if real is None else real
-        points[cell] = cell.measure.count(found)
+    points = numbers(case)
     sorts = (Required, Told) if is_read else Required
     events = [it for it in case.w._network.events if isinstance(it, sorts)]
     return [it.text for it in events if not it.is_met(points)]
-
-
-def _parts(real: Real) -> Iterator[Real]:
-    """A term and all that it is made of."""
-    yield real
-    for arg in real.args:
-        yield from _parts(arg)
 
 
 def value_of(real: Real, reals: dict[str, Fraction]) -> Fraction:

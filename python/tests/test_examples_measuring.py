@@ -3,9 +3,10 @@
 import re
 from fractions import Fraction
 from itertools import product
-from math import ceil, cos, floor, radians, sin
+from math import ceil, cos, floor, radians, sin, sqrt
 
-from examples import ran, replies, tables
+from examples import EXAMPLES, ran, replies, tables
+from normal_equations import normal, solved
 from test_measured import Ends, around, ends, parallel
 
 SHOWN = re.compile(r"^(.+?)(?: = |  ) *(-?[\d.]+)\.\.(-?[\d.]+) (\S+)", re.M)
@@ -18,6 +19,11 @@ def shown(name: str) -> tuple[str, dict[str, list[Ends]]]:
     for of, low, high, _ in SHOWN.findall(printed):
         found.setdefault(of.strip(), []).append(ends(low, high))
     return printed, found
+
+
+def source(name: str) -> str:
+    """An example as it is written."""
+    return (EXAMPLES / "measuring" / f"{name}.py").read_text(encoding="utf-8")
 
 
 def is_shown(found: Ends, wanted: Ends, digit: str) -> bool:
@@ -206,6 +212,36 @@ def test_a_traverse() -> None:
             high += (float(metres) + 0.05) * (middle + off)
         answer = found[f"C {way}"][0]
         assert low - 0.02 <= answer[0] and answer[1] <= high + 0.02
+
+
+def test_a_net_of_levels() -> None:
+    """The bounds are those of the shortest ways from the mark, and the estimates those of the normal
+    equations, both in exact fractions; the line that was misread is the first way to give up."""
+    printed, found = shown("levels")
+    lines = {
+        f"{begin}{end}": Fraction(rises)
+        for begin, end, rises in re.findall(r'"(\w)(\w)": "(.+)",', source("levels"))
+    }
+    off, names = Fraction(3, 1000), "BCDE"
+    most = {name: Fraction(0 if name == "A" else 10**6) for name in "ABCDE"}
+    least = dict(most)
+    for _ in "ABCDE":
+        for (begin, end), rises in lines.items():
+            for one, other, way in ((begin, end, rises), (end, begin, -rises)):
+                most[other] = min(most[other], most[one] + way + off)
+                least[other] = min(least[other], least[one] - way + off)
+    rows = [(begin, end, f"{float(rises):.3f}", "1") for (begin, end), rises in lines.items()]
+    squares, right = normal(rows)
+    for name, height in zip(names, solved(squares, right)):
+        row = re.search(rf"^  {name} +(\S+) +(\S+) +(\S+) +m +(\S+)\.\.(\S+) m$", printed, re.M)
+        assert row and abs(Fraction(row[1]) - 100 - height) <= Fraction(1, 20000)
+        unit = [Fraction(int(each == name)) for each in names]
+        u = sqrt(solved(squares, unit)[names.index(name)] * off**2 / 3)
+        assert abs(float(row[2]) - u) <= 0.00005 and abs(float(row[3]) - 2 * u) < 0.0001
+        wanted = 100 - least[name], 100 + most[name]
+        assert is_shown(ends(row[4], row[5]), wanted, "0.0002")
+    assert printed.count("suspect, the most in front: CD ") == 1
+    assert re.search(r"^  1 +CD +C to D = 1.254 \+- 0.003 m ", printed, re.M)
 
 
 # --- as sessions ---

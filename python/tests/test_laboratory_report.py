@@ -2,6 +2,7 @@
 
 import hashlib
 import re
+import sys
 from base64 import b64decode
 from collections.abc import Iterator
 from fractions import Fraction
@@ -136,3 +137,47 @@ def test_the_desk_writes_one(tmp_path: Path, wide: str, capsys: pytest.CaptureFi
     assert main([*words, "--report", str(tmp_path / "r.html"), "--program", wide]) == 0
     assert "The report is in" in capsys.readouterr().out
     assert Page((tmp_path / "r.html").read_text()).text.count("4.995 to 5.005") == 1
+
+
+def test_a_quantity_that_is_not_read_has_bars_by_each_path() -> None:
+    """x = a + b lies in 4.9..5.1, x = c - d in 5.05..5.35: so in 5.05..5.1 by both."""
+    with Workbench() as w:
+        x, a, b, c, d, other, alone = (
+            w.measured(name, unit="m", low=0, high=20, step="0.0001")
+            for name in ("x", "a", "b", "c", "d", "other", "alone")
+        )
+        w.law(x == a + b)
+        w.law(x == c - d)
+        w.law(alone == other * 2)
+        for name, cell, text in (
+            ("tape", a, "2.00 +- 0.05 m"),
+            ("rod", b, "3.00 +- 0.05 m"),
+            ("long tape", c, "9.20 +- 0.10 m"),
+            ("wheel", d, "4.00 +- 0.05 m"),
+            ("stick", other, "4.00 +- 0.05 m"),
+        ):
+            w.read(name, cell, text)
+        report = w.report("A wall", seconds=60)
+        assert w.believed == ("tape", "rod", "long tape", "wheel", "stick")
+        bars = {each.label: each.interval for each in report.found.bars["x"]}
+        wanted = {
+            "by long tape and wheel": ("5.05", "5.35"),
+            "by tape and rod": ("4.9", "5.1"),
+            "together": ("5.05", "5.1"),
+        }
+        assert bars.keys() == wanted.keys() and "alone" not in report.found.bars
+        for label, (low, high) in wanted.items():
+            found = Fraction(bars[label].low), Fraction(bars[label].high)
+            assert Fraction(low) - Fraction(1, 1000) < found[0] <= Fraction(low)
+            assert Fraction(high) <= found[1] < Fraction(high) + Fraction(1, 1000)
+        assert "by tape and rod" in Page(report.html).text
+
+
+def test_a_report_says_why_it_has_no_estimates(
+    w: Workbench, monkeypatch: pytest.MonkeyPatch
+) -> None:
+    for name in ("scipy", "scipy.linalg", "scipy.stats"):
+        monkeypatch.setitem(sys.modules, name, None)
+    report = w.report("A ring", seconds=60)
+    for text in (report.text, Page(report.html).text):
+        assert "There are no estimates: statistics need SciPy" in text

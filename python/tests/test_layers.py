@@ -25,7 +25,7 @@ LAYERS = {
     **dict.fromkeys(["shell", "terminal"], FRONT),
 }
 # Modules of another layer than their package: what readings say, and commands of the desk.
-_SAID = ["exact", "units", "amounts", "angles", "tolerances", "readings"]
+_SAID = ["exact", "units", "amounts", "angles", "means", "tolerances", "readings"]
 _COMMANDS = ["laboratory.command", "planning.command", "planning.planner"]
 BY_THEMSELVES = {
     **dict.fromkeys([f"propbench.measuring.{name}" for name in _SAID], READINGS),

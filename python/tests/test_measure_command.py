@@ -85,6 +85,13 @@ def test_estimates(desk: Desk) -> None:
     assert "Least squares, tested and not proved: no reading controls another." in desk.out
 
 
+def test_a_report_that_can_t_be_written_loses_no_result(desk: Desk) -> None:
+    path = desk.folder / "no folder" / "report.html"
+    assert desk.run(BENCH, READINGS, "--decimal", ",", "--report", str(path)) == 3
+    assert re.search(r"^  density +\S+ ", desk.out, re.M) and "The report is in" not in desk.out
+    assert "No such file or directory" in desk.error
+
+
 def test_laws_in_a_file(desk: Desk) -> None:
     bench = re.sub("laws = .*", 'laws = "laws.txt"', BENCH)
     assert desk.run(bench, READINGS, "--decimal", ",") == 3
@@ -135,6 +142,13 @@ def test_a_bench_that_is_wrong(desk: Desk, old: str, new: str, says: str) -> Non
 def test_readings_that_are_wrong(desk: Desk) -> None:
     assert desk.run(BENCH, READINGS) == 2
     assert "readings.csv:\nrow 2, column `value`: '100,0': write a point, or" in desk.error
+    assert "read it with `--decimal ,`" in desk.error and "decimal=" not in desk.error
+    for row, says in (
+        ("colour;5 g;;", "make it in `[quantities]` of the bench"),
+        ("mass;5 g;;clock", "make it in `[devices]` of the bench"),
+    ):
+        assert desk.run(BENCH, f"quantity;value;unit;device\n{row}\n") == 2
+        assert says in desk.error and "`w." not in desk.error, desk.error
     assert desk.run(BENCH, READINGS, "--decimal", ",", "--improve", "colour") == 2
     assert "no cell is called 'colour'" in desk.error
     for words in (["--under", "colour"], ["--coverage", "much"], ["--decimal", ";"]):

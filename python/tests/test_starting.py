@@ -34,7 +34,9 @@ HEAVY = {
 
 
 def imported(statements: str, *words: str) -> set[str]:
-    """The modules that statements import, in a Python of their own, beside those of a bare one."""
+    """The modules that statements import, in a Python of their own, beside those of a bare one: of
+    one that looks at no site packages, since what these import at each start (`*.pth`) is not ours,
+    and differs from one machine to the next."""
     told = (
         "import sys\n"
         "there = set(sys.modules)\n"
@@ -42,7 +44,7 @@ def imported(statements: str, *words: str) -> set[str]:
         "print('', *(set(sys.modules) - there), sep='\\n')\n"
     )
     ran = subprocess.run(
-        [sys.executable, "-c", told, *words],
+        [sys.executable, "-S", "-c", told, *words],
         env={**os.environ, "PYTHONPATH": SOURCES},
         capture_output=True,
         text=True,
@@ -57,7 +59,7 @@ def test_the_package_is_there_at_once() -> None:
         "propbench",
         "propbench.lazily",
     }
-    assert len(found) <= 20
+    assert len(found) <= 40
 
 
 def test_help_needs_none_of_what_it_tells_of() -> None:
@@ -70,7 +72,7 @@ def test_help_needs_none_of_what_it_tells_of() -> None:
         "propbench.desk",
         "propbench.lazily",
     }
-    assert len(found) <= 40
+    assert len(found) <= 60
 
 
 def test_a_run_imports_no_workbench(tmp_path: Path) -> None:
@@ -85,7 +87,7 @@ def test_a_run_imports_no_workbench(tmp_path: Path) -> None:
     )
     assert not HEAVY & found
     assert [name for name in found if name.count(".") > 1 and name.startswith("propbench.")] == []
-    assert len(found) <= 80
+    assert len(found) <= 105
 
 
 def test_a_solver_imports_what_solves_alone(tmp_path: Path) -> None:
@@ -102,7 +104,7 @@ def test_a_solver_imports_what_solves_alone(tmp_path: Path) -> None:
     parts = ("measuring", "planning", "watching", "pictures", "page", "notebook")
     assert [name for name in found if name.startswith(tuple(f"propbench.{x}" for x in parts))] == []
     assert "propbench.questions.scenarios" not in found
-    assert len(found) <= 155
+    assert len(found) <= 180
 
 
 @pytest.mark.parametrize("package", ["propbench", "propbench.errors", "propbench.questions"])

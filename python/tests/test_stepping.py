@@ -35,7 +35,7 @@ from propbench import (
 )
 from propbench.page import Page
 from propbench.pictures import film_of, picture_of
-from propbench.replies import lines_behind, reply_of
+from propbench.replies import Searched, lines_behind, reply_of
 from propbench.watching import Use
 from propbench.watching.of_session import SessionWatched
 from propbench.watching.of_workbench import WorkbenchWatched
@@ -74,6 +74,14 @@ READ = [
         (),
         Called(2, "inverter", ("t",), "#5", Nothing(), ()),
     ),
+    ("step 2\nsupposed: 1\nz = 3", (), Searched(("supposed: 1", "z = 3"))),
+    (
+        "step 3\nnogood: z<=3 t=yes\nbecause ana\nback: 1",
+        (),
+        Searched(("nogood: z<=3 t=yes", "because ana", "back: 1")),
+    ),
+    ("step 1\nplan", (), Searched(("plan",))),
+    ("step 0", (), Searched(())),
     (
         "step 3\nsides:\ncalled: 2 inverter t #5\n#5 = no because q",
         (),

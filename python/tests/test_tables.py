@@ -174,6 +174,8 @@ WRONG = {
     "mass,100.0,g,little,b": "row 2, column `uncertainty`: ",
     "mass,some,g,0.2,b": "row 2, column `value`: ",
     "mass,100.0 g,g,,b": "row 2, column `unit`: the value has its unit with it",
+    'mass,100.0,g,"0,5",b': "row 2, column `uncertainty`: '0,5': write a point, or read it with `dec",
+    'mass,"1,234.5",g,1,b': "row 2, column `value`: '1,234.5': leave out what stands between thou",
     "mass,1.0,g,,b\nmass,1.0,g,,b": "row 3, column `premise`: `b` is that of row 2 too",
     "mass,1.0,g,,venue": "row 2, column `premise`: `venue` is a choice",
 }
@@ -189,6 +191,22 @@ def test_bad_rows(w: Workbench, table: Callable[[str], Path], row: str) -> None:
     assert WRONG[row] in str(caught.value), caught.value
     assert len(caught.value.problems) == 1
     assert list(w.network.events) == before and w.premises == ()
+
+
+def test_a_number_is_in_the_quantity_s_unit_whatever_its_uncertainty_is_in(w: Workbench) -> None:
+    """100 with an uncertainty of 0.002 kg is 98..102 g where g are measured, and not 100 kg."""
+    room = w.measured("room", unit="degC", low=-50, high=50)
+    rows = [
+        {"quantity": "mass", "value": 100, "uncertainty": "0.002 kg"},
+        {"quantity": "room", "value": "20.5", "uncertainty": "0.5 K"},
+        {"quantity": "volume", "value": "7.0", "uncertainty": "u=100 mm3"},
+    ]
+    assert w.read_table(rows) == 3
+    assert ends(w, "mass") == (98, 102)
+    assert ends(w, "room") == (20, 21) and room.ask().because == ("room 1",)
+    assert ends(w, "volume") == (Fraction("6.7"), Fraction("7.3"))
+    with pytest.raises(BadTable, match="'1.234,5 g': leave out what stands between thousands"):
+        w.read_table([{"quantity": "mass", "value": "1.234,5 g"}], decimal=",")
 
 
 def test_all_that_is_wrong_is_told_at_once(w: Workbench, table: Callable[[str], Path]) -> None:
@@ -323,6 +341,20 @@ def test_a_text_is_the_law_that_it_says() -> None:
             [found] = laws_of(text, known)
             assert (found.left, found.right) == (law.left, law.right), text
         assert len(laws_of("1 <= ratio <= minimum(ratio, 5)", known)) == 2
+
+
+def test_a_quantity_may_be_called_as_a_function(wide: str) -> None:
+    """`pH(..)` is the function then, and `pH` the quantity: pH 2 is 0.01 mol/L."""
+    pytest.importorskip("mpmath")
+    with Workbench(wide) as w:
+        acid = w.measured("acid", unit="mol/L", low="0.001", high=1)
+        w.measured("pH", unit="pH", low=0, high=14)
+        w.law("pH = pH (acid)")
+        w.read("meter", w.cell("pH"), "2.00 +- 0.01")
+        answer = acid.ask()
+        assert answer.low is not None and answer.high is not None
+        assert float(answer.low) == pytest.approx(10**-2.01, rel=1e-3)
+        assert float(answer.high) == pytest.approx(10**-1.99, rel=1e-3)
 
 
 def test_what_a_law_is_printed_as_can_be_read() -> None:

@@ -3,14 +3,14 @@ ghost use Rattle.std.specs.Prelude.{◌≡◌, IfOk, IfSome};
 ghost use Rattle.prop_procedures.specs.Kept.{AllMean, stored_of};
 ghost use Rattle.prop_cells.specs.Data.{IsKept};
 ghost use Rattle.prop_plans.specs.Held.{attached_of};
-ghost use Rattle.prop_deriving.specs.Known.{AlwaysStays, Follows, Stays};
+ghost use Rattle.prop_deriving.specs.Known.{AlwaysFollows, AlwaysStays, Follows, Stays};
 
 use crate::clash::{Clash, Pair};
 use crate::derivation::Derivation;
 use crate::ground::Ground;
 use crate::reading::{is_decided, is_later, level_of};
 use crate::reason::Reason;
-use prop_facts::Fact;
+use prop_facts::{Fact, Literal};
 use prop_lattice::Info;
 use prop_learned::weights::Weights;
 use prop_procedures::Rule;
@@ -42,6 +42,34 @@ pub struct Learning {
     makers: Vec<Option<usize>>,
     level: usize,
     asserting: usize,
+}
+
+/// The literal that came to be so last, the entry that made it so, and the entry that made the last
+/// of the others so.
+#[derive(Clone, Copy)]
+struct Latest {
+    at: usize,
+    maker: Option<usize>,
+    second: Option<usize>,
+}
+
+impl Latest {
+    /// The same with one literal more.
+    fn beside(self, at: usize, maker: Option<usize>) -> Latest {
+        if is_later(maker, self.maker) {
+            return Latest {
+                at,
+                maker,
+                second: self.maker,
+            };
+        }
+        let is_second = is_later(maker, self.second);
+        Latest {
+            at: self.at,
+            maker: self.maker,
+            second: if is_second { maker } else { self.second },
+        }
+    }
 }
 
 impl Model for Learning {
@@ -124,6 +152,28 @@ impl Learning {
         Ok(Some(Learning::begun(basis, derivation)?))
     }
 
+    /// Begins with two facts about a place that no value has together: one that is no more than
+    /// supposed, and stays to the end, and one that is so where nothing is. None where they may be
+    /// so together.
+    pub fn of_end<R: Rule + Drop>(
+        basis: &Ground<'_, R>,
+        supposed: Literal,
+        end: Fact,
+    ) -> Result<Option<Learning>, AllocError>
+        ensures { IfOk result (λ o. IfSome o AlwaysFollows) }
+    {
+        let pair = Pair {
+            one: supposed.fact,
+            other: end,
+        };
+        let Some(derivation) = Derivation::clashing(basis.alloc, supposed.place, pair)? else {
+            return Ok(None);
+        };
+        let mut learning = Learning::begun(basis, derivation)?;
+        learning.suppose_first(basis.trail);
+        Ok(Some(learning))
+    }
+
     /// The nogood as it stands.
     pub fn nogood(&self) -> &Nogood
         ensures { result.now ≡ self.now }
@@ -167,8 +217,8 @@ impl Learning {
         second
     }
 
-    /// Takes one step back from the contradiction, of what came last. `is_whole`: it goes on to
-    /// what was decided itself.
+    /// Takes one step back from the contradiction, of what came last, and at the end of what was so
+    /// where nothing was supposed. `is_whole`: it goes on to what was decided itself.
     pub fn step<R: Rule + Drop>(
         &mut self,
         basis: &Ground<'_, R>,
@@ -182,21 +232,19 @@ impl Learning {
             (attached_of basis.now.network.now.cells) basis.now.choices.now basis.now.root.now
             basis.now.store.now self.old self.new }
     {
-        let trail = basis.trail;
         if self.makers.len() != self.nogood().literals().len() {
             return Ok(State::Failed);
         }
-        if let Some(at) = self.last_of(trail, 0) {
+        let latest = self.latest();
+        self.level = level_of(basis.trail, latest.maker);
+        if self.level > 0 && !self.can_end(basis, latest, is_whole) {
+            return self.resolve(basis, latest.at, weights);
+        }
+        if let Some(at) = self.last_of_root(basis.trail) {
             return self.resolve(basis, at, weights);
         }
-        let Some(at) = self.last_of(trail, self.level) else {
-            return Ok(self.next_level(trail));
-        };
-        if self.can_end(basis, at, is_whole) {
-            self.asserting = at;
-            return Ok(State::Learned);
-        }
-        self.resolve(basis, at, weights)
+        self.asserting = latest.at;
+        Ok(State::Learned)
     }
 
     /// A derivation that begins with a nogood all of which is so.
@@ -217,35 +265,40 @@ impl Learning {
         Ok(learning)
     }
 
-    /// The level of the last of the literals.
-    fn last_level(&self, trail: &Trail) -> usize {
-        let mut last = 0;
-        for maker in &self.makers {
-            last = last.max(level_of(trail, *maker));
-        }
-        last
-    }
-
-    /// Goes on with the last level of which there is a literal.
-    fn next_level(&mut self, trail: &Trail) -> State
+    /// The first literal counts as supposed next, behind all that is on the trail.
+    fn suppose_first(&mut self, trail: &Trail)
         ensures { self.new ≡ self.old }
     {
-        let last = self.last_level(trail);
-        if last == 0 {
-            return State::Learned;
+        if !self.makers.is_empty() {
+            self.makers[0] = Some(trail.len());
         }
-        self.level = last;
-        State::Going
+        self.level = self.last_level(trail);
     }
 
-    /// Of the literals of a level that which came to be so last.
-    fn last_of(&self, trail: &Trail, level: usize) -> Option<usize> {
+    /// The level of the last of the literals.
+    fn last_level(&self, trail: &Trail) -> usize {
+        level_of(trail, self.latest().maker)
+    }
+
+    /// The literal that came to be so last, and what made the last of the others so.
+    fn latest(&self) -> Latest {
+        let mut latest = Latest {
+            at: 0,
+            maker: None,
+            second: None,
+        };
+        for (at, maker) in self.makers.iter().enumerate() {
+            latest = latest.beside(at, *maker);
+        }
+        latest
+    }
+
+    /// Of the literals that were so where nothing was supposed that which came to be so last.
+    fn last_of_root(&self, trail: &Trail) -> Option<usize> {
         let mut last = None;
         let mut last_maker = None;
         for (at, maker) in self.makers.iter().enumerate() {
-            if level_of(trail, *maker) == level
-                && (last.is_none() || is_later(*maker, last_maker))
-            {
+            if level_of(trail, *maker) == 0 && (last.is_none() || is_later(*maker, last_maker)) {
                 last = Some(at);
                 last_maker = *maker;
             }
@@ -253,22 +306,17 @@ impl Learning {
         last
     }
 
-    /// Whether the derivation may end with a literal of the last level: it is the only one, can be
-    /// denied, and was decided, where that is wanted.
-    fn can_end<R: Rule + Drop>(&self, basis: &Ground<'_, R>, at: usize, is_whole: bool) -> bool {
-        self.is_alone(basis.trail, at)
-            && (!is_whole || is_decided(basis.trail, self.maker(at)))
-            && self.can_be_denied(basis, at)
-    }
-
-    /// Whether no other literal is of the last level.
-    fn is_alone(&self, trail: &Trail, at: usize) -> bool {
-        for (other, maker) in self.makers.iter().enumerate() {
-            if other != at && level_of(trail, *maker) == self.level {
-                return false;
-            }
-        }
-        true
+    /// Whether the derivation may end with the literal that came last: no other is of its level, it
+    /// can be denied, and was decided, where that is wanted.
+    fn can_end<R: Rule + Drop>(
+        &self,
+        basis: &Ground<'_, R>,
+        latest: Latest,
+        is_whole: bool,
+    ) -> bool {
+        level_of(basis.trail, latest.second) < self.level
+            && (!is_whole || is_decided(basis.trail, latest.maker))
+            && self.can_be_denied(basis, latest.at)
     }
 
     /// Whether a literal has a denial that the trail keeps. A number within a span is kept out of

@@ -2,11 +2,12 @@
 
 use prop_trail::{Source, Trail};
 
-/// The level at which an entry was made; 0 where there is none.
+/// The level at which an entry was made, or will be made next; 0 where there is none.
 pub(crate) fn level_of(trail: &Trail, maker: Option<usize>) -> usize {
     match maker {
         Some(entry) if entry < trail.len() => trail.entry(entry).level,
-        _ => 0,
+        Some(_) => trail.level().saturating_add(1),
+        None => 0,
     }
 }
 

@@ -28,8 +28,13 @@ pub(crate) enum Turn {
     Silent,
     /// All its literals but this one are so.
     Denies(Literal),
-    /// It is to be watched at these. The second wasn't, and is this literal.
-    Moves { watched: Watched, to: Literal },
+    /// It is to be watched at these two: at the first, `beside`, as before, and at the second,
+    /// `to`, from now on.
+    Moves {
+        watched: Watched,
+        to: Literal,
+        beside: Literal,
+    },
 }
 
 /// Room for a nogood.
@@ -122,6 +127,7 @@ fn turn_of(trail: &Trail, literals: &[Literal], watched: Watched) -> Turn
             second: open,
         },
         to: literals[open],
+        beside: *first,
     }
 }
 

@@ -7,9 +7,10 @@ ghost use Rattle.prop_trail.specs.declared.entry.Source.TheVariants.{Nogood as b
 ghost use Rattle.prop_learned.specs.Stores.{IsDenied, IsKeptIn, IsKeptAt, IsSeen};
 ghost use Rattle.prop_learned.specs.inner.Slots.{IfDenies};
 
-use crate::reading::is_so;
+use crate::reading::{is_barred, is_so};
 use crate::slot::{Slot, Turn, Watched, watched_of};
 use prop_facts::{Fact, Literal};
+use prop_lattice::Info;
 use prop_refuting::Nogood;
 use prop_trail::{Source, Trail};
 use std::alloc::{AllocError, Global};
@@ -36,11 +37,13 @@ struct Passing {
     level: usize,
 }
 
-/// A nogood that watches a place, and which of its facts about the place it does.
+/// A nogood that watches a place, by which of its facts about the place, and another of its
+/// literals: while that can't be so, the nogood says nothing.
 #[derive(Clone, Copy)]
 struct Watcher {
     number: usize,
     fact: Fact,
+    other: Literal,
 }
 
 /// Nogoods by their numbers.
@@ -112,6 +115,14 @@ fn is_marked(made: &[bool], number: usize) -> bool
     }
 }
 
+/// Whether a fact is so of a place, of which this is believed.
+fn is_fact_so(trail: &Trail, place: usize, info: Info, fact: Fact) -> bool {
+    match fact {
+        Fact::Other(_) => is_so(trail, Literal { place, fact }),
+        fact => fact.follows_from(info),
+    }
+}
+
 impl Store {
     /// No nogood is kept, and none watches any of so many places.
     pub fn new(alloc: Global, places: usize) -> Result<Store, AllocError>
@@ -134,16 +145,36 @@ impl Store {
         }
     }
 
+    /// Which is the first, from the n-th on, that watches the place by a fact that is so.
+    pub fn next(&self, trail: &Trail, place: usize, n: usize) -> Option<usize> {
+        if place >= trail.places() {
+            return None;
+        }
+        let info = trail.info(place);
+        let watchers = self.watchers.get(place)?;
+        for at in n..watchers.len() {
+            if is_fact_so(trail, place, info, watchers[at].fact) {
+                return Some(at);
+            }
+        }
+        None
+    }
+
     /// Looks at the nogood that watches the place as the n-th, from 0: at none where there are
     /// fewer. Those that are kept stay the same.
     pub fn look(&mut self, trail: &Trail, place: usize, n: usize) -> Result<Look, AllocError>
         ensures same { self.new ≡ self.old }
         ensures seen { IfOk result (IsSeen trail.now self.old) }
     {
-        let Some(Watcher { number, fact }) = self.watcher(place, n) else {
+        let Some(watcher) = self.watcher(place, n) else {
             return Ok(Look::Silent);
         };
-        if !is_so(trail, Literal { place, fact }) {
+        let Watcher {
+            number,
+            fact,
+            other,
+        } = watcher;
+        if !is_so(trail, Literal { place, fact }) || is_barred(trail, other) {
             return Ok(Look::Silent);
         }
         match self.turn(trail, place, number) {
@@ -153,8 +184,12 @@ impl Store {
             }
             Turn::Silent => Ok(Look::Silent),
             Turn::Denies(literal) => Ok(Look::Denies { literal, number }),
-            Turn::Moves { watched, to } => {
-                self.watch(to, number)?;
+            Turn::Moves {
+                watched,
+                to,
+                beside,
+            } => {
+                self.watch(to, beside, number)?;
                 self.unwatch(place, n);
                 self.set_watched(number, watched);
                 Ok(Look::Moved)
@@ -259,13 +294,18 @@ impl Store {
         }
     }
 
-    /// The nogood with this number watches the literal's place, where there is such a place.
-    fn watch(&mut self, literal: Literal, number: usize) -> Result<(), AllocError>
+    /// The nogood with this number watches the first literal's place, where there is such a place.
+    fn watch(&mut self, literal: Literal, other: Literal, number: usize) -> Result<(), AllocError>
         ensures { self.new ≡ self.old }
     {
         let Literal { place, fact } = literal;
         if place < self.watchers.len() {
-            self.watchers[place].push(Watcher { number, fact })?;
+            let watcher = Watcher {
+                number,
+                fact,
+                other,
+            };
+            self.watchers[place].push(watcher)?;
         }
         Ok(())
     }
@@ -295,8 +335,8 @@ impl Store {
         let Some((first, second)) = self.watched_literals(number) else {
             return Ok(());
         };
-        self.watch(first, number)?;
-        self.watch(second, number)
+        self.watch(first, second, number)?;
+        self.watch(second, first, number)
     }
 
     /// The literals at which the nogood with this number is to be watched.

@@ -116,7 +116,7 @@ held_by fact p (info, e) h = subst (λ (a : Info). Holds a p) (sym (info_back in
 
 module _ (n : Attached) (points : ℕ → Point) (list : List ℕ) where
   -- at a cell the value is the point
-  at_cell : (cell : ℕ) → cell < length n.kinds → point_at n points list cell ≡ points cell
+  pub at_cell : (cell : ℕ) → cell < length n.kinds → point_at n points list cell ≡ points cell
   at_cell cell l = rw (lt-ltb cell (length n.kinds) l) refl
 
   rest_holds : {A : Type 0} (P : A → Type 0) (x : A) (xs : List A) → All P (x ∷ xs) → All P xs

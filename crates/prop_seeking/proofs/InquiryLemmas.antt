@@ -24,7 +24,7 @@ use Rattle.prop_seeking.specs.Plans.{Fits}
 use Rattle.prop_seeking.specs.declared.question.Asked.{Asked as AskedOf}
 use Rattle.prop_seeking.specs.declared.inquiry.Inquiry.{Inquiry as InquiryOf}
 use Rattle.prop_seeking.specs.inner.Seekers.{AreFound, AreOf, Ground, IsAllBut, IsApt, IsFirst, IsInquiry, IsLast}
-use Rattle.prop_seeking.specs.inner.Seekers.{plan_of, row_of, state_at}
+use Rattle.prop_seeking.specs.inner.Seekers.{IsOpen, IsSameQuestion, plan_of, row_of, state_at}
 use Rattle.prop_seeking.proofs.ExcuseLemmas.{facts_of, rows_of}
 
 -- ---- from one search to the next
@@ -177,6 +177,23 @@ module _ (g : Ground) (i j : InquiryOf) (inquiry : IsInquiry g i) (asks : AsksTh
     last = λ quiet. absurd (was_quiet quiet differing);
     rows = rows_after g i.solver j.solver answer h asks inquiry.rows;
   }
+
+-- only how far was told is another
+pub told_apart : (g : Ground) (i j : InquiryOf) → j ≡ record i { told = j.told } → IsInquiry g i → IsInquiry g j
+told_apart g i j e h = subst (IsInquiry g) (sym e) (record {
+  search = h.search;
+  first = h.first;
+  within = h.within;
+  last = h.last;
+  rows = h.rows;
+})
+
+-- a question that was open is, where it is the same and no plan came
+pub open_yet : (i j : InquiryOf) → IsOpen i → IsSameQuestion i j → j.last ≡ i.last
+    → (is_optimum j.solver.goal ≡ true) ⊎ (j.last ≡ None)
+open_yet i j (quiet, inl optimum) same last =
+    inl (subst (λ (x : Goal). is_optimum x ≡ true) (sym same.goal) optimum)
+open_yet i j (quiet, inr none) same last = inr (last ∙ none)
 
 -- where there is none
 pub none_there : {A : Type 0} (o : Option A) → is_some o ≡ false → o ≡ None

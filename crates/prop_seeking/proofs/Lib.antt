@@ -6,4 +6,5 @@ pub mod LimitLemmas
 pub mod ExcuseLemmas
 pub mod StayLemmas
 pub mod ReplyLemmas
+pub mod BoundLemmas
 pub mod SoughtLemmas

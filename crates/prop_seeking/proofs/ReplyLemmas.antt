@@ -2,12 +2,13 @@
 use Rattle.std.proofs.Common.{◌≡◌, ◌∙◌, ◌∷◌, ◌++◌, ◌<◌, ◌≤◌, ℕ, true, List, [], All, ap, inl, inr}
 use Rattle.std.proofs.Common.{map, refl, sym, subst}
 use Rattle.std.proofs.Common.{length, append-nil, arith}
-use Rattle.std.specs.Prelude.{Option, Some, None, IfSome, codes, slice_index, ◌==◌}
+use Rattle.std.specs.Prelude.{Option, Some, None, IfSome, codes, slice_index, ◌==◌, ℤ}
 use Rattle.std.proofs.lemmas.Bool.{eqb-true}
 use Rattle.std.proofs.lemmas.Option.{get_or_from_slice_get}
 use Rattle.prop_lattice.specs.Points.{Point}
 use Rattle.prop_lattice.specs.declared.info.Info.{Info}
 use Rattle.prop_lattice.specs.declared.info.Info.TheVariants.{Nothing, Span}
+use Rattle.prop_lattice.specs.declared.span.Span.{Span as SpanOf}
 use Rattle.prop_facts.specs.declared.fact.Fact.TheVariants.{AtLeast, AtMost}
 use Rattle.prop_facts.specs.declared.fact.Literal.{Literal}
 use Rattle.prop_procedures.specs.Stored.{Stored}
@@ -23,8 +24,11 @@ use Rattle.prop_workbench.specs.Machine.{State}
 use Rattle.prop_seeking.specs.Asking as aims
 use Rattle.prop_seeking.specs.Texts.{Plan, plan_text, many_text}
 use Rattle.prop_seeking.specs.Plans.{AreTold, Fits, IsNoBetter, Refutes, Says, SaysOne}
-use Rattle.prop_seeking.specs.inner.Pieces.{best_text}
+use Rattle.prop_seeking.specs.inner.Bounds.{IsWithin}
+use Rattle.prop_seeking.specs.inner.Pieces.{best_text, bounded_text}
+use Rattle.prop_seeking.specs.declared.inquiry.Inquiry.{Inquiry as InquiryOf}
 use Rattle.prop_seeking.specs.inner.Seekers.{Answers, AreFound, AreOf, Ground, IsAllBut, IsFirst, IsLast}
+use Rattle.prop_seeking.specs.inner.Seekers.{IsSameQuestion, inquiry_of}
 use Rattle.prop_seeking.specs.inner.Seekers.{aim_of, plan_of, question_of, row_of, rows_in, state_at}
 use Rattle.prop_seeking.proofs.ExcuseLemmas.{excused_told, no_less, no_more, none_excused}
 
@@ -52,6 +56,13 @@ rows_begin Any excuses none = refl
 rows_begin (Least cell) excuses none = refl
 rows_begin (Greatest cell) excuses none = refl
 rows_begin Differing excuses none = ap (map row_of) none
+
+-- a question is as it was asked, where points are not to differ
+pub asked_yet : (i j : InquiryOf) → (i.solver.goal ≡ Differing → ⊥) → IsSameQuestion i j → inquiry_of j ≡ inquiry_of i
+asked_yet i j quiet same =
+    let rows = ap (λ (goal : Goal). rows_in goal j.solver.excuses) same.goal
+    ∙ no_rows i.solver.goal i.solver.excuses j.solver.excuses quiet in
+    λ k. (question_of (same.goal k) (same.named k), rows k)
 
 -- ---- what is refuted, of all but points that are excused
 
@@ -143,7 +154,7 @@ module _ (library : List Stored) (s : State) (search : Search) (most : ℕ) (bef
 
   says_points : (goal : Goal) (cell : ℕ) (p : Plan) → goal ≡ Any → Fits library s p → text ≡ plan_text s [] p
       → SaysOne library s (aim_of goal) cell text
-  says_points Any cell p any fits is = (p, None, fits, tt, is)
+  says_points Any cell p any fits is = (p, None, None, fits, tt, is)
   says_points (Least x) cell p any fits is = cc
   says_points (Greatest x) cell p any fits is = cc
   says_points Differing cell p any fits is = cc
@@ -154,18 +165,29 @@ module _ (library : List Stored) (s : State) (search : Search) (most : ℕ) (bef
       one_so search.goal search.named quiet
       (says_points search.goal (slice_index search.named 0) p any fits is)
 
-  says_so_far : (goal : Goal) (cell : ℕ) (p : Plan) → is_optimum goal ≡ true → Fits library s p
+  pub says_so_far : (goal : Goal) (cell : ℕ) (p : Plan) → is_optimum goal ≡ true → Fits library s p
       → text ≡ plan_text s (codes " unsettled") p → SaysOne library s (aim_of goal) cell text
   says_so_far Any cell p e fits is = cc
-  says_so_far (Least x) cell p e fits is = (p, None, fits, tt, is)
-  says_so_far (Greatest x) cell p e fits is = (p, None, fits, tt, is)
+  says_so_far (Least x) cell p e fits is = (p, None, None, fits, tt, is)
+  says_so_far (Greatest x) cell p e fits is = (p, None, None, fits, tt, is)
   says_so_far Differing cell p e fits is = cc
 
-  pub so_far_so : (p : Plan) → is_optimum search.goal ≡ true → (search.goal ≡ Differing → ⊥) → Fits library s p
-      → text ≡ plan_text s (codes " unsettled") p → Answers library s search most before after text
-  so_far_so p optimum quiet fits is =
-      one_so search.goal search.named quiet
-      (says_so_far search.goal (slice_index search.named 0) p optimum fits is)
+  -- with how good others can still be
+  pub says_bounded : (goal : Goal) (named : List ℕ) (p : Plan) (found : SpanOf) (end : ℤ) (cell : ℕ) (a : Info)
+      (by : List ℕ) → IsFirst goal named → IsWithin goal cell found end → Fits library s p
+      → Refutes library s (λ points. IsNoBetter (aim_of goal) a (points (slice_index named 0))) by
+      → text ≡ bounded_text s cell a p by → SaysOne library s (aim_of goal) (slice_index named 0) text
+  says_bounded Any named p found end cell a by first within fits refutes is = absurd within
+  says_bounded (Least x) named p found end cell a by first within fits refutes is =
+      (p, Some a, Some by, fits, refutes, is ∙ ap (λ (c : ℕ). bounded_text s c a p by) (sym (first ∙ within.0)))
+  says_bounded (Greatest x) named p found end cell a by first within fits refutes is =
+      (p, Some a, Some by, fits, refutes, is ∙ ap (λ (c : ℕ). bounded_text s c a p by) (sym (first ∙ within.0)))
+  says_bounded Differing named p found end cell a by first within fits refutes is = absurd within
+
+  pub one_plan_so : (search.goal ≡ Differing → ⊥)
+      → SaysOne library s (aim_of search.goal) (slice_index search.named 0) text
+      → Answers library s search most before after text
+  one_plan_so quiet says = one_so search.goal search.named quiet says
 
   says_best : (goal : Goal) (named : List ℕ) (p : Plan) (by : List ℕ) → is_optimum goal ≡ true → IsFirst goal named
       → Fits library s p → Refutes library s (λ points. IsNoBetter (aim_of goal) (p.values (slice_index named 0))
@@ -173,9 +195,9 @@ module _ (library : List Stored) (s : State) (search : Search) (most : ℕ) (bef
       → SaysOne library s (aim_of goal) (slice_index named 0) text
   says_best Any named p by e first fits refutes is = cc
   says_best (Least cell) named p by e first fits refutes is =
-      (p, Some by, fits, refutes, is ∙ ap (λ (c : ℕ). best_text s (Least c) p by) (sym first))
+      (p, None, Some by, fits, refutes, is ∙ ap (λ (c : ℕ). best_text s (Least c) p by) (sym first))
   says_best (Greatest cell) named p by e first fits refutes is =
-      (p, Some by, fits, refutes, is ∙ ap (λ (c : ℕ). best_text s (Greatest c) p by) (sym first))
+      (p, None, Some by, fits, refutes, is ∙ ap (λ (c : ℕ). best_text s (Greatest c) p by) (sym first))
   says_best Differing named p by e first fits refutes is = cc
 
   pub best_so : (p : Plan) (by : List ℕ) → is_optimum search.goal ≡ true → (search.goal ≡ Differing → ⊥)

@@ -14,21 +14,22 @@ use Rattle.prop_program.proofs.Starts.{nothing_served}
 use Rattle.prop_telling.specs.Notes.{no_notes}
 use Rattle.prop_telling.specs.Telling.{Told}
 use Rattle.prop_seeking.specs.Seeking.{Sought, seeking, new_sought}
-use Rattle.prop_seeking.specs.Answering.{Stock, IsSought}
+use Rattle.prop_seeking.specs.Answering.{IsSought}
 
 -- before anything was asked
-nothing_sought : {D : Type 0} (may : D → Call → D → Type 0) (d : D) (stock : Stock) (pick : Pick) (seed limit : ℕ)
-    (fault : Fault) → IsMemory fault → IsSought stock pick seed limit may d d (Err fault)
-nothing_sought may d stock Fifo seed limit fault h = nothing_served may d _ _ stock.prelude fault h
-nothing_sought may d stock Lifo seed limit fault h = nothing_served may d _ _ stock.prelude fault h
-nothing_sought may d stock Mixed seed limit fault h = nothing_served may d _ _ stock.prelude fault h
+nothing_sought : {D : Type 0} (may : D → Call → D → Type 0) (d : D) (library : List Stored) (lines : List (List ℕ))
+    (pick : Pick) (seed limit : ℕ) (fault : Fault) → IsMemory fault
+    → IsSought library lines pick seed limit may d d (Err fault)
+nothing_sought may d library lines Fifo seed limit fault h = nothing_served may d _ _ lines fault h
+nothing_sought may d library lines Lifo seed limit fault h = nothing_served may d _ _ lines fault h
+nothing_sought may d library lines Mixed seed limit fault h = nothing_served may d _ _ lines fault h
 
-pub sought_by_fault : {D : Type 0} (may : D → Call → D → Type 0) (d : D) (stock : Stock) (pick : Pick) (seed limit : ℕ)
-    (result : Result Counts Fault) (fault : Fault) → result ≡ Err fault → IsMemory fault
-    → IsSought stock pick seed limit may d d result
-sought_by_fault may d stock pick seed limit result fault e h =
-    subst (λ (r : Result Counts Fault). IsSought stock pick seed limit may d d r) (sym e)
-    (nothing_sought may d stock pick seed limit fault h)
+pub sought_by_fault : {D : Type 0} (may : D → Call → D → Type 0) (d : D) (library : List Stored)
+    (lines : List (List ℕ)) (pick : Pick) (seed limit : ℕ) (result : Result Counts Fault) (fault : Fault)
+    → result ≡ Err fault → IsMemory fault → IsSought library lines pick seed limit may d d result
+sought_by_fault may d library lines pick seed limit result fault e h =
+    subst (λ (r : Result Counts Fault). IsSought library lines pick seed limit may d d r) (sym e)
+    (nothing_sought may d library lines pick seed limit fault h)
 
 -- where a seeker of such a session stands, which was told and asked nothing
 abbrev noting : {O : Type 0} → Standing O → Sought O

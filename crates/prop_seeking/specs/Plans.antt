@@ -1,6 +1,6 @@
 -- Points that fit, and what is replied to a question for some.
 use Rattle.std.specs.Prelude.{◌≡◌, ◌⊎◌, ◌<◌, ◌≤◌, ◌≤ℤ◌, ℕ, List, ◌++◌, Option, IfSome}
-use Rattle.std.specs.Prelude.{All, Contains, codes, length, map, slice_index}
+use Rattle.std.specs.Prelude.{All, Contains, codes, length, map, slice_index, unwrap_or}
 use Rattle.std.specs.List.{AllZip}
 use Rattle.prop_lattice.specs.Points.{Point, Number, Holds}
 use Rattle.prop_lattice.specs.declared.info.Info.{Info}
@@ -40,11 +40,11 @@ IsNoBetter Greatest (Span s) (Number v) = v ≤ℤ s.hi
 IsNoBetter aim a p = ⊥
 
 -- The plan fits. Where the least or the greatest number of a cell is asked for, no others are
--- better, by these premises, or that is open.
+-- better than it, or than an end that is told, by these premises, or that is open.
 abbrev pub SaysOne : List Stored → State → Aim → ℕ → List ℕ → Type 0
-SaysOne library s aim cell text = (p : Plan) × (by : Option (List ℕ)) × Fits library s p
-    × IfSome by (Refutes library s (λ points. IsNoBetter aim (p.values cell) (points cell)))
-    × (text ≡ one_text s aim cell p by)
+SaysOne library s aim cell text = (p : Plan) × (end : Option Info) × (by : Option (List ℕ))
+    × Fits library s p × IfSome by (Refutes library s (λ points. IsNoBetter aim
+    (unwrap_or end (p.values cell)) (points cell))) × (text ≡ one_text s aim cell p end by)
 
 -- the points lie in one of these rows of values of the named cells
 abbrev pub AreTold : List ℕ → List (List Info) → (ℕ → Point) → Type 0

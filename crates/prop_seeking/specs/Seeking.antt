@@ -1,6 +1,6 @@
 -- What a layer that answers questions for points does, as a machine.
 use Rattle.std.specs.Prelude.{◌≡◌, ◌⊎◌, ◌&&◌, ℕ, List, [], Option, Some, None, Result, Ok, Err}
-use Rattle.std.specs.Prelude.{codes, cond, not}
+use Rattle.std.specs.Prelude.{codes, cond, not, is_some, true, ◌++◌}
 use Rattle.prop_lattice.specs.declared.info.Info.{Info}
 use Rattle.prop_refusals.specs.declared.refusal.Refusal.{Refusal}
 use Rattle.prop_refusals.specs.declared.refusal.Refusal.TheVariants.{Memory}
@@ -9,6 +9,7 @@ use Rattle.prop_engine.specs.Answers.{Answer, Text, Refused}
 use Rattle.prop_engine.specs.Transcripts.{Machine}
 use Rattle.prop_language.specs.Reading.{AsRead}
 use Rattle.prop_workbench.specs.Questions.{Picks}
+use Rattle.prop_telling.specs.Asking.{is_step}
 use Rattle.prop_telling.specs.Notes.{is_done}
 use Rattle.prop_telling.specs.Telling.{Told, Own, telling, new_told}
 use Rattle.prop_seeking.specs.Asking.{Question, asked, as_value, begins, is_question}
@@ -33,8 +34,7 @@ Replies library old (Ok (q, most)) answer inquiry =
     × ((before ≡ []) ⊎ (old.inquiry ≡ Some (q, before)))
     × Says library old.told.standing.shown.state q most before after text
     × (answer ≡ Text text) × (inquiry ≡ Some (q, after))
-Replies library old (Err refusal) answer inquiry =
-    (answer ≡ Refused refusal) × (inquiry ≡ old.inquiry)
+Replies library old (Err reason) answer new = (answer ≡ Refused reason) × (new ≡ old.inquiry)
 
 -- a question is answered as it is read, or memory was refused, and it begins anew
 abbrev pub Seeks : {O : Type 0} → List Stored → Sought O → List ℕ → Answer
@@ -44,10 +44,17 @@ Seeks library old line answer inquiry =
     ⊎ AsRead (as_value line)
     (λ read. Replies library old (asked old.told.standing.shown.state read) answer inquiry)
 
--- A line asks for points, and all else stays. Or the teller carries it out: what changes something
--- ends the question, but for the limit.
+-- a step of a question is told in some words, behind which it goes on, or memory was refused
+abbrev pub Strides : {O : Type 0} → Sought O → Answer → Sought O → Type 0
+Strides old answer new = (is_some old.inquiry ≡ true) × (new.told ≡ old.told)
+    × (((new.inquiry ≡ None) × (answer ≡ Refused Memory))
+    ⊎ ((new.inquiry ≡ old.inquiry) × (text : List ℕ) × (answer ≡ Text (codes "step " ++ text))))
+
+-- A line asks for points, or may tell a step of such a question, and all else stays. Or the teller
+-- carries it out: what changes something ends the question, but for the limit.
 abbrev pub seeking : {O : Type 0} → Picks O → List Stored → Machine (Sought O)
 seeking picks library old line answer new = Own (is_question line)
     ((new.told ≡ old.told) × Seeks library old line answer new.inquiry)
-    (telling picks library old.told line answer new.told × (new.inquiry
-    ≡ cond (is_done answer && not (begins (codes "limit") line)) None old.inquiry))
+    (((is_step line ≡ true) × Strides old answer new)
+    ⊎ (telling picks library old.told line answer new.told × (new.inquiry
+    ≡ cond (is_done answer && not (begins (codes "limit") line)) None old.inquiry)))

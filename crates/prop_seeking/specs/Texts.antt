@@ -38,14 +38,15 @@ abbrev pub plan_text : State → List ℕ → Plan → List ℕ
 plan_text s mark p = codes "plan " ++ (decimal (length (lines_of s p))
     ++ (mark ++ flat_map (λ line. 10 ∷ line) (lines_of s p)))
 
--- some points; or the best so far, or a best number, and on which premises it rests that none is
--- better
-abbrev pub one_text : State → Aim → ℕ → Plan → Option (List ℕ) → List ℕ
-one_text s Any cell p by = plan_text s [] p
-one_text s aim cell p None = plan_text s (codes " unsettled") p
-one_text s aim cell p (Some by) = elim aim [ Least ↦ codes "least " | _ ↦ codes "greatest " ]
-    ++ (value_text s p cell ++ (codes "\nbecause" ++ (support_text s.premises by
-    ++ (codes "\n" ++ plan_text s [] p))))
+-- some points; or the best so far; or a best number, or how good others can still be, and on which
+-- premises it rests that none is better
+abbrev pub one_text : State → Aim → ℕ → Plan → Option Info → Option (List ℕ) → List ℕ
+one_text s Any cell p end by = plan_text s [] p
+one_text s aim cell p end None = plan_text s (codes " unsettled") p
+one_text s aim cell p end (Some by) = option_map_or (λ a. codes "bound " ++ text_at s cell a) end
+    (elim aim [ Least ↦ codes "least " | _ ↦ codes "greatest " ] ++ value_text s p cell)
+    ++ (codes "\nbecause" ++ (support_text s.premises by ++ (codes "\n"
+    ++ plan_text s (option_map_or (λ a. codes " unsettled") end []) p)))
 
 -- a line for each plan, of the named cells with their values, and what is known of others
 abbrev pub many_text : State → List ℕ → List Plan → Option (List ℕ) → List ℕ

@@ -1,2 +1,3 @@
 pub mod Seekers
 pub mod Pieces
+pub mod Bounds

@@ -1,6 +1,7 @@
 //! Which lines ask for points.
 ghost use Rattle.std.specs.Prelude.{◌≡◌, codes, IfOk};
 ghost use Rattle.std.specs.Str.Lines.{strip_carriage_return};
+ghost use Rattle.prop_telling.specs.Asking.{is_step};
 ghost use Rattle.prop_seeking.specs.Asking.{as_value, begins, is_question};
 
 use prop_telling::is_apart;
@@ -21,6 +22,13 @@ pub(crate) fn is_limit(line: &[u8]) -> bool
     ensures { result ≡ begins (codes "limit") line.now }
 {
     begins(b"limit".as_slice(), line)
+}
+
+/// Whether the line asks for a step: it is that word, and maybe a carriage return.
+pub(crate) fn is_step(line: &[u8]) -> bool
+    ensures { result ≡ is_step line.now }
+{
+    line == b"step".as_slice() || line == b"step\r".as_slice()
 }
 
 /// Whether the line asks for points.

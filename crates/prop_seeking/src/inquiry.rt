@@ -1,26 +1,33 @@
 //! A question under way.
 
-ghost use Rattle.std.specs.Prelude.{◌≡◌, [], map, IfOk, OnOk, IsTrue};
+ghost use Rattle.std.specs.Prelude.{◌≡◌, [], map, IfOk, IfSome, OnOk, IsTrue};
 ghost use Rattle.std.specs.Prelude.{false, true};
 ghost use Rattle.std.specs.Option.{option_map};
 ghost use Rattle.prop_procedures.specs.Kept.{AllMean, stored_of};
 ghost use Rattle.prop_cells.specs.Data.{IsKept};
 ghost use Rattle.prop_solve.specs.Questions.{is_optimum};
+ghost use Rattle.prop_seeking.specs.inner.Bounds.{IsBarred};
 ghost use Rattle.prop_seeking.specs.inner.Seekers.{IsInquiry, IsEnd, IsSameQuestion, AreFound};
-ghost use Rattle.prop_seeking.specs.inner.Seekers.{IsApt, ground_at, plan_of};
+ghost use Rattle.prop_seeking.specs.inner.Seekers.{IsApt, IsOpen, ground_at, plan_of};
 
 use crate::question::Asked;
+use crate::striding::Stride;
 use prop_cells::Network;
 use prop_guards::Guarded;
 use prop_premises::{PremiseSet, Premises};
-use prop_solve::{Answer, Goal, Plan, Question, Solver};
+use prop_solve::{Answer, Bound, Goal, News, Plan, Question, Solver, Told};
 use std::alloc::{AllocError, Global};
+
+/// So many steps a stride takes at the most until something is to be told.
+const STRIDE: u64 = 1_000_000;
 
 /// A search for what was asked, the last plan that it found, and whether any was told.
 #[derive(Drop)]
 pub(crate) struct Inquiry {
     solver: Solver,
     last: Option<Plan>,
+    /// How far was told, step by step, what the search does.
+    told: Told,
 }
 
 /// How a search ended for now.
@@ -54,9 +61,12 @@ impl Inquiry {
             goal: asked.goal,
             named: Vec::from_slice(alloc, &asked.named)?,
         };
+        let solver = Solver::new(alloc, network, premises, question)?;
+        let told = solver.all_done();
         Ok(Inquiry {
-            solver: Solver::new(alloc, network, premises, question)?,
+            solver,
             last: None,
+            told,
         })
     }
 
@@ -67,6 +77,22 @@ impl Inquiry {
     {
         let question = self.solver.question();
         question.goal == asked.goal && question.named == asked.named
+    }
+
+    /// Its search.
+    pub(crate) fn solver(&self) -> &Solver {
+        &self.solver
+    }
+
+    /// Whether it is open yet, and a plan is no more than looked for.
+    pub(crate) fn is_under_way(&self) -> bool
+        ensures { IsTrue result → IsOpen self.now }
+    {
+        match self.solver.question().goal {
+            Goal::Any => self.last.is_none() && !self.solver.is_over(),
+            Goal::Least(_) | Goal::Greatest(_) => !self.solver.is_over(),
+            Goal::Differing => false,
+        }
     }
 
     /// Whether a plan was found.
@@ -145,6 +171,71 @@ impl Inquiry {
             }
         }
         Ok(End::Open)
+    }
+
+    /// What is told next of what the search did, if anything.
+    fn news(&mut self) -> Option<News>
+        ensures { self.new ≡ record self.old { told = self.new.told } }
+    {
+        let (news, told) = self.solver.news(self.told);
+        self.told = told;
+        news
+    }
+
+    /// Goes on until something is to be told, or points are found, or no others fit.
+    pub(crate) fn stride<R: Guarded + Drop>(
+        &mut self,
+        network: &Network<R>,
+        premises: &Premises,
+    ) -> Result<Stride, AllocError>
+        requires means { AllMean R.value_of network.now.library.procedures.items }
+        requires kept { IsKept (stored_of R.value_of network.now.library) network.now.cells }
+        requires inquiry { IsInquiry (ground_at (stored_of R.value_of network.now.library)
+            network.now.cells premises.now) self.old }
+        requires under_way { IsOpen self.old }
+        ensures inquiry { OnOk result (IsInquiry
+            (ground_at (stored_of R.value_of network.now.library)
+            network.now.cells premises.now) self.new) }
+        ensures same { OnOk result (IsSameQuestion self.old self.new) }
+    {
+        if self.solver.is_ahead(&self.told) {
+            self.told = self.solver.all_done();
+        }
+        for _ in 0..STRIDE {
+            if let Some(news) = self.news() {
+                return Ok(Stride::Did(news));
+            }
+            if self.solver.is_over() {
+                return Ok(Stride::Over);
+            }
+            match self.solver.advance(network, premises, 1)? {
+                Answer::Found(plan) => {
+                    self.last = Some(plan);
+                    return Ok(Stride::Found);
+                }
+                Answer::Refuted(_) => return Ok(Stride::Over),
+                Answer::Unsettled => {}
+            }
+        }
+        Ok(Stride::Nothing)
+    }
+
+    /// How good points can still be, where that is found out by so many steps.
+    pub(crate) fn bound<R: Guarded + Drop>(
+        &self,
+        network: &Network<R>,
+        premises: &Premises,
+        steps: u64,
+    ) -> Result<Option<Bound>, AllocError>
+        requires means { AllMean R.value_of network.now.library.procedures.items }
+        requires kept { IsKept (stored_of R.value_of network.now.library) network.now.cells }
+        requires inquiry { IsInquiry (ground_at (stored_of R.value_of network.now.library)
+            network.now.cells premises.now) self.now }
+        ensures { IfOk result (λ o. IfSome o (λ bound. IsBarred
+            (ground_at (stored_of R.value_of network.now.library)
+            network.now.cells premises.now) self.now.solver bound.end bound.by)) }
+    {
+        self.solver.bound(network, premises, steps)
     }
 
     /// Goes on for so many steps, or until so many plans are found or no others are left.

@@ -12,11 +12,13 @@
 #![tactic(auto)]
 
 mod asking;
+mod bound;
 mod inquiry;
 mod interpreting;
 mod question;
 mod running;
 mod seeker;
+mod striding;
 mod texts;
 
 pub use running::run;

@@ -5,7 +5,7 @@ ghost use Rattle.prop_procedures.specs.Kept.{AllMean, stored_as};
 ghost use Rattle.prop_program.specs.Answering.{Serves};
 ghost use Rattle.prop_workbench.specs.Engine.{standing_of};
 ghost use Rattle.prop_workbench.specs.Sessions.{library_of, IsSound, IsMeant};
-ghost use Rattle.prop_seeking.specs.Answering.{IsSought, stocked};
+ghost use Rattle.prop_seeking.specs.Answering.{IsSought};
 ghost use Rattle.prop_telling.specs.Notes.{no_notes};
 ghost use Rattle.prop_seeking.specs.Seeking.{seeking};
 ghost use Rattle.prop_seeking.specs.inner.Seekers.{sought_of, IsReady};
@@ -34,8 +34,7 @@ pub fn run<R: Guarded + Drop, D: Devices>(
     devices: &mut D,
 ) -> Result<Counts, Fault>
     requires means { AllMean R.value_of procedures.items }
-    ensures { IsSought
-        (stocked (map (stored_as R.value_of) procedures.items) (words prelude.now))
+    ensures { IsSought (map (stored_as R.value_of) procedures.items) (words prelude.now)
         options.order options.seed options.limit D.calls devices.old devices.new result }
 {
     let network = Network::new(alloc, Library::new(procedures));

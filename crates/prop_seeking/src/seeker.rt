@@ -4,7 +4,8 @@ ghost use Rattle.prop_engine.specs.Answers.{answer_of, is_refusal};
 ghost use Rattle.prop_telling.specs.Notes.{is_done};
 ghost use Rattle.prop_seeking.specs.Asking.{begins};
 
-use crate::asking::{as_value, is_limit, is_question};
+use crate::asking::{as_value, is_limit, is_question, is_step};
+use crate::bound::bounding;
 use crate::inquiry::{End, Inquiry, Plans};
 use crate::question::{Asked, question_of};
 use prop_engine::Reply;
@@ -12,7 +13,7 @@ use prop_guards::Guarded;
 use prop_language::read_line;
 use prop_refusals::Refusal;
 use prop_scheduler::Order;
-use prop_solve::Goal;
+use prop_solve::{Goal, Plan};
 use prop_telling::Teller;
 use prop_workbench::Session;
 use std::alloc::AllocError;
@@ -46,8 +47,9 @@ pub struct Seeker<R, O> {
 }
 
 impl<R: Guarded + Drop, O: Order + Drop> Seeker<R, O> {
-    ghost use Rattle.std.specs.Prelude.{◌≡◌, ◌⊎◌, ◌&&◌, ℕ, List, codes, cond, not, IfOk, IfSome};
-    ghost use Rattle.std.specs.Prelude.{OnOk, string_bytes, None, true};
+    ghost use Rattle.std.specs.Prelude.{◌≡◌, ◌⊎◌, ◌&&◌, ◌++◌, ℕ, List, codes, cond, not, IfOk};
+    ghost use Rattle.std.specs.Prelude.{IfSome, IsTrue};
+    ghost use Rattle.std.specs.Prelude.{OnOk, slice_index, string_bytes, None, Some, true};
     ghost use Rattle.std.specs.Option.{option_map};
     ghost use Rattle.prop_language.specs.Reading.{AsRead};
     ghost use Rattle.prop_language.specs.Said.{words};
@@ -59,10 +61,13 @@ impl<R: Guarded + Drop, O: Order + Drop> Seeker<R, O> {
     ghost use Rattle.prop_telling.specs.inner.Telling.{told_of};
     ghost use Rattle.prop_solve.specs.Questions.{is_optimum};
     ghost use Rattle.prop_seeking.specs.Asking.{as_value, asked, begins};
-    ghost use Rattle.prop_seeking.specs.Seeking.{seeking, Seeks};
+    ghost use Rattle.prop_seeking.specs.Plans.{SaysOne};
+    ghost use Rattle.prop_seeking.specs.Seeking.{seeking, Seeks, Strides};
     ghost use Rattle.prop_seeking.specs.inner.Seekers.{Answers, AreBefore, Gives, IsApt, IsInquiry};
-    ghost use Rattle.prop_seeking.specs.inner.Seekers.{IsReady, IsSameQuestion, Replied, asked_of};
-    ghost use Rattle.prop_seeking.specs.inner.Seekers.{ground_in, inquiry_of, sought_of};
+    ghost use Rattle.prop_seeking.specs.inner.Seekers.{IsOpen, IsOpenIn, IsReady, IsSameQuestion};
+    ghost use Rattle.prop_seeking.specs.inner.Seekers.{Replied};
+    ghost use Rattle.prop_seeking.specs.inner.Seekers.{aim_of, asked_of, ground_in, inquiry_of};
+    ghost use Rattle.prop_seeking.specs.inner.Seekers.{sought_of};
 
     /// A seeker of a session.
     pub fn new(session: Session<R, O>) -> Seeker<R, O>
@@ -87,10 +92,75 @@ impl<R: Guarded + Drop, O: Order + Drop> Seeker<R, O> {
             (sought_of self.old) line.now (answer_of result) (sought_of self.new) }
     {
         if is_question(line) {
-            self.seek(line)
-        } else {
-            self.tell(line)
+            return self.seek(line);
         }
+        if is_step(line) && self.is_under_way() {
+            return self.stride();
+        }
+        self.tell(line)
+    }
+
+    /// Whether there is a question of which a step can be told.
+    fn is_under_way(&self) -> bool
+        ensures { IsTrue result → IsOpenIn self.now.inquiry }
+    {
+        match &self.inquiry {
+            Some(inquiry) => inquiry.is_under_way(),
+            None => false,
+        }
+    }
+
+    /// Goes on with the question by a step, and tells it. After want of memory the question begins
+    /// anew.
+    fn stride(&mut self) -> Reply
+        requires ready { IsReady R.value_of self.old }
+        requires under_way { IsOpenIn self.old.inquiry }
+        ensures same { self.new.teller ≡ self.old.teller }
+        ensures ready { IsReady R.value_of self.new }
+        ensures strides { Strides (sought_of self.old) (answer_of result) (sought_of self.new) }
+    {
+        let told = Reply::saying(self.strode());
+        if is_refused(&told) {
+            self.inquiry = None;
+            return told;
+        }
+        told
+    }
+
+    /// What is told of a step of the question.
+    fn strode(&mut self) -> Result<String, AllocError>
+        requires ready { IsReady R.value_of self.old }
+        requires under_way { IsOpenIn self.old.inquiry }
+        ensures same { self.new.teller ≡ self.old.teller }
+        ensures ready { IsReady R.value_of self.new }
+        ensures strode { IfOk result (λ text. (option_map inquiry_of self.new.inquiry
+            ≡ option_map inquiry_of self.old.inquiry)
+            × (rest : List ℕ) × (string_bytes text ≡ codes "step " ++ rest)) }
+    {
+        let Some(mut inquiry) = self.inquiry.take() else {
+            return String::from_str(self.teller.session().alloc(), "step 0");
+        };
+        let text = self.step(&mut inquiry)?;
+        self.inquiry = Some(inquiry);
+        Ok(text)
+    }
+
+    /// What is told of a step of a question.
+    fn step(&self, inquiry: &mut Inquiry) -> Result<String, AllocError>
+        requires means { IsMeant R.value_of self.now.teller.session }
+        requires sound { IsSound R.value_of self.now.teller.session }
+        requires inquiry { IsInquiry (ground_in R.value_of self.now.teller.session) inquiry.old }
+        requires under_way { IsOpen inquiry.old }
+        ensures inquiry { OnOk result (IsInquiry
+            (ground_in R.value_of self.now.teller.session) inquiry.new) }
+        ensures same { OnOk result (IsSameQuestion inquiry.old inquiry.new) }
+        ensures told { IfOk result (λ text.
+            (rest : List ℕ) × (string_bytes text ≡ codes "step " ++ rest)) }
+    {
+        let session = self.teller.session();
+        let premises = session.search().premises();
+        let stride = inquiry.stride(session.live().network(), premises)?;
+        self.stride_text(inquiry.solver(), stride)
     }
 
     /// Carries out a line as its teller does. What changes something ends the question, but for the
@@ -295,9 +365,34 @@ impl<R: Guarded + Drop, O: Order + Drop> Seeker<R, O> {
         let end = inquiry.improve(session.live().network(), premises, session.limit())?;
         match (inquiry.last(), &end) {
             (Some(plan), End::Refuted(by)) => self.best(goal, plan, by),
-            (Some(plan), End::Open) => self.plan(" unsettled", plan),
+            (Some(plan), End::Open) => self.so_far(inquiry, goal, plan),
             (None, End::Refuted(by)) => self.none(by),
             (None, End::Open) => self.unsettled(),
+        }
+    }
+
+    /// The best points so far, and how good others can still be, where that is found out by as many
+    /// steps more as a line takes.
+    fn so_far(&self, inquiry: &Inquiry, goal: Goal, plan: &Plan) -> Result<String, AllocError>
+        requires means { IsMeant R.value_of self.now.teller.session }
+        requires sound { IsSound R.value_of self.now.teller.session }
+        requires inquiry { IsInquiry (ground_in R.value_of self.now.teller.session) inquiry.now }
+        requires goal { inquiry.now.solver.goal ≡ goal }
+        requires optimum { is_optimum goal ≡ true }
+        requires plan { inquiry.now.last ≡ Some plan.now }
+        ensures { IfOk result (λ text. SaysOne (library_of R.value_of self.now.teller.session)
+            (state_of self.now.teller.session) (aim_of goal)
+            (slice_index inquiry.now.solver.named 0) (string_bytes text)) }
+    {
+        let session = self.teller.session();
+        let network = session.live().network();
+        let premises = session.search().premises();
+        let Some(bound) = inquiry.bound(network, premises, session.limit())? else {
+            return self.plan(" unsettled", plan);
+        };
+        match bounding(network.data(), goal, plan, bound.end) {
+            Some((cell, end)) => self.bounded(cell, end, plan, &bound.by),
+            None => self.plan(" unsettled", plan),
         }
     }
 

@@ -23,7 +23,7 @@ use std::fmt::Write;
 const UNNAMED: u32 = u32::MAX;
 
 /// A symbol that nobody named stands for any, so nothing is said of it.
-fn seen(info: Info) -> Info
+pub(crate) fn seen(info: Info) -> Info
     ensures { result ≡ seen info }
 {
     match info {
@@ -46,7 +46,7 @@ fn label_text(alloc: Global, premises: &Premises, premise: Premise) -> Result<St
 }
 
 /// The label of a side of a choice.
-fn side_text(
+pub(crate) fn side_text(
     alloc: Global,
     premises: &Premises,
     choice: Choice,
@@ -81,7 +81,7 @@ fn push_sides(
 }
 
 /// Writes each line behind a line feed.
-fn push_lines(text: &mut String, lines: &[String]) -> Result<(), AllocError>
+pub(crate) fn push_lines(text: &mut String, lines: &[String]) -> Result<(), AllocError>
     ensures { OnOk result (string_bytes text.new ≡ string_bytes
         text.old ++ lines_text (map string_bytes lines.now)) }
 {
@@ -128,11 +128,12 @@ impl<R: Guarded + Drop, O: Order + Drop> Seeker<R, O> {
     ghost use Rattle.prop_texts.specs.Texts.{support_text};
     ghost use Rattle.prop_workbench.specs.Sessions.{state_of};
     ghost use Rattle.prop_seeking.specs.Texts.{value_text, cell_texts, plan_text, many_text};
-    ghost use Rattle.prop_seeking.specs.inner.Pieces.{best_text, end_text, others_text};
+    ghost use Rattle.prop_seeking.specs.inner.Pieces.{best_text, bound_text, bounded_text};
+    ghost use Rattle.prop_seeking.specs.inner.Pieces.{end_text, others_text};
     ghost use Rattle.prop_seeking.specs.inner.Seekers.{plan_of};
 
     /// The kind of a cell.
-    fn kind(&self, cell: usize) -> Kind
+    pub(crate) fn kind(&self, cell: usize) -> Kind
         ensures { result ≡ (kind_at self.now.teller.session.live.network.cells.kinds cell).kind }
     {
         let cells = self.teller.session().live().network().data();
@@ -240,6 +241,36 @@ impl<R: Guarded + Drop, O: Order + Drop> Seeker<R, O> {
         let end = self.end(goal, plan)?;
         let premises = self.premises(by)?;
         let plan = self.plan("", plan)?;
+        format!(in self.teller.session().alloc(); "{end}\nbecause{premises}\n{plan}")
+    }
+
+    /// The word and the number of how good others can still be.
+    fn bound(&self, cell: usize, end: Info) -> Result<String, AllocError>
+        ensures { IfOk result (λ text. string_bytes text
+            ≡ bound_text (state_of self.now.teller.session) cell end) }
+    {
+        let session = self.teller.session();
+        let alloc = session.alloc();
+        let value = session.words().print_value(alloc, self.kind(cell), end)?;
+        format!(in alloc; "bound {value}")
+    }
+
+    /// The best points so far, a number than which none is better, and on which premises that
+    /// rests.
+    pub(crate) fn bounded(
+        &self,
+        cell: usize,
+        end: Info,
+        plan: &Plan,
+        by: &PremiseSet,
+    ) -> Result<String, AllocError>
+        requires { IsPart (set_of by.now) (believed_in self.now.teller.session.search.premises) }
+        ensures { IfOk result (λ text. string_bytes text
+            ≡ bounded_text (state_of self.now.teller.session) cell end (plan_of plan.now) by.now) }
+    {
+        let end = self.bound(cell, end)?;
+        let premises = self.premises(by)?;
+        let plan = self.plan(" unsettled", plan)?;
         format!(in self.teller.session().alloc(); "{end}\nbecause{premises}\n{plan}")
     }
 

@@ -110,6 +110,13 @@ module _ (library : List Stored) (d : Data) (premises : List Origin) where
   abbrev pub Known : List (List Literal) → Nogood → Type 0
   Known excuses = IsKnown library (attached_of d) (choices_of premises) (believed_in premises) excuses
 
+  -- what is known of a nogood with one fact, put in its parts
+  pub known_only : (excuses : List (List Literal)) (g : Nogood) (x : Literal) (by : List ℕ) → g.literals ≡ x ∷ []
+      → by ≡ g.premises → Known excuses g → Known excuses (record { literals = x ∷ []; premises = by })
+  known_only excuses g x by only same k =
+      let e : g ≡ record { literals = x ∷ []; premises = by } =
+      λ i. record { literals = only i; premises = sym same i } in subst (Known excuses) e k
+
   -- what is known stays known where more is excused
   pub known_grows : (before excuses : List (List Literal)) (g : Nogood) → Grow before excuses → Known before g
       → Known excuses g

@@ -1,7 +1,7 @@
 -- What other points are excused for, once a plan is told.
 use Rattle.std.specs.Prelude.{◌≡◌, ℕ, List, [], ◌∷◌, ◌++◌, Bool, true, false, cond, Option}
 use Rattle.std.specs.Prelude.{Some, None}
-use Rattle.std.specs.Prelude.{slice_get, All}
+use Rattle.std.specs.Prelude.{slice_get, All, ℤ, pos, ◌+ℤ◌, ◌-ℤ◌}
 use Rattle.std.specs.Ordering.{int_eq}
 use Rattle.std.specs.List.{AllZip}
 use Rattle.prop_lattice.specs.Points.{Point}
@@ -57,6 +57,12 @@ abbrev pub is_optimum : Goal → Bool
 is_optimum (Least cell) = true
 is_optimum (Greatest cell) = true
 is_optimum goal = false
+
+-- the fact that the number of which an end is asked for is better than this end
+abbrev pub IsBetter : Goal → ℤ → Literal → Type 0
+IsBetter (Least cell) end x = x ≡ record { place = cell; fact = AtMost (end -ℤ pos 1) }
+IsBetter (Greatest cell) end x = x ≡ record { place = cell; fact = AtLeast (end +ℤ pos 1) }
+IsBetter goal end x = ⊥
 
 -- the value of each place is no number, or one that spans may have
 abbrev pub AreInRange : Attached → (ℕ → Point) → List ℕ → Type 0

@@ -7,7 +7,11 @@
 //! (prop_plans), and what it refutes was derived by steps each of which was tested (prop_deriving).
 #![tactic(auto)]
 
+pub mod bound;
 mod choosing;
+mod gate;
+mod heeding;
+pub mod news;
 mod pace;
 mod present;
 mod proposal;
@@ -16,5 +20,7 @@ pub mod solver;
 mod spread;
 mod wiring;
 
+pub use bound::Bound;
+pub use news::{News, Told};
 pub use question::{Goal, Question};
 pub use solver::{Answer, Plan, Solver, Tally};

@@ -28,6 +28,15 @@ fn is_open(info: Info) -> bool {
     }
 }
 
+/// Whether a single value is left.
+pub(crate) fn is_decided(info: Info) -> bool {
+    match info {
+        Info::Span(span) => span.lo() == span.hi(),
+        Info::Set(elements) => elements.bits().count_ones() == 1,
+        _ => false,
+    }
+}
+
 impl Present {
     /// This is believed of each place, and nothing was said yet.
     pub(crate) fn new(alloc: Global, beliefs: &[Info]) -> Result<Present, AllocError> {

@@ -89,6 +89,7 @@ pub struct Solver {
     refuted: Option<PremiseSet>,
     tally: Tally,
     is_lost: bool,
+    is_in_doubt: bool,
 }
 
 /// What the believed premises of the user's believe, no side among them.
@@ -165,6 +166,7 @@ fn spread_of<R: Guarded + Drop>(
     let beliefs = beliefs(alloc, network, choices, &root)?;
     let present = Present::new(alloc, &beliefs)?;
     let trail = Trail::new(alloc, beliefs)?;
+    let wiring = Wiring::new(alloc, network, &trail)?;
     let mut waiting = Waiting::new(alloc, dear(alloc, network)?)?;
     waiting.wake_all();
     Ok(Spread {
@@ -175,7 +177,7 @@ fn spread_of<R: Guarded + Drop>(
         sizes: sizes(alloc, network.data(), choices)?,
         trail,
         present,
-        wiring: Wiring::new(alloc, network)?,
+        wiring,
         waiting,
         clash: None,
         units: Vec::new(alloc),
@@ -234,6 +236,7 @@ impl Solver {
                 learned: 0,
             },
             is_lost: false,
+            is_in_doubt: false,
             question,
             spread,
         };
@@ -277,6 +280,25 @@ impl Solver {
         ensures { result ≡ false → self.now.excuses ≡ [] }
     {
         !self.excuses.is_empty()
+    }
+
+    /// What is believed where nothing is supposed of the number of which an end is asked for.
+    pub(crate) fn at_root(&self, goal: Goal) -> Info {
+        match goal {
+            Goal::Least(place) | Goal::Greatest(place) => self.spread.at_root(place),
+            _ => Info::Nothing,
+        }
+    }
+
+    pub(crate) fn spread(&self) -> &Spread
+        ensures { result.now ≡ self.now.spread }
+    {
+        &self.spread
+    }
+
+    /// Whether it is known that no others fit, or the question stays unsettled.
+    pub fn is_over(&self) -> bool {
+        self.is_lost || self.refuted.is_some()
     }
 
     /// What was done so far.
@@ -402,6 +424,7 @@ impl Solver {
         ensures { self.new ≡ self.old }
     {
         self.tally.contradictions = self.tally.contradictions.saturating_add(1);
+        self.is_in_doubt = false;
         self.pace.fail();
         self.weights.grow();
     }
@@ -625,11 +648,20 @@ impl Solver {
                 Ok(None)
             }
             Verdict::No => {
-                self.is_lost = true;
+                self.doubt();
                 Ok(None)
             }
             Verdict::Yes => self.tell(network, premises, proposal),
         }
+    }
+
+    /// Calls all instances again, of which one was left out that denies a plan. That is done once.
+    fn doubt(&mut self)
+        ensures { self.new ≡ self.old }
+    {
+        self.is_lost = self.is_in_doubt;
+        self.is_in_doubt = true;
+        self.spread.wake_all();
     }
 
     /// Tells a plan; from now on points are excused that are no better, or no other.

@@ -118,15 +118,21 @@ fn gathered(alloc: Global, present: &Present, inputs: &[usize]) -> Result<Vec<In
     Ok(args)
 }
 
-/// Whether it is seen at a glance that a call says nothing new.
-fn is_idle<R: Guarded + Drop>(network: &Network<R>, x: &Instance, args: &[Info]) -> bool {
+/// Whether it is seen at a glance that a call answers nothing.
+fn is_silent<R: Guarded + Drop>(network: &Network<R>, x: &Instance, args: &[Info]) -> bool {
     if x.procedure() >= network.library().len() {
         return true;
     }
     let rule = network.library().get(x.procedure()).rule();
-    if rule.says_nothing(x.param(), args) {
+    rule.says_nothing(x.param(), args)
+}
+
+/// Whether it is seen at a glance that a call answers what is believed.
+fn is_repeating<R: Guarded + Drop>(network: &Network<R>, x: &Instance, args: &[Info]) -> bool {
+    if x.procedure() >= network.library().len() {
         return true;
     }
+    let rule = network.library().get(x.procedure()).rule();
     match rule.own_place() {
         Some(own) if x.inputs().get(own) == Some(&x.output()) => rule.repeats(x.param(), args),
         _ => false,
@@ -181,6 +187,26 @@ impl Spread {
             }
         }
         None
+    }
+
+    /// All instances wait.
+    pub(crate) fn wake_all(&mut self)
+        ensures same { self.new ≡ self.old }
+    {
+        self.waiting.wake_all();
+    }
+
+    /// What is believed of a place where nothing is supposed.
+    pub(crate) fn at_root(&self, place: usize) -> Info {
+        if self.trail.level() > 0 {
+            for at in self.trail.start_of(1)..self.trail.len() {
+                let entry = self.trail.entry(at);
+                if entry.place == place {
+                    return entry.was;
+                }
+            }
+        }
+        self.present.info(place)
     }
 
     /// What can't be, once.
@@ -417,13 +443,16 @@ impl Spread {
         ensures same { self.new ≡ self.old }
     {
         let x = network.data().instance(instance);
-        if is_idle(network, x, args) {
+        if is_silent(network, x, args) {
             return Ok(true);
+        }
+        let by = Source::Call(instance);
+        if is_repeating(network, x, args) {
+            return self.rule_out_by(network, x, args, by);
         }
         let Some(said) = answer(network, instance, args) else {
             return Ok(true);
         };
-        let by = Source::Call(instance);
         if !self.present.info(x.output()).implies(said) && !self.say(x.output(), said, by)? {
             return Ok(false);
         }
@@ -516,11 +545,15 @@ impl Spread {
         }
         let mut at = 0;
         for _ in 0..self.store.watching(place) {
+            let Some(next) = self.store.next(&self.trail, place, at) else {
+                return Ok(true);
+            };
+            at = next;
             match self.store.look(&self.trail, place, at)? {
                 Look::Moved => {}
-                Look::Silent => at += 1,
+                Look::Silent => at = at.saturating_add(1),
                 Look::Denies { literal, number } => {
-                    at += 1;
+                    at = at.saturating_add(1);
                     if !self.deny(Unit { literal, number })? {
                         return Ok(false);
                     }

@@ -1,93 +1,83 @@
 //! Who reads a place, and which changes of it count.
 
-use crate::present::Present;
-use prop_cells::{Instance, Network};
+use crate::gate::{Gate, gate_of};
+use crate::heeding::{heeded, is_decided_at_root, mirrored};
+use crate::present::{Present, is_decided};
+use prop_cells::Network;
 use prop_facts::Changes;
 use prop_guards::Guarded;
-use prop_procedures::Rule;
-use prop_trail::Waiting;
+use prop_trail::{Trail, Waiting};
 use std::alloc::{AllocError, Global};
 
-/// An instance that reads a place, the changes of it that it heeds, and the place that has to be
-/// decided before it says anything, where there is one.
+/// An instance that reads a place, the changes of it that it heeds, its gate, and the place that is
+/// said by others once it is decided; where there are such.
 #[derive(Clone, Copy)]
 struct Reader {
     instance: usize,
     heeded: Changes,
-    gate: Option<usize>,
+    gate: Option<Gate>,
+    mirrored: Option<usize>,
+}
+
+/// Who reads a place: those that only heed that it is decided, and the others.
+#[derive(Drop)]
+struct Readers {
+    of_points: Vec<Reader>,
+    others: Vec<Reader>,
 }
 
 /// For each cell, who reads it.
 #[derive(Drop)]
 pub(crate) struct Wiring {
-    readers: Vec<Vec<Reader>>,
+    readers: Vec<Readers>,
 }
 
-/// No change.
-const NONE: Changes = Changes {
-    low: false,
-    high: false,
-    point: false,
-    hole: false,
-};
-
-/// Both the ones and the others.
-fn all_of(ones: Changes, others: Changes) -> Changes {
-    Changes {
-        low: ones.low || others.low,
-        high: ones.high || others.high,
-        point: ones.point || others.point,
-        hole: ones.hole || others.hole,
-    }
-}
-
-/// The changes of a cell that an instance heeds.
-fn heeded<R: Guarded + Drop>(network: &Network<R>, x: &Instance, cell: usize) -> Changes {
-    if x.procedure() >= network.library().len() {
-        return NONE;
-    }
-    let rule = network.library().get(x.procedure()).rule();
-    let count = x.inputs().len();
-    let mut heeded = NONE;
-    for place in 0..count {
-        if x.inputs()[place] == cell {
-            heeded = all_of(heeded, rule.heeds(place, count));
-        }
-    }
-    heeded
-}
-
-/// The place that has to be decided before an instance says anything.
-fn gate<R: Guarded + Drop>(network: &Network<R>, x: &Instance) -> Option<usize> {
-    if x.procedure() >= network.library().len() {
-        return None;
-    }
-    let place = network.library().get(x.procedure()).rule().waits_for()?;
-    x.inputs().get(place).copied()
-}
-
-/// Who reads a cell.
-fn readers_of<R: Guarded + Drop>(
+/// Puts an instance among the readers of each of its inputs that it heeds. One that never says what
+/// others don't is left out.
+fn connect<R: Guarded + Drop>(
     alloc: Global,
     network: &Network<R>,
-    cell: usize,
-) -> Result<Vec<Reader>, AllocError> {
-    let mut readers = Vec::new(alloc);
-    if cell >= network.cells() {
-        return Ok(readers);
+    trail: &Trail,
+    instance: usize,
+    readers: &mut [Readers],
+) -> Result<(), AllocError> {
+    if instance >= network.instances() {
+        return Ok(());
     }
-    for reader in network.readers(cell) {
-        let instance = *reader;
-        if instance < network.instances() {
-            let x = network.data().instance(instance);
-            readers.push(Reader {
+    let x = network.data().instance(instance);
+    let mirrored = mirrored(network, instance);
+    if mirrored.is_some_and(|output| is_decided_at_root(trail, output)) {
+        return Ok(());
+    }
+    let gate = gate_of(alloc, network, trail, x)?;
+    if gate.is_some_and(|gate| gate.is_mute()) {
+        return Ok(());
+    }
+    for place in 0..x.inputs().len() {
+        let cell = x.inputs()[place];
+        if cell < readers.len() && !x.inputs()[..place].contains(&cell) {
+            readers[cell].push(Reader {
                 instance,
-                heeded: heeded(network, x, cell),
-                gate: gate(network, x),
+                heeded: heeded(network, trail, x, cell),
+                gate,
+                mirrored,
             })?;
         }
     }
-    Ok(readers)
+    Ok(())
+}
+
+impl Readers {
+    /// One more, where it heeds anything.
+    fn push(&mut self, reader: Reader) -> Result<(), AllocError> {
+        let heeded = reader.heeded;
+        if heeded.low || heeded.high || heeded.hole {
+            self.others.push(reader)?;
+        } else if heeded.point {
+            self.of_points.push(reader)?;
+        }
+        Ok(())
+    }
 }
 
 impl Wiring {
@@ -95,10 +85,17 @@ impl Wiring {
     pub(crate) fn new<R: Guarded + Drop>(
         alloc: Global,
         network: &Network<R>,
+        trail: &Trail,
     ) -> Result<Wiring, AllocError> {
         let mut readers = Vec::new(alloc);
-        for cell in 0..network.cells() {
-            readers.push(readers_of(alloc, network, cell)?)?;
+        for _ in 0..network.cells() {
+            readers.push(Readers {
+                of_points: Vec::new(alloc),
+                others: Vec::new(alloc),
+            })?;
+        }
+        for instance in 0..network.instances() {
+            connect(alloc, network, trail, instance, &mut readers)?;
         }
         Ok(Wiring { readers })
     }
@@ -115,22 +112,36 @@ impl Wiring {
         let Some(readers) = self.readers.get(place) else {
             return;
         };
-        for reader in readers {
-            if changes.meets(reader.heeded) && !reader.is_shut(present) {
-                if reader.instance < waiting.instances() {
-                    waiting.wake(reader.instance);
-                }
-            }
+        wake_all(waiting, present, &readers.others, changes);
+        if changes.point {
+            wake_all(waiting, present, &readers.of_points, changes);
+        }
+    }
+}
+
+/// Those of these wait that heed such changes.
+fn wake_all(waiting: &mut Waiting, present: &Present, readers: &[Reader], changes: Changes) {
+    for reader in readers {
+        if changes.meets(reader.heeded)
+            && !reader.is_shut(present)
+            && reader.instance < waiting.instances()
+        {
+            waiting.wake(reader.instance);
         }
     }
 }
 
 impl Reader {
-    /// Whether the place for which it waits is open.
+    /// Whether its gate is shut, or others say what it might say.
     fn is_shut(&self, present: &Present) -> bool {
-        match self.gate {
-            Some(place) => present.is_open(place),
+        let is_shut = match self.gate {
+            Some(gate) => gate.is_shut(present),
             None => false,
-        }
+        };
+        is_shut
+            || match self.mirrored {
+                Some(place) => is_decided(present.info(place)),
+                None => false,
+            }
     }
 }

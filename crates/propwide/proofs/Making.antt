@@ -54,7 +54,6 @@ use Rattle.prop_points.proofs.ExcluderLaws.{excluders_are_exact}
 use Rattle.prop_points.proofs.KitLaws.{kit_is_exact}
 use Rattle.prop_points.proofs.NetworkLaws.{singles_solve}
 use Rattle.prop_points.proofs.WideLaws.{wide_is_exact}
-use Rattle.prop_seeking.specs.Answering.{Stock, stocked}
 use Rattle.propwide.specs.Kits.{Larger, LargerRelated, Mixed, Made, answer_of, RelatedBy, of_kit, of_wide}
 use Rattle.propwide.specs.Kits.{of_excluder, of_many, of_rows, in_order, larger_of, shown, wide, wide_related}
 use Rattle.propwide.specs.Kits.{wide_tells, wider_of, TellsBy}
@@ -316,18 +315,17 @@ more f g items all a bs i d front e l s h =
 
 -- where each had its turn, all are listed
 pub all_stored : (items : List Entry) (n : ℕ) → length items ≤ n → map shown items ≡ in_order
-    → map (λ e. stored_made (shown e)) (take n items) ≡ wide.library
+    → map (λ e. stored_made (shown e)) (take n items) ≡ wide
 all_stored items n l e = ap (map (λ e. stored_made (shown e))) (take_all n items l) ∙ by items ∙ ap (map stored_made) e
   where
     by : (items : List Entry) → map (λ e. stored_made (shown e)) items ≡ map stored_made (map shown items)
     by [] = refl
     by (e ∷ rest) = ap (λ ps. stored_made (shown e) ∷ ps) (by rest)
 
--- what holds of one stock holds of the same, put otherwise
-pub with_stock : (P : Stock → Type 0) (library known : List Stored) (prelude lines : List (List ℕ)) → library ≡ known
-    → prelude ≡ lines → P (stocked library prelude) → P (stocked known lines)
-with_stock P library known prelude lines l p h =
-    subst (λ k. P (stocked k lines)) l (subst (λ q. P (stocked library q)) p h)
+-- what holds of procedures and lines holds of the same, put otherwise
+pub with_both : (P : List Stored → List (List ℕ) → Type 0) (library known : List Stored) (prelude lines : List (List ℕ))
+    → library ≡ known → prelude ≡ lines → P library prelude → P known lines
+with_both P library known prelude lines l p h = subst (λ k. P k lines) l (subst (λ q. P library q) p h)
 
 -- each rule's answers hold the points that it relates
 larger_sound : (rule : Larger) (ins : List Shape) (out : Shape) (need : Need) → LargerForm rule ins out need
@@ -342,7 +340,7 @@ mixed_sound = either_sound KitForm (either_of WideForm LargerForm) kit_value wid
     KitRelated (either_of WideRelated LargerRelated) kit_sound
     (either_sound WideForm LargerForm wide_value larger_of WideRelated LargerRelated wide_sound larger_sound)
 
-pub wide_is_sound : AreSoundBy wide.library wide_related
+pub wide_is_sound : AreSoundBy wide wide_related
 wide_is_sound n p at = by in_order all_formed n p at
   where
     by : (made : List Made) → All IsFormed made → (n : ℕ) (p : Stored) → slice_get (map stored_made made) n ≡ Some p
@@ -361,7 +359,7 @@ mixed_exact (boths.Two (boths.Two (boths.One rule))) = excluders_are_exact rule
 mixed_exact (boths.Two (boths.Two (boths.Two (boths.One rule)))) = many_are_exact rule
 mixed_exact (boths.Two (boths.Two (boths.Two (boths.Two rule)))) = rows_are_exact rule
 
-wide_exact : AreExactBy wide.library wide_tells
+wide_exact : AreExactBy wide wide_tells
 wide_exact n p at = by in_order all_formed n p at
   where
     by : (made : List Made) → All IsFormed made → (n : ℕ) (p : Stored) → slice_get (map stored_made made) n ≡ Some p
@@ -371,5 +369,5 @@ wide_exact n p at = by in_order all_formed n p at
         (mixed_exact m.rule m.form.ins m.form.out m.form.need (All-head IsFormed m rest h).formed)
     by (m ∷ rest) h (suc k) p at = by rest (All-tail IsFormed m rest h) k p at
 
-pub wide_solves : SinglesSolve wide.library wide_tells
-wide_solves = singles_solve wide.library wide_tells wide_exact
+pub wide_solves : SinglesSolve wide wide_tells
+wide_solves = singles_solve wide wide_tells wide_exact

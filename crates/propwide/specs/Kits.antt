@@ -9,6 +9,7 @@ use Rattle.prop_procedures.specs.declared.shape.Need.TheVariants.{Nothing}
 use Rattle.prop_procedures.specs.declared.shape.Param.{Param}
 use Rattle.prop_procedures.specs.declared.shape.Shape.TheVariants.{Span}
 use Rattle.prop_procedures.specs.Both.{either_of}
+use Rattle.prop_procedures.specs.Stored.{Stored}
 use Rattle.prop_procedures.specs.Forms.{Form, form, library_of, related_in}
 use Rattle.prop_arith.specs.declared.kit.Kit.{Kit}
 use Rattle.prop_arith.specs.Kit.{in_order as kits, form_of}
@@ -34,7 +35,6 @@ use Rattle.prop_rows.specs.Procedures.{Named as RowNamed, in_order as row_named}
 use Rattle.prop_rows.specs.Procedures.{ins_of as row_ins}
 use Rattle.prop_rows.specs.Row.{Related as RowRelated, out_of as row_out, value_of as row_value}
 use Rattle.prop_points.specs.Kit.{KitTells}
-use Rattle.prop_seeking.specs.Answering.{Stock, stocked}
 use Rattle.propwide.specs.declared.entries.Entry as entries
 
 -- an excluder, or a rule of many cells or of rows
@@ -110,9 +110,9 @@ in_order =
 abbrev pub lines_in_order : List (List ℕ)
 lines_in_order = kit_lines ++ (wide_lines ++ (different_lines ++ row_lines))
 
--- the procedures and the compounds of the preludes
-abbrev pub wide : Stock
-wide = stocked (library_of (λ p. p.form) (λ p. answer_of p.rule) in_order) lines_in_order
+-- their library
+abbrev pub wide : List Stored
+wide = library_of (λ p. p.form) (λ p. answer_of p.rule) in_order
 
 -- the points that belong together at the procedure of this number
 abbrev pub wide_related : ℕ → Param → List Point → Point → Type 0

@@ -5,7 +5,7 @@ ghost use Rattle.prop_program.specs.Running.{Does, given_words};
 ghost use Rattle.prop_cells.specs.Points.{AreSoundBy};
 ghost use Rattle.prop_points.specs.Networks.{SinglesSolve};
 ghost use Rattle.prop_seeking.specs.Answering.{IsSought};
-ghost use Rattle.propwide.specs.Kits.{wide, wide_related, wide_tells};
+ghost use Rattle.propwide.specs.Kits.{lines_in_order, wide, wide_related, wide_tells};
 
 use crate::running::run;
 use prop_program::{Said, chosen_options, ended};
@@ -50,16 +50,16 @@ pub fn program<D: Devices, E: Write>(
     // earned by steps that were taken in the order that was chosen, or tells a step or what makes
     // up a value.
     ensures told { Does (codes "propwide") (given_words words) D.calls
-        (λ options end. IsSought wide options.order options.seed options.limit
+        (λ options end. IsSought wide lines_in_order options.order options.seed options.limit
         D.calls devices.old devices.new end)
         devices.old devices.new (exit_status result) }
     // Where all is well, nothing is said on the other device.
     ensures quiet { exit_status result ≡ 0 → errors.new ≡ errors.old }
     // So values that belong together and satisfy all that is believed lie in each answer.
-    ensures points { AreSoundBy wide.library wide_related }
+    ensures points { AreSoundBy wide wide_related }
     // And a plan in points lies in all that is stated, and its points belong together at each
     // instance but those of `divider` and `parter`.
-    ensures solved { SinglesSolve wide.library wide_tells }
+    ensures solved { SinglesSolve wide wide_tells }
 {
     let options = match chosen_options(alloc, SAID, words, devices, errors) {
         Ok(options) => options,

@@ -116,7 +116,7 @@ else:
         """,
         "propbench.replies": """
             Best Called Contradiction Done How Impossible Instance Listing Moved Nogoods NoneFits
-            Points Reply Settled Several Silent SoFar Stand Stated Step Symbol Unsettled Value
+            Points Reply Searched Settled Several Silent SoFar Stand Stated Step Symbol Unsettled Value
             Worldview
         """,
     }

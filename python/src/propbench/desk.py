@@ -123,7 +123,9 @@ def parser() -> argparse.ArgumentParser:
         " which to improve. Ends with status 1 where readings conflict.",
     )
     measure.add_argument("file", metavar="BENCH", help="the bench, .toml")
-    measure.add_argument("readings", metavar="READINGS", nargs="+", help="tables, .csv")
+    measure.add_argument(
+        "readings", metavar="READINGS", nargs="+", help="tables, .csv, .ods or .xlsx"
+    )
     measure.add_argument(
         "--decimal", choices=(".", ","), default=".", help="what stands before decimals (.)"
     )
@@ -145,6 +147,13 @@ def parser() -> argparse.ArgumentParser:
         action="append",
         default=[],
         help="tell which reading to improve for this one (for three that nothing was read of)",
+    )
+    measure.add_argument(
+        "--predict",
+        metavar="TEXT",
+        action="append",
+        default=[],
+        help="tell what a further reading has to show: `volume +- 0.1 cm3`, or a quantity alone",
     )
     measure.add_argument("--csv", metavar="FILE", help="write the results down as a table")
     measure.add_argument(
@@ -343,6 +352,7 @@ def _measured(options: argparse.Namespace) -> int:
     from pathlib import Path
 
     from propbench.laboratory.command import Asked, Tables, measure_files
+    from propbench.spreadsheets import NoSheetReader
 
     asked = Asked(
         Path(options.file),
@@ -353,8 +363,12 @@ def _measured(options: argparse.Namespace) -> int:
         Path(options.csv) if options.csv else None,
         Path(options.report) if options.report else None,
         options.estimates,
+        options.predict,
     )
-    return measure_files(asked, options.program)
+    try:
+        return measure_files(asked, options.program)
+    except NoSheetReader as error:
+        return _failed(error)
 
 
 def _told_minizinc(options: argparse.Namespace) -> int:

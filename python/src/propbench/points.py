@@ -42,17 +42,24 @@ class Points:
 @dataclass(frozen=True)
 class SoFar:
     """Neither the best points were found by now, nor that there are better ones than these, which
-    fit.
+    fit. By what the premises `because` say nothing is better than the `bound`, where that is known.
 
-    >>> print(SoFar(Points({"x": Span(3, 3)}, ())))
+    >>> print(SoFar(Points({"x": Span(3, 3)}, ()), 2, ("ana",)))
+    bound 2
+    because ana
     plan 1 unsettled
     x = 3
     """
 
     points: Points
+    bound: int | None = None
+    because: tuple[str, ...] = ()
 
     def __str__(self) -> str:
-        return self.points.told(" unsettled")
+        told = self.points.told(" unsettled")
+        if self.bound is None:
+            return told
+        return f"bound {self.bound}\nbecause {named(self.because)}\n{told}"
 
 
 @dataclass(frozen=True)
@@ -127,7 +134,7 @@ def lines_in(command: str, begun: Sequence[str]) -> int:
         return 1 + _count(first, "plan")
     if word == "plans":
         return 2 + _count(first, "plans")
-    if word != command or command not in ("least", "greatest"):
+    if word not in (command, "bound") or command not in ("least", "greatest"):
         return 1
     return 3 + (_count(others[1], "plan") if len(others) > 1 else 0)
 
@@ -158,11 +165,19 @@ def points_in(words: Sequence[str], text: str, kinds: Kinds) -> Found | None:
     if lines[0].startswith("plan "):
         points = _points(lines, " unsettled", kinds)
         return points and SoFar(points)
-    points = _points(lines[2:], "", kinds)
+    return _best(lines, kinds)
+
+
+def _best(lines: Sequence[str], kinds: Kinds) -> Best | SoFar | None:
+    """The best points of these lines, or those so far with how good others can still be."""
     end, _, value = lines[0].partition(" ")
+    points = _points(lines[2:], " unsettled" if end == "bound" else "", kinds)
     if points is None or not lines[1].startswith("because "):
         return None
-    return Best(end, int(value), names_in(lines[1][8:]), points)
+    because = names_in(lines[1][8:])
+    if end == "bound":
+        return SoFar(points, int(value), because)
+    return Best(end, int(value), because, points)
 
 
 def _points(lines: Sequence[str], mark: str, kinds: Kinds) -> Points | None:

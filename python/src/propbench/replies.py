@@ -31,6 +31,7 @@ __all__ = [
     "Nothing",
     "Points",
     "Reply",
+    "Searched",
     "Settled",
     "Several",
     "Silent",
@@ -230,14 +231,28 @@ class Moved:
 
 
 @dataclass(frozen=True)
+class Searched:
+    """What a search for points did, line by line, where its question is under way: what it supposed,
+    what was called or denied, or a nogood that it learned, and how far it went back. `plan` and
+    `end` say that there is an answer now."""
+
+    told: tuple[str, ...]
+
+    def __str__(self) -> str:
+        return "\n".join(self.told)
+
+
+@dataclass(frozen=True)
 class Step:
     """One step of a run, as propwide tells it: what was done, or how the run has ended. `sides` are
     those of choices that were believed before it."""
 
     sides: tuple[str, ...]
-    did: Called | Moved | Settled | Contradiction
+    did: Called | Moved | Settled | Contradiction | Searched
 
     def __str__(self) -> str:
+        if isinstance(self.did, Searched):
+            return "\n".join([f"step {len(self.did.told)}", *self.did.told])
         lines = [" ".join(("sides:", *self.sides)), *str(self.did).split("\n")]
         return "\n".join([f"step {len(lines)}", *lines])
 
@@ -495,6 +510,8 @@ def _said(text: str, command: str, kind: str) -> Said:
 
 def _step(lines: list[str], kinds: Mapping[str, str]) -> Step:
     """The step that these lines tell, those behind the first."""
+    if not lines or not lines[0].startswith("sides:"):
+        return Step((), Searched(tuple(lines)))
     sides = tuple(lines[0].split(" ")[1:])
     word, *said = lines[1].split(" ")
     if word == "called:":

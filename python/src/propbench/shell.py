@@ -25,6 +25,7 @@ from propbench.replies import (
     Done,
     Moved,
     Reply,
+    Searched,
     Silent,
     Stand,
     Step,
@@ -295,7 +296,7 @@ class Shell:
         try:
             for _ in range(steps):
                 step = self.session.step()
-                if not isinstance(step.did, Called | Moved):
+                if not isinstance(step.did, Called | Moved | Searched):
                     return
                 self._write("\n".join(map(printable, lines_on(step))))
         except UnknownCommand:
@@ -421,6 +422,8 @@ def lines_on(step: Step) -> list[str]:
     if isinstance(did, Called):
         words = (did.procedure, *did.inputs, did.output)
         return [f"called {' '.join(words)}: {did.says}"]
+    if isinstance(did, Searched):
+        return [" ".join(did.told)]
     if isinstance(did, Moved):
         return [f"moved {did.left} to {did.taken}: impossible together: {' '.join(did.nogood)}"]
     return []

@@ -12,6 +12,7 @@ use Rattle.prop_procedures.specs.declared.shape.Kinded.{Kinded}
 use Rattle.prop_vocabulary.specs.Cells.{CellNames}
 use Rattle.prop_texts.specs.Texts.{support_text}
 use Rattle.prop_workbench.specs.Machine.{State, new_state}
+use Rattle.prop_workbench.specs.inner.Machine.{text_at}
 use Rattle.prop_solve.specs.declared.question.Goal.{Goal}
 use Rattle.prop_solve.specs.declared.question.Goal.TheVariants.{Least, Greatest}
 use Rattle.prop_seeking.specs.Texts.{Plan, plan_text, value_text}
@@ -30,6 +31,14 @@ abbrev pub counted_text : List ℕ → List (List ℕ) → List ℕ
 counted_text mark lines =
     codes "plan " ++ (decimal (length lines) ++ (mark ++ lines_text lines))
 
+-- lines that tell a step behind a first one that says how many follow
+abbrev pub step_text : List (List ℕ) → List ℕ
+step_text lines = codes "step " ++ (decimal (length lines) ++ lines_text lines)
+
+-- how good others can still be
+abbrev pub bound_text : State → ℕ → Info → List ℕ
+bound_text s cell a = codes "bound " ++ text_at s cell a
+
 -- the word and the number of an end
 abbrev pub end_text : State → Goal → Plan → List ℕ
 end_text s (Least cell) p = codes "least " ++ value_text s p cell
@@ -40,6 +49,11 @@ end_text s goal p = []
 abbrev pub best_text : State → Goal → Plan → List ℕ → List ℕ
 best_text s goal p by = end_text s goal p ++ (codes "\nbecause"
     ++ (support_text s.premises by ++ (codes "\n" ++ plan_text s [] p)))
+
+-- the best points so far, a number than which none is better, and on which premises that rests
+abbrev pub bounded_text : State → ℕ → Info → Plan → List ℕ → List ℕ
+bounded_text s cell a p by = bound_text s cell a ++ (codes "\nbecause"
+    ++ (support_text s.premises by ++ (codes "\n" ++ plan_text s (codes " unsettled") p)))
 
 -- what is known of others
 abbrev pub others_text : State → Option (List ℕ) → List ℕ

@@ -1,6 +1,6 @@
 -- A seeker as the machine sees it, and what it keeps.
 use Rattle.std.specs.Prelude.{◌≡◌, ◌⊎◌, ◌≤◌, ◌<◌, ℕ, List, [], ◌∷◌, ◌++◌, Option, Some, None}
-use Rattle.std.specs.Prelude.{IfSome}
+use Rattle.std.specs.Prelude.{IfSome, true}
 use Rattle.std.specs.Prelude.{All, Result, Ok, Err, length, map, slice_index, ⊤}
 use Rattle.std.specs.List.{AllZip}
 use Rattle.std.specs.Option.{option_map}
@@ -28,7 +28,7 @@ use Rattle.prop_workbench.specs.Machine.{State, new_state}
 use Rattle.prop_workbench.specs.Sessions.{library_of, IsMeant, IsSound}
 use Rattle.prop_workbench.specs.declared.session.Session.{Session}
 use Rattle.prop_telling.specs.inner.Telling.{told_of}
-use Rattle.prop_solve.specs.Questions.{AreExcusing, value_fact}
+use Rattle.prop_solve.specs.Questions.{AreExcusing, is_optimum, value_fact}
 use Rattle.prop_solve.specs.Searches.{Search, IsSearch}
 use Rattle.prop_solve.specs.declared.solver.Plan.{Plan as PlanOf}
 use Rattle.prop_solve.specs.declared.question.Goal.{Goal}
@@ -160,6 +160,15 @@ pub record IsInquiry (g : Ground) (i : InquiryOf) : Type 0 where
   pub within : All (λ cell. cell < length g.cells.kinds) i.solver.named
   pub last : (i.solver.goal ≡ goals.Differing → ⊥) → IsLast g i.solver i.last
   pub rows : i.solver.goal ≡ goals.Differing → All (AreOf i.solver.named) i.solver.excuses
+
+-- one plan is looked for: the first, or a better one
+abbrev pub IsOpen : InquiryOf → Type 0
+IsOpen i = (i.solver.goal ≡ goals.Differing → ⊥)
+    × ((is_optimum i.solver.goal ≡ true) ⊎ (i.last ≡ None))
+
+-- there is such a question
+abbrev pub IsOpenIn : Option InquiryOf → Type 0
+IsOpenIn inquiry = (i : InquiryOf) × (inquiry ≡ Some i) × IsOpen i
 
 -- what was told as a question begins, or goes on: what was where the same was asked before, and
 -- else nothing

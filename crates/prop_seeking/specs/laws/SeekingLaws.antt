@@ -26,7 +26,7 @@ use Rattle.prop_telling.specs.Notes.{Note, is_done, note_read, noted}
 use Rattle.prop_telling.specs.Telling.{DoesAsSession, IsNoted, Own, TellsStep, Told, telling}
 use Rattle.prop_telling.specs.laws.TellingLaws.{lacks_read, memory_works, telling_asks_by_prefix}
 use Rattle.prop_seeking.specs.Asking.{Question, asked, as_value, begins, is_question}
-use Rattle.prop_seeking.specs.Seeking.{Seeks, Sought, seeking}
+use Rattle.prop_seeking.specs.Seeking.{Seeks, Sought, Strides, seeking}
 
 -- ---- what is kept of a line
 
@@ -53,6 +53,16 @@ kept_sets_limit (a ∷ b ∷ c ∷ []) = refl
 kept_sets_limit (a ∷ b ∷ c ∷ d ∷ []) = refl
 kept_sets_limit (a ∷ b ∷ c ∷ d ∷ e ∷ []) = refl
 kept_sets_limit (a ∷ b ∷ c ∷ d ∷ e ∷ f ∷ line) = refl
+
+kept_is_step : (line : List ℕ) → is_step (kept_of line) ≡ is_step line
+unfolding kept_of
+kept_is_step [] = refl
+kept_is_step (a ∷ []) = refl
+kept_is_step (a ∷ b ∷ []) = refl
+kept_is_step (a ∷ b ∷ c ∷ []) = refl
+kept_is_step (a ∷ b ∷ c ∷ d ∷ []) = refl
+kept_is_step (a ∷ b ∷ c ∷ d ∷ e ∷ []) = refl
+kept_is_step (a ∷ b ∷ c ∷ d ∷ e ∷ f ∷ line) = refl
 
 stripped_by : (b : Bool) (line : List ℕ)
     → length line ≤ length (cond b (take (length line - 1) line) line) + 1
@@ -109,11 +119,14 @@ pub seeking_asks_by_prefix : {O : Type 0} (picks : Picks O) (library : List Stor
 seeking_asks_by_prefix picks library old line answer new seeks =
     own_from (is_question (kept_of line)) (is_question line) (kept_is_question line)
     (λ asks. (asks.0, kept_seeks library old line answer new.inquiry asks.1))
-    (λ tells. (
-      telling_asks_by_prefix picks library old.told line answer new.told tells.0,
-      tells.1 ∙ ap (λ (b : Bool). cond (is_done answer && not b) None old.inquiry)
-          (kept_sets_limit line),
-    )) seeks
+    (λ other. elim other [
+      | inl strides ↦ inl (sym (kept_is_step line) ∙ strides.0, strides.1)
+      | inr tells ↦ inr (
+        telling_asks_by_prefix picks library old.told line answer new.told tells.0,
+        tells.1 ∙ ap (λ (b : Bool). cond (is_done answer && not b) None old.inquiry)
+            (kept_sets_limit line),
+      )
+    ]) seeks
 
 -- ---- some answer
 
@@ -208,13 +221,14 @@ tells_something picks library old line false false false =
 something : {O : Type 0} (picks : Picks O) (library : List Stored) (old : Sought O)
     (line : List ℕ) (b : Bool) → (answer : Answer) × Own b
     ((old.told ≡ old.told) × Seeks library old line answer old.inquiry)
-    (telling picks library old.told line answer old.told × (old.inquiry
-    ≡ cond (is_done answer && not (begins (codes "limit") line)) None old.inquiry))
+    (((is_step line ≡ true) × Strides old answer old)
+    ⊎ (telling picks library old.told line answer old.told × (old.inquiry
+    ≡ cond (is_done answer && not (begins (codes "limit") line)) None old.inquiry)))
 something picks library old line true = (Refused Memory, (refl, inl (refl, inr refl)))
 something picks library old line false =
     let told =
     tells_something picks library old.told line (is_step line) (is_how line) (is_list line) in
-    (told.0, (told.2, rw told.1 refl))
+    (told.0, inr (told.2, rw told.1 refl))
 
 pub seeking_is_total : {O : Type 0} (picks : Picks O) (library : List Stored)
     → IsTotal (seeking picks library)

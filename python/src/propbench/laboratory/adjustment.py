@@ -100,7 +100,8 @@ class Adjustment(Shown, list[Estimate]):
         if not self.degrees:
             return f"{told}: no reading controls another."
         verdict = "within" if self.chi_square <= self.limit else "BEYOND"
-        square = f"chi-square {self.chi_square:.3g} of {self.degrees} degrees of freedom"
+        degrees = f"{self.degrees} degree{'' if self.degrees == 1 else 's'} of freedom"
+        square = f"chi-square {self.chi_square:.3g} of {degrees}"
         return f"{told}: {square}, {verdict} {self.limit:.3g} (95 %)."
 
     def heads(self) -> Sequence[str]:
@@ -144,7 +145,8 @@ def observations_in(
         if isinstance(each, Read) and (each.premise is None or each.premise in names):
             reading = each.reading
             middle, half = (reading.low + reading.high) / 2, (reading.high - reading.low) / 2
-            times = divisor if reading.coverage is None else float(reading.coverage)
+            shaped = divisor if reading.shape is None else SHAPES[reading.shape]
+            times = shaped if reading.coverage is None else float(reading.coverage)
             if half:
                 deviation = float(half) / times
                 found.append(Observation(each.premise or "", each.cell, float(middle), deviation))

@@ -1,12 +1,15 @@
 """What a workbench does for a laboratory: it has these methods beside those of measured quantities."""
 
 import os
+from collections.abc import Iterable, Sequence
+
 from propbench.given import path_given
 from propbench.laboratory.results import Results, results_of
 from propbench.laboratory.sheets import Sheet, rows_of, rows_of_file
 from propbench.laboratory.tabled import Known, readings_in, together_of
 from propbench.measuring.bench import Measuring
 from propbench.measuring.devices import DevicePart, ShownMade
+from propbench.measuring.elementary import Calibration
 from propbench.measuring.exact import Exact
 from propbench.measuring.law_texts import NotALaw
 from propbench.measuring.quantities import Quantity
@@ -29,11 +32,13 @@ class Laboratory(Measuring):
         under: str | None = None,
         coverage: Exact = COVERAGE,
     ) -> int:
-        """States the readings of a file of comma-separated values (or semicolons, or tabs), whose
-        columns are those of `read_table`. Its head is row 1. How many there were is given back.
+        """States the readings of a file of comma-separated values (or semicolons, or tabs), or of the
+        first table of a spreadsheet (.ods, .xlsx), whose columns are those of `read_table`. Its head
+        is row 1. How many there were is given back.
 
         Raises BadTable, which tells row, column and what would do, of all that is wrong; nothing
-        of the file is stated then. Raises OSError too.
+        of the file is stated then. Raises OSError too, and NoSheetReader where what reads a
+        spreadsheet isn't installed.
 
         >>> w = Workbench()
         >>> height = w.measured("height", "m", 0, 100, step="0.1")
@@ -72,7 +77,7 @@ class Laboratory(Measuring):
         """
         return self._read_rows(rows_of(table, _decimal(decimal)), under, coverage)
 
-    def read_laws(self, path: str | os.PathLike[str]) -> int:
+    def read_laws(self, path: str | os.PathLike[str], *, curves: Iterable[Calibration] = ()) -> int:
         """States the laws of a file, one a line, as one writes them; what stands behind a `#` is for
         people. How many there were is given back. Raises OSError, and NotALaw with the line; nothing
         of the file is stated then.
@@ -85,7 +90,7 @@ class Laboratory(Measuring):
         >>> w.read_laws("laws.txt")
         1
         """
-        return self._state_laws(path_given(path))
+        return self._state_laws(path_given(path), list(curves))
 
     def results(self, *, seconds: float | None = None) -> Results:
         """What follows for each quantity that was made by `w.measured`, as a table that can be
@@ -137,7 +142,7 @@ class Laboratory(Measuring):
         """What follows for cells, as a table."""
         raise NotImplementedError
 
-    def _state_laws(self, path: str | os.PathLike[str]) -> int:
+    def _state_laws(self, path: str | os.PathLike[str], curves: Sequence[Calibration]) -> int:
         with open(path, encoding="utf-8-sig") as file:
             lines = [line.partition("#")[0].strip() for line in file.read().splitlines()]
         laws = [(number, line) for number, line in enumerate(lines, 1) if line]
@@ -145,7 +150,7 @@ class Laboratory(Measuring):
         def state() -> None:
             for number, line in laws:
                 try:
-                    self.law(line)
+                    self.law(line, curves=curves)
                 except ValueError as error:
                     shown = printable(os.fspath(path))
                     raise NotALaw(f"{shown}, line {number}: {error}") from None

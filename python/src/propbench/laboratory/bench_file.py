@@ -8,24 +8,34 @@
 
     [devices]
     balance = { offset = "0.02 g" }
+
+    [curves]
+    probe = { of = "mV", unit = "degC", within = 0.1, points = [[0, 20.1], [10, 30.0]] }
 """
 
 import os
-from collections.abc import Callable, Mapping, Sequence
+from collections.abc import Callable, Iterable, Mapping, Sequence
 from dataclasses import dataclass
 from decimal import Decimal
 from functools import partial
 from importlib import import_module
 from pathlib import Path
-from typing import Any, Protocol
+from typing import Any, Protocol, TypeVar
 
+from propbench.laboratory.curve_files import points_of_file
+from propbench.measuring.elementary import Calibration, curve
 from propbench.nearby import near_names
 from propbench.showing import printable, quoted
 
-_TOP = ("title", "laws", "quantities", "devices")
+_TOP = ("title", "laws", "quantities", "devices", "curves")
 _QUANTITY = ("unit", "low", "high", "step")
 _DEVICE = ("offset", "scale")
+_POINTS = "points"
+_CURVE = (_POINTS, "of", "unit", "within")
 _LAW = ("law", "under")
+
+
+Made = TypeVar("Made")
 
 
 class BadBench(ValueError):
@@ -43,10 +53,12 @@ class Stating(Protocol):
     def device(self, name: str, offset: Any = None, scale: Any = None) -> object:
         """Makes a device."""
 
-    def law(self, law: str, under: str | None = None) -> None:
+    def law(
+        self, law: str, under: str | None = None, *, curves: Iterable[Calibration] = ()
+    ) -> None:
         """States a law."""
 
-    def read_laws(self, path: Path) -> int:
+    def read_laws(self, path: Path, *, curves: Iterable[Calibration] = ()) -> int:
         """States the laws of a file."""
 
 
@@ -58,6 +70,7 @@ class BenchFile:
     title: str
     quantities: Mapping[str, Mapping[str, Any]]
     devices: Mapping[str, Mapping[str, Any]]
+    curves: Mapping[str, Mapping[str, Any]]
     laws: Sequence[Mapping[str, str]] | Path
 
     def state(self, to: Stating) -> None:
@@ -66,15 +79,27 @@ class BenchFile:
             self._state(f"quantities.{name}", partial(to.measured, name, **given))
         for name, given in self.devices.items():
             self._state(f"devices.{name}", partial(to.device, name, **given))
+        made = [
+            self._state(f"curves.{name}", partial(self._curve, name, given))
+            for name, given in self.curves.items()
+        ]
         if isinstance(self.laws, Path):
-            to.read_laws(self.laws)
+            to.read_laws(self.laws, curves=made)
             return
         for place, law in enumerate(self.laws, 1):
-            self._state(f"laws, {place}", partial(to.law, law["law"], law.get("under")))
+            call = partial(to.law, law["law"], law.get("under"), curves=made)
+            self._state(f"laws, {place}", call)
 
-    def _state(self, part: str, call: Callable[[], object]) -> None:
+    def _curve(self, name: str, given: Mapping[str, Any]) -> Calibration:
+        """A curve by its points, or by those of the file that it names."""
+        points = given[_POINTS]
+        if isinstance(points, str):
+            points = points_of_file(self.path.parent / points)
+        return curve(name, points, **{key: it for key, it in given.items() if key != _POINTS})
+
+    def _state(self, part: str, call: Callable[[], Made]) -> Made:
         try:
-            call()
+            return call()
         except (ValueError, TypeError) as error:
             raise BadBench(f"{printable(str(self.path))}: {printable(part)}: {error}") from None
 
@@ -111,7 +136,20 @@ def _bench(path: Path, read: Mapping[str, Any]) -> BenchFile:
     if not isinstance(title, str):
         raise BadBench("`title` is a text")
     devices = _tables("devices", read.get("devices", {}), _DEVICE)
-    return BenchFile(path, title, quantities, devices, _laws(path, read.get("laws", [])))
+    curves = _curves(read.get("curves", {}))
+    return BenchFile(path, title, quantities, devices, curves, _laws(path, read.get("laws", [])))
+
+
+def _curves(given: object) -> Mapping[str, Mapping[str, Any]]:
+    """Curves by name, each with its points or the name of a file that has them."""
+    found = _tables("curves", given, _CURVE)
+    for name, table in found.items():
+        if not isinstance(table.get(_POINTS), list | str):
+            raise BadBench(
+                f"curves.{name}: `points` are pairs, as [[0, 20.1], [10, 30.0]], or the name of a "
+                "file with two columns"
+            )
+    return found
 
 
 def _laws(path: Path, given: object) -> Sequence[Mapping[str, str]] | Path:
@@ -135,7 +173,8 @@ def _tables(name: str, given: object, keys: Sequence[str]) -> Mapping[str, Mappi
         raise BadBench(f"`{name}` has a table for each, as `name = {{ {keys[0]} = .. }}`")
     for each, table in given.items():
         _check_keys(f"{name}.{each}", table, keys)
-        wrong = [key for key, it in table.items() if not isinstance(it, str | int | Decimal)]
+        plain = {key: it for key, it in table.items() if key != _POINTS}
+        wrong = [key for key, it in plain.items() if not isinstance(it, str | int | Decimal)]
         if wrong:
             raise BadBench(f"{name}.{each}: `{wrong[0]}` is a text or a number")
     return given

@@ -4,7 +4,6 @@ import os
 import textwrap
 from base64 import b64encode
 from collections.abc import Iterator, Sequence
-from contextlib import suppress
 from dataclasses import dataclass, replace
 from datetime import date
 from typing import TYPE_CHECKING
@@ -12,6 +11,7 @@ from typing import TYPE_CHECKING
 from propbench.files import write_file
 from propbench.given import path_given
 from propbench.laboratory import showing_html as html
+from propbench.laboratory.paths import paths_in
 from propbench.laboratory.reported import Found, Stated, bars_of, certificate_of, stated_in
 from propbench.laboratory.results import Result
 from propbench.model.answers import Conflict
@@ -31,7 +31,7 @@ _BOUNDS = (
 )
 _ESTIMATES = (
     "An estimate is another statement than the bounds: there errors add up, and here by their "
-    "squares; a bound is taken for a rectangular distribution."
+    "squares; a bound is taken for a rectangular distribution, where its reading names no other."
 )
 _PROVED = (
     "That readings conflict, and the bounds in whole numbers, are answers of a proved program."
@@ -91,7 +91,8 @@ class Report:
     def _notes(self) -> list[str]:
         """What is to be known of the results."""
         notes = list(self.found.results.notes) if self.found.results else []
-        return [*[note for note in notes if "proved" not in note], self._program()]
+        notes = [note for note in notes if "proved" not in note]
+        return [*notes, self._program(), *filter(None, [self.found.without_estimates])]
 
     def _program(self) -> str:
         return _PROVED if self.is_proved else _UNPROVED
@@ -116,7 +117,7 @@ class Report:
             yield "<h2>Conflict</h2>"
             yield _as_html(self.found.outliers)
         if self.found.bars:
-            yield "<h2>By each reading, and together</h2>"
+            yield "<h2>By each reading or way, and together</h2>"
             for name, bars in self.found.bars.items():
                 yield f"<section><h3>{html.said(name)}</h3>{html.bars(bars)}</section>"
         yield "<h2>Laws</h2>"
@@ -129,7 +130,8 @@ class Report:
             )
         yield "<h2>Readings</h2>"
         of_readings = ("Reading", "Of", "Says", "By", "")
-        yield html.table(of_readings, map(_reading, self._rows()), ("", "", "number"))
+        kinds = ("name", "name", "", "name")
+        yield html.table(of_readings, map(_reading, self._rows()), kinds)
         yield "<h2>Certificates</h2>"
         yield from (_certificate(name, it) for name, it in self.certificates.items())
 
@@ -186,12 +188,15 @@ def report_of(w: "Workbench", title: str, clock: Clock) -> Report:
 def _found(w: "Workbench", clock: Clock, given_up: Sequence[str] = ()) -> Found:
     """What follows. Raises Conflict."""
     results = w.results(seconds=clock.seconds_left())
-    bars = bars_of(w, w.network.events, given_up, clock)
-    estimates = None
-    with suppress(ImportError, ValueError):
+    bars = paths_in(w, results, clock)
+    bars |= bars_of(w, w.network.events, results, given_up, clock)
+    estimates, without = None, ""
+    try:
         estimates = w.adjust(seconds=clock.seconds_left())
+    except (ImportError, ValueError) as error:
+        without = f"There are no estimates: {error}"
     certificate = certificate_of(w.model, results, clock)
-    return Found(results, bars, certificate, estimates=estimates)
+    return Found(results, bars, certificate, estimates=estimates, without_estimates=without)
 
 
 def _result(each: Result) -> tuple[str, str, str, str]:
@@ -203,17 +208,16 @@ def _result(each: Result) -> tuple[str, str, str, str]:
         if not each.rounded.half
         else (f"({html.number(f'{each.rounded.value:f}')} ± {each.rounded.half:f})")
     )
-    bounds = f"{html.number(f'{each.interval.low:f}')} to {html.number(f'{each.interval.high:f}')}"
     name = html.unit(each.interval.unit)
-    return html.said(each.name), f"{written} {name}", f"{bounds} {name}", because
+    return html.said(each.name), f"{written} {name}", html.between(each.interval), because
 
 
 def _plain(each: Result) -> tuple[str, str, str, str]:
     because = ", ".join(each.because) or "what holds always"
     if each.interval is None or each.rounded is None:
         return each.name, "not known", "", because
-    bounds = f"{each.interval.low:f}..{each.interval.high:f}"
-    return f"{each.name} = {each.rounded.value:f}", f"{each.rounded.half:f}", bounds, because
+    value, half = f"{each.name} = {each.rounded.value:f}", f"{each.rounded.half:f}"
+    return value, half, str(each.interval), because
 
 
 def _law(text: str, under: str) -> str:

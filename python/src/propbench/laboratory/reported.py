@@ -87,6 +87,8 @@ class Found:
     outliers: Outliers | None = None
     given_up: Sequence[str] = ()
     estimates: Adjustment | None = None
+    # Why there are no estimates.
+    without_estimates: str = ""
 
 
 def stated_in(events: Sequence[Event], model: Model) -> Stated:
@@ -117,10 +119,15 @@ def stated_in(events: Sequence[Event], model: Model) -> Stated:
 
 
 def bars_of(
-    bench: Bench, events: Sequence[Event], given_up: Collection[str], clock: Clock
+    bench: Bench,
+    events: Sequence[Event],
+    results: Results,
+    given_up: Collection[str],
+    clock: Clock,
 ) -> dict[str, list[Bar]]:
     """For quantities that were read what each reading tells by itself, those that are given up too,
     what the other readings leave, and what all tell together."""
+    together = {each.name: each.interval for each in results}
     believed = list(bench.model.believed())
     found: dict[str, list[Bar]] = {}
     with Trial(bench.model, [], clock) as trial:
@@ -139,9 +146,9 @@ def bars_of(
             others = _left(trial, [each for each in believed if each not in own], quantity)
             if others is not None:
                 bars.append(Bar("the other readings", others, By.OTHERS))
-            together = _left(trial, believed, quantity)
-            if together is not None and len(bars) > 1:
-                found[quantity.name] = [*bars, Bar("together", together, By.ALL)]
+            whole = together[quantity.name]
+            if whole is not None and len(bars) > 1:
+                found[quantity.name] = [*bars, Bar("together", whole, By.ALL)]
     return found
 
 

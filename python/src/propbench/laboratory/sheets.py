@@ -1,4 +1,5 @@
-"""Tables of readings as they come: a file of comma-separated values, rows, or a frame of pandas.
+"""Tables of readings as they come: a file of comma-separated values, a sheet of LibreOffice or Excel,
+rows, or a frame of pandas.
 
 Each becomes rows of cells under the columns that are known, with the number that a person finds the
 row by. What is wrong with a table is told by row and column, all of it at once.
@@ -8,16 +9,18 @@ import csv
 import os
 from collections.abc import Iterable, Mapping, Sequence
 from dataclasses import dataclass
+from datetime import datetime
 from enum import Enum
 from typing import Any
 
 from propbench.measuring.exact import is_number, short
 from propbench.nearby import near_names
 from propbench.showing import printable
+from propbench.spreadsheets import ENDINGS, Limits, ending_of, tables_in
 
 # A table has so many rows at the most, and so many of its problems are told.
 MOST_ROWS = 50_000
-_TOLD = 10
+_TOLD, _MOST_COLUMNS = 10, 200
 
 
 class Column(Enum):
@@ -140,8 +143,32 @@ def _known() -> str:
 
 
 def rows_of_file(path: str | os.PathLike[str], decimal: str = ".") -> Sheet:
-    """The rows of a file of values with commas, semicolons or tabs between; the head is row 1.
-    Raises BadTable, OSError, and ValueError where it is no text in UTF-8."""
+    """The rows of a file of values with commas, semicolons or tabs between, or of the first table of
+    a spreadsheet; the head is row 1. Raises BadTable, OSError, NoSheetReader, and ValueError where
+    it is no such file."""
+    lines: Sequence[Sequence[object]]
+    if ending_of(os.fspath(path)) in ENDINGS:
+        lines = _lines_of_sheet(os.fspath(path))
+    else:
+        lines, _ = lines_of_file(path)
+    if not lines:
+        raise BadTable([Problem(1, "", f"the table is empty: its head has {_known()}")])
+    head = Head.of(lines[0])
+    return _rows(head, enumerate(lines[1:], 2), decimal)
+
+
+def _lines_of_sheet(path: str) -> list[list[object]]:
+    """The cells of each line of a spreadsheet's first table, without the empty ones behind them."""
+    tables = tables_in(path, Limits(MOST_ROWS + 1, _MOST_COLUMNS))
+    lines = tables[0][1] if tables else []
+    for line in lines:
+        while line and line[-1] in (None, ""):
+            line.pop()
+    return lines
+
+
+def lines_of_file(path: str | os.PathLike[str]) -> tuple[list[list[str]], str]:
+    """The cells of each line of a file, and what stands between cells. Raises as `rows_of_file`."""
     with open(path, encoding="utf-8-sig", newline="") as file:
         try:
             text = file.read()
@@ -152,13 +179,10 @@ def rows_of_file(path: str | os.PathLike[str], decimal: str = ".") -> Sheet:
     first, _, _ = text.partition("\n")
     between = max(";\t,", key=first.count)
     try:
-        lines = list(csv.reader(text.splitlines(keepends=True), delimiter=between, strict=True))
+        lines = csv.reader(text.splitlines(keepends=True), delimiter=between, strict=True)
+        return list(lines), between
     except csv.Error as error:
         raise BadTable([Problem(1, "", f"this is no table: {error}")]) from None
-    if not lines:
-        raise BadTable([Problem(1, "", f"the table is empty: its head has {_known()}")])
-    head = Head.of(lines[0])
-    return _rows(head, enumerate(lines[1:], 2), decimal)
 
 
 def rows_of(table: object, decimal: str = ".") -> Sheet:
@@ -217,6 +241,10 @@ def _cell(given: object) -> object:
         return ""
     if isinstance(given, str):
         return given.strip()
+    if isinstance(given, float) and given.is_integer() and abs(given) < 1e15:
+        return int(given)
+    if isinstance(given, datetime) and not (given.hour or given.minute or given.second):
+        return given.date().isoformat()
     return given if is_number(given) else str(given).strip()
 
 
@@ -239,6 +267,8 @@ def _with_points(row: Row, problems: list[Problem]) -> Row:
             continue
         if "." in written.replace("..", ""):
             said = f"{short(written)!r} has a point, and numbers are to have commas (`decimal`)"
+            if "," in written:
+                said = f"{short(written)!r}: leave out what stands between thousands"
             problems.append(row.problem(column, said))
         cells[column] = written.replace(",", ".")
     return Row(row.number, cells)

@@ -32,10 +32,11 @@ tr { break-inside: avoid; }
 thead { display: table-header-group; }
 .number { white-space: nowrap; font-variant-numeric: tabular-nums; }
 td.result { font-weight: bold; }
+td.name { min-width: 5em; }
 figure { margin: .6em 0; break-inside: avoid; }
 .bars td { border: 0; padding: .05em .8em .05em 0; vertical-align: middle; }
 .bars td:first-child { width: 28%; }
-.bars td:nth-child(2) { width: 44%; padding-right: 0; }
+.bars td:nth-child(2) { width: 44%; }
 .bars svg { display: block; width: 100%; height: 1.1em; }
 .bars tr.all td { font-weight: bold; border-top: 1px solid #ccc; }
 pre, code { font-family: "Liberation Mono", Consolas, monospace; font-size: .9em; }
@@ -90,7 +91,7 @@ def bars(found: Sequence[Bar]) -> str:
     low, high = _axis([bar for bar in found if bar.by is By.ALL or not _is_wide(bar, found)])
     rows = "".join(
         f'<tr class="{bar.by.value}"><td>{said(bar.label)}</td>'
-        f'<td>{_drawn(bar, low, high)}</td><td class="number">{_text(bar.interval)}</td></tr>'
+        f'<td>{_drawn(bar, low, high)}</td><td class="number">{between(bar.interval)}</td></tr>'
         for bar in found
     )
     return f'<figure><table class="bars"><tbody>{rows}</tbody></table></figure>'
@@ -135,7 +136,8 @@ def _drawn(bar: Bar, low: float, high: float) -> str:
     )
 
 
-def _text(interval: Interval) -> str:
+def between(interval: Interval) -> str:
+    """Both ends, rounded outward, and the unit."""
     text = str(interval)
     name = "" if interval.unit == "1" else f" {interval.unit}"
     return f"{number(text.removesuffix(name)).replace('..', ' to ')} {unit(interval.unit)}"

@@ -1,12 +1,12 @@
 """Rows of a table as readings of quantities, each under its premise: all of them, or none."""
 
-from collections.abc import Iterable, Mapping, Sequence
+from collections.abc import Iterable, Mapping
 from dataclasses import dataclass, replace
 from typing import TypeVar
 
 from propbench.laboratory.sheets import BadTable, Column, Problem, Row, Sheet
 from propbench.measuring.devices import Device
-from propbench.measuring.exact import Exact, is_number, short
+from propbench.measuring.exact import Exact, is_number, number_in, short
 from propbench.measuring.quantities import Quantity
 from propbench.measuring.readings import Reading, reading_of
 from propbench.nearby import near_names
@@ -114,14 +114,26 @@ def _read(row: Row, quantity: Quantity, coverage: Exact) -> Reading:
     if off == "" and not isinstance(value, str) and is_number(value):
         said = "a number doesn't say how exact it is: fill in `uncertainty` (0 where it is exact)"
         raise _Wrong(row.problem(Column.VALUE, f"{value} as {said}, or give the value as a text"))
+    if unit == "" and any(letter.isalpha() for letter in str(off)) and _is_plain(value):
+        # (else a unit of the uncertainty would be taken for that of both)
+        unit = "" if quantity.unit.text == "1" else quantity.unit.text
     text = f"{value} {unit}".strip()
     if off != "":
-        sign = "" if str(off).startswith(("u=", "U=", "+-", "±", "+/-")) else "+- "
+        sign = "" if str(off).startswith(("u=", "U=", "s=", "+-", "±", "+/-")) else "+- "
         text = f"{text} {sign}{off}"
     try:
         return reading_of(text, quantity.unit, coverage)
     except ValueError as error:
         raise _Wrong(row.problem(_at_fault(row, quantity), _told(row, quantity, error))) from None
+
+
+def _is_plain(value: object) -> bool:
+    """Whether a value is a number without a unit."""
+    try:
+        number_in(str(value))
+    except ValueError:
+        return False
+    return True
 
 
 def _at_fault(row: Row, quantity: Quantity) -> Column:
@@ -156,9 +168,14 @@ def _told(row: Row, quantity: Quantity, error: ValueError) -> str:
     """An error as a table tells it: what would do where a comma is meant, or a unit stands twice."""
     if _has_two_units(row, quantity):
         return "the value has its unit with it: leave this cell empty"
-    written = row.text(Column.VALUE) + row.text(Column.UNCERTAINTY)
+    column = _at_fault(row, quantity)
+    written = row.text(column)
+    if "," in written and "." in written:
+        return f"{short(written)!r}: leave out what stands between thousands"
     if "," in written:
-        return f'{short(row.text(Column.VALUE))!r}: write a point, or read it with `decimal=","`'
+        return f'{short(written)!r}: write a point, or read it with `decimal=","`'
+    if column is Column.UNIT:
+        return f"{error}; `{quantity.name}` is in {quantity.unit.text}: write a unit of that sort"
     return str(error)
 
 

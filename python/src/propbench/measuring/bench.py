@@ -15,6 +15,7 @@ from propbench.measuring.devices import (
     shown_in,
     told_if_possible,
 )
+from propbench.measuring.elementary import Calibration
 from propbench.measuring.exact import Exact
 from propbench.measuring.law_texts import laws_of
 from propbench.measuring.outliers import Outliers, find_outliers
@@ -97,9 +98,11 @@ class Measuring(Questions):
         self._check_name(name)
         return self._quantity(declared(name, measure, self._owner))
 
-    def law(self, law: Law | str, under: str | None = None) -> None:
+    def law(
+        self, law: Law | str, under: str | None = None, *, curves: Iterable[Calibration] = ()
+    ) -> None:
         """States that a law holds, always or under a premise. It may be a text, as one writes it:
-        `w.law("density == mass / volume")`.
+        `w.law("density == mass / volume")`; the curves that stand in it are given beside it.
 
         No real solution is lost: whichever real numbers fit the law and the readings lie in the
         answers. Raises ValueError where a term has no bound, or a step is too coarse for the law,
@@ -115,7 +118,7 @@ class Measuring(Questions):
         r = 482.92..517.95 ohm because of meter, clamp
         """
         if isinstance(law, str):
-            laws = laws_of(law, self._quantities())
+            laws = laws_of(law, self._quantities(), curves)
 
             def state() -> None:
                 for each in laws:

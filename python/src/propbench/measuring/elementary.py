@@ -1,9 +1,8 @@
 """Functions of measured quantities as a user writes them: `exp`, `sin`, `atan2`, and `pi`."""
 
 from collections.abc import Callable, Iterable, Sequence
-from dataclasses import replace
+from dataclasses import dataclass, replace
 from fractions import Fraction
-from functools import partial
 
 from propbench.measuring.bounds import BoundsOf
 from propbench.measuring.exact import Exact, exact_of, number_in
@@ -128,6 +127,21 @@ def atan2(above: Given, beside: Given) -> Term:
     )
 
 
+@dataclass(frozen=True)
+class Calibration:
+    """A curve of calibration, which gives a term for a term."""
+
+    table: Table
+
+    @property
+    def name(self) -> str:
+        """What it is called, in laws that are texts too."""
+        return self.table.name
+
+    def __call__(self, term: Given) -> Term:
+        return Made(function_of(Function(Name.TABLE, table=self.table), real_of(term)))
+
+
 def curve(
     name: str,
     points: Iterable[tuple[Exact | str, Exact | str]],
@@ -135,9 +149,10 @@ def curve(
     of: str = "1",
     unit: str = "1",
     within: Exact | str = 0,
-) -> "Callable[[Given], Term]":
+) -> Calibration:
     """A function by its points, as a curve of calibration: straight lines between them, from which
-    it is off by no more than `within`. An argument is in the unit `of`, a value in `unit`.
+    it is off by no more than `within`. An argument is in the unit `of`, a value in `unit`. A law that
+    is a text knows it by its name, where it is given: `w.law("t == probe(u)", curves=[probe])`.
 
     Raises ValueError where the points are too few, out of order, or two have one argument.
     """
@@ -154,8 +169,7 @@ def curve(
     off = _exact(within) * value.factor
     if off < 0:
         raise ValueError(f"the curve {name!r} is off by 0 or more, and not by {within}")
-    known = Table(name, tuple(made), off, argument.dimension, value.dimension)
-    return partial(_of_table, known)
+    return Calibration(Table(name, tuple(made), off, argument.dimension, value.dimension))
 
 
 def level(term: Given) -> Term:
@@ -197,11 +211,6 @@ _LEVELS = {"1": 10, "W": 10, "V": 20}
 
 def _decibels(count: int) -> Term:
     return Made(real_of(f"{count} dB"))
-
-
-def _of_table(known: Table, term: Given) -> Term:
-    """What a table has for a term."""
-    return Made(function_of(Function(Name.TABLE, table=known), real_of(term)))
 
 
 def _pair(point: object) -> tuple[Fraction, Fraction]:

@@ -6,10 +6,10 @@ carried out. A name is that of a quantity, also with spaces in it; `=` is `==`, 
 
 import ast
 import re
-from collections.abc import Callable, Mapping
+from collections.abc import Callable, Iterable, Mapping
 from fractions import Fraction
 
-from propbench.measuring.elementary import FUNCTIONS, at_level, pi
+from propbench.measuring.elementary import FUNCTIONS, Calibration, at_level, pi
 from propbench.measuring.exact import number_in, short
 from propbench.measuring.functions import maximum, mean, minimum, total
 from propbench.measuring.terms import Law, Made, Term, constant, power_of, real_of
@@ -56,19 +56,31 @@ class NotALaw(ValueError):
     """A text is no law of the quantities that there are."""
 
 
-def laws_of(text: str, quantities: Mapping[str, Term]) -> list[Law]:
-    """The laws that a text states: one, or several where a term stands between two others. Raises
-    NotALaw, and as terms do: MixedUnits, NoReading, UnknownUnit."""
+def laws_of(
+    text: str, quantities: Mapping[str, Term], curves: Iterable[Calibration] = ()
+) -> list[Law]:
+    """The laws that a text states: one, or several where a term stands between two others. Curves
+    that are given are functions by their names. Raises NotALaw, and as terms do: MixedUnits,
+    NoReading, UnknownUnit."""
     if len(text) > _MOST:
         raise NotALaw(f"a law has {_MOST:,} characters at the most: {short(text)!r}")
-    return _Reading(text, quantities).laws()
+    known = {each.name: each for each in curves}
+    for name in known:
+        if not name.isidentifier() or name in _FUNCTIONS or name in quantities:
+            raise NotALaw(
+                f"a law can't name the curve {quoted(name)}: call it by letters, digits and `_`, and "
+                "as no function and no quantity is called"
+            )
+    return _Reading(text, quantities, known).laws()
 
 
 class _Reading:
     """A text as it is read: with names that Python understands in the place of quantities."""
 
-    def __init__(self, text: str, quantities: Mapping[str, Term]) -> None:
-        self._text, self._quantities = text, quantities
+    def __init__(
+        self, text: str, quantities: Mapping[str, Term], curves: Mapping[str, Calibration]
+    ) -> None:
+        self._text, self._quantities, self._curves = text, quantities, curves
         self._terms: dict[str, Term] = {}
         self._names: dict[str, str] = {}
         names = "|".join(map(re.escape, sorted(quantities, key=len, reverse=True)))
@@ -89,8 +101,10 @@ class _Reading:
         ]
 
     def _put(self, found: re.Match[str]) -> str:
-        """What Python reads in the place of a name, or of a sign."""
-        if found["name"]:
+        """What Python reads in the place of a name, or of a sign. (`pH(..)` is the function, also
+        where a quantity is called so.)"""
+        is_called = found.string[found.end() :].lstrip().startswith("(")
+        if found["name"] and not (is_called and found["name"] in _FUNCTIONS):
             name = self._names.get(found["name"])
             if name is None:
                 name = _STANDS_FOR.format(len(self._names))
@@ -166,8 +180,10 @@ class _Reading:
 
     def _called(self, tree: ast.Call) -> Term:
         name = tree.func.id if isinstance(tree.func, ast.Name) else ""
+        if name in self._curves and len(tree.args) == 1 and not tree.keywords:
+            return self._curves[name](self._term(tree.args[0]))
         if name not in _FUNCTIONS or tree.keywords:
-            raise self._wrong(f"its functions are {', '.join(_FUNCTIONS)}")
+            raise self._wrong(f"its functions are {', '.join([*_FUNCTIONS, *self._curves])}")
         if name == "at_level" and len(tree.args) == 2:
             return at_level(self._term(tree.args[0]), self._unit(tree.args[1]))
         args = [self._term(each) for each in tree.args]

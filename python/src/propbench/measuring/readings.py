@@ -1,9 +1,10 @@
 """Readings as laboratories write them, as bounds in base units.
 
 `468.0 +- 1.2 ohm`, `470 ohm +- 5%` and `330..345 ohm` are bounds; what may stand behind `+-` is in
-`tolerances`. `468.0(47) ohm`, `468.0 ohm u=4.7` and `468.0 ohm U=9.4 k=2` tell a standard uncertainty, which as
-a bound would convict a third of innocent readings: it is taken so many times as its coverage says. `12.5
-kohm` holds half a unit of its last digit, and a number that is no text is exact.
+`tolerances`. `468.0(47) ohm`, `468.0 ohm u=4.7`, `468.0 ohm U=9.4 k=2` and `468.0 ohm s=9.4 n=4` tell a standard
+uncertainty, which as a bound would convict a third of innocent readings: it is taken so many times
+as its coverage says. `12.5 kohm` holds half a unit of its last digit, and a number that is no text
+is exact. Behind a bound may stand how its reading is distributed: `468.0 +- 1.2 ohm triangular`.
 """
 
 import re
@@ -22,6 +23,7 @@ from propbench.measuring.exact import (
     number_in,
     short,
 )
+from propbench.measuring.means import mean_in
 from propbench.measuring.tolerances import Part, Sort, parts_of, size_of, unit_in
 from propbench.measuring.units import SHARES, Unit, unit_of
 
@@ -36,6 +38,9 @@ _BRACKETS = re.compile(rf"([-+]?{UNSIGNED})\((\d+)\)({EXPONENT})(?!\d)\s*({UNIT}
 # An expanded uncertainty, as certificates tell it, with its coverage factor.
 _EXPANDED = re.compile(rf"(.*?)[,;]?\s*U\s*=(.*?)[,;]?\s*\(?k\s*=\s*({UNSIGNED})\)?")
 _HAS_EXPANDED = re.compile(r"U\s*=")
+# How a reading may be distributed within its bounds, for estimates.
+SHAPES = ("rectangular", "triangular", "normal")
+_SHAPE = re.compile(rf"(.*?)[,;]?\s+\(?({'|'.join(SHAPES)})\)?")
 # A value with its tolerance in brackets, and the unit of both.
 _IN_BRACKETS = re.compile(rf"\((.*)\)\s*({UNIT})")
 
@@ -43,12 +48,14 @@ _IN_BRACKETS = re.compile(rf"\((.*)\)\s*({UNIT})")
 @dataclass(frozen=True)
 class Reading:
     """The real lies from `low` to `high`, in base units. `coverage` says how many times a standard
-    uncertainty was taken for that, None where there was none."""
+    uncertainty was taken for that, None where there was none; `shape`, how a bound is distributed,
+    where that was said."""
 
     low: Fraction
     high: Fraction
     written: str
     coverage: Fraction | None = None
+    shape: str | None = None
 
 
 def constant_of(text: str) -> tuple[Fraction, Unit]:
@@ -74,8 +81,14 @@ def reading_of(given: Given, unit: Unit, coverage: Exact = COVERAGE) -> Reading:
         real = number * unit.factor + unit.offset
         return Reading(real, real, _with_unit(str(given), unit))
     text = in_ascii(given)
-    read = _read(in_units(text), unit, times)
-    return _ordered(read.low, read.high, text, read.coverage)
+    shaped = _SHAPE.fullmatch(text)
+    read = _read(in_units(shaped[1] if shaped else text), unit, times)
+    if shaped and read.coverage is not None:
+        raise NoReading(
+            f"{short(text)!r}: a standard uncertainty is one, however it is distributed"
+        )
+    found = _ordered(read.low, read.high, text, read.coverage)
+    return replace(found, shape=shaped[2]) if shaped else found
 
 
 def in_ascii(text: str) -> str:
@@ -108,6 +121,11 @@ def _read(text: str, unit: Unit, coverage: Fraction) -> Reading:
     """A reading, by the sign that it has."""
     if ".." in text:
         return _interval(text, unit)
+    mean = mean_in(text)
+    if mean is not None:
+        value, share, more = mean
+        taken = coverage * more
+        return replace(_with_tolerance(value, "u=", unit, taken * share), coverage=taken)
     if _HAS_EXPANDED.search(text):
         expanded = _EXPANDED.fullmatch(text)
         if not expanded:

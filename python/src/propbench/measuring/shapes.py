@@ -57,7 +57,6 @@ class Name(Enum):
 
 
 _OF_ANGLES = (Name.SIN, Name.COS, Name.TAN)
-_GIVES_ANGLES = (Name.ASIN, Name.ACOS, Name.ATAN)
 
 
 class Join(Enum):

@@ -2,7 +2,6 @@
 
 from collections.abc import Iterable, Iterator, Sequence
 from dataclasses import dataclass, field, replace
-from fractions import Fraction
 
 from propbench.measuring.bends import Bend, Piece
 from propbench.measuring.bounds import BoundsOf

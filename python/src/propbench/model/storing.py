@@ -94,15 +94,19 @@ def _cell_record(declared: Declared) -> dict[str, object]:
 def _reading_record(reading: "Reading") -> list[str | None]:
     times = reading.coverage
     ends = str(reading.low), str(reading.high)
-    return [*ends, reading.written, None if times is None else str(times)]
+    shape = [] if reading.shape is None else [reading.shape]
+    return [*ends, reading.written, None if times is None else str(times), *shape]
 
 
 def _reading(parts: Sequence[str | None]) -> "Reading":
-    from propbench.measuring.readings import Reading
+    from propbench.measuring.readings import SHAPES, Reading
 
-    low, high, written, times = parts
+    low, high, written, times, *shape = parts
     exact = _fraction(low), _fraction(high)
-    return Reading(*exact, str(written), None if times is None else _fraction(times))
+    coverage = None if times is None else _fraction(times)
+    if len(shape) > 1 or not {*shape} <= {*SHAPES}:
+        raise ValueError("a reading is distributed in one way that is known")
+    return Reading(*exact, str(written), coverage, shape[0] if shape else None)
 
 
 def _measure(parts: Mapping[str, str]) -> Measure:

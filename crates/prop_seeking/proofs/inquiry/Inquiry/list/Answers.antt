@@ -35,7 +35,8 @@ loop-preserved g c =
     let is = subst (λ (a : Answer). IsAnswer ground.library ground.cells ground.premises old a new) c.in-Found.is
     c.in_ok-answer.ensures.answer in
     record {
-      inquiry = on_listed ground c.loop.self (record { solver = new; last = c.loop.self.last }) inv.inquiry asks
+      inquiry = on_listed ground c.loop.self
+          (record { solver = new; last = c.loop.self.last; told = c.loop.self.told }) inv.inquiry asks
           c.in_ok-answer.ensures.search c.in_ok-answer.answer c.in_ok-answer.ensures.answer differing;
       same = record { goal = asks.goal ∙ inv.same.goal; named = asks.named ∙ inv.same.named };
       found = found_more ground first.named c.loop.counter first.excuses (map plan_of c.loop.plans.found.items)
@@ -46,7 +47,8 @@ pub returns-in-Refuted-clause-inquiry : goal.returns-in-Refuted-clause-inquiry
 returns-in-Refuted-clause-inquiry g c =
     let ground =
     ground_at (stored_of g.R.Rule.value_of c.args.network.now.library) c.args.network.now.cells c.args.premises.now in
-    on_listed ground c.loop.self (record { solver = c.advance.new.self; last = c.loop.self.last })
+    on_listed ground c.loop.self
+    (record { solver = c.advance.new.self; last = c.loop.self.last; told = c.loop.self.told })
     c.loop.invariant.inquiry c.in_ok-answer.ensures.asks c.in_ok-answer.ensures.search c.in_ok-answer.answer
     c.in_ok-answer.ensures.answer (c.loop.invariant.same.goal ∙ c.requires.differing)
 
@@ -72,7 +74,8 @@ pub returns-in-Unsettled-clause-inquiry : goal.returns-in-Unsettled-clause-inqui
 returns-in-Unsettled-clause-inquiry g c =
     let ground =
     ground_at (stored_of g.R.Rule.value_of c.args.network.now.library) c.args.network.now.cells c.args.premises.now in
-    on_listed ground c.loop.self (record { solver = c.advance.new.self; last = c.loop.self.last })
+    on_listed ground c.loop.self
+    (record { solver = c.advance.new.self; last = c.loop.self.last; told = c.loop.self.told })
     c.loop.invariant.inquiry c.in_ok-answer.ensures.asks c.in_ok-answer.ensures.search c.in_ok-answer.answer
     c.in_ok-answer.ensures.answer (c.loop.invariant.same.goal ∙ c.requires.differing)
 

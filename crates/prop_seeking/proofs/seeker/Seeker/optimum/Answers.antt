@@ -1,5 +1,5 @@
 use Rattle.std.proofs.Common.{◌≡◌, ◌∙◌, ap, sym, subst, true, [], Some, None}
-use Rattle.std.specs.Prelude.{Option}
+use Rattle.std.specs.Prelude.{Option, slice_index}
 use Rattle.std.specs.String.{string_bytes}
 use Rattle.std.proofs.lemmas.Result.{IfOk-weaker}
 use Rattle.prop_workbench.specs.Sessions.{library_of, state_of}
@@ -9,9 +9,10 @@ use Rattle.prop_solve.specs.declared.question.Goal.TheVariants.{Any, Differing}
 use Rattle.prop_solve.specs.declared.solver.Plan.{Plan as PlanOf}
 use Rattle.prop_seeking.specs.declared.inquiry.End.{End}
 use Rattle.prop_seeking.specs.inner.Pieces.{best_text}
-use Rattle.prop_seeking.specs.inner.Seekers.{IsAllBut, IsEnd, IsInquiry, IsLast, ground_in, plan_of}
+use Rattle.prop_seeking.specs.Plans.{SaysOne}
+use Rattle.prop_seeking.specs.inner.Seekers.{IsAllBut, IsEnd, IsInquiry, IsLast, aim_of, ground_in, plan_of}
 use Rattle.prop_seeking.proofs.ReplyLemmas.{best_so, last_fits, no_rows, none_so, optimum_quiet, refutes_all}
-use Rattle.prop_seeking.proofs.ReplyLemmas.{refutes_best, so_far_so, unsettled_so}
+use Rattle.prop_seeking.proofs.ReplyLemmas.{one_plan_so, refutes_best, unsettled_so}
 use Rattle.prop_seeking.proofs.seeker.Seeker.optimum.Goals as goal
 
 pub returns-in-Some-Refuted-clause-answers : goal.returns-in-Some-Refuted-clause-answers
@@ -60,13 +61,10 @@ returns-in-Some-Open-clause-answers g c =
     let optimum : is_optimum old.goal ≡ true =
     subst (λ (x : Goal). is_optimum x ≡ true) (sym c.requires.goal) c.requires.optimum in
     let quiet = optimum_quiet old.goal optimum in
-    let quiet_now : new.goal ≡ Differing → ⊥ = λ e. quiet (sym same.goal ∙ e) in
-    let plan = c.in-Some-Open.plan.now in
-    let some : inquiry.last ≡ Some plan = cc in
-    let fits = last_fits ground new inquiry.last plan some (inv.last quiet_now) in
-    IfOk-weaker c.plan.result _ _
-    (λ t is. λ most. so_far_so library (state_of s) old most old.excuses new.excuses (string_bytes t) (plan_of plan)
-    optimum quiet fits is) c.plan.ensures
+    IfOk-weaker c.so_far.result _ _
+    (λ t says. λ most. one_plan_so library (state_of s) old most old.excuses new.excuses (string_bytes t) quiet
+    (subst (λ (P : Type 0). P) (λ i. SaysOne library (state_of s) (aim_of (sym c.requires.goal i))
+    (slice_index (same.named i) 0) (string_bytes t)) says)) c.so_far.ensures
 
 pub returns-in-None-Refuted-clause-answers : goal.returns-in-None-Refuted-clause-answers
 returns-in-None-Refuted-clause-answers g c =
