@@ -1,0 +1,44 @@
+-- What has to be so of a network for nogoods of an earlier one to hold of it.
+use Rattle.std.specs.Prelude.{◌≡◌, ℕ, ◌+◌, ◌<◌, ◌⊎◌, false, IsTrue, List, Option, Some, None, All}
+use Rattle.std.specs.Prelude.{Contains, length, slice_get}
+use Rattle.prop_numbers.specs.Sets.{Members, union}
+use Rattle.prop_premises.specs.ChoiceLists.{is_hypothetical}
+use Rattle.prop_premises.specs.declared.choice.Choice.{Choice}
+use Rattle.prop_cells.specs.Points.{Attached}
+use Rattle.prop_cells.specs.Problems.{is_member}
+use Rattle.prop_cells.specs.declared.instance.Statement.{Statement}
+use Rattle.prop_facts.specs.declared.fact.Literal.{Literal}
+use Rattle.prop_lessons.specs.Lessons.{PastOf}
+
+-- each of the first stands at its place among the second
+abbrev pub Begin : {X : Type 0} → List X → List X → Type 0
+Begin {X} xs ys = (i : ℕ) (x : X) → slice_get xs i ≡ Some x → slice_get ys i ≡ Some x
+
+-- the statement is among these, or its premise is in the set
+abbrev pub IsThereOrGone : List Statement → Members → Statement → Type 0
+IsThereOrGone statements gone x =
+    Contains statements x ⊎ ((p : ℕ) × (x.premise ≡ Some p) × IsTrue (gone p))
+
+-- each of the choices' sides is out of the set
+abbrev pub AreSidesOut : List Choice → Members → Type 0
+AreSidesOut choices gone = (p : ℕ) → IsTrue (is_hypothetical choices p) → gone p ≡ false
+
+-- the cells, the instances and the choices are there with the same numbers, and so is each
+-- statement that is under no premise, under a premise of the set, or under a side of a choice
+pub record IsThere (past : PastOf) (n : Attached) (choices : List Choice) (s : Members)
+    : Type 0 where
+  pub kinds : Begin past.attached.kinds n.kinds
+  pub instances : Begin past.attached.instances n.instances
+  pub choices : Begin past.choices choices
+  pub statements : All (λ x. IsTrue (is_member (union s (is_hypothetical past.choices)) x.premise)
+      → Contains n.statements x) past.attached.statements
+
+-- the place is a cell, or a choice where the cells are as many as they were
+abbrev pub IsSamePlace : PastOf → ℕ → ℕ → Type 0
+IsSamePlace past cells place = (place < length past.attached.kinds)
+    ⊎ ((cells ≡ length past.attached.kinds) × (place < length past.attached.kinds
+    + length past.choices))
+
+-- each literal is about such a place
+abbrev pub AreMeant : PastOf → ℕ → List Literal → Type 0
+AreMeant past cells = All (λ x. IsSamePlace past cells x.place)
