@@ -529,11 +529,14 @@ class Session:
         return before + (question.end is not None)
 
     def stride(self, question: Question) -> None:
-        """Asks a question step by step, and then to its end."""
+        """Asks a question step by step, and then to its end, but where it is answered at once by
+        what was learned before."""
         self.talk.all(["limit 0"])
         self.talk.say(f"plans 1 {next(iter(question.truth.network.kinds))}")
-        self.talk.say(question.line())
+        (reply,) = self.talk.say(question.line())
         self.talk.all([f"limit {FIRST}"])
+        if reply != ["unsettled"]:
+            return
         for _ in range(STRIDES):
             (reply,) = self.talk.say("step")
             if reply[1:] in (["plan"], ["end"]):
@@ -642,11 +645,11 @@ SAID = [
     ("tell p x 0..9", "ok"),
     ("solve", "none: no premise"),
     ("limit 0", "ok"),
-    ("solve", "unsettled"),
-    ("least x", "unsettled"),
-    ("plans 1 x", "unsettled"),
-    ("limit 1000", "ok"),
+    ("solve", "none: no premise"),
+    ("least x", "none: no premise"),
     ("plans 1 x", "none: no premise"),
+    ("cell y span", "ok"),
+    ("plans 1 y", "none: no premise"),
 ]
 
 

@@ -8,14 +8,16 @@ ghost use Rattle.prop_cells.specs.Data.{IsKept};
 ghost use Rattle.prop_solve.specs.Questions.{is_optimum};
 ghost use Rattle.prop_seeking.specs.inner.Bounds.{IsBarred};
 ghost use Rattle.prop_seeking.specs.inner.Seekers.{IsInquiry, IsEnd, IsSameQuestion, AreFound};
-ghost use Rattle.prop_seeking.specs.inner.Seekers.{IsApt, IsOpen, ground_at, plan_of};
+ghost use Rattle.prop_seeking.specs.inner.Seekers.{Ground, IsApt, IsOpen, ground_at, plan_of};
+ghost use Rattle.prop_lessons.specs.Lessons.{AreTaught};
 
 use crate::question::Asked;
 use crate::striding::Stride;
 use prop_cells::Network;
 use prop_guards::Guarded;
+use prop_lessons::Past;
 use prop_premises::{PremiseSet, Premises};
-use prop_solve::{Answer, Bound, Goal, News, Plan, Question, Solver, Told};
+use prop_solve::{Answer, Bound, Earlier, Goal, News, Plan, Question, Solver, Told};
 use std::alloc::{AllocError, Global};
 
 /// So many steps a stride takes at the most until something is to be told.
@@ -28,6 +30,8 @@ pub(crate) struct Inquiry {
     last: Option<Plan>,
     /// How far was told, step by step, what the search does.
     told: Told,
+    /// The cells and the choices of the search.
+    past: Past,
 }
 
 /// How a search ended for now.
@@ -40,16 +44,19 @@ pub(crate) enum End {
 }
 
 impl Inquiry {
-    /// A search that begins.
+    /// A search that begins, and takes up what an earlier one left.
     pub(crate) fn new<R: Guarded + Drop>(
         alloc: Global,
         network: &Network<R>,
         premises: &Premises,
         asked: &Asked,
+        earlier: Option<&Earlier>,
     ) -> Result<Inquiry, AllocError>
         requires means { AllMean R.value_of network.now.library.procedures.items }
         requires kept { IsKept (stored_of R.value_of network.now.library) network.now.cells }
         requires apt { IsApt network.now.cells.kinds asked.now }
+        requires taught { IfSome earlier
+            (λ e. AreTaught (stored_of R.value_of network.now.library) e.now) }
         ensures inquiry { IfOk result (IsInquiry
             (ground_at (stored_of R.value_of network.now.library)
             network.now.cells premises.now)) }
@@ -61,13 +68,25 @@ impl Inquiry {
             goal: asked.goal,
             named: Vec::from_slice(alloc, &asked.named)?,
         };
-        let solver = Solver::new(alloc, network, premises, question)?;
+        let solver = Solver::new(alloc, network, premises, question, earlier)?;
         let told = solver.all_done();
         Ok(Inquiry {
             solver,
             last: None,
             told,
+            past: Past::of(alloc, network.data(), premises.choices())?,
         })
+    }
+
+    /// What it leaves to later ones: what was learned, and the values of the last plan.
+    pub(crate) fn leave(self, alloc: Global) -> Result<Earlier, AllocError>
+        ensures { IfOk result (λ e. (g : Ground) → IsInquiry g self → AreTaught g.library e) }
+    {
+        let values = match &self.last {
+            Some(plan) => Vec::from_slice(alloc, &plan.values)?,
+            None => Vec::new(alloc),
+        };
+        self.solver.leave(self.past, values)
     }
 
     /// Whether it is for what is asked.
@@ -162,7 +181,7 @@ impl Inquiry {
             self.new.solver.excuses) }
     {
         let until = self.solver.tally().steps.saturating_add(steps);
-        for _ in 0..steps {
+        for _ in 0..steps.max(1) {
             let left = until.saturating_sub(self.solver.tally().steps);
             match self.solver.advance(network, premises, left)? {
                 Answer::Found(plan) => self.last = Some(plan),

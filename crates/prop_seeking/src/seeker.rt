@@ -13,7 +13,7 @@ use prop_guards::Guarded;
 use prop_language::read_line;
 use prop_refusals::Refusal;
 use prop_scheduler::Order;
-use prop_solve::{Goal, Plan};
+use prop_solve::{Earlier, Goal, Plan};
 use prop_telling::Teller;
 use prop_workbench::Session;
 use std::alloc::AllocError;
@@ -39,11 +39,12 @@ fn is_refused(reply: &Reply) -> bool
     matches!(reply, Reply::Refused(_))
 }
 
-/// A teller, and the question that the next line may go on with.
+/// A teller, the question that the next line may go on with, and what those before it left.
 #[derive(Drop)]
 pub struct Seeker<R, O> {
     pub(crate) teller: Teller<R, O>,
     pub(crate) inquiry: Option<Inquiry>,
+    earlier: Option<Earlier>,
 }
 
 impl<R: Guarded + Drop, O: Order + Drop> Seeker<R, O> {
@@ -75,10 +76,12 @@ impl<R: Guarded + Drop, O: Order + Drop> Seeker<R, O> {
         ensures session { result.teller.session ≡ session }
         ensures notes { result.teller.notes ≡ no_notes }
         ensures inquiry { result.inquiry ≡ None }
+        ensures earlier { result.earlier ≡ None }
     {
         Seeker {
             teller: Teller::new(session),
             inquiry: None,
+            earlier: None,
         }
     }
 
@@ -177,10 +180,25 @@ impl<R: Guarded + Drop, O: Order + Drop> Seeker<R, O> {
     {
         let reply = self.teller.command(line);
         if ends(&reply, line) {
-            self.inquiry = None;
+            self.put_by();
             return reply;
         }
         reply
+    }
+
+    /// Ends the question. What was learned is left to later ones, where there is memory for it.
+    fn put_by(&mut self)
+        ensures same { self.new.teller ≡ self.old.teller }
+        ensures inquiry { self.new.inquiry ≡ None }
+        ensures earlier { (library : List Stored)
+            → IfSome self.old.inquiry (λ i. (g : Ground) × (g.library ≡ library) × IsInquiry g i)
+            → IfSome self.old.earlier (AreTaught library)
+            → IfSome self.new.earlier (AreTaught library) }
+    {
+        if let Some(inquiry) = self.inquiry.take() {
+            let alloc = self.teller.session().alloc();
+            self.earlier = inquiry.leave(alloc).ok();
+        }
     }
 
     /// Carries out the lines of a prelude, in order. The first that is refused ends it with its
@@ -257,12 +275,14 @@ impl<R: Guarded + Drop, O: Order + Drop> Seeker<R, O> {
         reply
     }
 
-    /// The inquiry of what is asked: the one before, or one that begins.
+    /// The inquiry of what is asked: the one before, or one that begins with what was left.
     fn begun(&self, asked: &Asked, before: Option<Inquiry>) -> Result<Inquiry, AllocError>
         requires means { IsMeant R.value_of self.now.teller.session }
         requires sound { IsSound R.value_of self.now.teller.session }
         requires inquiry { IfSome before (IsInquiry
             (ground_in R.value_of self.now.teller.session)) }
+        requires earlier { IfSome self.now.earlier
+            (AreTaught (library_of R.value_of self.now.teller.session)) }
         requires apt { IsApt self.now.teller.session.live.network.cells.kinds asked.now }
         ensures inquiry { IfOk result (IsInquiry (ground_in R.value_of self.now.teller.session)) }
         ensures goal { IfOk result (λ i. i.solver.goal ≡ asked.now.goal) }
@@ -275,8 +295,18 @@ impl<R: Guarded + Drop, O: Order + Drop> Seeker<R, O> {
             _ => {
                 let session = self.teller.session();
                 let premises = session.search().premises();
-                Inquiry::new(session.alloc(), session.live().network(), premises, asked)
+                let network = session.live().network();
+                let earlier = self.earlier.as_ref();
+                Inquiry::new(session.alloc(), network, premises, asked, earlier)
             }
+        }
+    }
+
+    /// Whether the question that is under way is the one that is asked.
+    fn is_same(&self, asked: &Asked) -> bool {
+        match &self.inquiry {
+            Some(inquiry) => inquiry.is_for(asked),
+            None => false,
         }
     }
 
@@ -292,6 +322,9 @@ impl<R: Guarded + Drop, O: Order + Drop> Seeker<R, O> {
             (option_map inquiry_of self.old.inquiry) (asked_of asked.now)
             (option_map inquiry_of self.new.inquiry) (string_bytes text)) }
     {
+        if !self.is_same(asked) {
+            self.put_by();
+        }
         let before = self.inquiry.take();
         let mut inquiry = self.begun(asked, before)?;
         let text = self.text(asked, &mut inquiry)?;

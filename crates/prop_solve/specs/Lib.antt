@@ -1,3 +1,4 @@
 pub mod Questions
 pub mod Searches
 pub mod Answers
+pub mod Leaving

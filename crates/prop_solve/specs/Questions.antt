@@ -45,12 +45,13 @@ AreExcusing (Least cell) named values facts = IsEndOf values cell (λ s. AtLeast
 AreExcusing (Greatest cell) named values facts = IsEndOf values cell (λ s. AtMost s.hi) facts
 AreExcusing Differing named values facts = AllZip (IsValueFact values) named facts
 
--- what is excused once those facts are: of an optimum what is no better than the last plan, and
--- else what was, too
+-- what is excused once a plan is told: where any will do what was, of an optimum what is no better
+-- than that plan, and of points that differ what was, and that plan, too
 abbrev pub excused_then : Goal → List (List Literal) → List Literal → List (List Literal)
+excused_then Any excuses facts = excuses
 excused_then (Least cell) excuses facts = facts ∷ []
 excused_then (Greatest cell) excuses facts = facts ∷ []
-excused_then goal excuses facts = excuses ++ facts ∷ []
+excused_then Differing excuses facts = excuses ++ facts ∷ []
 
 -- an optimum is asked for
 abbrev pub is_optimum : Goal → Bool

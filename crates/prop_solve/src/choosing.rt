@@ -2,7 +2,7 @@
 
 use crate::present::Present;
 use prop_facts::Fact;
-use prop_lattice::{Elements, Info};
+use prop_lattice::{Elements, Info, Span};
 use prop_learned::weights::Weights;
 use prop_trail::Trail;
 
@@ -137,6 +137,24 @@ pub(crate) enum First {
     Greatest,
     /// Its least number, or the element that it had when last all was decided.
     Kept,
+    /// The value that it had when last all was decided.
+    Again,
+}
+
+/// That a number is no more than one that it had, or no less where it is no more anyway; none where
+/// it can't be that one any longer.
+fn again(span: Span, kept: Info) -> Option<Fact> {
+    let Info::Span(before) = kept else {
+        return None;
+    };
+    let number = before.lo();
+    if number != before.hi() || number < span.lo() || span.hi() < number {
+        return None;
+    }
+    if number == span.hi() {
+        return Some(Fact::AtLeast(number));
+    }
+    Some(Fact::AtMost(number))
 }
 
 /// What is supposed first of a place, of which this was kept; where very many numbers are left it
@@ -148,6 +166,11 @@ pub(crate) fn first_try(info: Info, kept: Info, first: First) -> Option<Fact> {
             if first == First::Greatest {
                 return Some(Fact::AtLeast(high));
             }
+            if first == First::Again {
+                if let Some(fact) = again(span, kept) {
+                    return Some(fact);
+                }
+            }
             let room = high.saturating_sub(low);
             if room > FEW {
                 return Some(Fact::AtMost(low.saturating_add(room / 2)));
@@ -155,7 +178,8 @@ pub(crate) fn first_try(info: Info, kept: Info, first: First) -> Option<Fact> {
             Some(Fact::AtMost(low))
         }
         Info::Set(elements) => {
-            let kept = if first == First::Kept { kept } else { info };
+            let is_kept = matches!(first, First::Kept | First::Again);
+            let kept = if is_kept { kept } else { info };
             let element = first_element(elements, kept)?;
             Some(Fact::Among(element))
         }

@@ -5,10 +5,12 @@
 //! time and answers a plan, that nothing else fits with the premises on which that rests, or that
 //! it is unsettled by then. However it chooses, a plan was looked at by a check of its own
 //! (prop_plans), and what it refutes was derived by steps each of which was tested (prop_deriving).
+//! What it learned it leaves to later searches (`Earlier`), which take up what still holds.
 #![tactic(auto)]
 
 pub mod bound;
 mod choosing;
+pub mod earlier;
 mod gate;
 mod heeding;
 pub mod news;
@@ -21,6 +23,7 @@ mod spread;
 mod wiring;
 
 pub use bound::Bound;
+pub use earlier::Earlier;
 pub use news::{News, Told};
 pub use question::{Goal, Question};
 pub use solver::{Answer, Plan, Solver, Tally};

@@ -97,6 +97,15 @@ impl Present {
         }
     }
 
+    /// These count as what was believed of the first places when last none was open.
+    pub(crate) fn expect(&mut self, values: &[Info]) {
+        for (place, value) in values.iter().enumerate() {
+            if place < self.kept.len() {
+                self.kept[place] = *value;
+            }
+        }
+    }
+
     /// How many times 64 places there are.
     pub(crate) fn words(&self) -> usize {
         self.open.len()

@@ -11,11 +11,13 @@ ghost use Rattle.prop_plans.specs.Plans.{Satisfy};
 ghost use Rattle.prop_refuting.specs.Nogoods.{Nogood as NogoodOf};
 ghost use Rattle.prop_learned.specs.Stores.{IsKeptIn};
 ghost use Rattle.prop_deriving.specs.Known.{IsKnown};
+ghost use Rattle.prop_lessons.specs.Lessons.{AreTaught};
 ghost use Rattle.prop_solve.specs.Questions.{Grow, Imply, excused_then, is_optimum};
 ghost use Rattle.prop_solve.specs.Searches.{IsSearch, IsProposed, bare};
 ghost use Rattle.prop_solve.specs.Answers.{AreSingle, AsksTheSame, IsAnswer, IsFound, IfFound};
 
 use crate::choosing::First;
+use crate::earlier::Earlier;
 use crate::pace::Pace;
 use crate::present::Present;
 use crate::proposal::Proposal;
@@ -40,6 +42,9 @@ use std::marker::Model;
 
 /// How many literals a nogood of an enumeration has at the most that stays when its level goes.
 const LASTING: usize = 3;
+
+/// After so many contradictions the values of an earlier plan are tried first no longer.
+const TRIALS: u64 = 100;
 
 /// So many steps are taken before it is looked whether there is room for more.
 const AT_ONCE: u64 = 1_000;
@@ -80,16 +85,20 @@ pub struct Tally {
 #[derive(Drop)]
 pub struct Solver {
     question: Question,
-    excuses: Vec<Vec<Literal>>,
-    spread: Spread,
+    pub(crate) excuses: Vec<Vec<Literal>>,
+    pub(crate) spread: Spread,
     weights: Weights,
     pace: Pace,
     learning: Option<Learning>,
     proposal: Option<Proposal>,
-    refuted: Option<PremiseSet>,
-    tally: Tally,
+    pub(crate) refuted: Option<PremiseSet>,
+    pub(crate) tally: Tally,
     is_lost: bool,
     is_in_doubt: bool,
+    /// Whether values of an earlier plan are tried first.
+    pub(crate) expects: bool,
+    /// How many nogoods were taken up of an earlier search.
+    pub(crate) recalled: usize,
 }
 
 /// What the believed premises of the user's believe, no side among them.
@@ -204,15 +213,19 @@ impl Model for Solver {
 }
 
 impl Solver {
-    /// A search for what is asked, over the network and the believed premises of the user's.
+    /// A search for what is asked, over the network and the believed premises of the user's, which
+    /// takes up what an earlier one left.
     pub fn new<'x, R: Guarded + Drop>(
         alloc: Global,
         network: &'x Network<R>,
         premises: &'x Premises,
         question: Question,
+        earlier: Option<&Earlier>,
     ) -> Result<Solver, AllocError>
         requires means { AllMean R.value_of network.now.library.procedures.items }
         requires kept { IsKept (stored_of R.value_of network.now.library) network.now.cells }
+        requires taught { IfSome earlier
+            (λ e. AreTaught (stored_of R.value_of network.now.library) e.now) }
         ensures search { IfOk result (λ s. IsSearch (stored_of R.value_of network.now.library)
             network.now.cells premises.now s) }
         ensures asks { IfOk result (λ s. (s.goal ≡ question.goal)
@@ -237,9 +250,14 @@ impl Solver {
             },
             is_lost: false,
             is_in_doubt: false,
+            expects: false,
+            recalled: 0,
             question,
             spread,
         };
+        if let Some(earlier) = earlier {
+            solver.take_up(network, premises, earlier)?;
+        }
         solver.begin_at_root(network, premises)?;
         Ok(solver)
     }
@@ -329,7 +347,8 @@ impl Solver {
             network.now.cells premises.now self.old answer self.new) }
     {
         let until = self.tally.steps.saturating_add(steps);
-        for _ in 0..steps {
+        // (what is refuted is told by no step)
+        for _ in 0..steps.max(1) {
             if let Some(refuted) = &self.refuted {
                 return Ok(Answer::Refuted(refuted.copy()?));
             }
@@ -547,7 +566,7 @@ impl Solver {
     }
 
     /// A nogood without literals refutes what is left.
-    fn refute(&mut self, nogood: &Nogood) -> Result<(), AllocError>
+    pub(crate) fn refute(&mut self, nogood: &Nogood) -> Result<(), AllocError>
         ensures refuted { OnOk result (IfSome self.new.refuted (λ premises.
             (nogood.now ≡ bare premises) ⊎ (self.old.refuted ≡ Some premises))) }
         ensures others { self.new ≡ record self.old { refuted = self.new.refuted } }
@@ -607,9 +626,13 @@ impl Solver {
         }
     }
 
-    /// What is supposed of a place before anything else. Where the best is asked for, plans near
-    /// the last one are looked at first: it is the best so far.
+    /// What is supposed of a place before anything else: what it had in an earlier plan, until a
+    /// plan is found or that failed often. Where the best is asked for, plans near the last one are
+    /// looked at first: it is the best so far.
     fn first(&self, place: usize) -> First {
+        if self.expects && self.excuses.is_empty() && self.tally.contradictions < TRIALS {
+            return First::Again;
+        }
         match self.question.goal {
             Goal::Greatest(best) if best == place => First::Greatest,
             Goal::Least(_) | Goal::Greatest(_) => First::Kept,
@@ -664,7 +687,8 @@ impl Solver {
         self.spread.wake_all();
     }
 
-    /// Tells a plan; from now on points are excused that are no better, or no other.
+    /// Tells a plan; from now on points are excused that are no better, or no other. Where any points
+    /// will do none are.
     fn tell<'x, R: Guarded + Drop>(
         &mut self,
         network: &'x Network<R>,
@@ -701,7 +725,9 @@ impl Solver {
             self.is_lost = true;
             return Ok(None);
         }
-        self.begin_excused(network, premises, facts)?;
+        if !self.is_for_any() {
+            self.begin_excused(network, premises, facts)?;
+        }
         let sides = proposal.into_sides();
         Ok(Some(Plan { values, sides }))
     }
@@ -741,8 +767,9 @@ impl Solver {
         }
     }
 
-    /// From now on points are excused that have all of these facts. Where the least or the greatest
-    /// is asked for, those that were excused are among them. False where that isn't so.
+    /// From now on points are excused that have all of these facts, unless any will do. Where the
+    /// least or the greatest is asked for, those that were excused are among them. False where that
+    /// isn't so.
     fn excuse(&mut self, facts: &[Literal]) -> Result<bool, AllocError>
         ensures others { self.new ≡ record self.old { excuses = self.new.excuses } }
         ensures excused { result ≡ Ok true
@@ -750,12 +777,21 @@ impl Solver {
         ensures still { result ≡ Ok false → self.new.excuses ≡ self.old.excuses }
         ensures grows { result ≡ Ok true → Grow self.old.excuses self.new.excuses }
     {
+        if self.is_for_any() {
+            return Ok(true);
+        }
         let more = Vec::from_slice(self.spread.alloc(), facts)?;
         if self.is_optimum() {
             return self.excuse_alone(more);
         }
         self.excuses.push(more)?;
         Ok(true)
+    }
+
+    fn is_for_any(&self) -> bool
+        ensures { IsTrue result ↔ (self.now.goal ≡ Goal.Any) }
+    {
+        self.question.goal == Goal::Any
     }
 
     /// From now on just those points are excused that have all of these facts, where those that

@@ -50,7 +50,7 @@ const MANY: usize = 32;
 const MOST_ENTRIES: usize = 1_000_000;
 
 /// How many literals a nogood has at the most that is never forgotten.
-const SHORT: usize = 2;
+pub(crate) const SHORT: usize = 2;
 
 /// A nogood that was learned, with what is done with it.
 #[derive(Drop)]
