@@ -1,5 +1,5 @@
 //! What of a past is there still.
-ghost use Rattle.std.specs.Prelude.{◌≡◌, ◌<◌, ℕ, false, length, All, IsTrue, IfOk, IfSome};
+ghost use Rattle.std.specs.Prelude.{◌≡◌, ◌+◌, ◌<◌, ◌≤◌, ℕ, false, All, IsTrue, IfOk, IfSome};
 ghost use Rattle.prop_numbers.specs.Sets.{set_of, IsPart};
 ghost use Rattle.prop_premises.specs.Origins.{believed_in, choices_of};
 ghost use Rattle.prop_plans.specs.Held.{attached_of};
@@ -7,6 +7,7 @@ ghost use Rattle.prop_lessons.specs.inner.Standing.{Begin, IsThereOrGone, AreSid
 ghost use Rattle.prop_lessons.specs.inner.Standing.{AreMeant, IsSamePlace};
 
 use crate::past::Past;
+use crate::same::is_same_statement;
 use prop_cells::{Cells, Statement};
 use prop_facts::Literal;
 use prop_premises::{Choice, Premise, Premises, Worldview};
@@ -85,7 +86,7 @@ impl Past {
         let mut gone = Worldview::empty(alloc);
         let mut at = 0;
         for statement in &self.statements {
-            if at < statements.len() && *statement == statements[at] {
+            if at < statements.len() && is_same_statement(statement, &statements[at]) {
                 at += 1;
             } else if let Some(premise) = statement.premise {
                 gone.believe(premise)?;
