@@ -4,5 +4,5 @@ use Rattle.prop_lessons.specs.inner.Standing.{IsThereOrGone}
 use Rattle.prop_lessons.proofs.past.Past.gone.Given as goal
 
 abbrev pub invariant-loop-statement : goal.invariant-loop-statement
-invariant-loop-statement l = All (IsThereOrGone l.statements (set_of l.gone))
+invariant-loop-statement l = All (IsThereOrGone l.cells.statements (set_of l.gone))
     (take l.statement-index l.self.attached.statements)
