@@ -8,7 +8,7 @@ ghost use Rattle.prop_lessons.specs.Lessons.{AreTaught, Stands};
 
 use crate::past::Past;
 use prop_cells::Cells;
-use prop_premises::{Premises, Worldview};
+use prop_premises::Premises;
 use prop_refuting::Nogood;
 use std::alloc::{AllocError, Global};
 use std::marker::Model;
@@ -69,9 +69,7 @@ impl Lessons {
             return Ok(recalled);
         };
         for nogood in &self.nogoods {
-            if standing.believes(nogood.premises())
-                && self.past.are_meant(cells.len(), nogood.literals())
-            {
+            if self.past.leaves(nogood, cells.len(), &standing) {
                 recalled.push(nogood.copy()?)?;
             }
         }

@@ -18,6 +18,7 @@ mod instance;
 pub mod lessons;
 mod params;
 pub mod past;
+mod same;
 mod standing;
 
 pub use lessons::Lessons;

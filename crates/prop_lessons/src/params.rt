@@ -1,10 +1,11 @@
 //! Which parameters are the same.
-ghost use Rattle.std.specs.Prelude.{◌≡◌, ◌<◌, ◌↔◌, ℕ, IsTrue};
+ghost use Rattle.std.specs.Prelude.{◌≡◌, ◌<◌, ◌↔◌, ◌^◌, ℕ, IfSome, IsTrue};
 ghost use Rattle.prop_sets.specs.Relation.{HasPair};
 
+use crate::same::is_same_info;
 use prop_lattice::Elements;
 use prop_procedures::Param;
-use prop_sets::Relation;
+use prop_sets::{Relation, Side};
 
 /// Whether both parameters are the same.
 pub(crate) fn is_same_param(one: &Param, other: &Param) -> bool
@@ -22,7 +23,16 @@ pub(crate) fn is_same_param(one: &Param, other: &Param) -> bool
 fn is_same_relation(one: &Relation, other: &Relation) -> bool
     ensures { IsTrue result → one.now ≡ other.now }
 {
-    one.from() == other.from() && one.to() == other.to() && have_same_pairs(one, other)
+    is_same_side(one.from(), other.from())
+        && is_same_side(one.to(), other.to())
+        && have_same_pairs(one, other)
+}
+
+/// Whether both are the same domain.
+fn is_same_side(one: Side, other: Side) -> bool
+    ensures { IsTrue result → one ≡ other }
+{
+    one == other
 }
 
 /// Whether each element of the first domain of one relation has the same partners in both.
@@ -40,11 +50,21 @@ fn have_same_pairs(one: &Relation, other: &Relation) -> bool
 
 /// Whether the element of the first domain has the same partners in both relations.
 fn have_same_partners(one: &Relation, other: &Relation, element: u8) -> bool
-    requires { element < 64 }
     ensures { IsTrue result → (j : ℕ) → HasPair one.now element j ↔ HasPair other.now element j }
 {
-    let Some(single) = Elements::new(1 << element) else {
-        return false;
-    };
-    one.image(single) == other.image(single)
+    match one_element(element) {
+        Some(single) => is_same_info(one.image(single), other.image(single)),
+        None => false,
+    }
+}
+
+/// The element with this number alone.
+fn one_element(number: u8) -> Option<Elements>
+    ensures { IfSome result (λ e. e.bits ≡ 2 ^ number) }
+{
+    if number < 64 {
+        Elements::new(1 << number)
+    } else {
+        None
+    }
 }

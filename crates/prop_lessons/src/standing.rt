@@ -1,5 +1,6 @@
 //! What of a past is there still.
-ghost use Rattle.std.specs.Prelude.{◌≡◌, ◌<◌, ℕ, false, length, All, IsTrue, IfOk, IfSome};
+ghost use Rattle.std.specs.Prelude.{◌≡◌, ◌+◌, ◌<◌, ◌≤◌, ℕ, false, length, All, Contains, IsTrue};
+ghost use Rattle.std.specs.Prelude.{IfOk, IfSome};
 ghost use Rattle.prop_numbers.specs.Sets.{set_of, IsPart};
 ghost use Rattle.prop_premises.specs.Origins.{believed_in, choices_of};
 ghost use Rattle.prop_plans.specs.Held.{attached_of};
@@ -7,9 +8,11 @@ ghost use Rattle.prop_lessons.specs.inner.Standing.{Begin, IsThereOrGone, AreSid
 ghost use Rattle.prop_lessons.specs.inner.Standing.{AreMeant, IsSamePlace};
 
 use crate::past::Past;
+use crate::same::is_same_statement;
 use prop_cells::{Cells, Statement};
 use prop_facts::Literal;
 use prop_premises::{Choice, Premise, Premises, Worldview};
+use prop_refuting::Nogood;
 use std::alloc::{AllocError, Global};
 
 impl Past {
@@ -30,10 +33,10 @@ impl Past {
         if !self.has_kinds(cells) || !self.has_instances(cells) || !self.has_choices(premises) {
             return Ok(None);
         }
-        let Some(gone) = self.gone(alloc, cells.statements())? else {
+        let Some(gone) = self.gone(alloc, cells)? else {
             return Ok(None);
         };
-        if !are_sides_out(&self.choices, &gone) {
+        if !self.are_sides_out(&gone) {
             return Ok(None);
         }
         Ok(Some(believed_but(alloc, premises, &gone)?))
@@ -78,14 +81,14 @@ impl Past {
 
     /// The premises of the statements that are not there any more. None where one of these was
     /// under no premise.
-    fn gone(&self, alloc: Global, statements: &[Statement]) -> Result<Option<Worldview>, AllocError>
+    fn gone(&self, alloc: Global, cells: &Cells) -> Result<Option<Worldview>, AllocError>
         ensures { IfOk result (λ o. IfSome o (λ gone.
-            All (IsThereOrGone statements.now (set_of gone)) self.now.attached.statements)) }
+            All (IsThereOrGone cells.now.statements (set_of gone)) self.now.attached.statements)) }
     {
         let mut gone = Worldview::empty(alloc);
         let mut at = 0;
         for statement in &self.statements {
-            if at < statements.len() && *statement == statements[at] {
+            if stands_at(cells, at, statement) {
                 at += 1;
             } else if let Some(premise) = statement.premise {
                 gone.believe(premise)?;
@@ -96,8 +99,30 @@ impl Past {
         Ok(Some(gone))
     }
 
+    /// Whether no side of the choices is in the set.
+    fn are_sides_out(&self, gone: &Worldview) -> bool
+        ensures { IsTrue result → AreSidesOut self.now.choices (set_of gone.now) }
+    {
+        for choice in &self.choices {
+            if !is_out(choice, gone) {
+                return false;
+            }
+        }
+        true
+    }
+
+    /// Whether the premises of a nogood are all in the set, and each of its facts is about a place
+    /// that is the same where there are so many cells.
+    pub(crate) fn leaves(&self, nogood: &Nogood, cells: usize, standing: &Worldview) -> bool
+        ensures premises { IsTrue result
+            → IsPart (set_of nogood.now.premises) (set_of standing.now) }
+        ensures meant { IsTrue result → AreMeant self.now cells nogood.now.literals }
+    {
+        standing.believes(nogood.premises()) && self.are_meant(cells, nogood.literals())
+    }
+
     /// Whether each fact is about a place that is the same where there are so many cells.
-    pub(crate) fn are_meant(&self, cells: usize, literals: &[Literal]) -> bool
+    fn are_meant(&self, cells: usize, literals: &[Literal]) -> bool
         ensures { IsTrue result → AreMeant self.now cells literals.now }
     {
         for literal in literals {
@@ -118,16 +143,15 @@ impl Past {
     }
 }
 
-/// Whether no side of the choices is in the set.
-fn are_sides_out(choices: &[Choice], gone: &Worldview) -> bool
-    ensures { IsTrue result → AreSidesOut choices.now (set_of gone.now) }
+/// Whether the statement stands at this place.
+fn stands_at(cells: &Cells, at: usize, statement: &Statement) -> bool
+    ensures within { IsTrue result → at < length cells.now.statements }
+    ensures there { IsTrue result → Contains cells.now.statements statement.now }
 {
-    for choice in choices {
-        if !is_out(choice, gone) {
-            return false;
-        }
+    match cells.statements().get(at) {
+        Some(other) => is_same_statement(statement, other),
+        None => false,
     }
-    true
 }
 
 /// Whether no side of the choice is in the set.

@@ -14,6 +14,11 @@ use Rattle.prop_lessons.specs.Lessons.{PastOf}
 abbrev pub Begin : {X : Type 0} → List X → List X → Type 0
 Begin {X} xs ys = (i : ℕ) (x : X) → slice_get xs i ≡ Some x → slice_get ys i ≡ Some x
 
+-- so does each of so many of the first
+abbrev pub BeginUpTo : {X : Type 0} → ℕ → List X → List X → Type 0
+BeginUpTo {X} k xs ys = (i : ℕ) (x : X) → i < k → slice_get xs i ≡ Some x
+    → slice_get ys i ≡ Some x
+
 -- the statement is among these, or its premise is in the set
 abbrev pub IsThereOrGone : List Statement → Members → Statement → Type 0
 IsThereOrGone statements gone x =
@@ -29,7 +34,7 @@ pub record IsThere (past : PastOf) (n : Attached) (choices : List Choice) (s : M
     : Type 0 where
   pub kinds : Begin past.attached.kinds n.kinds
   pub instances : Begin past.attached.instances n.instances
-  pub choices : Begin past.choices choices
+  pub sides : Begin past.choices choices
   pub statements : All (λ x. IsTrue (is_member (union s (is_hypothetical past.choices)) x.premise)
       → Contains n.statements x) past.attached.statements
 

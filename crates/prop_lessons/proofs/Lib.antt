@@ -1,0 +1,4 @@
+pub mod PairLemmas
+pub mod BeginLemmas
+pub mod GoneLemmas
+pub mod StandLemmas
