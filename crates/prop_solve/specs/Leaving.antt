@@ -1,0 +1,46 @@
+-- What a search leaves to later ones, and what these take up of it.
+use Rattle.std.specs.Prelude.{◌≡◌, ◌⊎◌, ℕ, List, ⊥, All, Some, IfSome}
+use Rattle.prop_lattice.specs.Points.{Point}
+use Rattle.prop_premises.specs.Origins.{Origin, choices_of}
+use Rattle.prop_procedures.specs.Stored.{Stored}
+use Rattle.prop_cells.specs.Data.{Data}
+use Rattle.prop_cells.specs.Points.{Attached}
+use Rattle.prop_facts.specs.declared.fact.Literal.{Literal}
+use Rattle.prop_plans.specs.Held.{attached_of}
+use Rattle.prop_refuting.specs.Nogoods.{Nogood}
+use Rattle.prop_refuting.specs.Places.{IsSoAt}
+use Rattle.prop_learned.specs.Stores.{IsKeptIn}
+use Rattle.prop_deriving.specs.Known.{IsExcused}
+use Rattle.prop_lessons.specs.Lessons.{AreTaught, PastOf, Taught}
+use Rattle.prop_solve.specs.Searches.{IsSearch, Search, bare}
+
+-- the past is that of these cells and premises
+pub record IsOf (d : Data) (premises : List Origin) (p : PastOf) : Type 0 where
+  pub attached : p.attached ≡ attached_of d
+  pub choices : p.choices ≡ choices_of premises
+
+-- nothing has all of the first facts and all of the others
+abbrev pub AreApart : List Literal → List Literal → Type 0
+AreApart facts more = (n : Attached) (points : ℕ → Point) (list : List ℕ)
+    → All (IsSoAt n points list) facts → All (IsSoAt n points list) more → ⊥
+
+-- nothing that is excused has all of these facts
+abbrev pub IsUnexcused : List (List Literal) → List Literal → Type 0
+IsUnexcused excuses more = (n : Attached) (points : ℕ → Point) (list : List ℕ)
+    → All (IsSoAt n points list) more → IsExcused n excuses points list → ⊥
+
+-- each nogood that is kept then was before, or is this one, as what is refuted may be; all else
+-- stays
+pub record Recalls (old : Search) (g : Nogood) (new : Search) : Type 0 where
+  pub kept : (h : Nogood) → IsKeptIn new.spread.nogoods h
+      → IsKeptIn old.spread.nogoods h ⊎ (h ≡ g)
+  pub root : new.spread.root ≡ old.spread.root
+  pub refuted : IfSome new.refuted (λ by. (g ≡ bare by) ⊎ (old.refuted ≡ Some by))
+  pub others : new ≡ record old { spread = new.spread; refuted = new.refuted }
+
+-- what was taught stays so, and more is where the search is one of that past
+pub record Teaches (s : Search) (old new : Taught) : Type 0 where
+  pub same : (new.attached ≡ old.attached) × (new.choices ≡ old.choices)
+  pub taught : (library : List Stored) (d : Data) (premises : List Origin)
+      → (old.attached ≡ attached_of d) → (old.choices ≡ choices_of premises)
+      → IsSearch library d premises s → AreTaught library old → AreTaught library new

@@ -1,0 +1,235 @@
+//! What a search leaves to later ones, and what a later one takes up of it.
+
+ghost use Rattle.std.specs.Prelude.{◌≡◌, ◌⊎◌, ◌++◌, [], All, IfOk, IfSome, OnOk, List, map};
+ghost use Rattle.prop_numbers.specs.Sets.{set_of};
+ghost use Rattle.prop_premises.specs.Origins.{Origin, believed_in, choices_of};
+ghost use Rattle.prop_procedures.specs.Kept.{AllMean, stored_of};
+ghost use Rattle.prop_procedures.specs.Stored.{Stored};
+ghost use Rattle.prop_cells.specs.Data.{Data};
+ghost use Rattle.prop_plans.specs.Held.{attached_of};
+ghost use Rattle.prop_refuting.specs.Nogoods.{Nogood as NogoodOf};
+ghost use Rattle.prop_learned.specs.Stores.{IsKeptIn};
+ghost use Rattle.prop_deriving.specs.Known.{IsKnown};
+ghost use Rattle.prop_lessons.specs.Lessons.{AreTaught};
+ghost use Rattle.prop_solve.specs.Leaving.{AreApart, IsOf, IsUnexcused, Recalls, Teaches};
+ghost use Rattle.prop_solve.specs.Searches.{IsSearch};
+ghost use Rattle.prop_solve.specs.Answers.{AsksTheSame};
+
+use crate::solver::Solver;
+use crate::spread::{SHORT, Spread, Unit};
+use prop_cells::Network;
+use prop_facts::Literal;
+use prop_guards::Guarded;
+use prop_lattice::Info;
+use prop_learned::is_so;
+use prop_lessons::{Lessons, Past};
+use prop_premises::Premises;
+use prop_refuting::Nogood;
+use prop_trail::Trail;
+use std::alloc::{AllocError, Global};
+use std::marker::Model;
+
+/// How many literals a nogood has at the most that is left to later searches.
+const LONGEST: usize = 40;
+
+/// What was learned, and a value of each cell, which a later search tries first: none where no plan
+/// was found.
+#[derive(Drop)]
+pub struct Earlier {
+    lessons: Lessons,
+    values: Vec<Info>,
+}
+
+impl Model for Earlier {
+    ghost use Rattle.prop_lessons.specs.Lessons.{Taught};
+
+    ghost Value = { Taught };
+
+    ghost view = { λ e. e.lessons };
+}
+
+/// The numbers of the first two literals that aren't so.
+fn first_open(trail: &Trail, literals: &[Literal]) -> (Option<usize>, Option<usize>) {
+    let mut first = None;
+    for (at, literal) in literals.iter().enumerate() {
+        if !is_so(trail, *literal) {
+            if first.is_some() {
+                return (first, Some(at));
+            }
+            first = Some(at);
+        }
+    }
+    (first, None)
+}
+
+/// The nogood with more facts.
+fn with_more(nogood: &Nogood, more: &[Literal], alloc: Global) -> Result<Nogood, AllocError>
+    ensures { IfOk result (λ g. g ≡ record {
+      literals = nogood.now.literals ++ more.now;
+      premises = nogood.now.premises;
+    }) }
+{
+    let mut literals = Vec::from_slice(alloc, nogood.literals())?;
+    literals.extend_from_slice(more)?;
+    Ok(Nogood::new(literals, nogood.premises().copy()?))
+}
+
+/// What isn't so where all of these facts are: the denial of the only one, where there is one.
+fn denied(alloc: Global, facts: &[Literal]) -> Result<Option<Vec<Literal>>, AllocError>
+    ensures { IfOk result (λ o. IfSome o (λ more. AreApart facts.now more.items)) }
+{
+    let [only] = facts else {
+        return Ok(None);
+    };
+    let Some(fact) = only.fact.negation(0) else {
+        return Ok(None);
+    };
+    let mut more = Vec::new(alloc);
+    more.push(Literal {
+        place: only.place,
+        fact,
+    })?;
+    Ok(Some(more))
+}
+
+/// Facts that nothing which is excused has: none where nothing is, and where a single fact excuses
+/// its denial. None are looked for otherwise.
+fn unexcused(alloc: Global, excuses: &[Vec<Literal>]) -> Result<Option<Vec<Literal>>, AllocError>
+    ensures { IfOk result (λ o. IfSome o (λ more.
+        IsUnexcused (map (λ v. v.items) excuses.now) more.items)) }
+{
+    match excuses {
+        [] => Ok(Some(Vec::new(alloc))),
+        [only] => denied(alloc, only),
+        _ => Ok(None),
+    }
+}
+
+impl Spread {
+    /// These values are tried first.
+    pub(crate) fn expect(&mut self, values: &[Info])
+        ensures same { self.new ≡ self.old }
+    {
+        self.present.expect(values);
+    }
+
+    /// Keeps a nogood that was learned before, where nothing was supposed yet. It is watched at two
+    /// literals that aren't so, and denies the only one by itself.
+    pub(crate) fn recall(&mut self, nogood: Nogood) -> Result<(), AllocError>
+        ensures root { self.new.root ≡ self.old.root }
+        ensures kept { OnOk result ((g : NogoodOf) → IsKeptIn self.new.nogoods g
+            → IsKeptIn self.old.nogoods g ⊎ (g ≡ nogood)) }
+    {
+        let (first, second) = first_open(&self.trail, nogood.literals());
+        let at = first.unwrap_or(0);
+        let Some(literal) = nogood.literals().get(at) else {
+            return Ok(());
+        };
+        let literal = *literal;
+        let stays = second.is_none() || nogood.literals().len() <= SHORT;
+        let number = self.store.add(nogood, (at, second.unwrap_or(at)), stays)?;
+        if second.is_none() {
+            self.units.push(Unit { literal, number })?;
+        }
+        Ok(())
+    }
+}
+
+impl Solver {
+    /// Takes up what an earlier search left: the nogoods that still hold, and the values of its
+    /// plan, which are tried first.
+    pub(crate) fn take_up<R: Guarded + Drop>(
+        &mut self,
+        network: &Network<R>,
+        premises: &Premises,
+        earlier: &Earlier,
+    ) -> Result<(), AllocError>
+        requires search { IsSearch (stored_of R.value_of network.now.library) network.now.cells
+            premises.now self.old }
+        requires none { self.old.excuses ≡ [] }
+        requires taught { AreTaught (stored_of R.value_of network.now.library) earlier.now }
+        ensures search { OnOk result (IsSearch (stored_of R.value_of network.now.library)
+            network.now.cells premises.now self.new) }
+        ensures asks { OnOk result (AsksTheSame self.old self.new) }
+        ensures excuses { OnOk result (self.new.excuses ≡ self.old.excuses) }
+    {
+        self.expect(&earlier.values);
+        let recalled = earlier.lessons.recall(network.data(), premises)?;
+        for nogood in &recalled {
+            self.recall(nogood)?;
+        }
+        Ok(())
+    }
+
+    /// These values are tried first.
+    fn expect(&mut self, values: &[Info])
+        ensures { self.new ≡ self.old }
+    {
+        self.expects = !values.is_empty();
+        self.spread.expect(values);
+    }
+
+    /// One nogood more, which was learned before.
+    fn recall(&mut self, nogood: &Nogood) -> Result<(), AllocError>
+        ensures { OnOk result (Recalls self.old nogood.now self.new) }
+    {
+        if nogood.literals().is_empty() {
+            return self.refute(nogood);
+        }
+        self.recalled = self.recalled.saturating_add(1);
+        self.spread.recall(nogood.copy()?)
+    }
+
+    /// What is left to later searches, of the cells and choices as they were.
+    pub fn leave(&self, past: Past, values: Vec<Info>) -> Result<Earlier, AllocError>
+        ensures { IfOk result (λ e. (library : List Stored) (d : Data) (premises : List Origin)
+            → IsOf d premises past → IsSearch library d premises self.now → AreTaught library e) }
+    {
+        let alloc = self.spread.alloc();
+        let mut lessons = Lessons::new(alloc, past);
+        if let Some(more) = unexcused(alloc, &self.excuses)? {
+            self.teach(&mut lessons, &more)?;
+        }
+        Ok(Earlier { lessons, values })
+    }
+
+    /// Each nogood that is kept or found comes to the lessons, with these facts more.
+    fn teach(&self, lessons: &mut Lessons, more: &[Literal]) -> Result<(), AllocError>
+        requires unexcused { IsUnexcused self.now.excuses more.now }
+        ensures { OnOk result (Teaches self.now lessons.old lessons.new) }
+    {
+        let alloc = self.spread.alloc();
+        if let Some(premises) = &self.refuted {
+            let bare = Nogood::new(Vec::new(alloc), premises.copy()?);
+            lessons.add(with_more(&bare, more, alloc)?)?;
+        }
+        for number in 0..self.most_kept() {
+            self.teach_one(lessons, more, number)?;
+        }
+        Ok(())
+    }
+
+    /// The nogood with this number comes to the lessons, where there is one that is short enough,
+    /// with these facts more.
+    fn teach_one(
+        &self,
+        lessons: &mut Lessons,
+        more: &[Literal],
+        number: usize,
+    ) -> Result<(), AllocError>
+        requires unexcused { IsUnexcused self.now.excuses more.now }
+        ensures { OnOk result (Teaches self.now lessons.old lessons.new) }
+    {
+        match self.spread.store.nogood(number) {
+            Some(nogood) if nogood.literals().len() <= LONGEST => {
+                lessons.add(with_more(nogood, more, self.spread.alloc())?)
+            }
+            _ => Ok(()),
+        }
+    }
+
+    /// A number that those of all nogoods are below.
+    fn most_kept(&self) -> usize {
+        self.recalled.saturating_add(self.tally.learned as usize)
+    }
+}
