@@ -1,9 +1,9 @@
 -- Lists whose elements stand at their places in others.
-use Rattle.std.proofs.Common.{◌≡◌, ℕ, ◌+◌, ◌<◌, ◌≤◌, suc, List, [], ◌∷◌, length, Some, slice_get}
-use Rattle.std.proofs.Common.{get_or, refl, sym, ◌∙◌, subst, arith, All, inl, inr}
-use Rattle.std.proofs.lemmas.Bool.{cases_eq}
+use Rattle.std.proofs.Common.{◌≡◌, ℕ, ◌+◌, ◌≤◌, suc, List, [], ◌∷◌, length, Some, slice_get}
+use Rattle.std.proofs.Common.{◌++◌, get_or, take, add-one, refl, sym, ◌∙◌, ap, subst, arith, All}
+use Rattle.std.proofs.Math.Seq.{take-suc}
 use Rattle.std.proofs.lemmas.Option.{get_or_from_slice_get, none-some, same_Some, slice_get-get_or, slice_get_within}
-use Rattle.prop_lessons.specs.inner.Standing.{Begin, BeginUpTo}
+use Rattle.prop_lessons.specs.inner.Standing.{Begin}
 
 pub begun_rest : {X : Type 0} (x y : X) (xs ys : List X) → Begin (x ∷ xs) (y ∷ ys) → Begin xs ys
 begun_rest {X} x y xs ys b i z e = b (suc i) z e
@@ -29,16 +29,11 @@ begun_all {X} P xs ys b h k d l =
 
 -- ---- one after the other
 
-pub begun_more : {X : Type 0} (xs ys : List X) (k : ℕ) (x : X) → BeginUpTo k xs ys → slice_get xs k ≡ Some x
-    → slice_get ys k ≡ Some x → BeginUpTo (k + 1) xs ys
-begun_more {X} xs ys k x b e f i z l g = elim (cases_eq i k) [
-  | inl same ↦
-      let P : ℕ → Type 0 = λ j. slice_get xs j ≡ Some z in
-      let Q : ℕ → Type 0 = λ j. slice_get ys j ≡ Some z in
-      let R : X → Type 0 = λ w. slice_get ys k ≡ Some w in
-      subst Q (sym same) (subst R (same_Some x z (sym e ∙ subst P same g)) f)
-  | inr other ↦ b i z (omega arith) g
-]
-
-pub begun_whole : {X : Type 0} (xs ys : List X) (k : ℕ) → length xs ≤ k → BeginUpTo k xs ys → Begin xs ys
-begun_whole {X} xs ys k l b i x e = b i x (omega (arith, l, slice_get_within xs i x e)) e
+-- a copy of one more
+pub taken_more : {X : Type 0} (xs ys zs : List X) (n : ℕ) (x y : X) → ys ≡ take n xs → slice_get xs n ≡ Some x
+    → y ≡ x → zs ≡ ys ++ y ∷ [] → zs ≡ take (n + 1) xs
+taken_more {X} xs ys zs n x y e f same g =
+    let last : get_or xs n x ≡ y = get_or_from_slice_get xs n x x f ∙ sym same in
+    let next : take (n + 1) xs ≡ take n xs ++ get_or xs n x ∷ [] =
+    rw add-one (take-suc xs n x (slice_get_within xs n x f)) in
+    g ∙ (ap (λ l. l ++ y ∷ []) e ∙ (ap (λ z. take n xs ++ z ∷ []) (sym last) ∙ sym next))

@@ -1,9 +1,10 @@
 -- Statements that are still there, or whose premises are gone.
-use Rattle.std.proofs.Common.{◌≡◌, ℕ, Bool, true, false, ◌||◌, List, Option, Some, subst, refl, IsTrue, All, Contains}
-use Rattle.std.proofs.Common.{◌⊎◌, inl, inr, ◌+◌, ◌<◌, ◌≤◌, ◌==◌, [], ◌∷◌, length, take, get_or, sym, arith, eq-eqb}
+use Rattle.std.proofs.Common.{◌≡◌, ℕ, Bool, true, false, ◌||◌, List, Option, subst, refl, IsTrue, All, Contains}
+use Rattle.std.proofs.Common.{◌⊎◌, inl, inr, ◌+◌, ◌<◌, ◌≤◌, ◌==◌, ◌&&◌, [], ◌∷◌, length, take, get_or, sym, arith, eq-eqb}
+use Rattle.std.proofs.lemmas.Bool.{eqb-true}
 use Rattle.std.proofs.lemmas.List.{get_or-take, length-take}
 use Rattle.std.proofs.lemmas.List.Elements.{All-more, All-weaker}
-use Rattle.prop_numbers.specs.Sets.{IsPart, IsSame, Members, set_of, union}
+use Rattle.prop_numbers.specs.Sets.{IsPart, IsSame, Members, is_within, set_of, union}
 use Rattle.prop_premises.specs.ChoiceLists.{is_hypothetical}
 use Rattle.prop_premises.specs.declared.choice.Choice.{Choice}
 use Rattle.prop_cells.specs.Points.{Attached}
@@ -16,6 +17,14 @@ use Rattle.prop_lessons.specs.inner.Standing.{AreSidesOut, Begin, IsThere, IsThe
 or_cases : (a b : Bool) → IsTrue (a || b) → IsTrue a ⊎ IsTrue b
 or_cases true b h = inl refl
 or_cases false b h = inr h
+
+first_of_both : (a b : Bool) → IsTrue (a && b) → IsTrue a
+first_of_both true b h = refl
+first_of_both false b h = h
+
+second_of_both : (a b : Bool) → IsTrue (a && b) → IsTrue b
+second_of_both true b h = h
+second_of_both false b h = let no : ⊥ = cc in absurd no
 
 -- where no premise of the set is gone, and no side, the statements under them are there
 there_but_gone : (statements : List Statement) (choices : List Choice) (s gone : Members) (x : Statement)
@@ -70,3 +79,11 @@ pub more_has : (s t : Members) (p : ℕ) → IsSame t (union s (set_of (p ∷ []
 more_has s t p same = let P : Bool → Type 0 = IsTrue in
     subst P (sym (same p)) (or_second (s p) (set_of (p ∷ []) p)
     (or_first (p == p) false (eq-eqb p p refl)))
+
+-- a set that has each of these numbers
+pub within_part : (s : Members) (ps : List ℕ) → IsTrue (is_within s ps) → IsPart (set_of ps) s
+within_part s [] h p k = let no : ⊥ = cc in absurd no
+within_part s (q ∷ ps) h p k = elim (or_cases (q == p) (set_of ps p) k) [
+  | inl here ↦ (let P : ℕ → Type 0 = λ r. IsTrue (s r) in subst P (eqb-true q p here) (first_of_both (s q) (is_within s ps) h))
+  | inr there ↦ within_part s ps (second_of_both (s q) (is_within s ps) h) p there
+]

@@ -1,19 +1,16 @@
 -- What nothing meets in an earlier network, nothing meets where all parts of that one are still there.
-use Rattle.std.proofs.Common.{◌≡◌, ℕ, ◌-◌, ◌+◌, ◌<◌, ◌≤◌, suc, Bool, true, false, ◌&&◌, ◌||◌, ◌==◌, nat_le, nat_lt}
-use Rattle.std.proofs.Common.{List, [], ◌∷◌, length, take, Option, Some, None, slice_get, slice_index, get_or, refl, ap}
+use Rattle.std.proofs.Common.{◌≡◌, ℕ, ◌-◌, ◌+◌, ◌<◌, ◌≤◌, Bool, true, false, ◌&&◌, ◌||◌, ◌==◌, nat_le, nat_lt}
+use Rattle.std.proofs.Common.{List, [], ◌∷◌, ◌++◌, length, take, Option, Some, None, slice_index, get_or, refl, ap}
 use Rattle.std.proofs.Common.{sym, ◌∙◌, subst, arith, IsTrue, All, Contains, ◌⊎◌, inl, inr, map}
-use Rattle.std.specs.List.{list_any}
 use Rattle.std.proofs.lemmas.Bool.{eqb-true, le-leb, lt-ltb, ltb-false}
 use Rattle.std.proofs.lemmas.List.{get_or-take}
-use Rattle.std.proofs.lemmas.List.Elements.{All-contains, All-weaker}
-use Rattle.std.proofs.lemmas.Option.{get_or_from_slice_get, none-some, same_Some, slice_get-get_or, slice_get_within}
+use Rattle.std.proofs.lemmas.List.Elements.{All-contains, All-push, All-same, All-weaker}
 use Rattle.prop_lattice.specs.Points.{Point, Element, Holds}
 use Rattle.prop_numbers.specs.Sets.{IsPart, Members, set_of, union}
 use Rattle.prop_premises.specs.ChoiceLists.{IsChoiceList, IsSide, hypothetical, hypotheticals_of, is_hypothetical}
 use Rattle.prop_premises.specs.ChoiceLists.{worldview}
 use Rattle.prop_premises.specs.declared.choice.Choice.{Choice}
 use Rattle.prop_procedures.specs.Stored.{Stored}
-use Rattle.prop_procedures.specs.declared.shape.Kinded.{Kinded}
 use Rattle.prop_procedures.specs.declared.shape.Param.{Param}
 use Rattle.prop_cells.specs.Instances.{Instance}
 use Rattle.prop_cells.specs.Points.{Attached, ArePoints}
@@ -21,14 +18,13 @@ use Rattle.prop_cells.specs.Problems.{is_member}
 use Rattle.prop_cells.specs.declared.instance.Statement.{Statement}
 use Rattle.prop_facts.specs.Facts.{IsSo}
 use Rattle.prop_facts.specs.declared.fact.Literal.{Literal}
-use Rattle.prop_plans.specs.Held.{AreHeld}
-use Rattle.prop_refuting.specs.Nogoods.{IsMet, IsNeverMet, Nogood}
+use Rattle.prop_refuting.specs.Nogoods.{IsNeverMet, Nogood}
 use Rattle.prop_refuting.specs.Places.{IsSoAt, point_at}
 use Rattle.prop_refuting.proofs.MeetLemmas.{or_first, or_second}
 use Rattle.prop_refuting.proofs.PlaceLemmas.{at_cell, behind_cells, which_place}
 use Rattle.prop_lessons.proofs.BeginLemmas.{begun_all, begun_first, begun_length, begun_none, begun_rest}
 use Rattle.prop_lessons.specs.Lessons.{PastOf, Stands}
-use Rattle.prop_lessons.specs.inner.Standing.{AreMeant, AreSidesOut, Begin, IsSamePlace, IsThere, IsThereOrGone}
+use Rattle.prop_lessons.specs.inner.Standing.{AreMeant, Begin, IsSamePlace, IsThere}
 
 or_cases : (a b : Bool) → IsTrue (a || b) → IsTrue a ⊎ IsTrue b
 or_cases true b h = inl refl
@@ -193,3 +189,19 @@ stands library past n choices s believed g there in_believed part meant never = 
   within = λ p h. in_believed p (part p h);
   never = never_still library past n choices s g there part meant never;
 }
+
+-- a copy of one more
+pub recalled_more : (library : List Stored) (past : PastOf) (n : Attached) (choices : List Choice)
+    (s believed : Members) (nogoods recalled more : List Nogood) (i count : ℕ) (g copy : Nogood)
+    → IsThere past n choices s → IsPart s believed → IsPart (set_of g.premises) s → count ≡ length n.kinds
+    → AreMeant past count g.literals → All (IsNeverMet library past.attached past.choices) nogoods
+    → i < length nogoods → g ≡ get_or nogoods i g → copy ≡ g → more ≡ recalled ++ copy ∷ []
+    → All (Stands library n choices believed) recalled → All (Stands library n choices believed) more
+recalled_more library past n choices s believed nogoods recalled more i count g copy there in_believed part e meant
+    taught l at same grown before =
+    let P : Nogood → Type 0 = IsNeverMet library past.attached past.choices in
+    let Q : Nogood → Type 0 = Stands library n choices believed in
+    let M : ℕ → Type 0 = λ k. AreMeant past k g.literals in
+    let stood = stands library past n choices s believed g there in_believed part (subst M e meant)
+    (subst P (sym at) (taught i g l)) in
+    All-same Q more (recalled ++ copy ∷ []) grown (All-push Q recalled copy before (subst Q (sym same) stood))

@@ -1,5 +1,5 @@
 -- What has to be so of a network for nogoods of an earlier one to hold of it.
-use Rattle.std.specs.Prelude.{◌≡◌, ℕ, ◌+◌, ◌<◌, ◌⊎◌, false, IsTrue, List, Option, Some, None, All}
+use Rattle.std.specs.Prelude.{◌≡◌, ℕ, ◌+◌, ◌<◌, ◌⊎◌, false, IsTrue, List, Some, All}
 use Rattle.std.specs.Prelude.{Contains, length, slice_get}
 use Rattle.prop_numbers.specs.Sets.{Members, union}
 use Rattle.prop_premises.specs.ChoiceLists.{is_hypothetical}
