@@ -23,7 +23,7 @@ use Rattle.prop_facts.specs.declared.fact.Literal.{Literal}
 use Rattle.prop_plans.specs.Held.{AreHeld, attached_of}
 use Rattle.prop_refuting.specs.Places.{IsSoAt, point_at}
 use Rattle.prop_deriving.specs.Known.{IsExcused, IsKnown}
-use Rattle.prop_solve.specs.Questions.{AreExcusing, IsBetter}
+use Rattle.prop_solve.specs.Questions.{excused_then, AreExcusing, IsBetter}
 use Rattle.prop_solve.specs.Searches.{Search}
 use Rattle.prop_solve.specs.declared.solver.Plan.{Plan as PlanOf}
 use Rattle.prop_solve.specs.declared.question.Goal.{Goal}
@@ -100,7 +100,7 @@ module _ (g : Ground) (s : Search) (by : List ℕ) where
 
   bounded : (goal : Goal) (named : List ℕ) (values : List Info) (facts : List Literal) (end : ℤ) (cell : ℕ)
       (found alone : SpanOf) → IsFirst goal named → AreExcusing goal named values facts
-      → s.excuses ≡ facts ∷ [] → cell < length g.cells.kinds → (kind_at g.cells.kinds cell).kind ≡ SpanKind
+      → s.excuses ≡ excused_then goal [] facts → cell < length g.cells.kinds → (kind_at g.cells.kinds cell).kind ≡ SpanKind
       → slice_get values cell ≡ Some (Span found) → IsWithin goal cell found end → alone.lo ≡ end → alone.hi ≡ end
       → (x : Literal) × IsBetter goal end x × Known x
       → Refutes g.library (state_at g) (λ points. IsNoBetter (aim_of goal) (Span alone)

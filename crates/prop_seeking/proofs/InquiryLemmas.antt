@@ -2,29 +2,34 @@
 use Rattle.std.proofs.Common.{◌≡◌, ◌∙◌, ◌⊎◌, ◌+◌, ◌<◌, ◌≤◌, ℕ, true, false, List, [], ◌∷◌, ◌++◌}
 use Rattle.std.proofs.Common.{length, map, refl, sym, ap, subst}
 use Rattle.std.proofs.Common.{inl, inr, arith, All, Some, None, append_assoc, append-nil, length-append}
-use Rattle.std.specs.Prelude.{Option, is_some}
+use Rattle.std.specs.Prelude.{IfSome, Option, is_some}
 use Rattle.std.specs.List.{AllZip}
+use Rattle.std.specs.Option.{option_map}
 use Rattle.std.proofs.lemmas.List.{map-append}
 use Rattle.std.proofs.lemmas.List.Elements.{All-nil, All-push}
 use Rattle.prop_lattice.specs.declared.info.Info.{Info}
 use Rattle.prop_facts.specs.declared.fact.Literal.{Literal}
+use Rattle.prop_procedures.specs.Stored.{Stored}
 use Rattle.prop_plans.specs.Held.{attached_of}
 use Rattle.prop_plans.specs.Plans.{value_in}
 use Rattle.prop_deriving.specs.Known.{IsExcused}
 use Rattle.prop_solve.specs.Questions.{AreExcusing, IsValueFact, excused_then, is_optimum}
 use Rattle.prop_solve.specs.Searches.{Search, IsSearch}
 use Rattle.prop_solve.specs.Answers.{AsksTheSame, IsAnswer, IsFound}
+use Rattle.prop_solve.specs.Leaving.{IsOf}
 use Rattle.prop_solve.specs.declared.question.Goal.{Goal}
 use Rattle.prop_solve.specs.declared.question.Goal.TheVariants.{Any, Least, Greatest, Differing}
 use Rattle.prop_solve.specs.declared.solver.Answer.{Answer}
 use Rattle.prop_solve.specs.declared.solver.Answer.TheVariants.{Found, Refuted, Unsettled}
 use Rattle.prop_solve.specs.declared.solver.Plan.{Plan as PlanOf}
+use Rattle.prop_seeking.specs.Asking.{Question}
 use Rattle.prop_seeking.specs.Texts.{Plan}
 use Rattle.prop_seeking.specs.Plans.{Fits}
 use Rattle.prop_seeking.specs.declared.question.Asked.{Asked as AskedOf}
 use Rattle.prop_seeking.specs.declared.inquiry.Inquiry.{Inquiry as InquiryOf}
 use Rattle.prop_seeking.specs.inner.Seekers.{AreFound, AreOf, Ground, IsAllBut, IsApt, IsFirst, IsInquiry, IsLast}
-use Rattle.prop_seeking.specs.inner.Seekers.{IsOpen, IsSameQuestion, plan_of, row_of, state_at}
+use Rattle.prop_seeking.specs.inner.Seekers.{AreBefore, IsOpen, IsSameQuestion, inquiry_of, plan_of, row_of}
+use Rattle.prop_seeking.specs.inner.Seekers.{state_at}
 use Rattle.prop_seeking.proofs.ExcuseLemmas.{facts_of, rows_of}
 
 -- ---- from one search to the next
@@ -77,11 +82,11 @@ module _ (g : Ground) (old new : Search) where
   -- what is excused after the first plan, or the last of an optimum
   alone : (goal : Goal) (excuses : List (List Literal)) (facts : List Literal)
       → (is_optimum goal ≡ true) ⊎ (excuses ≡ []) → (goal ≡ Differing → ⊥)
-      → excused_then goal excuses facts ≡ facts ∷ []
+      → excused_then goal excuses facts ≡ excused_then goal [] facts
   alone (Least cell) excuses facts h quiet = refl
   alone (Greatest cell) excuses facts h quiet = refl
   alone Any excuses facts (inl e) quiet = cc
-  alone Any excuses facts (inr none) quiet = ap (λ (xs : List (List Literal)). xs ++ facts ∷ []) none
+  alone Any excuses facts (inr none) quiet = none
   alone Differing excuses facts h quiet = absurd (quiet refl)
 
   pub last_found : (plan : PlanOf) → IsFound g.library g.cells g.premises old plan.values.items plan.sides.items new
@@ -93,7 +98,8 @@ module _ (g : Ground) (old new : Search) where
       f.facts,
       subst (λ (P : Type 0). P)
           (λ i. AreExcusing (sym asks.goal i) (sym asks.named i) plan.values.items f.facts) f.excusing,
-      f.excused ∙ alone old.goal old.excuses f.facts h quiet,
+      subst (λ (goal : Goal). new.excuses ≡ excused_then goal [] f.facts) (sym asks.goal)
+          (f.excused ∙ alone old.goal old.excuses f.facts h quiet),
     ),
   )
 
@@ -106,7 +112,7 @@ module _ (g : Ground) (old new : Search) where
       facts,
       subst (λ (P : Type 0). P)
           (λ i. AreExcusing (sym asks.goal i) (sym asks.named i) plan.values.items facts) excusing,
-      same ∙ is,
+      subst (λ (goal : Goal). new.excuses ≡ excused_then goal [] facts) (sym asks.goal) (same ∙ is),
     ),
   )
   last_kept None asks same h = same ∙ h
@@ -118,17 +124,18 @@ module _ (g : Ground) (old new : Search) where
 
 pub inquiry_begins : (g : Ground) (i : InquiryOf) (a : AskedOf) → IsSearch g.library g.cells g.premises i.solver
     → i.solver.goal ≡ a.goal → i.solver.named ≡ a.named.items → i.solver.excuses ≡ [] → i.last ≡ None
-    → IsApt g.cells.kinds a → IsInquiry g i
-inquiry_begins g i a search goal named none last apt = record {
+    → IsApt g.cells.kinds a → IsOf g.cells g.premises i.past → IsInquiry g i
+inquiry_begins g i a search goal named none last apt past = record {
   search = search;
   first = subst (λ (P : Type 0). P) (λ j. IsFirst (sym goal j) (sym named j)) apt.first;
   within = subst (All (λ (cell : ℕ). cell < length g.cells.kinds)) (sym named) apt.within;
   last = λ quiet. subst (λ (o : Option PlanOf). IsLast g i.solver o) (sym last) none;
   rows = λ differing. subst (All (AreOf i.solver.named)) (sym none) (All-nil (AreOf i.solver.named));
+  past = past;
 }
 
 module _ (g : Ground) (i j : InquiryOf) (inquiry : IsInquiry g i) (asks : AsksTheSame i.solver j.solver)
-    (search : IsSearch g.library g.cells g.premises j.solver) where
+    (search : IsSearch g.library g.cells g.premises j.solver) (past : j.past ≡ i.past) where
   cells_kept : All (λ cell. cell < length g.cells.kinds) j.solver.named
   cells_kept = subst (All (λ (cell : ℕ). cell < length g.cells.kinds)) (sym asks.named) inquiry.within
 
@@ -145,6 +152,7 @@ module _ (g : Ground) (i j : InquiryOf) (inquiry : IsInquiry g i) (asks : AsksTh
         (subst (λ (o : Option PlanOf). IsLast g i.solver o) (sym last) (inquiry.last (was_quiet quiet)));
     rows = λ differing. subst (λ (named : List ℕ). All (AreOf named) j.solver.excuses) (sym asks.named)
         (subst (All (AreOf i.solver.named)) (sym same) (inquiry.rows (sym asks.goal ∙ differing)));
+    past = past ∙ inquiry.past;
   }
 
   none_before : (goal : Goal) → (is_optimum goal ≡ true) ⊎ (i.last ≡ None) → IsLast g i.solver i.last
@@ -165,6 +173,7 @@ module _ (g : Ground) (i j : InquiryOf) (inquiry : IsInquiry g i) (asks : AsksTh
         (subst (λ (a : Answer). IsAnswer g.library g.cells g.premises i.solver a j.solver) is h) asks
         (none_before i.solver.goal before (inquiry.last (was_quiet quiet))) (was_quiet quiet));
     rows = rows_after g i.solver j.solver answer h asks inquiry.rows;
+    past = past ∙ inquiry.past;
   }
 
   -- where points are to differ
@@ -176,6 +185,7 @@ module _ (g : Ground) (i j : InquiryOf) (inquiry : IsInquiry g i) (asks : AsksTh
     within = cells_kept;
     last = λ quiet. absurd (was_quiet quiet differing);
     rows = rows_after g i.solver j.solver answer h asks inquiry.rows;
+    past = past ∙ inquiry.past;
   }
 
 -- only how far was told is another
@@ -186,7 +196,23 @@ told_apart g i j e h = subst (IsInquiry g) (sym e) (record {
   within = h.within;
   last = h.last;
   rows = h.rows;
+  past = h.past;
 })
+
+-- a question that ends was one of this library
+pub ends_known : (library : List Stored) (g : Ground) (o : Option InquiryOf) → g.library ≡ library
+    → IfSome o (IsInquiry g) → IfSome o (λ i. (h : Ground) × (h.library ≡ library) × IsInquiry h i)
+ends_known library g None same h = tt
+ends_known library g (Some i) same h = (g, same, h)
+
+-- what was told of a question that is gone on with, or begins anew
+pub before_taken : (o old : Option InquiryOf) (q : Question) (rows : List (List Info)) → (o ≡ old) ⊎ (o ≡ None)
+    → AreBefore (option_map inquiry_of o) q rows → AreBefore (option_map inquiry_of old) q rows
+before_taken o old q rows (inl e) h =
+    subst (λ (x : Option InquiryOf). AreBefore (option_map inquiry_of x) q rows) e h
+before_taken None old q rows (inr e) (inl none) = inl none
+before_taken None old q rows (inr e) (inr some) = let no : ⊥ = cc in absurd no
+before_taken (Some i) old q rows (inr e) h = let no : ⊥ = cc in absurd no
 
 -- a question that was open is, where it is the same and no plan came
 pub open_yet : (i j : InquiryOf) → IsOpen i → IsSameQuestion i j → j.last ≡ i.last

@@ -15,7 +15,7 @@ use Rattle.prop_procedures.specs.Stored.{Stored}
 use Rattle.prop_plans.specs.Held.{attached_of}
 use Rattle.prop_deriving.specs.Known.{IsExcused}
 use Rattle.prop_texts.specs.Texts.{support_text}
-use Rattle.prop_solve.specs.Questions.{AreExcusing, is_optimum}
+use Rattle.prop_solve.specs.Questions.{excused_then, AreExcusing, is_optimum}
 use Rattle.prop_solve.specs.Searches.{Search}
 use Rattle.prop_solve.specs.declared.solver.Plan.{Plan as PlanOf}
 use Rattle.prop_solve.specs.declared.question.Goal.{Goal}
@@ -114,6 +114,14 @@ refutes_better g (Greatest cell) named p excuses facts by e first (s, at, only) 
     (λ points list excused. subst (λ (a : Info). IsNoBetter aims.Greatest a (points cell)) (sym value)
     (no_more (attached_of g.cells) points list cell s excuses only_fact excused)) h)
 
+-- of an optimum just the last plan excuses
+pub optimum_alone : (goal : Goal) (facts : List Literal) → is_optimum goal ≡ true
+    → excused_then goal [] facts ≡ facts ∷ []
+optimum_alone Any facts e = cc
+optimum_alone (Least cell) facts e = refl
+optimum_alone (Greatest cell) facts e = refl
+optimum_alone Differing facts e = cc
+
 pub refutes_best : (g : Ground) (old new : Search) (last : Option PlanOf) (p : PlanOf) (by : List ℕ)
     → is_optimum old.goal ≡ true → new.goal ≡ old.goal → new.named ≡ old.named → IsFirst old.goal old.named
     → last ≡ Some p → IsLast g new last → IsAllBut g new.excuses by
@@ -123,7 +131,9 @@ refutes_best g old new last p by optimum same_goal same_named first some h all =
     let k = subst (λ (o : Option PlanOf). IsLast g new o) some h in
     let excusing : AreExcusing old.goal old.named p.values.items k.1.0 =
     subst (λ (P : Type 0). P) (λ i. AreExcusing (same_goal i) (same_named i) p.values.items k.1.0) k.1.1 in
-    refutes_better g old.goal old.named p new.excuses k.1.0 by optimum first excusing k.1.2 all
+    let alone = k.1.2 ∙ ap (λ (goal : Goal). excused_then goal [] k.1.0) same_goal
+    ∙ optimum_alone old.goal k.1.0 optimum in
+    refutes_better g old.goal old.named p new.excuses k.1.0 by optimum first excusing alone all
 
 -- the last plan that was found fits
 pub last_fits : (g : Ground) (search : Search) (last : Option PlanOf) (p : PlanOf) → last ≡ Some p

@@ -209,6 +209,7 @@ moved_inquiry library d contents params premises i h = record {
   within = h.within;
   rows = h.rows;
   last = λ quiet. moved_last library d contents params premises i.solver i.last (h.last quiet);
+  past = h.past;
 }
 
 -- where the cells, statements, instances and premises are as they were

@@ -44,7 +44,7 @@ fn is_refused(reply: &Reply) -> bool
 pub struct Seeker<R, O> {
     pub(crate) teller: Teller<R, O>,
     pub(crate) inquiry: Option<Inquiry>,
-    earlier: Option<Earlier>,
+    pub(crate) earlier: Option<Earlier>,
 }
 
 impl<R: Guarded + Drop, O: Order + Drop> Seeker<R, O> {
@@ -60,12 +60,15 @@ impl<R: Guarded + Drop, O: Order + Drop> Seeker<R, O> {
     ghost use Rattle.prop_telling.specs.Notes.{is_done, no_notes};
     ghost use Rattle.prop_telling.specs.Telling.{telling};
     ghost use Rattle.prop_telling.specs.inner.Telling.{told_of};
+    ghost use Rattle.prop_lessons.specs.Lessons.{AreTaught};
+    ghost use Rattle.prop_procedures.specs.Stored.{Stored};
     ghost use Rattle.prop_solve.specs.Questions.{is_optimum};
     ghost use Rattle.prop_seeking.specs.Asking.{as_value, asked, begins};
     ghost use Rattle.prop_seeking.specs.Plans.{SaysOne};
     ghost use Rattle.prop_seeking.specs.Seeking.{seeking, Seeks, Strides};
     ghost use Rattle.prop_seeking.specs.inner.Seekers.{Answers, AreBefore, Gives, IsApt, IsInquiry};
-    ghost use Rattle.prop_seeking.specs.inner.Seekers.{IsOpen, IsOpenIn, IsReady, IsSameQuestion};
+    ghost use Rattle.prop_seeking.specs.inner.Seekers.{Ground, IsOpen, IsOpenIn, IsReady};
+    ghost use Rattle.prop_seeking.specs.inner.Seekers.{IsSameQuestion};
     ghost use Rattle.prop_seeking.specs.inner.Seekers.{Replied};
     ghost use Rattle.prop_seeking.specs.inner.Seekers.{aim_of, asked_of, ground_in, inquiry_of};
     ghost use Rattle.prop_seeking.specs.inner.Seekers.{sought_of};
@@ -302,6 +305,22 @@ impl<R: Guarded + Drop, O: Order + Drop> Seeker<R, O> {
         }
     }
 
+    /// The question that is under way, where it is the one that is asked. Another one ends.
+    fn taken(&mut self, asked: &Asked) -> Option<Inquiry>
+        requires ready { IsReady R.value_of self.old }
+        ensures same { self.new.teller ≡ self.old.teller }
+        ensures ready { IsReady R.value_of self.new }
+        ensures taken { (result ≡ self.old.inquiry) ⊎ (result ≡ None) }
+        ensures inquiry { IfSome result
+            (IsInquiry (ground_in R.value_of self.new.teller.session)) }
+    {
+        if self.is_same(asked) {
+            return self.inquiry.take();
+        }
+        self.put_by();
+        None
+    }
+
     /// Whether the question that is under way is the one that is asked.
     fn is_same(&self, asked: &Asked) -> bool {
         match &self.inquiry {
@@ -322,10 +341,7 @@ impl<R: Guarded + Drop, O: Order + Drop> Seeker<R, O> {
             (option_map inquiry_of self.old.inquiry) (asked_of asked.now)
             (option_map inquiry_of self.new.inquiry) (string_bytes text)) }
     {
-        if !self.is_same(asked) {
-            self.put_by();
-        }
-        let before = self.inquiry.take();
+        let before = self.taken(asked);
         let mut inquiry = self.begun(asked, before)?;
         let text = self.text(asked, &mut inquiry)?;
         self.inquiry = Some(inquiry);

@@ -82,6 +82,10 @@ module _ (library : List Stored) (n : Attached) (choices : List Choice) (s : Mem
 
 -- ---- excuses
 
+-- the same excuses
+pub grow_by_none : (excuses : List (List Literal)) → Grow excuses excuses
+grow_by_none excuses n points list within e = e
+
 -- one more excuse
 pub grow_by_one : (excuses : List (List Literal)) (facts : List Literal) → Grow excuses (excuses ++ facts ∷ [])
 grow_by_one excuses facts n points list within e =
@@ -94,12 +98,12 @@ grow_by_better excuses facts better n points list within e =
     let P : List Literal → Type 0 = λ before. Imply before facts in
     (facts, (0, omega arith, refl), (subst P e.1.2 (better e.1.0 e.0 e.1.1)) n points list within e.2)
 
-pub contains_then : (goal : Goal) (excuses : List (List Literal)) (facts : List Literal)
+pub contains_then : (goal : Goal) (excuses : List (List Literal)) (facts : List Literal) → (goal ≡ Any → ⊥)
     → Contains (excused_then goal excuses facts) facts
-contains_then (Least cell) excuses facts = (0, omega arith, refl)
-contains_then (Greatest cell) excuses facts = (0, omega arith, refl)
-contains_then Any excuses facts = Contains-append_right excuses (facts ∷ []) facts (0, omega arith, refl)
-contains_then Differing excuses facts = Contains-append_right excuses (facts ∷ []) facts (0, omega arith, refl)
+contains_then (Least cell) excuses facts some = (0, omega arith, refl)
+contains_then (Greatest cell) excuses facts some = (0, omega arith, refl)
+contains_then Any excuses facts some = absurd (some refl)
+contains_then Differing excuses facts some = Contains-append_right excuses (facts ∷ []) facts (0, omega arith, refl)
 
 -- what holds of what is there holds of none
 pub if_none : {A : Type 0} (o : Option A) (P : A → Type 0) → o ≡ None → IfSome o P

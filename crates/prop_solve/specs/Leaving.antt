@@ -1,5 +1,5 @@
 -- What a search leaves to later ones, and what these take up of it.
-use Rattle.std.specs.Prelude.{◌≡◌, ◌⊎◌, ℕ, List, ⊥, All, Some, IfSome}
+use Rattle.std.specs.Prelude.{◌≡◌, ◌⊎◌, ℕ, List, All, Some, IfSome}
 use Rattle.prop_lattice.specs.Points.{Point}
 use Rattle.prop_premises.specs.Origins.{Origin, choices_of}
 use Rattle.prop_procedures.specs.Stored.{Stored}
@@ -15,9 +15,8 @@ use Rattle.prop_lessons.specs.Lessons.{AreTaught, PastOf, Taught}
 use Rattle.prop_solve.specs.Searches.{IsSearch, Search, bare}
 
 -- the past is that of these cells and premises
-pub record IsOf (d : Data) (premises : List Origin) (p : PastOf) : Type 0 where
-  pub attached : p.attached ≡ attached_of d
-  pub choices : p.choices ≡ choices_of premises
+abbrev pub IsOf : Data → List Origin → PastOf → Type 0
+IsOf d premises p = p ≡ record { attached = attached_of d; choices = choices_of premises }
 
 -- nothing has all of the first facts and all of the others
 abbrev pub AreApart : List Literal → List Literal → Type 0

@@ -136,23 +136,26 @@ impl Spread {
 }
 
 impl Solver {
-    /// Takes up what an earlier search left: the nogoods that still hold, and the values of its
+    /// Takes up what an earlier search left, if one did: the nogoods that still hold, and the values of its
     /// plan, which are tried first.
     pub(crate) fn take_up<R: Guarded + Drop>(
         &mut self,
         network: &Network<R>,
         premises: &Premises,
-        earlier: &Earlier,
+        earlier: Option<&Earlier>,
     ) -> Result<(), AllocError>
         requires search { IsSearch (stored_of R.value_of network.now.library) network.now.cells
             premises.now self.old }
-        requires none { self.old.excuses ≡ [] }
-        requires taught { AreTaught (stored_of R.value_of network.now.library) earlier.now }
+        requires taught { IfSome earlier
+            (λ e. AreTaught (stored_of R.value_of network.now.library) e.now) }
         ensures search { OnOk result (IsSearch (stored_of R.value_of network.now.library)
             network.now.cells premises.now self.new) }
         ensures asks { OnOk result (AsksTheSame self.old self.new) }
         ensures excuses { OnOk result (self.new.excuses ≡ self.old.excuses) }
     {
+        let Some(earlier) = earlier else {
+            return Ok(());
+        };
         self.expect(&earlier.values);
         let recalled = earlier.lessons.recall(network.data(), premises)?;
         for nogood in &recalled {
@@ -198,15 +201,23 @@ impl Solver {
         requires unexcused { IsUnexcused self.now.excuses more.now }
         ensures { OnOk result (Teaches self.now lessons.old lessons.new) }
     {
-        let alloc = self.spread.alloc();
-        if let Some(premises) = &self.refuted {
-            let bare = Nogood::new(Vec::new(alloc), premises.copy()?);
-            lessons.add(with_more(&bare, more, alloc)?)?;
-        }
+        self.teach_refuted(lessons, more)?;
         for number in 0..self.most_kept() {
             self.teach_one(lessons, more, number)?;
         }
         Ok(())
+    }
+
+    /// What is refuted, where it is, comes to the lessons as a nogood with just these facts.
+    fn teach_refuted(&self, lessons: &mut Lessons, more: &[Literal]) -> Result<(), AllocError>
+        requires unexcused { IsUnexcused self.now.excuses more.now }
+        ensures { OnOk result (Teaches self.now lessons.old lessons.new) }
+    {
+        let Some(premises) = &self.refuted else {
+            return Ok(());
+        };
+        let literals = Vec::from_slice(self.spread.alloc(), more)?;
+        lessons.add(Nogood::new(literals, premises.copy()?))
     }
 
     /// The nogood with this number comes to the lessons, where there is one that is short enough,

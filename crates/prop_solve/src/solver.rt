@@ -255,9 +255,7 @@ impl Solver {
             question,
             spread,
         };
-        if let Some(earlier) = earlier {
-            solver.take_up(network, premises, earlier)?;
-        }
+        solver.take_up(network, premises, earlier)?;
         solver.begin_at_root(network, premises)?;
         Ok(solver)
     }
@@ -725,11 +723,31 @@ impl Solver {
             self.is_lost = true;
             return Ok(None);
         }
-        if !self.is_for_any() {
-            self.begin_excused(network, premises, facts)?;
-        }
+        self.begin_told(network, premises, facts)?;
         let sides = proposal.into_sides();
         Ok(Some(Plan { values, sides }))
+    }
+
+    /// Begins a derivation with the facts of a plan, unless any points will do.
+    fn begin_told<'x, R: Guarded + Drop>(
+        &mut self,
+        network: &'x Network<R>,
+        premises: &'x Premises,
+        facts: Vec<Literal>,
+    ) -> Result<(), AllocError>
+        requires search { IsSearch (stored_of R.value_of network.now.library) network.now.cells
+            premises.now self.old }
+        requires excused { (self.old.goal ≡ Goal.Any → ⊥)
+            → Contains self.old.excuses facts.items }
+        ensures search { OnOk result (IsSearch (stored_of R.value_of network.now.library)
+            network.now.cells premises.now self.new) }
+        ensures asks { OnOk result (AsksTheSame self.old self.new) }
+        ensures excuses { OnOk result (self.new.excuses ≡ self.old.excuses) }
+    {
+        if self.is_for_any() {
+            return Ok(());
+        }
+        self.begin_excused(network, premises, facts)
     }
 
     /// Begins a derivation with facts which are excused, and which are so.

@@ -28,7 +28,9 @@ use Rattle.prop_workbench.specs.Machine.{State, new_state}
 use Rattle.prop_workbench.specs.Sessions.{library_of, IsMeant, IsSound}
 use Rattle.prop_workbench.specs.declared.session.Session.{Session}
 use Rattle.prop_telling.specs.inner.Telling.{told_of}
-use Rattle.prop_solve.specs.Questions.{AreExcusing, is_optimum, value_fact}
+use Rattle.prop_lessons.specs.Lessons.{AreTaught}
+use Rattle.prop_solve.specs.Leaving.{IsOf}
+use Rattle.prop_solve.specs.Questions.{AreExcusing, excused_then, is_optimum, value_fact}
 use Rattle.prop_solve.specs.Searches.{Search, IsSearch}
 use Rattle.prop_solve.specs.declared.solver.Plan.{Plan as PlanOf}
 use Rattle.prop_solve.specs.declared.question.Goal.{Goal}
@@ -149,17 +151,18 @@ inquiry_of i =
 abbrev pub IsLast : Ground → Search → Option PlanOf → Type 0
 IsLast g s (Some p) = Fits g.library (state_at g) (plan_of p)
     × ((facts : List Literal) × AreExcusing s.goal s.named p.values.items facts
-    × (s.excuses ≡ facts ∷ []))
+    × (s.excuses ≡ excused_then s.goal [] facts))
 IsLast g s None = s.excuses ≡ []
 
 -- The search is one in what is there, by cells that are there. The last plan fits, where the last
--- is told, and else the excuses are of the named cells.
+-- is told, and else the excuses are of the named cells. What it leaves is of what is there.
 pub record IsInquiry (g : Ground) (i : InquiryOf) : Type 0 where
   pub search : IsSearch g.library g.cells g.premises i.solver
   pub first : IsFirst i.solver.goal i.solver.named
   pub within : All (λ cell. cell < length g.cells.kinds) i.solver.named
   pub last : (i.solver.goal ≡ goals.Differing → ⊥) → IsLast g i.solver i.last
   pub rows : i.solver.goal ≡ goals.Differing → All (AreOf i.solver.named) i.solver.excuses
+  pub past : IsOf g.cells g.premises i.past
 
 -- one plan is looked for: the first, or a better one
 abbrev pub IsOpen : InquiryOf → Type 0
@@ -228,3 +231,4 @@ pub record IsReady {R O : Type 0} {X : Type 0} {F : X → Type 0} {g : _}
   pub means : IsMeant value s.teller.session
   pub sound : IsSound value s.teller.session
   pub inquiry : IfSome s.inquiry (IsInquiry (ground_in value s.teller.session))
+  pub earlier : IfSome s.earlier (AreTaught (library_of value s.teller.session))

@@ -2,6 +2,7 @@ use Rattle.std.proofs.Common.{ap, sym, subst, Option, None, IfSome}
 use Rattle.std.specs.Option.{option_map}
 use Rattle.prop_procedures.specs.Kept.{stored_of}
 use Rattle.prop_workbench.specs.Engine.{standing_of}
+use Rattle.prop_lessons.specs.Lessons.{AreTaught, Taught}
 use Rattle.prop_seeking.specs.declared.inquiry.Inquiry.{Inquiry}
 use Rattle.prop_seeking.specs.inner.Seekers.{IsInquiry, ground_in, inquiry_of}
 use Rattle.prop_seeking.proofs.Starting.{seeker_serves}
@@ -16,6 +17,9 @@ answer-counts-requires g c =
         sound = rw begun.session c.requires.sound;
         inquiry = subst (λ (o : Option Inquiry). IfSome o
             (IsInquiry (ground_in g.R.Rule.value_of c.new-seeker.result.teller.session))) (sym begun.inquiry) tt;
+        earlier = subst (λ (o : Option Taught). IfSome o
+            (AreTaught (stored_of g.R.Rule.value_of c.new-seeker.result.teller.session.live.network.library)))
+            (sym begun.earlier) tt;
       };
     }
 

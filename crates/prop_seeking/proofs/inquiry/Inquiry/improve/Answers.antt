@@ -16,8 +16,8 @@ loop-preserved g c =
     subst (λ (x : Goal). is_optimum x ≡ true) (sym inv.same.goal) c.requires.optimum in
     record {
       inquiry = on_found ground c.loop.self
-          (record { solver = c.advance.new.self; last = Some c.in-Found.plan; told = c.loop.self.told })
-          inv.inquiry asks c.in_ok-plan.ensures.search c.in_ok-plan.field-0 c.in-Found.plan c.in-Found.is
+          (record { solver = c.advance.new.self; last = Some c.in-Found.plan; told = c.loop.self.told; past = c.loop.self.past })
+          inv.inquiry asks c.in_ok-plan.ensures.search refl c.in_ok-plan.field-0 c.in-Found.plan c.in-Found.is
           c.in_ok-plan.ensures.answer (inl optimum) refl;
       same = record { goal = asks.goal ∙ inv.same.goal; named = asks.named ∙ inv.same.named };
     }
@@ -27,8 +27,8 @@ returns-in-Refuted-clause-inquiry g c =
     let ground =
     ground_at (stored_of g.R.Rule.value_of c.args.network.now.library) c.args.network.now.cells c.args.premises.now in
     on_kept ground c.loop.self
-    (record { solver = c.advance.new.self; last = c.loop.self.last; told = c.loop.self.told })
-    c.loop.invariant.inquiry c.in_ok-plan.ensures.asks c.in_ok-plan.ensures.search
+    (record { solver = c.advance.new.self; last = c.loop.self.last; told = c.loop.self.told; past = c.loop.self.past })
+    c.loop.invariant.inquiry c.in_ok-plan.ensures.asks c.in_ok-plan.ensures.search refl
     (refuted_same ground c.loop.self.solver c.advance.new.self c.in_ok-plan.field-0 c.in-Refuted.by
     c.in-Refuted.is c.in_ok-plan.ensures.answer) refl
 
@@ -37,8 +37,8 @@ returns-in-Unsettled-clause-inquiry g c =
     let ground =
     ground_at (stored_of g.R.Rule.value_of c.args.network.now.library) c.args.network.now.cells c.args.premises.now in
     on_kept ground c.loop.self
-    (record { solver = c.advance.new.self; last = c.loop.self.last; told = c.loop.self.told })
-    c.loop.invariant.inquiry c.in_ok-plan.ensures.asks c.in_ok-plan.ensures.search
+    (record { solver = c.advance.new.self; last = c.loop.self.last; told = c.loop.self.told; past = c.loop.self.past })
+    c.loop.invariant.inquiry c.in_ok-plan.ensures.asks c.in_ok-plan.ensures.search refl
     (open_same ground c.loop.self.solver c.advance.new.self c.in_ok-plan.field-0
     c.in-Unsettled.is c.in_ok-plan.ensures.answer) refl
 

@@ -36,8 +36,8 @@ loop-preserved g c =
     c.in_ok-answer.ensures.answer in
     record {
       inquiry = on_listed ground c.loop.self
-          (record { solver = new; last = c.loop.self.last; told = c.loop.self.told }) inv.inquiry asks
-          c.in_ok-answer.ensures.search c.in_ok-answer.answer c.in_ok-answer.ensures.answer differing;
+          (record { solver = new; last = c.loop.self.last; told = c.loop.self.told; past = c.loop.self.past }) inv.inquiry asks
+          c.in_ok-answer.ensures.search refl c.in_ok-answer.answer c.in_ok-answer.ensures.answer differing;
       same = record { goal = asks.goal ∙ inv.same.goal; named = asks.named ∙ inv.same.named };
       found = found_more ground first.named c.loop.counter first.excuses (map plan_of c.loop.plans.found.items)
           (map plan_of c.push.new.self.items) old new c.in-Found.plan differing inv.same.named more inv.found is;
@@ -48,8 +48,8 @@ returns-in-Refuted-clause-inquiry g c =
     let ground =
     ground_at (stored_of g.R.Rule.value_of c.args.network.now.library) c.args.network.now.cells c.args.premises.now in
     on_listed ground c.loop.self
-    (record { solver = c.advance.new.self; last = c.loop.self.last; told = c.loop.self.told })
-    c.loop.invariant.inquiry c.in_ok-answer.ensures.asks c.in_ok-answer.ensures.search c.in_ok-answer.answer
+    (record { solver = c.advance.new.self; last = c.loop.self.last; told = c.loop.self.told; past = c.loop.self.past })
+    c.loop.invariant.inquiry c.in_ok-answer.ensures.asks c.in_ok-answer.ensures.search refl c.in_ok-answer.answer
     c.in_ok-answer.ensures.answer (c.loop.invariant.same.goal ∙ c.requires.differing)
 
 pub returns-in-Refuted-clause-same : goal.returns-in-Refuted-clause-same
@@ -75,8 +75,8 @@ returns-in-Unsettled-clause-inquiry g c =
     let ground =
     ground_at (stored_of g.R.Rule.value_of c.args.network.now.library) c.args.network.now.cells c.args.premises.now in
     on_listed ground c.loop.self
-    (record { solver = c.advance.new.self; last = c.loop.self.last; told = c.loop.self.told })
-    c.loop.invariant.inquiry c.in_ok-answer.ensures.asks c.in_ok-answer.ensures.search c.in_ok-answer.answer
+    (record { solver = c.advance.new.self; last = c.loop.self.last; told = c.loop.self.told; past = c.loop.self.past })
+    c.loop.invariant.inquiry c.in_ok-answer.ensures.asks c.in_ok-answer.ensures.search refl c.in_ok-answer.answer
     c.in_ok-answer.ensures.answer (c.loop.invariant.same.goal ∙ c.requires.differing)
 
 pub returns-in-Unsettled-clause-same : goal.returns-in-Unsettled-clause-same

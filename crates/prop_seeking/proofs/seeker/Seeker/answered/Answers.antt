@@ -1,11 +1,9 @@
-use Rattle.std.proofs.Common.{◌≡◌, ◌∙◌, List, ℕ, subst, Some}
-use Rattle.std.specs.Prelude.{Option}
-use Rattle.std.specs.Option.{option_map}
+use Rattle.std.proofs.Common.{◌∙◌, subst, Some}
 use Rattle.std.specs.String.{string_bytes}
 use Rattle.prop_workbench.specs.Sessions.{library_of, state_of}
 use Rattle.prop_seeking.specs.Plans.{Says}
-use Rattle.prop_seeking.specs.declared.inquiry.Inquiry.{Inquiry}
-use Rattle.prop_seeking.specs.inner.Seekers.{AreBefore, asked_of, inquiry_of, question_of, rows_in}
+use Rattle.prop_seeking.specs.inner.Seekers.{asked_of, inquiry_of, question_of, rows_in}
+use Rattle.prop_seeking.proofs.InquiryLemmas.{before_taken}
 use Rattle.prop_seeking.proofs.seeker.Seeker.answered.Goals as goal
 
 pub returns-clause-replied : goal.returns-clause-replied
@@ -17,13 +15,11 @@ returns-clause-replied g c =
     let same = c.in_ok-text.ensures.same in
     let before = rows_in first.goal first.excuses in
     let after = rows_in first.goal last.excuses in
-    let taken : c.take-before.result ≡ c.args.self.now.inquiry = cc in
     record {
       before = before;
       after = after;
-      begins = subst
-          (λ (o : Option Inquiry). AreBefore (option_map inquiry_of o) (asked_of c.args.asked.now).0 before)
-          taken begun.before;
+      begins = before_taken c.taken-before.result c.args.self.now.inquiry (asked_of c.args.asked.now).0 before
+          c.taken-before.ensures.taken begun.before;
       says = subst (λ (P : Type 0). P) (λ i. Says (library_of g.R.Rule.value_of s) (state_of s)
           (question_of (begun.goal i) (begun.named i)) c.args.asked.now.most before after
           (string_bytes c.in_ok-text.text)) c.in_ok-text.ensures.answers;

@@ -1,5 +1,9 @@
-use Rattle.std.proofs.Common.{◌≡◌, sym, ◌∙◌}
+use Rattle.std.proofs.Common.{◌≡◌, sym, ◌∙◌, List, IfSome, refl, subst}
 use Rattle.prop_procedures.specs.Kept.{stored_of}
+use Rattle.prop_procedures.specs.Stored.{Stored}
+use Rattle.prop_lessons.specs.Lessons.{AreTaught}
+use Rattle.prop_seeking.specs.inner.Seekers.{ground_in}
+use Rattle.prop_seeking.proofs.InquiryLemmas.{ends_known}
 use Rattle.prop_engine.specs.Answers.{answer_of}
 use Rattle.prop_telling.specs.inner.Telling.{told_of}
 use Rattle.std.proofs.Common.{ap}
@@ -27,4 +31,23 @@ returns-clause-ready g c =
           old.session.live.network.cells new.session.live.network.cells old.session.search.premises
           new.session.search.premises c.args.self.now.inquiry (ap (stored_of g.R.Rule.value_of) same) stays.kinds
           stays.statements stays.instances stays.premises c.requires.ready.inquiry;
+      earlier = subst (λ (l : List Stored). IfSome c.args.self.now.earlier (AreTaught l))
+          (ap (stored_of g.R.Rule.value_of) (sym same)) c.requires.ready.earlier;
+    }
+
+pub returns-then-ends-clause-ready : goal.returns-then-ends-clause-ready
+returns-then-ends-clause-ready g c =
+    let self = c.args.self.now in
+    let old = self.teller in
+    let new = c.command-reply.new.self in
+    let library = stored_of g.R.Rule.value_of old.session.live.network.library in
+    let same = c.command-reply.ensures.same in
+    let left = c.put_by.ensures.earlier library
+    (ends_known library (ground_in g.R.Rule.value_of old.session) self.inquiry refl c.requires.ready.inquiry)
+    c.requires.ready.earlier in
+    record {
+      means = rw (c.put_by.ensures.same, same) c.requires.ready.means;
+      sound = rw c.put_by.ensures.same c.command-reply.ensures.sound;
+      inquiry = rw c.put_by.ensures.inquiry tt;
+      earlier = rw (c.put_by.ensures.same, same) left;
     }

@@ -3,8 +3,8 @@ use Rattle.prop_numbers.specs.Sets.{IsPart, set_of}
 use Rattle.prop_premises.specs.Origins.{believed_in}
 use Rattle.prop_solve.proofs.solver.Solver.new.Goals as goal
 
-pub begin_at_root-requires-clause-search : goal.begin_at_root-requires-clause-search
-begin_at_root-requires-clause-search g c =
+pub take_up-requires-clause-search : goal.take_up-requires-clause-search
+take_up-requires-clause-search g c =
     let P : List ℕ → Type 0 = λ r. IsPart (set_of r) (believed_in c.args.premises.now) in
     record {
       root = subst P (sym c.in_ok-spread.ensures.root) c.in_ok-root.ensures;

@@ -9,11 +9,12 @@ use Rattle.prop_plans.specs.Plans.{Satisfy}
 use Rattle.prop_solve.specs.Answers.{AreSingle}
 use Rattle.prop_solve.specs.Questions.{AreExcusing, excused_then}
 use Rattle.prop_solve.specs.Searches.{IsSearch, Proposed, Search}
+use Rattle.prop_solve.specs.declared.question.Goal.TheVariants.{Any}
 use Rattle.prop_solve.proofs.SearchLemmas.{contains_then, satisfy_same, with_excuses}
 use Rattle.prop_solve.proofs.solver.Solver.tell.Goals as goal
 
-pub begin_excused-requires-2-clause-search : goal.begin_excused-requires-2-clause-search
-begin_excused-requires-2-clause-search g c =
+pub begin_told-requires-clause-search : goal.begin_told-requires-clause-search
+begin_told-requires-clause-search g c =
     let library = stored_of g.R.Rule.value_of c.args.network.now.library in
     let d = c.args.network.now.cells in
     let premises = c.args.premises.now in
@@ -24,14 +25,17 @@ begin_excused-requires-2-clause-search g c =
     (c.in_ok-excuse.ensures.grows ok) c.requires.search in
     subst P (sym c.excuse.ensures.others) h
 
-pub begin_excused-requires-2-clause-excused : goal.begin_excused-requires-2-clause-excused
-begin_excused-requires-2-clause-excused g c =
+pub begin_told-requires-clause-excused : goal.begin_told-requires-clause-excused
+begin_told-requires-clause-excused g c = λ some.
     let is : c.in_ok-excuse.field-0 ≡ true = c.if-not-branch.false in
     let ok : Ok c.in_ok-excuse.field-0 ≡ Ok true = cc in
     let facts = c.deref-3.result.now in
     let P : List Literal → Type 0 = λ l. Contains c.excuse.new.self.excuses l in
     let Q : List (List Literal) → Type 0 = λ l. Contains l facts in
-    subst P c.deref-3.ensures.value (subst Q (sym (c.in_ok-excuse.ensures.excused ok)) (contains_then _ _ facts))
+    let G : Search → Type 0 = λ s. s.goal ≡ Any → ⊥ in
+    let others = subst G c.excuse.ensures.others some in
+    subst P c.deref-3.ensures.value
+    (subst Q (sym (c.in_ok-excuse.ensures.excused ok)) (contains_then _ _ facts others))
 
 pub returns-clause-found : goal.returns-clause-found
 returns-clause-found g c =
@@ -65,6 +69,6 @@ returns-clause-found g c =
           c.requires.proposed.view c.requires.satisfied));
       facts = facts;
       excusing = subst V c.self.view_is (subst U c.deref.ensures.value (subst T c.in-Some.is c.in_ok-facts.ensures));
-      excused = c.in_ok-begin_excused-2.ensures.excuses
+      excused = c.in_ok-begin_told.ensures.excuses
           ∙ subst W c.deref-3.ensures.value (c.in_ok-excuse.ensures.excused ok);
     }
