@@ -1,6 +1,7 @@
 -- Statements that are still there, or whose premises are gone.
 use Rattle.std.proofs.Common.{◌≡◌, ℕ, Bool, true, false, ◌||◌, List, Option, subst, refl, IsTrue, All, Contains}
-use Rattle.std.proofs.Common.{◌⊎◌, inl, inr, ◌+◌, ◌<◌, ◌≤◌, ◌==◌, ◌&&◌, [], ◌∷◌, length, take, get_or, sym, arith, eq-eqb}
+use Rattle.std.proofs.Common.{◌⊎◌, inl, inr, ◌+◌, ◌<◌, ◌≤◌, ◌==◌, ◌&&◌, [], ◌∷◌, length, take, get_or, sym, arith}
+use Rattle.std.proofs.Common.{eq-eqb}
 use Rattle.std.proofs.lemmas.Bool.{eqb-true}
 use Rattle.std.proofs.lemmas.List.{get_or-take, length-take}
 use Rattle.std.proofs.lemmas.List.Elements.{All-more, All-weaker}
@@ -84,6 +85,7 @@ more_has s t p same = let P : Bool → Type 0 = IsTrue in
 pub within_part : (s : Members) (ps : List ℕ) → IsTrue (is_within s ps) → IsPart (set_of ps) s
 within_part s [] h p k = let no : ⊥ = cc in absurd no
 within_part s (q ∷ ps) h p k = elim (or_cases (q == p) (set_of ps p) k) [
-  | inl here ↦ (let P : ℕ → Type 0 = λ r. IsTrue (s r) in subst P (eqb-true q p here) (first_of_both (s q) (is_within s ps) h))
+  | inl here ↦ (let P : ℕ → Type 0 = λ r. IsTrue (s r) in
+      subst P (eqb-true q p here) (first_of_both (s q) (is_within s ps) h))
   | inr there ↦ within_part s ps (second_of_both (s q) (is_within s ps) h) p there
 ]
