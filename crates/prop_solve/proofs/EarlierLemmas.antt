@@ -1,11 +1,10 @@
 -- What is left to later searches, and what these take up of it.
-use Rattle.std.proofs.Common.{◌≡◌, ◌∙◌, ℕ, List, [], ◌∷◌, ◌++◌, ◌⊎◌, inl, inr, Option, Some, None, IfSome, All}
+use Rattle.std.proofs.Common.{◌≡◌, ◌∙◌, ℕ, zero, suc, List, [], ◌∷◌, ◌++◌, ◌⊎◌, inl, inr, Option, Some, None, IfSome, All}
 use Rattle.std.proofs.Common.{subst, sym, refl, ap, arith, Contains, Vec, Global, length, map, ◌≤◌, ◌<◌}
 use Rattle.std.specs.Prelude.{slice_index_or}
 use Rattle.std.proofs.lemmas.List.Elements.{All-contains, All-push, Contains-append_left, Contains-append_right}
 use Rattle.prop_numbers.specs.Sets.{IsPart, set_of}
 use Rattle.prop_cells.proofs.Fixpoint.{All-from_contains}
-use Rattle.prop_lattice.specs.Points.{Point}
 use Rattle.prop_premises.specs.Origins.{Origin, believed_in, choices_of}
 use Rattle.prop_premises.specs.declared.choice.Choice.{Choice}
 use Rattle.prop_procedures.specs.Stored.{Stored}
@@ -15,9 +14,9 @@ use Rattle.prop_facts.specs.declared.fact.Literal.{Literal}
 use Rattle.prop_plans.specs.Held.{attached_of}
 use Rattle.prop_refuting.specs.Nogoods.{IsMet, IsNeverMet, Nogood}
 use Rattle.prop_refuting.specs.Places.{IsSoAt}
-use Rattle.prop_learned.specs.Stores.{IsKeptIn}
-use Rattle.prop_deriving.specs.Known.{IsExcused, IsKnown}
-use Rattle.prop_lessons.specs.Lessons.{AreTaught, Stands, Taught}
+use Rattle.prop_learned.specs.Stores.{IsKeptAt, IsKeptIn}
+use Rattle.prop_learned.proofs.SlotLemmas.{contained_at}
+use Rattle.prop_lessons.specs.Lessons.{Stands, Taught}
 use Rattle.prop_solve.specs.Leaving.{AreApart, IsUnexcused, Recalls, Teaches}
 use Rattle.prop_solve.specs.Searches.{IsSearch, Search, bare}
 use Rattle.prop_solve.proofs.SearchLemmas.{Known, refuted_known}
@@ -62,7 +61,8 @@ pub apart_unexcused : (only more : List Literal) → AreApart only more → IsUn
 apart_unexcused only more apart n points list so e = apart n points list (one e.0 e.1 e.2) so
   where
     contains_only : (x y : List Literal) → Contains (x ∷ []) y → y ≡ x
-    contains_only x y c = cc
+    contains_only x y (zero, l, e) = cc
+    contains_only x y (suc k, l, e) = absurd (omega (arith, l))
 
     one : (facts : List Literal) → Contains (only ∷ []) facts → All (IsSoAt n points list) facts
         → All (IsSoAt n points list) only
@@ -84,9 +84,9 @@ with_unexcused library d premises excuses more g h unexcused is known list point
     let met = subst P is m in
     let IsThere : Literal → Type 0 = IsSoAt n points list in
     let front = All-from_contains IsThere g.literals
-        (λ x k. All-contains IsThere _ x met.so (Contains-append_left g.literals more x k)) in
+    (λ x k. All-contains IsThere _ x met.so (Contains-append_left g.literals more x k)) in
     let back = All-from_contains IsThere more
-        (λ x k. All-contains IsThere _ x met.so (Contains-append_right g.literals more x k)) in
+    (λ x k. All-contains IsThere _ x met.so (Contains-append_right g.literals more x k)) in
     unexcused n points list back
     (known.excluded.out list points c (record { satisfied = met.satisfied; so = front }))
 
@@ -148,3 +148,13 @@ pub refuted_never : (s : Search) (more : List Literal) (by : List ℕ) (h : Nogo
 refuted_never s more by h unexcused some is library d premises search =
     let P : Option (List ℕ) → Type 0 = λ o. IfSome o (λ ps. Known library d premises s.excuses (bare ps)) in
     with_unexcused library d premises s.excuses more (bare by) h unexcused is (subst P some search.refuted)
+
+-- a slot's nogood is kept
+pub kept_in : (slots : List (Option Nogood)) (k : ℕ) (g : Nogood) → IsKeptAt slots k g → IsKeptIn slots g
+kept_in slots k g at = contained_at slots k (Some g) at
+
+-- what was refuted is yet
+pub refuted_yet : (g : Nogood) (o old : Option (List ℕ)) → o ≡ old
+    → IfSome o (λ by. (g ≡ bare by) ⊎ (old ≡ Some by))
+refuted_yet g None old e = tt
+refuted_yet g (Some by) old e = inr (sym e)

@@ -1,6 +1,6 @@
 //! What a search leaves to later ones, and what a later one takes up of it.
 
-ghost use Rattle.std.specs.Prelude.{◌≡◌, ◌⊎◌, ◌++◌, [], All, IfOk, IfSome, OnOk, List, map};
+ghost use Rattle.std.specs.Prelude.{◌≡◌, ◌⊎◌, ◌++◌, [], All, IfOk, IfSome, OnOk, List, map, MatchOption};
 ghost use Rattle.prop_numbers.specs.Sets.{set_of};
 ghost use Rattle.prop_premises.specs.Origins.{Origin, believed_in, choices_of};
 ghost use Rattle.prop_procedures.specs.Kept.{AllMean, stored_of};
@@ -8,7 +8,7 @@ ghost use Rattle.prop_procedures.specs.Stored.{Stored};
 ghost use Rattle.prop_cells.specs.Data.{Data};
 ghost use Rattle.prop_plans.specs.Held.{attached_of};
 ghost use Rattle.prop_refuting.specs.Nogoods.{Nogood as NogoodOf};
-ghost use Rattle.prop_learned.specs.Stores.{IsKeptIn};
+ghost use Rattle.prop_learned.specs.Stores.{IsKeptAt, IsKeptIn};
 ghost use Rattle.prop_deriving.specs.Known.{IsKnown};
 ghost use Rattle.prop_lessons.specs.Lessons.{AreTaught};
 ghost use Rattle.prop_solve.specs.Leaving.{AreApart, IsOf, IsUnexcused, Recalls, Teaches};
@@ -113,6 +113,14 @@ impl Spread {
         self.present.expect(values);
     }
 
+    /// The nogood with this number.
+    fn nogood(&self, number: usize) -> Option<&Nogood>
+        ensures { MatchOption result ((g : NogoodOf) → IsKeptAt self.now.nogoods number g → ⊥)
+            (λ g. IsKeptAt self.now.nogoods number g.now) }
+    {
+        self.store.nogood(number)
+    }
+
     /// Keeps a nogood that was learned before, where nothing was supposed yet. It is watched at two
     /// literals that aren't so, and denies the only one by itself.
     pub(crate) fn recall(&mut self, nogood: Nogood) -> Result<(), AllocError>
@@ -188,16 +196,24 @@ impl Solver {
         ensures { IfOk result (λ e. (library : List Stored) (d : Data) (premises : List Origin)
             → IsOf d premises past → IsSearch library d premises self.now → AreTaught library e) }
     {
-        let alloc = self.spread.alloc();
-        let mut lessons = Lessons::new(alloc, past);
-        if let Some(more) = unexcused(alloc, &self.excuses)? {
-            self.teach(&mut lessons, &more)?;
-        }
+        let mut lessons = Lessons::new(self.spread.alloc(), past);
+        self.teach(&mut lessons)?;
         Ok(Earlier { lessons, values })
     }
 
+    /// Each nogood that is kept or found comes to the lessons, where it holds of itself with facts
+    /// that nothing excused has.
+    fn teach(&self, lessons: &mut Lessons) -> Result<(), AllocError>
+        ensures { OnOk result (Teaches self.now lessons.old lessons.new) }
+    {
+        let Some(more) = unexcused(self.spread.alloc(), &self.excuses)? else {
+            return Ok(());
+        };
+        self.teach_all(lessons, &more)
+    }
+
     /// Each nogood that is kept or found comes to the lessons, with these facts more.
-    fn teach(&self, lessons: &mut Lessons, more: &[Literal]) -> Result<(), AllocError>
+    fn teach_all(&self, lessons: &mut Lessons, more: &[Literal]) -> Result<(), AllocError>
         requires unexcused { IsUnexcused self.now.excuses more.now }
         ensures { OnOk result (Teaches self.now lessons.old lessons.new) }
     {
@@ -231,7 +247,7 @@ impl Solver {
         requires unexcused { IsUnexcused self.now.excuses more.now }
         ensures { OnOk result (Teaches self.now lessons.old lessons.new) }
     {
-        match self.spread.store.nogood(number) {
+        match self.spread.nogood(number) {
             Some(nogood) if nogood.literals().len() <= LONGEST => {
                 lessons.add(with_more(nogood, more, self.spread.alloc())?)
             }
