@@ -1,23 +1,22 @@
 """Changes of a small network that are drawn: premises go and come, what they told is forgotten and
 told anew, and statements, rules, compounds, cells and choices are added.
 
-A change after which not all points would be known is not made. One that can't be taken back is
-seldom made where nothing would fit any more, whatever is believed.
+A change after which not all points would be known is not made. One after which nothing fits is made
+now and then, and seldom where it can't be taken back.
 """
 from dataclasses import dataclass, field
 from random import Random
 from typing import Callable, Optional
 
 from networks import Draw, attach_line, choice_line, hidden_of, statement_line
-from points import Trial
 from questions import Truth
 
 # How often each change is tried.
 SHARES = {"kick or bring": 8, "forget": 4, "tell": 6, "fix": 1, "attach": 3, "cell": 1, "choose": 1}
 LASTING = {"fix", "attach", "cell", "choose"}
-# How often one that can't be taken back is made where nothing would fit any more, and how often a
-# rule is attached that doesn't hold of the hidden points.
-DULL, LOOSE = 0.03, 0.1
+# How often one is made after which nothing fits, and one of those that last; and how often a rule is
+# attached that doesn't hold of the hidden points.
+EMPTY, DULL, LOOSE = 0.3, 0.03, 0.1
 # So many changes are tried until one is made.
 TRIED = 20
 
@@ -44,7 +43,8 @@ class State:
             word = self.chance.choices([*SHARES], [*SHARES.values()])[0]
             lines = self.ways()[word]()
             truth = self.known() if lines else None
-            if truth and (word not in LASTING or self.is_lively()):
+            empty = DULL if word in LASTING else EMPTY
+            if truth and (truth.boxes or self.chance.random() < empty):
                 self.truth = truth
                 return lines
             self.draw.network, self.draw.out = network, out
@@ -66,10 +66,6 @@ class State:
         """All points that there are, None where not all of them are found."""
         truth = Truth(self.draw.network, {*self.draw.network.told()} - self.draw.out)
         return truth if truth.is_whole else None
-
-    def is_lively(self) -> bool:
-        """Whether something fits where no premise is believed, or it may be otherwise now."""
-        return any(Trial(self.draw.network, ()).boxes()) or self.chance.random() < DULL
 
     def kick_or_bring(self) -> list[str]:
         told = self.draw.network.told()

@@ -69,10 +69,10 @@ class Session(solving.Session):
         self.leave()
 
     def state(self) -> State:
-        """A network in which something can be learned."""
+        """A network in which something can be learned, with points that fit."""
         while True:
             drawn, truth = self.drawn()
-            if len(drawn.network.attached) >= RELATIONS:
+            if truth.boxes and len(drawn.network.attached) >= RELATIONS:
                 return State(self.chance, drawn, truth)
 
     def change(self, state: State) -> None:
@@ -104,11 +104,12 @@ class Session(solving.Session):
         return self.last
 
     def leave(self) -> None:
-        """Counts the question that was asked last where it has no end."""
-        if self.last:
-            self.tried.counts["left unsettled"] += self.last.end is None
-            self.tried.counts["premises not looked at to the end"] += self.last.truth.unknown
-            self.last.truth.unknown = 0
+        """Counts how the question that was asked last ended, or that it didn't."""
+        last, counts = self.last, self.tried.counts
+        if last:
+            counts[last.end[0].split()[0].rstrip(":") if last.end else "left unsettled"] += 1
+            counts["premises not looked at to the end"] += last.truth.unknown
+            last.truth.unknown = 0
 
     def ask_once(self, question: Question) -> bool:
         """Asks a question to its end, or by a slice; whether nothing is wrong."""
