@@ -29,7 +29,7 @@ from solving import ASIDES, FEW_LINES, FIRST, LINES, first_wrong, over_propwide,
 from wide_rules import PROGRAM
 
 # So many sessions are tried in the gate, so many in one case; by itself so many.
-TRIED, AT_A_TIME, BY_ITSELF = 60, 15, 400
+TRIED, AT_A_TIME, BY_ITSELF = 75, 15, 400
 # A session has so many questions and changes.
 FEWEST, MOST = 10, 40
 # How often a line is a change, or what changes nothing; how often a question is asked by a slice of
