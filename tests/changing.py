@@ -42,13 +42,20 @@ RELATIONS = 3
 NEW = 0.1
 
 
+def is_same(one: Question, other: Question) -> bool:
+    """Whether one goes on with the other: so it does where other rows are asked for at a time."""
+    return (one.word, one.cells) == (other.word, other.cells)
+
+
 @dataclass
 class Session(solving.Session):
     """A session of questions between changes."""
 
     word: ClassVar[str] = "changing"
-    # The question that was asked last.
+    # The question that was asked last, and how many steps a line may take: None where that isn't
+    # known.
     last: Optional[Question] = None
+    limit: Optional[int] = None
 
     def run(self) -> None:
         """Asks and changes, to the first reply that is wrong."""
@@ -58,6 +65,7 @@ class Session(solving.Session):
         for _ in range(self.chance.randint(FEWEST, MOST)):
             if self.chance.random() < ASIDE:
                 self.talk.say(self.chance.choice(ASIDES))
+                self.limit = None
             if self.chance.random() < CHANGED:
                 self.change(state)
                 continue
@@ -94,9 +102,12 @@ class Session(solving.Session):
         return asked
 
     def taken_up(self, question: Question, truth: Truth) -> Question:
-        """The same question as it is asked now: where it was asked last, it goes on."""
+        """The same question as it is asked now: where it was asked last, it goes on, by as many rows
+        at a time as are asked for now."""
         last = self.last
-        if last and last.truth is truth and last.line() == question.line():
+        if last and last.truth is truth and is_same(last, question):
+            if isinstance(last, Rows) and isinstance(question, Rows):
+                last.most = question.most
             return last
         self.leave()
         self.tried.counts["questions"] += 1
@@ -111,11 +122,17 @@ class Session(solving.Session):
             counts["premises not looked at to the end"] += last.truth.unknown
             last.truth.unknown = 0
 
+    def limit_to(self, limit: int) -> None:
+        """Lets a line take so many steps."""
+        if limit != self.limit:
+            self.talk.all([f"limit {limit}"])
+            self.limit = limit
+
     def ask_once(self, question: Question) -> bool:
         """Asks a question to its end, or by a slice; whether nothing is wrong."""
         if self.chance.random() < SLICED:
             return self.ask_by_slice(question)
-        self.talk.all([f"limit {FIRST}"])
+        self.limit_to(FIRST)
         is_short = question.is_endless() or question.truth.is_open()
         asked = self.follow(question, FIRST, FEW_LINES if is_short else LINES)
         if asked is not None and question.end is None:
@@ -126,7 +143,7 @@ class Session(solving.Session):
     def ask_by_slice(self, question: Question) -> bool:
         """Asks a question a few times by a few steps; whether nothing is wrong."""
         limit = self.chance.choice(SLICES)
-        self.talk.all([f"limit {limit}"])
+        self.limit_to(limit)
         if self.follow(question, limit, self.chance.randint(1, TIMES)) is None:
             return False
         is_bare = question.word == "solve" and question.end is None

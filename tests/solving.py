@@ -23,9 +23,10 @@ PROGRAM is a workbench that answers these, as propwide; of networks that are dra
   and step by step it comes to the same end.
 
 A question may stay unsettled for ever where nothing is stated of a symbol, since none is tried, or
-little is stated of a number but by choices (FAR). How many did is told; so is of how many premises that were named nothing is known here, since with them
-alone too much is open; and how often `plans` went on where it was, or began anew, behind a line
-that changes nothing. The status is 0 where nothing was wrong.
+little is stated of a number but by choices. How many did is told; so is of how many premises that
+were named nothing is known here, since with them alone too much is open; and how often `plans` went
+on where it was, or began anew, behind a line that changes nothing. The status is 0 where nothing
+was wrong.
 """
 import os
 import sys
@@ -45,8 +46,8 @@ from wide_rules import PROGRAM
 TRIED, AT_A_TIME = 1000, 25
 # Rows are also asked for one by one where they are so few.
 FEW_ROWS = 12
-# So many steps a line may take at first. Within so many lines each question ends, but where more
-# numbers than FAR are left of a cell; there, and where rows aren't asked for to the end, so few.
+# So many steps a line may take at first. Within so many lines each question ends, but where too
+# many numbers are left of a cell; there, and where rows aren't asked for to the end, so few.
 FIRST, LINES, FEW_LINES = 1000, 100, 5
 # By these slices each question is asked again, so many lines at a time.
 SLICES = {100_000: 1, 10: 20, 1: 150}
