@@ -16,7 +16,9 @@ SHARES = {"kick or bring": 8, "forget": 4, "tell": 6, "fix": 1, "attach": 3, "ce
 LASTING = {"fix", "attach", "cell", "choose"}
 # How often one is made after which nothing fits, and one of those that last; and how often a rule is
 # attached that doesn't hold of the hidden points.
-EMPTY, DULL, LOOSE = 0.3, 0.03, 0.1
+EMPTY, DULL, LOOSE = 0.4, 0.03, 0.1
+# How often a premise goes that the last answer named: on it something may rest that was learned.
+NAMED = 0.6
 # So many changes are tried until one is made.
 TRIED = 20
 
@@ -31,6 +33,8 @@ class State:
     # All premises that were told of, and how many premises and cells were added.
     names: set[str] = field(init=False)
     added: int = 0
+    # The premises that the last answer named.
+    named: list[str] = field(default_factory=list)
 
     def __post_init__(self) -> None:
         self.names = {*self.draw.network.told()}
@@ -67,21 +71,24 @@ class State:
         truth = Truth(self.draw.network, {*self.draw.network.told()} - self.draw.out)
         return truth if truth.is_whole else None
 
-    def kick_or_bring(self) -> list[str]:
+    def premise(self) -> Optional[str]:
+        """A premise that tells something, None where none does."""
         told = self.draw.network.told()
-        if not told:
+        named = [it for it in self.named if it in told]
+        some = named if named and self.chance.random() < NAMED else told
+        return self.chance.choice(some) if some else None
+
+    def kick_or_bring(self) -> list[str]:
+        premise = self.premise()
+        if premise is None:
             return []
-        premise = self.chance.choice(told)
         self.draw.out ^= {premise}
         return [f"{'kick' if premise in self.draw.out else 'bring'} {premise}"]
 
     def forget(self) -> list[str]:
-        network = self.draw.network
-        if not network.told():
-            return []
-        premise = self.chance.choice(network.told())
+        network, premise = self.draw.network, self.premise()
         network.stated = [it for it in network.stated if it[0] != premise]
-        return [f"forget {premise}"]
+        return [] if premise is None else [f"forget {premise}"]
 
     def tell(self) -> list[str]:
         """A statement more of a premise, most often of one that was forgotten."""

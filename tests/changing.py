@@ -17,6 +17,7 @@ in which something is wrong ends there, and is told as lines that can be given t
 status is 0 where nothing was wrong.
 """
 import os
+import re
 import sys
 from dataclasses import dataclass, replace
 from typing import ClassVar, Iterator, Optional
@@ -24,8 +25,9 @@ from typing import ClassVar, Iterator, Optional
 import solving
 from case import Check
 from changes import State
-from questions import NO_REPLY, Best, Question, Rows, Truth
+from questions import MOST_ROWS, NO_REPLY, Best, Question, Rows, Truth
 from solving import ASIDES, FEW_LINES, FIRST, LINES, first_wrong, over_propwide, tell_of
+from talking import Reply
 from wide_rules import PROGRAM
 
 # So many sessions are tried in the gate, so many in one case; by itself so many.
@@ -38,13 +40,19 @@ CHANGED, ASIDE, SLICED, STEPPED = 0.4, 0.03, 0.3, 0.5
 SLICES, TIMES, STEPS = [1, 3, 10, 30, 100], 4, 12
 # So many relations a network has at least.
 RELATIONS = 3
-# How often a question is a new one, and not one of those that were asked before.
-NEW = 0.1
+# How often a question is the last one again, and how often a new one; else it is one of a few.
+AGAIN, NEW = 0.4, 0.1
 
 
 def is_same(one: Question, other: Question) -> bool:
     """Whether one goes on with the other: so it does where other rows are asked for at a time."""
     return (one.word, one.cells) == (other.word, other.cells)
+
+
+def premises_in(reply: Reply) -> list[str]:
+    """The premises that a reply names."""
+    found = (re.match("(?:others )?none:(.*)|because(.*)", line) for line in reply)
+    return " ".join(it[1] or it[2] for it in found if it).split()
 
 
 @dataclass
@@ -71,9 +79,12 @@ class Session(solving.Session):
                 continue
             if self.chance.random() < NEW:
                 pool = self.questions(state.truth)
-            asked = self.taken_up(self.chance.choice(pool), state.truth)
+            is_again = self.chance.random() < AGAIN
+            next_one = self.last if self.last and is_again else self.chance.choice(pool)
+            asked = self.taken_up(next_one, state.truth)
             if not self.ask_once(asked):
                 return
+            state.named = premises_in(asked.end or [])
         self.leave()
 
     def state(self) -> State:
@@ -134,7 +145,7 @@ class Session(solving.Session):
             return self.ask_by_slice(question)
         self.limit_to(FIRST)
         is_short = question.is_endless() or question.truth.is_open()
-        asked = self.follow(question, FIRST, FEW_LINES if is_short else LINES)
+        asked = self.follow(question, FIRST, FEW_LINES if is_short else LINES + MOST_ROWS)
         if asked is not None and question.end is None:
             self.not_ended(question, asked)
             return is_short
