@@ -5,8 +5,8 @@ out.
 usage: tests/spoiled_changing.py SPOIL PROGRAM
 
 answers as PROGRAM does, but from the first question on isn't given the lines that begin with SPOIL:
-kick, bring, forget, fix or choose, which are answered `ok`. Where SPOIL is stale, a question
-that was asked before a change is answered as it was then.
+kick, bring or forget, which are answered `ok`. Where SPOIL is stale, a question that was asked
+before a change is answered as it was then.
 """
 import os
 import sys
@@ -19,7 +19,7 @@ from spoiled_solving import Spoiled, over_propwide
 from talking import Reply, Talk, has_reply
 from wide_rules import PROGRAM
 
-DEAF = ["kick", "bring", "forget", "fix", "choose"]
+DEAF = ["kick", "bring", "forget"]
 ASKING = ["solve", "least", "greatest", "plans"]
 # What the sessions have to say of it: anything but that a line was refused, or that it hangs.
 SAYS = "^(?!it ends or hangs)"
