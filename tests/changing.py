@@ -8,8 +8,8 @@ PROGRAM is a workbench that answers these, as propwide; COUNT sessions are tried
 begin with FROM (0). What a search learned may be kept for later ones, also through lines that
 change the network; what is kept wrongly makes a later answer wrong. So a few questions are asked
 again and again, to the end or by slices of a few steps, and between them the network is changed
-(tests/changes.py). Looked at is what tests/solving.py looks at, and that each question comes to
-its end whatever was asked before.
+(tests/changes.py). Each question has to come to its end, too, whatever was asked before, but where
+what it asks about is open.
 
 How many questions and changes were judged is told, and how many questions were left unsettled: by
 a small slice, or since what they ask about is open, or has more rows than are asked for. A session
@@ -26,7 +26,7 @@ import solving
 from case import Check
 from changes import State
 from questions import MOST_ROWS, NO_REPLY, Best, Question, Rows, Truth
-from solving import ASIDES, FEW_LINES, FIRST, LINES, first_wrong, over_propwide, tell_of
+from solving import ASIDES, FEW_LINES, FIRST, LINES, asked_for, first_wrong, over_propwide, tell_of
 from talking import Reply
 from wide_rules import PROGRAM
 
@@ -191,9 +191,7 @@ def main(words: list[str]) -> int:
     if not words or words[0].startswith("-"):
         print(__doc__)
         return 0 if words == ["--help"] else 2
-    program, *numbers = words
-    number, first = [*map(int, numbers), *[BY_ITSELF, 0][len(numbers) :]]
-    failed = tell_of(program, range(first, first + number), Session)
+    failed = tell_of(*asked_for(words, BY_ITSELF), Session)
     print(f"changing: {failed} wrong")
     return 1 if failed else 0
 

@@ -373,12 +373,18 @@ def tell_of(program: str, seeds: range, kind: type[Session] = Session) -> int:
     return failed
 
 
+def asked_for(words: list[str], many: int) -> tuple[str, range]:
+    """The program and the seeds that are asked for: so many where no count is said."""
+    program, *numbers = words
+    count, first = [*map(int, numbers), *[many, 0][len(numbers) :]]
+    return program, range(first, first + count)
+
+
 def main(words: list[str]) -> int:
     if not words or words[0].startswith("-"):
         print(__doc__)
         return 0 if words == ["--help"] else 2
-    program, *numbers = words
-    number, first = [*map(int, numbers), *[TRIED, 0][len(numbers) :]]
+    program, seeds = asked_for(words, TRIED)
     failed = 0
     for check in at_once():
         look: Callable[[str], Optional[str]] = check.wrong
@@ -386,7 +392,7 @@ def main(words: list[str]) -> int:
         failed += bool(wrong)
         if wrong:
             print(f"{check.name}: {wrong}")
-    failed += tell_of(program, range(first, first + number))
+    failed += tell_of(program, seeds)
     print(f"solving: {failed} wrong")
     return 1 if failed else 0
 
