@@ -36,6 +36,24 @@ def named(kind: str) -> list[str]:
     return [it for it in points_of(MAY[kind]) if isinstance(it, str) and it not in OTHERS]
 
 
+def hidden_of(kind: str) -> list[Point]:
+    """The points that may be the hidden one of a cell of this kind."""
+    return [*range(-2, 6)] if kind == "span" else [*named(kind)]
+
+
+def attach_line(relation: Relation, cells: list[str]) -> str:
+    return f"attach {relation.name} {' '.join(cells)}{relation.parameter}"
+
+
+def statement_line(premise: str, cell: str, said: Values) -> str:
+    """What a premise states of a cell, or the line that says it without one."""
+    return f"{f'tell {premise}' if premise else 'fix'} {cell} {text_of(said)}"
+
+
+def choice_line(name: str, cell: str, sides: list[Values]) -> str:
+    return f"choose {name} {cell} {' or '.join(map(text_of, sides))}"
+
+
 def is_ready(line: str, waiting: list[str]) -> bool:
     """Whether all that a line names is there when these lines are not said yet."""
     word, *names = re.findall(r"[^\s{};=]+", line)
@@ -64,7 +82,7 @@ class Draw:
         for cell in self.network.kinds:
             self.state(cell, 4 if is_large else 2)
         for number in range(self.chance.choice([0, 1, 2, 2, 3, 4])):
-            self.tell(number)
+            self.tell(f"p{number}")
         for number in range(self.chance.choice([0, 0, 1, 1, 2, 3])):
             self.choose(number)
         told = self.network.told()
@@ -99,7 +117,7 @@ class Draw:
     def hide(self, kind: str) -> None:
         """Hidden points for the cells of a kind, which often differ."""
         cells = [cell for cell, its in self.network.kinds.items() if its == kind]
-        some: list[Point] = [*range(-2, 6)] if kind == "span" else [*named(kind)]
+        some = hidden_of(kind)
         if len(cells) <= len(some) and self.often(0.5):
             self.hidden.update(zip(cells, self.chance.sample(some, len(cells))))
         else:
@@ -178,11 +196,11 @@ class Draw:
         ends = [(low, high), (-BOUND, high), (low, BOUND), (-BOUND, BOUND)]
         return (self.chance.choice(ends),)
 
-    def tell(self, number: int) -> None:
+    def tell(self, premise: str) -> None:
         """What a premise states of a cell beside that."""
         cell = self.chance.choice(sorted(self.network.kinds))
         said = self.around(cell, 1) if self.often(0.6) else self.anything(cell)
-        self.network.stated.append((f"p{number}", cell, said))
+        self.network.stated.append((premise, cell, said))
 
     def choose(self, number: int) -> None:
         """A choice of two or three values."""
@@ -195,13 +213,9 @@ class Draw:
         """The lines of the session, in a random order; in this order cells and choices are too."""
         network, waiting = self.network, [*DECLARED]
         waiting += [f"cell {cell} {kind}" for cell, kind in network.kinds.items()]
-        for relation, cells in network.attached:
-            waiting.append(f"attach {relation.name} {' '.join(cells)}{relation.parameter}")
-        for premise, cell, said in network.stated:
-            start = f"tell {premise}" if premise else "fix"
-            waiting.append(f"{start} {cell} {text_of(said)}")
-        for name, (cell, sides) in network.choices.items():
-            waiting.append(f"choose {name} {cell} {' or '.join(map(text_of, sides))}")
+        waiting += [attach_line(*it) for it in network.attached]
+        waiting += [statement_line(*it) for it in network.stated]
+        waiting += [choice_line(name, *it) for name, it in network.choices.items()]
         waiting += [f"kick {premise}" for premise in sorted(self.out)]
         lines: list[str] = []
         while waiting:

@@ -31,6 +31,10 @@ class Network:
     stated: list[tuple[str, str, Values]] = field(default_factory=list)
     choices: dict[str, tuple[str, list[Values]]] = field(default_factory=dict)
 
+    def copy(self) -> "Network":
+        """One that may be changed by itself."""
+        return Network({**self.kinds}, [*self.attached], [*self.stated], {**self.choices})
+
     def stated_of(self, cell: str, believed: Iterable[str]) -> Values:
         """What is left of a cell by what is stated of it but in choices."""
         values = MAY[self.kinds[cell]]

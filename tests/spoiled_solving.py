@@ -14,7 +14,8 @@ from dataclasses import dataclass
 from typing import Callable, Iterator, Optional
 
 from case import Check
-from solving import TWICE, tried
+from questions import TWICE
+from solving import Session, tried
 from talking import Reply, Talk, has_reply
 from wide_rules import PROGRAM
 
@@ -105,20 +106,23 @@ SAYS = {
 
 @dataclass
 class Spoiled:
-    """A program that is spoiled so."""
+    """A program that a script spoils, what has to be said of it, and the sessions that say it."""
 
     spoil: str
+    says: str
+    script: str = os.path.realpath(__file__)
+    kind: type[Session] = Session
 
     @property
     def name(self) -> str:
-        return f"spoiled solving: {self.spoil}"
+        return f"spoiled {self.kind.word}: {self.spoil}"
 
     def wrong(self, program: str) -> Optional[str]:
         """That no network finds it out, of those that the program itself answers rightly."""
         with tempfile.TemporaryDirectory() as room:
             spoiled = os.path.join(room, "spoiled")
             with open(spoiled, "w", encoding="utf-8") as script:
-                words = [sys.executable, os.path.realpath(__file__), self.spoil, program]
+                words = [sys.executable, self.script, self.spoil, program]
                 script.write(f"#!/bin/sh\nexec {' '.join(words)}\n")
             os.chmod(spoiled, 0o700)
             if any(self.is_found(program, spoiled, seed) for seed in range(TRIED)):
@@ -127,13 +131,14 @@ class Spoiled:
 
     def is_found(self, program: str, spoiled: str, seed: int) -> bool:
         """Whether a network finds it out."""
-        if tried(program, [seed]).wrong:
+        if tried(program, [seed], self.kind).wrong:
             return False
-        return any(re.search(SAYS[self.spoil], it.what) for it in tried(spoiled, [seed]).wrong)
+        wrong = tried(spoiled, [seed], self.kind).wrong
+        return any(re.search(self.says, it.what) for it in wrong)
 
 
 def cases() -> Iterator[Spoiled]:
-    yield from map(Spoiled, SPOILS)
+    yield from (Spoiled(spoil, SAYS[spoil]) for spoil in SPOILS)
 
 
 def over_propwide(case: Spoiled) -> Check:

@@ -23,6 +23,8 @@ PATH is crates/propbench/out/propbench where it is left out. What is run:
 - points that are asked for of random small networks, against all that there are (tests/solving.py),
   and such replies spoiled on purpose, which these networks have to find out
   (tests/spoiled_solving.py);
+- such questions between random changes of the network (tests/changing.py), and a program that
+  heeds no change of a kind, which these sessions have to find out (tests/spoiled_changing.py);
 - random sessions, each answer of which is compared with a plain and slow evaluation
   (tests/plain.py), such with choices, of which every list is tried (tests/choices.py), and such
   under small limits, of which every step is taken anew (tests/steps.py);
@@ -59,6 +61,7 @@ from concurrent.futures import Future, ProcessPoolExecutor
 from typing import Any, Iterator, Optional, Protocol
 
 import believed
+import changing
 import choices
 import cores
 import documents
@@ -82,6 +85,7 @@ import scripts
 import searches
 import solving
 import spoiled
+import spoiled_changing
 import spoiled_solving
 import stacks
 import steps
@@ -151,6 +155,8 @@ def cases() -> Iterator[Runnable]:
     yield from wide_sessions.built()
     yield from solving.built()
     yield from spoiled_solving.built()
+    yield from changing.built()
+    yield from spoiled_changing.built()
     yield from documents.built()
     yield from telling.built()
     yield from in_each_order(worked())
