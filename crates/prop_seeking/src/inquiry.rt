@@ -82,11 +82,17 @@ impl Inquiry {
     pub(crate) fn leave(self, alloc: Global) -> Result<Earlier, AllocError>
         ensures { IfOk result (λ e. (g : Ground) → IsInquiry g self → AreTaught g.library e) }
     {
-        let values = match &self.last {
-            Some(plan) => Vec::from_slice(alloc, &plan.values)?,
+        let Inquiry {
+            solver,
+            last,
+            past,
+            ..
+        } = self;
+        let values = match last {
+            Some(plan) => plan.values,
             None => Vec::new(alloc),
         };
-        self.solver.leave(self.past, values)
+        solver.leave(past, values)
     }
 
     /// Whether it is for what is asked.

@@ -17,7 +17,7 @@ use Rattle.prop_refuting.specs.Places.{IsSoAt}
 use Rattle.prop_learned.specs.Stores.{IsKeptAt, IsKeptIn}
 use Rattle.prop_learned.proofs.SlotLemmas.{contained_at}
 use Rattle.prop_lessons.specs.Lessons.{Stands, Taught}
-use Rattle.prop_solve.specs.Leaving.{AreApart, IsUnexcused, Recalls, Teaches}
+use Rattle.prop_solve.specs.Leaving.{AreApart, IsUnexcused, NarrowsAll, Recalls, Teaches}
 use Rattle.prop_solve.specs.Searches.{IsSearch, Search, bare}
 use Rattle.prop_solve.proofs.SearchLemmas.{Known, refuted_known}
 
@@ -134,11 +134,13 @@ teaches_one s old new h is never =
 
 -- a nogood that is kept, with facts that nothing excused has
 pub kept_never : (s : Search) (more : List Literal) (g h : Nogood) → IsUnexcused s.excuses more
-    → IsKeptIn s.spread.nogoods g → h ≡ record { literals = g.literals ++ more; premises = g.premises }
+    → IsKeptIn s.spread.nogoods g → NarrowsAll (record { literals = g.literals ++ more; premises = g.premises }) h
     → (library : List Stored) (d : Data) (premises : List Origin) → IsSearch library d premises s
     → IsNeverMet library (attached_of d) (choices_of premises) h
-kept_never s more g h unexcused kept is library d premises search =
-    with_unexcused library d premises s.excuses more g h unexcused is (search.nogoods g kept)
+kept_never s more g h unexcused kept narrows library d premises search list points c m =
+    with_unexcused library d premises s.excuses more g (record { literals = g.literals ++ more; premises = g.premises })
+    unexcused refl (search.nogoods g kept) list points c
+    (narrows library (attached_of d) (choices_of premises) list points c m)
 
 -- and what is refuted
 pub refuted_never : (s : Search) (more : List Literal) (by : List ℕ) (h : Nogood) → IsUnexcused s.excuses more

@@ -1,13 +1,14 @@
 -- What a search leaves to later ones, and what these take up of it.
 use Rattle.std.specs.Prelude.{◌≡◌, ◌⊎◌, ℕ, List, All, Some, IfSome}
 use Rattle.prop_lattice.specs.Points.{Point}
+use Rattle.prop_premises.specs.declared.choice.Choice.{Choice}
 use Rattle.prop_premises.specs.Origins.{Origin, choices_of}
 use Rattle.prop_procedures.specs.Stored.{Stored}
 use Rattle.prop_cells.specs.Data.{Data}
 use Rattle.prop_cells.specs.Points.{Attached}
 use Rattle.prop_facts.specs.declared.fact.Literal.{Literal}
 use Rattle.prop_plans.specs.Held.{attached_of}
-use Rattle.prop_refuting.specs.Nogoods.{Nogood}
+use Rattle.prop_refuting.specs.Nogoods.{Narrows, Nogood}
 use Rattle.prop_refuting.specs.Places.{IsSoAt}
 use Rattle.prop_learned.specs.Stores.{IsKeptIn}
 use Rattle.prop_deriving.specs.Known.{IsExcused}
@@ -27,6 +28,11 @@ AreApart facts more = (n : Attached) (points : ℕ → Point) (list : List ℕ)
 abbrev pub IsUnexcused : List (List Literal) → List Literal → Type 0
 IsUnexcused excuses more = (n : Attached) (points : ℕ → Point) (list : List ℕ)
     → All (IsSoAt n points list) more → IsExcused n excuses points list → ⊥
+
+-- whatever meets the new nogood meets the old one, of any network
+abbrev pub NarrowsAll : Nogood → Nogood → Type 0
+NarrowsAll old new = (library : List Stored) (n : Attached) (choices : List Choice)
+    → Narrows library n choices old new
 
 -- each nogood that is kept then was before, or is this one, as what is refuted may be; all else
 -- stays

@@ -1,6 +1,6 @@
 //! What a search leaves to later ones, and what a later one takes up of it.
 
-ghost use Rattle.std.specs.Prelude.{◌≡◌, ◌⊎◌, ◌++◌, [], All, IfOk, IfSome, OnOk, List, map, MatchOption};
+ghost use Rattle.std.specs.Prelude.{◌≡◌, ◌⊎◌, ◌++◌, [], All, IfOk, IfSome, OnOk, List, map, MatchOption, ◌<◌, length};
 ghost use Rattle.prop_numbers.specs.Sets.{set_of};
 ghost use Rattle.prop_premises.specs.Origins.{Origin, believed_in, choices_of};
 ghost use Rattle.prop_procedures.specs.Kept.{AllMean, stored_of};
@@ -11,7 +11,8 @@ ghost use Rattle.prop_refuting.specs.Nogoods.{Nogood as NogoodOf};
 ghost use Rattle.prop_learned.specs.Stores.{IsKeptAt, IsKeptIn};
 ghost use Rattle.prop_deriving.specs.Known.{IsKnown};
 ghost use Rattle.prop_lessons.specs.Lessons.{AreTaught};
-ghost use Rattle.prop_solve.specs.Leaving.{AreApart, IsOf, IsUnexcused, Recalls, Teaches};
+ghost use Rattle.prop_solve.specs.Leaving.{AreApart, IsOf, IsUnexcused, NarrowsAll, Recalls};
+ghost use Rattle.prop_solve.specs.Leaving.{Teaches};
 ghost use Rattle.prop_solve.specs.Searches.{IsSearch};
 ghost use Rattle.prop_solve.specs.Answers.{AsksTheSame};
 
@@ -62,16 +63,58 @@ fn first_open(trail: &Trail, literals: &[Literal]) -> (Option<usize>, Option<usi
     (first, None)
 }
 
-/// The nogood with more facts.
+/// The nogood with more facts, without those that others imply.
 fn with_more(nogood: &Nogood, more: &[Literal], alloc: Global) -> Result<Nogood, AllocError>
-    ensures { IfOk result (λ g. g ≡ record {
+    ensures { IfOk result (λ g. NarrowsAll (record {
       literals = nogood.now.literals ++ more.now;
       premises = nogood.now.premises;
-    }) }
+    }) g) }
 {
     let mut literals = Vec::from_slice(alloc, nogood.literals())?;
     literals.extend_from_slice(more)?;
-    Ok(Nogood::new(literals, nogood.premises().copy()?))
+    let premises = nogood.premises().copy()?;
+    Ok(without_implied(Nogood::new(literals, premises)))
+}
+
+/// The nogood without facts that others imply.
+fn without_implied(nogood: Nogood) -> Nogood
+    ensures { NarrowsAll nogood result }
+{
+    let mut nogood = nogood;
+    for _ in 0..nogood.literals().len() {
+        let Some((at, other)) = implied(nogood.literals()) else {
+            return nogood;
+        };
+        nogood.drop_repeated(at, other);
+    }
+    nogood
+}
+
+/// The numbers of a fact and of another one that implies it.
+fn implied(literals: &[Literal]) -> Option<(usize, usize)>
+    ensures { IfSome result (λ p. (p.0 < length literals.now) × (p.1 < length literals.now)) }
+{
+    for at in 0..literals.len() {
+        if let Some(other) = implying(literals, at) {
+            return Some((at, other));
+        }
+    }
+    None
+}
+
+/// The number of a fact that implies the one with this number.
+fn implying(literals: &[Literal], at: usize) -> Option<usize>
+    requires { at < length literals.now }
+    ensures { IfSome result (λ other. other < length literals.now) }
+{
+    let Literal { place, fact } = literals[at];
+    for other in 0..literals.len() {
+        let literal = literals[other];
+        if other != at && literal.place == place && literal.fact.implies(fact) {
+            return Some(other);
+        }
+    }
+    None
 }
 
 /// What isn't so where all of these facts are: the denial of the only one, where there is one.
