@@ -44,7 +44,7 @@ SUSPECT, _SURE = 3.29, 0.95
 # Of fewer readings, and of more, it isn't looked for which to try first.
 _FEW, _MANY = 8, 400
 # So many correlations of an estimate are shown, none smaller than that; and how wide a table is.
-_SHOWN, _LITTLE, _WIDE = 3, 0.01, 100
+_SHOWN, _LITTLE, _WIDE = 2, 0.01, 100
 
 
 @dataclass(frozen=True)
@@ -289,7 +289,8 @@ def _nearest(
             for each, row in zip(varying, rows)
             if each is not quantity and abs(line[row]) >= _LITTLE
         ]
-        found[quantity.name] = tuple(nlargest(_SHOWN, others, key=lambda it: abs(it[1])))
+        # (of those that are alike, but for how they were rounded, the first)
+        found[quantity.name] = tuple(nlargest(_SHOWN, others, key=lambda it: round(abs(it[1]), 6)))
     return found
 
 
