@@ -167,6 +167,41 @@ def test_what_one_device_read_goes_together() -> None:
         check(w.adjust(), cells, wanted)
 
 
+def test_a_curve_is_off_by_what_is_said_of_it() -> None:
+    """Lines from (0, 0) by (1, 25.2) to (2, 49.9), off by 0.3 at the most: by the same error for one
+    argument, and by another for another."""
+    voltage, other = uncertainties.ufloat(1.5, 0.003), uncertainties.ufloat(0.5, 0.002)
+    error, another = (uncertainties.ufloat(0, 0.3 / 3**0.5) for _ in "ab")
+    lamp = 25.2 + 24.7 * (voltage - 1) + error
+    wanted = {
+        "voltage": voltage,
+        "other": other,
+        "lamp": lamp,
+        "again": 2 * lamp,
+        "room": 25.2 * other + another,
+    }
+    with Workbench() as w:
+        units = {"voltage": "mV", "other": "mV"}
+        ends = {"voltage": (1, 2), "other": (0, 1), "again": (0, 100)}
+        cells = {}
+        for name in wanted:
+            low, high = ends.get(name, (0, 60))
+            cells[name] = w.measured(name, unit=units.get(name, "K"), low=low, high=high)
+        points = [(0, 0), (1, "25.2"), (2, "49.9")]
+        probe = propbench.curve("probe", points, of="mV", unit="K", within="0.3")
+        w.law(cells["lamp"] == probe(cells["voltage"]))
+        w.law(cells["again"] == 2 * probe(cells["voltage"]))
+        w.law(cells["room"] == probe(cells["other"]))
+        w.read("meter", cells["voltage"], "1.5 mV u=0.003")
+        w.read("other meter", cells["other"], "0.5 mV u=0.002")
+        found = w.adjust()
+        assert found.degrees == 0 and {each.premise for each in found.tests} == {
+            "meter",
+            "other meter",
+        }
+        check(found, cells, wanted)
+
+
 def test_the_table_names_what_goes_together_the_most() -> None:
     """Of x = a + b + c + d each part's correlation is its deviation by that of x."""
     parts = {"a": 0.01, "b": 0.02, "c": 0.04, "d": 0.00005}

@@ -12,6 +12,7 @@ from heapq import nlargest
 from math import floor, log10, sqrt
 from typing import TYPE_CHECKING
 
+from propbench.laboratory.curve_errors import CurveErrors
 from propbench.laboratory.least_squares import (
     Correlations,
     Estimates,
@@ -204,7 +205,8 @@ def estimates_of(
     and the tests of its readings. Raises NoEstimate, NoValue and NoScipy."""
     events, believed = w.network.events, w.believed
     observations, exact = observations_in(events, believed, divisor)
-    laws = laws_in(events, believed)
+    errors = CurveErrors()
+    laws = [errors.law(law) for law in laws_in(events, believed)]
     laws += [_fixed(cell, value) for cell, value in exact]
     made = (
         each for each in events if isinstance(each, CellMade) and not isinstance(each, RootMade)
@@ -212,6 +214,10 @@ def estimates_of(
     cells = [each.cell for each in made if each.cell.measure is not None]
     at = {each.cell: each.value for each in observations}
     start = {cell: _middle(cell, begin.get(cell), at.get(cell)) for cell in cells}
+    start |= {cell: 0.0 for cell in errors.sizes}
+    observations += [
+        Observation("", cell, 0.0, float(size) / divisor) for cell, size in errors.sizes.items()
+    ]
     try:
         found = adjusted(laws, observations, start)
     except (ArithmeticError, ValueError) as error:
