@@ -484,6 +484,9 @@ def test_where_there_is_no_slope() -> None:
     for name, at in ((Name.LN, 0.0), (Name.ASIN, 1.0), (Name.EXP, 1e6), (Name.ACOS, 2.0)):
         with pytest.raises(ValueError):
             value_and_slope(Function(name), at)
+    for exponent in (Fraction(2, 3), Fraction(-1, 2)):
+        with pytest.raises(ValueError):
+            value_and_slope(Function(Name.POWER, exponent=exponent), -2.0)
     steps = p.curve("steps", [(0, 0), (1, 2), (2, 3)])
     applied = steps("1.5").real.applied
     assert value_and_slope(applied, 1.5) == (2.5, 1.0)
