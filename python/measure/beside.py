@@ -40,7 +40,7 @@ SAID = [
     ("all that bounds allow, also where a square is near 0", "yes", "no: to first order"),
     ("x - x, and other correlations of one reading", "yes, by shaving", "yes, to first order"),
     ("correlations that are known as numbers", "no", "yes"),
-    ("deviations that grow less likely farther out", "no: bounds", "yes"),
+    ("deviations that grow less likely farther out", "yes, by estimates", "yes"),
     ("a law run backwards, to any of its quantities", "yes", "no: solve it first"),
     ("more readings than unknowns, joined", "yes", "no"),
     ("which readings contradict each other", "yes, proved", "no"),

@@ -13,6 +13,7 @@ from normal_equations import normal, solved
 from propbench import Workbench, pi
 from propbench.laboratory.adjustment import Adjustment, Estimate
 from propbench.laboratory.least_squares import NoScipy
+from propbench.measuring.quantities import Quantity
 from propbench.questions.trial import Seen, Trial
 
 pytest.importorskip("scipy")
@@ -44,6 +45,13 @@ def levelled(w: Workbench, lines: list[tuple[str, str, str, str]]) -> None:
         w.read(f"{begin} to {end} {number}", line, f"{read} u={u}")
 
 
+def height(w: Workbench, name: str) -> Quantity:
+    """The height of a mark."""
+    cell = w.cell(name)
+    assert isinstance(cell, Quantity)
+    return cell
+
+
 def by_name(found: Adjustment) -> dict[str, Estimate]:
     return {each.name: each for each in found}
 
@@ -61,6 +69,10 @@ def test_a_net_of_levels_as_the_normal_equations_have_it(w: Workbench) -> None:
         assert estimate.value == pytest.approx(float(100 + heights[name]), abs=1e-9)
         assert estimate.u == pytest.approx(sqrt(variance), rel=1e-6)
         assert estimate.expanded == pytest.approx(2 * sqrt(variance), rel=1e-6)
+        for also, other in enumerate("BCD"):
+            spread = solved(rows, [Fraction(int(each == also)) for each in range(3)])
+            wanted = float(spread[place]) / sqrt(variance * spread[also])
+            assert found.correlation(height(w, name), height(w, other)) == pytest.approx(wanted)
     heights["A"] = Fraction(0)
     residuals = {}
     for number, (begin, end, read, u) in enumerate(LEVELS):

@@ -236,6 +236,22 @@ def test_what_is_no_device(w: Workbench, given: dict[str, str], says: str) -> No
     assert not w.devices and not w.cells
 
 
+@pytest.mark.parametrize(("offset", "scale"), [(None, "1 %"), ("5e11 m", None), ("5 m", "30 %")])
+def test_a_quantity_of_as_many_steps_as_a_cell_counts(
+    w: Workbench, offset: str | None, scale: str | None
+) -> None:
+    """What a device shows of it reaches farther, and is counted in a coarser step: the answer holds
+    all that the errors allow, and hardly more."""
+    x = w.measured("x", unit="m", low=0, high=10**12, step="2e-6")
+    device = w.device("device", offset=offset, scale=scale)
+    w.read("reading", x, (5 * 10**11, 5 * 10**11 + 1), by=device)
+    share = Fraction((scale or "0 %").removesuffix(" %")) / 100
+    off = Fraction((offset or "0 m").removesuffix(" m"))
+    least = max(Fraction(0), 5 * 10**11 * (1 - share) - off)
+    most = min(Fraction(10**12), (5 * 10**11 + 1) * (1 + share) + off)
+    assert is_tight(x.ask(), (least, most), "1e-5")
+
+
 def test_devices_are_of_their_workbench(w: Workbench) -> None:
     x, mass = quantity(w, "x"), quantity(w, "mass", "g")
     meter = w.device("caliper", offset="0.02 mm")

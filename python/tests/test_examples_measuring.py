@@ -232,11 +232,16 @@ def test_a_net_of_levels() -> None:
                 least[other] = min(least[other], least[one] - way + off)
     rows = [(begin, end, f"{float(rises):.3f}", "1") for (begin, end), rises in lines.items()]
     squares, right = normal(rows)
+    units = [[Fraction(int(each == name)) for each in names] for name in names]
+    spread = {name: dict(zip(names, solved(squares, unit))) for name, unit in zip(names, units)}
     for name, height in zip(names, solved(squares, right)):
-        row = re.search(rf"^  {name} +(\S+) +(\S+) +(\S+) +m +(\S+)\.\.(\S+) m$", printed, re.M)
+        told = rf"^  {name} +(\S+) +(\S+) +(\S+) +m +(\S+)\.\.(\S+) m +(\S+ .+)$"
+        row = re.search(told, printed, re.M)
         assert row and abs(Fraction(row[1]) - 100 - height) <= Fraction(1, 20000)
-        unit = [Fraction(int(each == name)) for each in names]
-        u = sqrt(solved(squares, unit)[names.index(name)] * off**2 / 3)
+        u = sqrt(spread[name][name] * off**2 / 3)
+        for number, other in re.findall(r"(-?\d\.\d\d) ([B-E])(?:,|$)", row[6]):
+            together = spread[name][other] / sqrt(spread[name][name] * spread[other][other])
+            assert abs(float(number) - together) <= 0.005, (name, other)
         assert abs(float(row[2]) - u) <= 0.00005 and abs(float(row[3]) - 2 * u) < 0.0001
         wanted = 100 - least[name], 100 + most[name]
         assert is_shown(ends(row[4], row[5]), wanted, "0.0002")

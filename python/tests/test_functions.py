@@ -271,21 +271,28 @@ def test_where_a_function_has_no_value(w: Workbench) -> None:
     x = w.measured("x", low=0, high=500)
     y = w.measured("y", low=-5, high=5)
     angle = w.measured("angle", unit="deg", low=0, high=90)
+    mV = w.measured("mV", unit="mV", low=0, high=3)
     steps = p.curve("steps", [(1, 2), (2, 3)])
+    probe = p.curve("probe", [(0, 2), ("2.4", 3)], of="mV")
     count = len(w.network.events)
     for law, said in (
         (
             y == p.ln(x),
             "`ln(x)` has no value for `x` where that is 0 or less, and it may be 0..500",
         ),
-        (y == p.asin(x / 100), "beyond -1..1, and it may be 0..5"),
-        (y == p.tan(angle), "at 90 deg and each half turn from there, and it may be 0..90"),
+        (y == p.asin(x / 100), "beyond -1..1, and it may be 0..5: give"),
+        (y == p.tan(angle), "at 90 deg and each half turn from there, and it may be 0..90 deg:"),
         (y == y ** Fraction(1, 3), "where that is less than 0, and it may be -5..5"),
         (
             y == p.sin(x),
             "`sin(x)` can't be told for `x` over more than 16 half turns, and it may be 0..500: give",
         ),
-        (y == steps(x), "beyond its points"),
+        (y == steps(x), "for `x` beyond its points, which reach over 1..2, and it may be 0..500"),
+        (
+            y == probe(mV),
+            "beyond its points, which reach over 0..2.4 mV, and it may be 0..3 mV: give",
+        ),
+        (y == probe(2 * mV), "beyond its points, which reach over 0..0.0024 kg*m2/A/s3, and it"),
         (y == p.exp(x), "`exp(x)` can't be told for `x` above 400, and it may be 0..500: give its"),
     ):
         with pytest.raises(Undefined) as caught:
@@ -477,6 +484,9 @@ def test_where_there_is_no_slope() -> None:
     for name, at in ((Name.LN, 0.0), (Name.ASIN, 1.0), (Name.EXP, 1e6), (Name.ACOS, 2.0)):
         with pytest.raises(ValueError):
             value_and_slope(Function(name), at)
+    for exponent in (Fraction(2, 3), Fraction(-1, 2)):
+        with pytest.raises(ValueError):
+            value_and_slope(Function(Name.POWER, exponent=exponent), -2.0)
     steps = p.curve("steps", [(0, 0), (1, 2), (2, 3)])
     applied = steps("1.5").real.applied
     assert value_and_slope(applied, 1.5) == (2.5, 1.0)

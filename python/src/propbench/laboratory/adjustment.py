@@ -6,12 +6,15 @@ deviations by their squares, so both rarely say the same.
 
 from collections.abc import Iterable, Mapping, Sequence
 from contextlib import suppress
-from dataclasses import dataclass
+from dataclasses import dataclass, replace
 from fractions import Fraction
+from heapq import nlargest
 from math import floor, log10, sqrt
 from typing import TYPE_CHECKING
 
+from propbench.laboratory.curve_errors import CurveErrors
 from propbench.laboratory.least_squares import (
+    Correlations,
     Estimates,
     NoEstimate,
     Observation,
@@ -29,6 +32,7 @@ from propbench.model.events import CellMade, Event, Read
 from propbench.model.measures import Interval
 from propbench.model.nodes import Declared
 from propbench.questions.shown import Shown
+from propbench.tables import table
 
 if TYPE_CHECKING:
     from propbench.workbench import Workbench
@@ -40,13 +44,16 @@ SHAPES = {"rectangular": sqrt(3), "triangular": sqrt(6), "normal": 3.0}
 SUSPECT, _SURE = 3.29, 0.95
 # Of fewer readings, and of more, it isn't looked for which to try first.
 _FEW, _MANY = 8, 400
+# So many correlations of an estimate are shown, none smaller than that; and how wide a table is.
+_SHOWN, _LITTLE, _WIDE = 2, 0.01, 100
 
 
 @dataclass(frozen=True)
 class Estimate:
     """A quantity by least squares: its value, standard uncertainty and U = k u, in its unit; None
     where the readings don't determine it. `bounds` are those that the program proves, None where
-    readings conflict."""
+    readings conflict. `correlations` are the quantities whose errors go with its own the most, from
+    -1 to 1, the nearest to either in front."""
 
     name: str
     value: float | None
@@ -54,6 +61,7 @@ class Estimate:
     expanded: float | None
     unit: str
     bounds: Interval | None
+    correlations: tuple[tuple[str, float], ...] = ()
 
 
 @dataclass(frozen=True)
@@ -76,7 +84,8 @@ class Test:
 class Adjustment(Shown, list[Estimate]):
     """Estimates by weighted least squares, one a row, beside the proved bounds. `tests` has what is
     said of each reading, the most suspect in front; `degrees` of freedom, `chi_square` and the
-    `limit` that this is below in 95 of 100 cases, tell of all together."""
+    `limit` that this is below in 95 of 100 cases, tell of all together, and `correlation` of two
+    quantities."""
 
     _certificate = None
 
@@ -86,6 +95,7 @@ class Adjustment(Shown, list[Estimate]):
         super().__init__(found)
         self.tests, self.k, self.complete = tuple(tests), k, True
         self.degrees, self.chi_square = estimates.degrees, estimates.chi_square
+        self._correlations = estimates.correlations
         self.limit = (
             float(scipy("scipy.stats").chi2.ppf(_SURE, self.degrees)) if self.degrees else 0.0
         )
@@ -94,6 +104,11 @@ class Adjustment(Shown, list[Estimate]):
     def suspects(self) -> tuple[str, ...]:
         """The readings that are suspect, the most in front."""
         return tuple(each.premise for each in self.tests if each.is_suspect)
+
+    def correlation(self, one: Quantity, other: Quantity) -> float | None:
+        """How far the errors of two estimates go together: 1 is as one, -1 against each other, 0 not
+        at all. None where one isn't determined, or has no error."""
+        return self._correlations.of(one.declared, other.declared)
 
     def headline(self) -> str:
         told = "Least squares, tested and not proved"
@@ -105,10 +120,16 @@ class Adjustment(Shown, list[Estimate]):
         return f"{told}: {square}, {verdict} {self.limit:.3g} (95 %)."
 
     def heads(self) -> Sequence[str]:
-        return ("quantity", "estimate", "u", f"U (k={self.k:g})", "unit", "proved bounds")
+        return (
+            *("quantity", "estimate", "u", f"U (k={self.k:g})", "unit", "proved bounds"),
+            "correlations",
+        )
 
     def rows(self) -> Sequence[Sequence[object]]:
         return [_row(each) for each in self]
+
+    def _values(self) -> Sequence[Sequence[object]]:
+        return [(it.name, it.value, it.u, it.expanded, *_row(it)[4:]) for it in self]
 
     def __str__(self) -> str:
         suspect = [
@@ -117,18 +138,29 @@ class Adjustment(Shown, list[Estimate]):
             if each.is_suspect
         ]
         head = [f"suspect (|w| > {SUSPECT}), the most in front:"] if suspect else []
-        return "\n".join([super().__str__(), *head, *suspect])
+        rows = [[str(cell) for cell in row] for row in self.rows()]
+        found = [table(self.heads(), rows, "  ", most=_WIDE)] if rows else []
+        return "\n".join([self.headline(), *found, *head, *suspect])
 
 
 def _row(each: Estimate) -> Sequence[object]:
     bounds = "readings conflict" if each.bounds is None else str(each.bounds)
+    return (each.name, *_numbers(each), each.unit, bounds, _together(each.correlations))
+
+
+def _numbers(each: Estimate) -> tuple[str, str, str]:
+    """An estimate, u and U, as the table has them."""
     if each.value is None or each.u is None or each.expanded is None:
-        return (each.name, "not determined", "", "", each.unit, bounds)
+        return "not determined", "", ""
     if not each.u:
-        return (each.name, f"{each.value:.10g}", "0", "0", each.unit, bounds)
+        return f"{each.value:.10g}", "0", "0"
     power = floor(log10(each.expanded)) - 1
-    numbers = (each.value, each.u, each.expanded)
-    return (each.name, *(_rounded(number, power) for number in numbers), each.unit, bounds)
+    value, u, expanded = (_rounded(it, power) for it in (each.value, each.u, each.expanded))
+    return value, u, expanded
+
+
+def _together(correlations: Iterable[tuple[str, float]]) -> str:
+    return ", ".join(f"{number:.2f} {name}" for name, number in correlations)
 
 
 def _rounded(number: float, power: int) -> str:
@@ -173,7 +205,8 @@ def estimates_of(
     and the tests of its readings. Raises NoEstimate, NoValue and NoScipy."""
     events, believed = w.network.events, w.believed
     observations, exact = observations_in(events, believed, divisor)
-    laws = laws_in(events, believed)
+    errors = CurveErrors()
+    laws = [errors.law(law) for law in laws_in(events, believed)]
     laws += [_fixed(cell, value) for cell, value in exact]
     made = (
         each for each in events if isinstance(each, CellMade) and not isinstance(each, RootMade)
@@ -181,6 +214,10 @@ def estimates_of(
     cells = [each.cell for each in made if each.cell.measure is not None]
     at = {each.cell: each.value for each in observations}
     start = {cell: _middle(cell, begin.get(cell), at.get(cell)) for cell in cells}
+    start |= {cell: 0.0 for cell in errors.sizes}
+    observations += [
+        Observation("", cell, 0.0, float(size) / divisor) for cell, size in errors.sizes.items()
+    ]
     try:
         found = adjusted(laws, observations, start)
     except (ArithmeticError, ValueError) as error:
@@ -228,6 +265,8 @@ def adjustment_of(w: "Workbench", k: float, shape: str, seconds: float | None) -
                 bounds[quantity.declared] = result.interval
     found, tests = estimates_of(w, bounds, SHAPES[shape])
     rows = [_estimate(each, found, bounds.get(each.declared), k) for each in w.quantities]
+    near = _nearest(found.correlations, w.quantities)
+    rows = [replace(each, correlations=near.get(each.name, ())) for each in rows]
     return Adjustment(rows, tests, found, k)
 
 
@@ -239,6 +278,26 @@ def _estimate(quantity: Quantity, found: Estimates, bounds: Interval | None, k: 
     factor, offset = float(measure.factor), float(measure.offset)
     u = value[1] / factor
     return Estimate(quantity.name, (value[0] - offset) / factor, u, k * u, measure.unit, bounds)
+
+
+def _nearest(
+    correlations: Correlations, quantities: Iterable[Quantity]
+) -> dict[str, tuple[tuple[str, float], ...]]:
+    """For each quantity, by name, those that its errors go with the most."""
+    places = correlations.places
+    varying = [each for each in quantities if each.declared in places]
+    rows = [places[each.declared] for each in varying]
+    found = {}
+    for own, quantity in enumerate(varying):
+        line = correlations.table[rows[own]]
+        others = [
+            (each.name, float(line[row]))
+            for each, row in zip(varying, rows)
+            if each is not quantity and abs(line[row]) >= _LITTLE
+        ]
+        # (of those that are alike, but for how they were rounded, the first)
+        found[quantity.name] = tuple(nlargest(_SHOWN, others, key=lambda it: round(abs(it[1]), 6)))
+    return found
 
 
 def suspects_first(w: "Workbench", names: Sequence[str]) -> list[str]:

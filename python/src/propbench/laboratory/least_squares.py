@@ -48,6 +48,21 @@ class Tested:
 
 
 @dataclass(frozen=True)
+class Correlations:
+    """How far the errors of quantities go together, of those that have any: `table` is a square, with
+    a row and a column at each quantity's place."""
+
+    places: Mapping[Declared, int]
+    table: Any
+
+    def of(self, one: Declared, other: Declared) -> float | None:
+        """From -1 to 1; None where one of both isn't determined, or is exact."""
+        if one not in self.places or other not in self.places:
+            return None
+        return float(self.table[self.places[one], self.places[other]])
+
+
+@dataclass(frozen=True)
 class Estimates:
     """What least squares give: for each quantity its value and standard uncertainty, None for one
     that the readings don't determine; the tests of the readings, and of all together."""
@@ -56,6 +71,7 @@ class Estimates:
     tests: Sequence[Tested]
     degrees: int
     chi_square: float
+    correlations: Correlations
 
 
 def scipy(part: str) -> Any:
@@ -164,9 +180,20 @@ class _Adjusting:
             )
             for each, off, part in zip(self._observations, residuals, controlled)
         ]
-        return Estimates(
-            values, tests, len(self._observations) - rank, float(residuals @ residuals)
-        )
+        degrees, chi_square = len(self._observations) - rank, float(residuals @ residuals)
+        together = self._correlations(covariance, values)
+        return Estimates(values, tests, degrees, chi_square, together)
+
+    def _correlations(
+        self, covariance: Any, values: Mapping[Declared, tuple[float, float] | None]
+    ) -> Correlations:
+        """Those of the quantities that have a deviation."""
+        varying = [cell for cell, value in values.items() if value is not None and value[1]]
+        rows = [self._place[cell] for cell in varying]
+        shared = covariance[self._numpy.ix_(rows, rows)]
+        deviations = self._numpy.sqrt(self._numpy.diag(shared))
+        table = self._numpy.clip(shared / self._numpy.outer(deviations, deviations), -1.0, 1.0)
+        return Correlations({cell: place for place, cell in enumerate(varying)}, table)
 
 
 def _deviation(square: float) -> float:

@@ -5,6 +5,7 @@ import io
 import os
 from collections.abc import Iterable, Sequence
 from dataclasses import dataclass
+from decimal import Decimal
 from html import escape
 
 from propbench.files import write_file
@@ -57,7 +58,10 @@ class Results(Shown, list[Result]):
         return _HEADS
 
     def rows(self) -> Sequence[Sequence[object]]:
-        return [_row(each) for each in self]
+        return [_row(values) for values in self._values()]
+
+    def _values(self) -> Sequence[Sequence[object]]:
+        return [_values_of(each) for each in self]
 
     def to_csv(self, path: str | os.PathLike[str] | None = None) -> str:
         """The table as comma-separated values, written to a file where one is named. A text that a
@@ -75,13 +79,23 @@ class Results(Shown, list[Result]):
         return self._repr_html_()
 
 
-def _row(each: Result) -> Sequence[object]:
+def _values_of(each: Result) -> Sequence[object]:
+    """A result in the columns of the table: exact decimals, None where nothing is known."""
     because = ", ".join(each.because) or "what holds always"
     if each.interval is None or each.rounded is None:
-        return (each.name, "not known", "", "", "", "", because)
-    ends = f"{each.interval.low:f}", f"{each.interval.high:f}"
-    value, half = f"{each.rounded.value:f}", f"{each.rounded.half:f}"
-    return (each.name, value, half, each.rounded.unit, *ends, because)
+        return (each.name, None, None, None, None, None, because)
+    rounded, interval = each.rounded, each.interval
+    numbers = rounded.value, rounded.half, rounded.unit, interval.low, interval.high
+    return (each.name, *numbers, because)
+
+
+def _row(values: Sequence[object]) -> Sequence[object]:
+    """The same as texts."""
+    name, value, *others, because = values
+    if value is None:
+        return (name, "not known", "", "", "", "", because)
+    written = [f"{it:f}" if isinstance(it, Decimal) else it for it in (value, *others)]
+    return (name, *written, because)
 
 
 def _in_sheet(value: object) -> str:

@@ -237,7 +237,7 @@ def _rows(head: Head, lines: Iterable[tuple[int, Sequence[object]]], decimal: st
 
 def _cell(given: object) -> object:
     """A cell without spaces around it; a number that is none, as pandas has it, is empty."""
-    if given is None or given != given:
+    if _is_missing(given):
         return ""
     if isinstance(given, str):
         return given.strip()
@@ -246,6 +246,15 @@ def _cell(given: object) -> object:
     if isinstance(given, datetime) and not (given.hour or given.minute or given.second):
         return given.date().isoformat()
     return given if is_number(given) else str(given).strip()
+
+
+def _is_missing(given: object) -> bool:
+    """Whether a cell has nothing: None, a number or a time that is none, or what stands for nothing
+    in pandas, which is neither itself nor another."""
+    try:
+        return given is None or bool(given != given)
+    except TypeError:
+        return True
 
 
 _EMPTY = "the cell is empty: fill it in, or leave out the row"

@@ -7,6 +7,7 @@ from math import isqrt
 from propbench.measuring.enclosing import pi_ends
 from propbench.measuring.shapes import Undefined, shape_of
 from propbench.measuring.terms import Real, Sort, text_of
+from propbench.measuring.units import dimension_text
 
 Bounds = tuple[Fraction, Fraction]
 # A root is told to so many digits.
@@ -61,12 +62,31 @@ class BoundsOf:
         try:
             low, high = shape_of(real.applied, argument).bounds(argument)
         except Undefined as undefined:
-            said = str(undefined).format(f"`{text_of(inner)}`")
-            raise Undefined(
-                f"`{text_of(real)}` {said}: give its quantities ends that leave this out"
-            ) from None
+            said = _without_value(real, argument, str(undefined))
+            raise Undefined(f"{said}: give its quantities ends that leave this out") from None
         off = real.applied.off
         return low - off, high + off
+
+
+def _without_value(real: Real, argument: Bounds, said: str) -> str:
+    """That a function has no value where its argument may be, with the names and numbers of both."""
+    [inner], table = real.args, real.applied.table
+    points = "" if table is None else _between(inner, (table.points[0][0], table.points[-1][0]))
+    between = _between(inner, argument)
+    told = said.format(f"`{text_of(inner)}`", between=between, points=points)
+    return f"`{text_of(real)}` {told}"
+
+
+def _between(real: Real, ends: Bounds) -> str:
+    """Two ends of a term as people read them: in the unit of the quantity that it is, else in base
+    units."""
+    unit, low, high = dimension_text(real.dimension) if real.dimension else "1", *ends
+    if real.sort is Sort.QUANTITY:
+        measure = real.quantity.measure
+        assert measure is not None
+        unit, (low, high) = measure.unit, ((end - measure.offset) / measure.factor for end in ends)
+    told = f"{float(low):.6g}..{float(high):.6g}"
+    return told if unit == "1" else f"{told} {unit}"
 
 
 def product(one: Bounds, other: Bounds) -> Bounds:

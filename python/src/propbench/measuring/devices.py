@@ -16,7 +16,7 @@ from propbench.measuring.defining import RootOf
 from propbench.measuring.exact import Exact, exact_of, short
 from propbench.measuring.linear import summed
 from propbench.measuring.polynomials import Polynomial, factored, multiplied_out
-from propbench.measuring.quantities import measure_between
+from propbench.measuring.quantities import countable, measure_between
 from propbench.measuring.readings import Reading, in_ascii
 from propbench.measuring.stating import declared, read, stated
 from propbench.measuring.terms import ONE, Law, Real, Sort, text_of
@@ -176,10 +176,10 @@ def shown(device: Device, quantity: Declared, name: str, root_of: RootOf) -> lis
     assert measure is not None
     unit = unit_of(measure.unit)
     bounds = _bounds(device, (measure.low, measure.high), unit, quantity.name)
-    between = tuple((end - unit.offset) / unit.factor for end in bounds)
-    cell = declared(
-        name, measure_between(name, unit, (between[0], between[1]), measure.digits), quantity.owner
-    )
+    low, high = ((end - unit.offset) / unit.factor for end in bounds)
+    # (it may reach farther than the quantity, whose step is finer than a cell can count there)
+    step = countable(measure.digits, unit, (low, high))
+    cell = declared(name, measure_between(name, unit, (low, high), step), quantity.owner)
     shows, right = real_of_cell(cell), real_of_cell(cell)
     if Role.SCALE in device.parts:
         right = Real(Sort.PRODUCT, (shows, _gain(device.parts)), shows.dimension)

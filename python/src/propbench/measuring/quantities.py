@@ -111,6 +111,15 @@ def measure_between(
     return Measure(unit.text, unit.factor, unit.offset, counted, digits, ends[0], ends[1])
 
 
+def countable(step: Fraction, unit: Unit, between: tuple[Fraction, Fraction]) -> Fraction:
+    """A step, or ten times as much so often that a cell can count what lies between two numbers in a
+    unit."""
+    most = max(abs(end * unit.factor + unit.offset) for end in between)
+    while most > _MOST * step * unit.factor:
+        step *= 10
+    return step
+
+
 def _number(given: Exact | str) -> Fraction:
     """An end or a step, exact. Raises ValueError for a text that is no number, and TooLong."""
     return number_in(given) if isinstance(given, str) else exact_of(given)

@@ -31,12 +31,14 @@ from propbench.measuring.units import BARE, Dimension, MixedUnits, dimension_tex
 DEGREES: Dimension = (("deg", Fraction(1)),)
 # Of a function that rises and falls so many curves are told at the most.
 _MOST_CURVES = 16
+_MAY_BE = ", and it may be {between}"
 _ONE = Fraction(1)
 
 
 class Undefined(ValueError):
     """A function has no value for all that its argument may be, or can't be told for all of it: the
-    text has `{}` for the argument."""
+    text has `{}` for the argument, `{between}` for the ends of what it may be, and `{points}` for
+    those of a table's points."""
 
 
 class Name(Enum):
@@ -160,13 +162,13 @@ def shape_of(function: Function, argument: Ends) -> Shape:
     name, in_degrees = function.name, function.in_degrees
     if name in (Name.EXP, Name.EXP10):
         if high > MOST_EXPONENT:
-            raise Undefined(f"can't be told for {{}} above {MOST_EXPONENT}{_may_be(low, high)}")
+            raise Undefined(f"can't be told for {{}} above {MOST_EXPONENT}{_MAY_BE}")
         return Shape((Exponential(10 if name is Name.EXP10 else None),))
     if name in (Name.LN, Name.LOG10):
-        _check(low > 0, "where that is 0 or less", low, high)
+        _check(low > 0, "where that is 0 or less")
         return Shape((Exponential(10 if name is Name.LOG10 else None),), is_inverse=True)
     if name is Name.POWER:
-        _check(low >= 0, "where that is less than 0", low, high)
+        _check(low >= 0, "where that is less than 0")
         exponent = function.exponent
         is_root = exponent < 1
         return Shape((Power(1 / exponent if is_root else exponent),), is_inverse=is_root)
@@ -175,7 +177,7 @@ def shape_of(function: Function, argument: Ends) -> Shape:
     if name is Name.ATAN:
         return Shape((Tangent(0, in_degrees),), is_inverse=True)
     if name in (Name.ASIN, Name.ACOS):
-        _check(-1 <= low and high <= 1, "beyond -1..1", low, high)
+        _check(-1 <= low and high <= 1, "beyond -1..1")
         return Shape((Wave(name is Name.ACOS, 0, in_degrees),), is_inverse=True)
     if name is Name.TABLE:
         assert function.table is not None
@@ -183,13 +185,9 @@ def shape_of(function: Function, argument: Ends) -> Shape:
     return _wave(function, argument)
 
 
-def _check(is_there: bool, where: str, low: Fraction, high: Fraction) -> None:
+def _check(is_there: bool, where: str) -> None:
     if not is_there:
-        raise Undefined(f"has no value for {{}} {where}{_may_be(low, high)}")
-
-
-def _may_be(low: Fraction, high: Fraction) -> str:
-    return f", and it may be {float(low):.6g}..{float(high):.6g}"
+        raise Undefined(f"has no value for {{}} {where}{_MAY_BE}")
 
 
 def _branch_of_tangent(argument: Ends, in_degrees: bool) -> int:
@@ -200,7 +198,7 @@ def _branch_of_tangent(argument: Ends, in_degrees: bool) -> int:
     assert low is not None and high is not None
     is_there = low < argument[0] and argument[1] < high
     at = "at 90 deg and each half turn from there"
-    _check(is_there, at if in_degrees else "at pi/2 and each half turn from there", *argument)
+    _check(is_there, at if in_degrees else "at pi/2 and each half turn from there")
     return branch
 
 
@@ -213,7 +211,7 @@ def _wave(function: Function, argument: Ends) -> Shape:
     places = range(floor(first + tiny), max(floor(first + tiny) + 1, ceil(last - tiny)))
     if len(places) > _MOST_CURVES:
         told = f"can't be told for {{}} over more than {_MOST_CURVES} half turns"
-        raise Undefined(f"{told}{_may_be(*argument)}")
+        raise Undefined(f"{told}{_MAY_BE}")
     curves = tuple(Wave(is_cosine, place, function.in_degrees) for place in places)
     if function.branch is not None:
         return Shape((curves[function.branch],))
@@ -226,7 +224,7 @@ def _table(function: Function, argument: Ends) -> Shape:
     assert function.table is not None
     points = function.table.points
     is_there = points[0][0] <= argument[0] and argument[1] <= points[-1][0]
-    _check(is_there, "beyond its points", *argument)
+    _check(is_there, "beyond its points, which reach over {points}")
     curves, begun = [], 0
     for place in range(2, len(points) + 1):
         is_last = place == len(points)

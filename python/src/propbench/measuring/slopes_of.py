@@ -18,7 +18,8 @@ def value_and_slope(function: Function, at: float) -> Sloped:
             return _on_table(function, at)
         if function.name is Name.POWER:
             exponent = float(function.exponent)
-            return at**exponent, exponent * at ** (exponent - 1)
+            # (by `**` a power of what is negative is a complex number)
+            return math.pow(at, exponent), exponent * math.pow(at, exponent - 1)
         if function.name in _OF_ANGLES:
             value, slope = _OF_ANGLES[function.name](at * scale)
             return value, slope * scale

@@ -97,7 +97,11 @@ class Shown:
             pandas = import_module("pandas")
         except ImportError:
             raise ImportError("a table of pandas needs pandas, which isn't installed") from None
-        return pandas.DataFrame([list(row) for row in self.rows()], columns=list(self.heads()))
+        return pandas.DataFrame([list(row) for row in self._values()], columns=list(self.heads()))
+
+    def _values(self) -> Sequence[Sequence[object]]:
+        """The rows as a program goes on with them: what is a number is one."""
+        return self.rows()
 
 
 def said(value: object) -> str:
