@@ -100,7 +100,8 @@ module _ (g : Ground) (s : Search) (by : List ℕ) where
 
   bounded : (goal : Goal) (named : List ℕ) (values : List Info) (facts : List Literal) (end : ℤ) (cell : ℕ)
       (found alone : SpanOf) → IsFirst goal named → AreExcusing goal named values facts
-      → s.excuses ≡ excused_then goal [] facts → cell < length g.cells.kinds → (kind_at g.cells.kinds cell).kind ≡ SpanKind
+      → s.excuses ≡ excused_then goal [] facts → cell < length g.cells.kinds
+      → (kind_at g.cells.kinds cell).kind ≡ SpanKind
       → slice_get values cell ≡ Some (Span found) → IsWithin goal cell found end → alone.lo ≡ end → alone.hi ≡ end
       → (x : Literal) × IsBetter goal end x × Known x
       → Refutes g.library (state_at g) (λ points. IsNoBetter (aim_of goal) (Span alone)

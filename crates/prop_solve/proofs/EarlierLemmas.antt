@@ -1,6 +1,6 @@
 -- What is left to later searches, and what these take up of it.
-use Rattle.std.proofs.Common.{◌≡◌, ◌∙◌, ℕ, zero, suc, List, [], ◌∷◌, ◌++◌, ◌⊎◌, inl, inr, Option, Some, None, IfSome, All}
-use Rattle.std.proofs.Common.{subst, sym, refl, ap, arith, Contains, Vec, Global, length, map, ◌≤◌, ◌<◌}
+use Rattle.std.proofs.Common.{◌≡◌, ◌∙◌, ℕ, zero, suc, List, [], ◌∷◌, ◌++◌, ◌⊎◌, inl, inr, Option, Some, None, IfSome}
+use Rattle.std.proofs.Common.{All, subst, sym, refl, ap, arith, Contains, Vec, Global, length, map, ◌≤◌, ◌<◌}
 use Rattle.std.specs.Prelude.{slice_index_or}
 use Rattle.std.proofs.lemmas.List.Elements.{All-contains, All-push, Contains-append_left, Contains-append_right}
 use Rattle.prop_numbers.specs.Sets.{IsPart, set_of}

@@ -1,6 +1,7 @@
 //! What a search leaves to later ones, and what a later one takes up of it.
 
-ghost use Rattle.std.specs.Prelude.{◌≡◌, ◌⊎◌, ◌++◌, [], All, IfOk, IfSome, OnOk, List, map, MatchOption, ◌<◌, length};
+ghost use Rattle.std.specs.Prelude.{◌≡◌, ◌⊎◌, ◌<◌, ◌++◌, [], All, IfOk, IfSome, OnOk, List, map};
+ghost use Rattle.std.specs.Prelude.{MatchOption, length};
 ghost use Rattle.prop_numbers.specs.Sets.{set_of};
 ghost use Rattle.prop_premises.specs.Origins.{Origin, believed_in, choices_of};
 ghost use Rattle.prop_procedures.specs.Kept.{AllMean, stored_of};
@@ -187,8 +188,8 @@ impl Spread {
 }
 
 impl Solver {
-    /// Takes up what an earlier search left, if one did: the nogoods that still hold, and the values of its
-    /// plan, which are tried first.
+    /// Takes up what an earlier search left, if one did: the nogoods that still hold, and the
+    /// values of its plan, which are tried first.
     pub(crate) fn take_up<R: Guarded + Drop>(
         &mut self,
         network: &Network<R>,

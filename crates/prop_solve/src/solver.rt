@@ -685,8 +685,8 @@ impl Solver {
         self.spread.wake_all();
     }
 
-    /// Tells a plan; from now on points are excused that are no better, or no other. Where any points
-    /// will do none are.
+    /// Tells a plan; from now on points are excused that are no better, or no other. Where any
+    /// points will do none are.
     fn tell<'x, R: Guarded + Drop>(
         &mut self,
         network: &'x Network<R>,

@@ -10,7 +10,12 @@ returns-in-Found-clause-inquiry g c =
     let ground =
     ground_at (stored_of g.R.Rule.value_of c.args.network.now.library) c.args.network.now.cells c.args.premises.now in
     on_found ground c.args.self.now
-    (record { solver = c.advance.new.self; last = Some c.in-Found.plan; told = c.args.self.now.told; past = c.args.self.now.past })
+    (record {
+      solver = c.advance.new.self;
+      last = Some c.in-Found.plan;
+      told = c.args.self.now.told;
+      past = c.args.self.now.past;
+    })
     c.requires.inquiry c.in_ok-plan.ensures.asks c.in_ok-plan.ensures.search refl c.in_ok-plan.field-0 c.in-Found.plan
     c.in-Found.is c.in_ok-plan.ensures.answer (inr (none_there c.args.self.now.last
     (sym c.is_some.ensures ∙ c.if-is_some.false))) refl
@@ -20,7 +25,12 @@ returns-in-Refuted-clause-inquiry g c =
     let ground =
     ground_at (stored_of g.R.Rule.value_of c.args.network.now.library) c.args.network.now.cells c.args.premises.now in
     on_kept ground c.args.self.now
-    (record { solver = c.advance.new.self; last = c.args.self.now.last; told = c.args.self.now.told; past = c.args.self.now.past })
+    (record {
+      solver = c.advance.new.self;
+      last = c.args.self.now.last;
+      told = c.args.self.now.told;
+      past = c.args.self.now.past;
+    })
     c.requires.inquiry c.in_ok-plan.ensures.asks c.in_ok-plan.ensures.search refl
     (refuted_same ground c.args.self.now.solver c.advance.new.self c.in_ok-plan.field-0 c.in-Refuted.by
     c.in-Refuted.is c.in_ok-plan.ensures.answer) refl
@@ -30,7 +40,12 @@ returns-in-Unsettled-clause-inquiry g c =
     let ground =
     ground_at (stored_of g.R.Rule.value_of c.args.network.now.library) c.args.network.now.cells c.args.premises.now in
     on_kept ground c.args.self.now
-    (record { solver = c.advance.new.self; last = c.args.self.now.last; told = c.args.self.now.told; past = c.args.self.now.past })
+    (record {
+      solver = c.advance.new.self;
+      last = c.args.self.now.last;
+      told = c.args.self.now.told;
+      past = c.args.self.now.past;
+    })
     c.requires.inquiry c.in_ok-plan.ensures.asks c.in_ok-plan.ensures.search refl
     (open_same ground c.args.self.now.solver c.advance.new.self c.in_ok-plan.field-0
     c.in-Unsettled.is c.in_ok-plan.ensures.answer) refl

@@ -16,7 +16,12 @@ loop-preserved g c =
     subst (λ (x : Goal). is_optimum x ≡ true) (sym inv.same.goal) c.requires.optimum in
     record {
       inquiry = on_found ground c.loop.self
-          (record { solver = c.advance.new.self; last = Some c.in-Found.plan; told = c.loop.self.told; past = c.loop.self.past })
+          (record {
+            solver = c.advance.new.self;
+            last = Some c.in-Found.plan;
+            told = c.loop.self.told;
+            past = c.loop.self.past;
+          })
           inv.inquiry asks c.in_ok-plan.ensures.search refl c.in_ok-plan.field-0 c.in-Found.plan c.in-Found.is
           c.in_ok-plan.ensures.answer (inl optimum) refl;
       same = record { goal = asks.goal ∙ inv.same.goal; named = asks.named ∙ inv.same.named };

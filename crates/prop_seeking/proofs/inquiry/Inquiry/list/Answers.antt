@@ -36,7 +36,12 @@ loop-preserved g c =
     c.in_ok-answer.ensures.answer in
     record {
       inquiry = on_listed ground c.loop.self
-          (record { solver = new; last = c.loop.self.last; told = c.loop.self.told; past = c.loop.self.past }) inv.inquiry asks
+          (record {
+            solver = new;
+            last = c.loop.self.last;
+            told = c.loop.self.told;
+            past = c.loop.self.past;
+          }) inv.inquiry asks
           c.in_ok-answer.ensures.search refl c.in_ok-answer.answer c.in_ok-answer.ensures.answer differing;
       same = record { goal = asks.goal ∙ inv.same.goal; named = asks.named ∙ inv.same.named };
       found = found_more ground first.named c.loop.counter first.excuses (map plan_of c.loop.plans.found.items)

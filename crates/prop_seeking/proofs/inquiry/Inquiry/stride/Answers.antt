@@ -15,6 +15,11 @@ returns-in-Found-clause-inquiry g c =
     let inquiry = told_apart ground c.loop.self before c.news.ensures inv.inquiry in
     let yet = subst (λ (x : InquiryOf). (is_optimum x.solver.goal ≡ true) ⊎ (x.last ≡ None)) (sym c.news.ensures)
     (open_yet c.args.self.now c.loop.self c.requires.under_way inv.same inv.last) in
-    on_found ground before (record { solver = c.advance.new.self; last = Some c.in-Found.plan; told = before.told; past = before.past })
+    on_found ground before (record {
+      solver = c.advance.new.self;
+      last = Some c.in-Found.plan;
+      told = before.told;
+      past = before.past;
+    })
     inquiry c.in_ok-plan.ensures.asks c.in_ok-plan.ensures.search refl c.in_ok-plan.field-0 c.in-Found.plan
     c.in-Found.is c.in_ok-plan.ensures.answer yet refl

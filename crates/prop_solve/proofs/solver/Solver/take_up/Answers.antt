@@ -40,7 +40,8 @@ loop-nogood-preserved g c =
     let taught = subst Q (sym c.earlier.view_is) (subst P c.in-Some.is c.requires.taught) in
     let stand = subst S (sym c.deref-nogood-items.ensures.value)
     (subst R c.data.ensures (c.in_ok-recalled.ensures library taught)) in
-    let there = subst T (sym c.nogood-item.is) (Contains-get_or xs c.loop-nogood.nogood-index x c.loop-nogood-test.true) in
+    let there = subst T (sym c.nogood-item.is)
+    (Contains-get_or xs c.loop-nogood.nogood-index x c.loop-nogood-test.true) in
     let r = c.in_ok-recall.ensures in
     let i = c.loop-nogood.invariant in (
       recalls_search library d premises old new x (All-contains Stand xs x stand there) r i.0,
