@@ -2,6 +2,7 @@ pub mod Loads
 pub mod Cumulative
 pub mod Disjoint
 pub mod Differ
+pub mod Free
 pub mod Many
 pub mod Exact
 pub mod Guards

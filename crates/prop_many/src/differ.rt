@@ -5,6 +5,7 @@
 ghost use Rattle.std.specs.Prelude.{◌≡◌, ◌≤ℤ◌, ◌+◌, ◌<◌, ℕ, length, neg_ℤ, slice_index};
 ghost use Rattle.prop_lattice.specs.declared.span.TheConstants.{B};
 ghost use Rattle.prop_many.specs.Differ.{any_crowded, before, before_all, behind, differ_of};
+ghost use Rattle.prop_many.specs.Free.{EndsAreFree};
 ghost use Rattle.prop_many.specs.Differ.{is_crowded, left_beside, lying_in, past, past_all, widest};
 
 use prop_lattice::Info;
@@ -141,3 +142,8 @@ pub fn number_beside(args: &[Info]) -> Info
         _ => Info::Nothing,
     }
 }
+
+/// A law: what is left ends with numbers that are in no Hall interval of up to 128 others.
+pub fn ends_are_free()
+    ensures { EndsAreFree }
+{}

@@ -19,7 +19,7 @@ pub mod prelude;
 pub mod procedures;
 
 pub use cumulative::start_beside;
-pub use differ::number_beside;
+pub use differ::{ends_are_free, number_beside};
 pub use disjoint::start_apart;
 pub use many::Many;
 pub use prelude::{PRELUDE, prelude_is_stated};

@@ -189,7 +189,7 @@ width_le others a (suc n) =
     by false w h = omega arith
 
 -- as many lie in it as it has numbers
-width_is_hall : (others : List Info) (a : ℤ) (n : ℕ)
+pub width_is_hall : (others : List Info) (a : ℤ) (n : ℕ)
     → width_of others a n ≤ lying_in others a (width_of others a n)
 width_is_hall others a zero = omega arith
 width_is_hall others a (suc n) =
@@ -286,7 +286,7 @@ crowded_known others (o ∷ starting) a (inr b) e =
     (crowded_known others starting a b e)
 
 -- so each crowded interval is seen, since one is that begins as one of the others does
-crowd_seen : (others : List Info) (w : ℕ) (a : ℤ) → 1 ≤ w → w ≤ widest others
+pub crowd_seen : (others : List Info) (w : ℕ) (a : ℤ) → 1 ≤ w → w ≤ widest others
     → w < lying_in others a w → any_crowded others others ≡ true
 crowd_seen others zero a some p h = absurd (omega (arith, some))
 crowd_seen others (suc w) a some p h = by w refl (begins_or others a)
@@ -309,7 +309,7 @@ crowd_seen others (suc w) a some p h = by w refl (begins_or others a)
         f (omega (arith, e)) (omega (arith, p)) (omega (arith, same, h))
 
 -- and each Hall interval begins as one of the others does, where none is crowded
-hall_begins : (others : List Info) (w : ℕ) (a : ℤ) → 1 ≤ w → w ≤ widest others
+pub hall_begins : (others : List Info) (w : ℕ) (a : ℤ) → 1 ≤ w → w ≤ widest others
     → w ≤ lying_in others a w → any_crowded others others ≡ false → Begins others a
 hall_begins others zero a some p h n = absurd (omega (arith, some))
 hall_begins others (suc w) a some p h n = by w refl (begins_or others a)
@@ -383,7 +383,7 @@ past_all_above others (o ∷ starting) v e =
     (past_above (low_of o) (behind others (low_of o)) v e)
     (past_all_above others starting v next)
 
-past_all_behind : (others starting : List Info) (a v e : ℤ) → Begins starting a → a ≤ℤ v
+pub past_all_behind : (others starting : List Info) (a v e : ℤ) → Begins starting a → a ≤ℤ v
     → v <ℤ behind others a → behind others a ≤ℤ past_all others starting v e
 past_all_behind others [] a v e b p q = absurd b
 past_all_behind others (o ∷ starting) a v e (inl s) p q =
@@ -412,7 +412,7 @@ before_all_below others (o ∷ starting) v e =
     (before_all_below others starting v next)
     (before_below (low_of o) (behind others (low_of o)) v e)
 
-before_all_first : (others starting : List Info) (a v e : ℤ) → Begins starting a → a ≤ℤ v
+pub before_all_first : (others starting : List Info) (a v e : ℤ) → Begins starting a → a ≤ℤ v
     → v <ℤ behind others a → before_all others starting v e <ℤ a
 before_all_first others [] a v e b p q = absurd b
 before_all_first others (o ∷ starting) a v e (inl s) p q =
@@ -435,7 +435,7 @@ before_all_over others (o ∷ starting) v e c p h =
 
 -- a Hall interval, and the number behind it
 
-width_there : (others : List Info) (a v : ℤ) → a ≤ℤ v → v <ℤ behind others a
+pub width_there : (others : List Info) (a v : ℤ) → a ≤ℤ v → v <ℤ behind others a
     → 1 ≤ width_of others a (widest others)
 width_there others a v p q = by (width_of others a (widest others)) q
   where
@@ -443,7 +443,7 @@ width_there others a v p q = by (width_of others a (widest others)) q
     by zero r = absurd (omega (arith, ints))
     by (suc w) r = omega arith
 
-behind_of : (others : List Info) (a : ℤ) (w : ℕ) → w ≤ widest others → w ≤ lying_in others a w
+pub behind_of : (others : List Info) (a : ℤ) (w : ℕ) → w ≤ widest others → w ≤ lying_in others a w
     → (a +ℤ pos w) ≤ℤ behind others a
 behind_of others a w p h =
     by (width_of others a (widest others)) (hall_width others a w (widest others) p h)
