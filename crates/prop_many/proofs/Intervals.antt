@@ -1,6 +1,6 @@
 -- One step of the functions that count who lies in intervals, and that go over Hall intervals.
 use Rattle.std.proofs.Common.{◌≡◌, ◌∙◌, ◌⊎◌, ℕ, suc, ◌+◌, ◌<◌, ◌≤◌, min, ℤ, pos, ◌+ℤ◌, ◌-ℤ◌, ◌≤ℤ◌, ◌<ℤ◌}
-use Rattle.std.proofs.Common.{Bool, true, false, ◌||◌, nat_lt, List, [], ◌∷◌, length, take, drop, get_or, arith, refl}
+use Rattle.std.proofs.Common.{Bool, true, false, ◌||◌, nat_lt, List, ◌∷◌, length, take, drop, get_or, arith, refl}
 use Rattle.std.proofs.Common.{ap, sym, subst, drop-cons, get_or-set_same, get_or-set_other, inl, inr}
 use Rattle.std.specs.Int.{int_min}
 use Rattle.std.proofs.Math.ListN.{set}

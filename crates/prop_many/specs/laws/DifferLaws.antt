@@ -3,7 +3,7 @@ use Rattle.std.specs.Prelude.{◌≡◌, ◌⊎◌, ℕ, zero, suc, ◌+◌, ◌
 use Rattle.std.specs.Prelude.{◌+ℤ◌, ◌-ℤ◌, ◌≤ℤ◌, ◌<ℤ◌, int_le, int_lt, Bool, true, false, ◌&&◌, ◌||◌}
 use Rattle.std.specs.Prelude.{if◌then◌else◌, List, [], ◌∷◌, length}
 use Rattle.std.specs.Int.{int_max, int_min}
-use Rattle.std.proofs.Common.{arith, refl, rules, sym, subst, ap, ◌∙◌, inl, inr}
+use Rattle.std.proofs.Common.{arith, refl, sym, subst, ap, ◌∙◌, inl, inr}
 use Rattle.std.proofs.lemmas.Bool.{cases_eq}
 use Rattle.std.proofs.lemmas.Bool.Decides.{nat_tests}
 use Rattle.std.proofs.lemmas.Int.{ints, clamps, by_lt_z}
@@ -17,7 +17,7 @@ use Rattle.prop_lattice.specs.declared.info.Kind.TheVariants as kinds
 use Rattle.prop_lattice.specs.declared.span.TheConstants.{B}
 use Rattle.prop_lattice.specs.laws.OrderLaws.{info_laws}
 use Rattle.prop_wide.specs.Ends.{low_of, high_of, known}
-use Rattle.prop_wide.specs.laws.EndLaws.{AreWithin, IsBetween, ends_ordered}
+use Rattle.prop_wide.specs.laws.EndLaws.{AreWithin, ends_ordered}
 use Rattle.prop_wide.specs.laws.EndLaws.{known_below, known_holds, known_kind}
 use Rattle.prop_many.specs.Differ.{RelatesDiffer, any_crowded, before, before_all, behind, differ_of}
 use Rattle.prop_many.specs.Differ.{is_crowded, left_beside, lies_in, lying_in, past, past_all}

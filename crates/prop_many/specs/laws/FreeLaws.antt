@@ -1,5 +1,5 @@
 -- What is left beside others ends with numbers that are in none of their Hall intervals.
-use Rattle.std.specs.Prelude.{◌≡◌, ◌⊎◌, ℕ, zero, suc, ◌+◌, ◌<◌, ◌≤◌, nat_lt, ℤ, pos, ◌+ℤ◌, ◌-ℤ◌}
+use Rattle.std.specs.Prelude.{◌≡◌, ◌⊎◌, ℕ, zero, suc, ◌+◌, ◌≤◌, nat_lt, ℤ, pos, ◌+ℤ◌, ◌-ℤ◌}
 use Rattle.std.specs.Prelude.{◌≤ℤ◌, ◌<ℤ◌, int_le, int_lt, unsigned_abs, Bool, true, false, ◌&&◌}
 use Rattle.std.specs.Prelude.{if◌then◌else◌, List, [], ◌∷◌, length}
 use Rattle.std.specs.Int.{int_max, int_min}
@@ -13,7 +13,6 @@ use Rattle.prop_many.specs.Free.{EndsAreFree, IsFree}
 use Rattle.prop_many.specs.laws.DifferLaws.{Begins, before_all_first, behind_of, crowd_seen, hall_begins}
 use Rattle.prop_many.specs.laws.DifferLaws.{in_both, in_parts, le_le, less_from, lt_le_not, lying_few}
 use Rattle.prop_many.specs.laws.DifferLaws.{lying_none, no_less, ones, past_all_behind, width_is_hall}
-use Rattle.prop_many.specs.laws.DifferLaws.{width_le, width_there}
 use Rattle.prop_many.specs.laws.NumberLaws.{never}
 
 -- ---- two Hall intervals that meet

@@ -14,7 +14,6 @@ use Rattle.prop_lattice.specs.declared.info.Info.{Info}
 use Rattle.prop_lattice.specs.declared.info.Info.TheVariants.{Contradiction}
 use Rattle.prop_lattice.specs.declared.span.TheConstants.{B}
 use Rattle.prop_procedures.specs.Rules.{EachHolds}
-use Rattle.prop_procedures.specs.declared.shape.Param.{Param}
 use Rattle.prop_wide.specs.Ends.{low_of, high_of, known}
 use Rattle.prop_many.specs.Differ.{RelatesDiffer, any_crowded, before_all, differ_of, past_all}
 use Rattle.prop_many.specs.Guards.{own_of, ruled_out}

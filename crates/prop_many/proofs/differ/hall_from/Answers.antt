@@ -1,7 +1,7 @@
-use Rattle.std.proofs.Common.{◌≡◌, ◌∙◌, ◌+◌, ◌≤◌, min, length, take, get_or, nat_lt, pos, ◌+ℤ◌, arith, refl, sym, ap, subst, to_z, of_z, w64}
+use Rattle.std.proofs.Common.{◌≡◌, ◌∙◌, ◌+◌, ◌≤◌, take, get_or, nat_lt, pos, ◌+ℤ◌, arith, refl, sym, ap, to_z, of_z, w64}
 use Rattle.std.proofs.lemmas.Int.{ints}
 use Rattle.std.proofs.lemmas.List.{length-take}
-use Rattle.prop_many.specs.Differ.{is_crowded, lying_in, widest, width_of}
+use Rattle.prop_many.specs.Differ.{is_crowded, widest, width_of}
 use Rattle.prop_many.specs.laws.DifferLaws.{lying_few, lying_none, width_le}
 use Rattle.prop_many.proofs.Intervals.{crowded_now, crowded_stays, lying_step, width_more, width_same}
 use Rattle.prop_many.proofs.differ.hall_from.Goals as goal

@@ -1,6 +1,5 @@
-use Rattle.std.proofs.Common.{◌≡◌, ◌∙◌, arith, rules, sym, ap, true, false, to_z, of_z, SFits, w64}
-use Rattle.std.proofs.lemmas.Int.{ints, to_z-of_z}
-use Rattle.prop_many.specs.Differ.{before, behind, is_crowded, past, widest}
+use Rattle.std.proofs.Common.{◌∙◌, rules, sym, to_z, of_z, SFits, w64}
+use Rattle.std.proofs.lemmas.Int.{to_z-of_z}
 use Rattle.prop_many.proofs.Intervals.{IsTold, before_step, crowded_step, never, past_step}
 use Rattle.prop_many.proofs.differ.left.Goals as goal
 use Rattle.prop_many.proofs.differ.left.Goals.{then-is_crowded, else-is_crowded}
