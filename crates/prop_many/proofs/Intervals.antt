@@ -6,7 +6,7 @@ use Rattle.std.specs.Int.{int_min}
 use Rattle.std.proofs.Math.ListN.{set}
 use Rattle.std.proofs.lemmas.Bool.{cases_eq}
 use Rattle.std.proofs.lemmas.Int.{ints}
-use Rattle.std.proofs.lemmas.List.{get_or-take, length-take}
+use Rattle.std.proofs.lemmas.List.{drop_all, get_or-take, length-take}
 use Rattle.prop_lattice.specs.declared.info.Info.{Info}
 use Rattle.prop_wide.specs.Ends.{low_of, high_of}
 use Rattle.prop_wide.specs.laws.EndLaws.{ends_ordered}
@@ -37,7 +37,7 @@ pub record IsGrown (o : Info) (a : ℤ) (k old new : ℕ) : Type 0 where
   pub lies : ones (lies_in o a k) + more ≡ ones (lies_in o a (k + 1))
 
 abbrev pub AreGrown : Info → ℤ → List ℕ → List ℕ → Type 0
-AreGrown o a olds news = (k : ℕ) → k < 128 → IsGrown o a k (get_or olds k 0) (get_or news k 0)
+AreGrown o a olds news = (k : ℕ) → k < 64 → IsGrown o a k (get_or olds k 0) (get_or news k 0)
 
 -- it lies in no interval that is counted, or is in all from one width on
 same_lies : (o : Info) (a : ℤ) (k : ℕ) → (a ≤ℤ low_of o → high_of o ≡ a +ℤ pos k → ⊥)
@@ -55,7 +55,7 @@ same_lies o a k n = same_test _ _
     nearer h p n = omega (arith, ints)
 
 pub grown_not : (o : Info) (a : ℤ) (olds news : List ℕ) → news ≡ olds
-    → (a ≤ℤ low_of o → high_of o <ℤ (a +ℤ pos 128) → ⊥) → AreGrown o a olds news
+    → (a ≤ℤ low_of o → high_of o <ℤ (a +ℤ pos 64) → ⊥) → AreGrown o a olds news
 grown_not o a olds news e n k l = record {
   more = 0;
   few = omega arith;
@@ -63,7 +63,7 @@ grown_not o a olds news e n k l = record {
   lies = (let s = ap ones (same_lies o a k (λ p q. n p (within (high_of o) q))) in omega (arith, s));
 }
   where
-    within : (h : ℤ) → h ≡ a +ℤ pos k → h <ℤ (a +ℤ pos 128)
+    within : (h : ℤ) → h ≡ a +ℤ pos k → h <ℤ (a +ℤ pos 64)
     within h q = omega (arith, ints)
 
 pub grown_at : (o : Info) (a : ℤ) (j : ℕ) (olds news : List ℕ) → j < length olds → a ≤ℤ low_of o
@@ -132,17 +132,26 @@ pub told_step : (others : List Info) (a : ℤ) (i k old new : ℕ) (o : Info) �
 told_step others a i k old new o l p g h =
     omega (arith, g.is, g.lies, h, rest_lying others i o a k l p, rest_lying others i o a (k + 1) l p)
 
+-- where all of the others came, all is told
+pub told_all : (others : List Info) (a : ℤ) (i k count : ℕ) → length others ≤ i
+    → (lying_in others a k + count) + lying_in (drop i others) a (k + 1)
+    ≡ lying_in others a (k + 1) + lying_in (drop i others) a k
+    → lying_in others a k + count ≡ lying_in others a (k + 1)
+told_all others a i k count l h =
+    let none = drop_all i others l in
+    omega (arith, h, ap (λ xs. lying_in xs a k) none, ap (λ xs. lying_in xs a (k + 1)) none)
+
 -- ---- the widest Hall interval
 
 -- the place is one of the counts that are read
-pub place_fits : (others : List Info) (counts : List ℕ) (m k : ℕ) → m ≡ min (length others) 128
-    → k < length (take m counts) → (k < m) × (k < 128)
+pub place_fits : (others : List Info) (counts : List ℕ) (m k : ℕ) → m ≡ min (length others) 64
+    → k < length (take m counts) → (k < m) × (k < 64)
 place_fits others counts m k e l =
     let long = length-take m counts in (omega (arith, long, l), omega (arith, long, l, e))
 
-pub lying_step : (others : List Info) (a : ℤ) (counts : List ℕ) (m k lying : ℕ) → m ≡ min (length others) 128
+pub lying_step : (others : List Info) (a : ℤ) (counts : List ℕ) (m k lying : ℕ) → m ≡ min (length others) 64
     → k < length (take m counts)
-    → ((i : ℕ) → i < 128 → lying_in others a i + get_or counts i 0 ≡ lying_in others a (i + 1))
+    → ((i : ℕ) → i < 64 → lying_in others a i + get_or counts i 0 ≡ lying_in others a (i + 1))
     → lying ≡ lying_in others a k → lying + get_or (take m counts) k 0 ≡ lying_in others a (k + 1)
 lying_step others a counts m k lying e l told h =
     let fits = place_fits others counts m k e l in

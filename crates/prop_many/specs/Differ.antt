@@ -34,7 +34,7 @@ is_crowded others first (suc many) =
 
 -- how wide Hall intervals are looked for: no more of the others can lie in one than there are
 abbrev pub widest : List Info → ℕ
-widest others = min (length others) 128
+widest others = min (length others) 64
 
 -- the first number behind the widest Hall interval that begins with the first
 abbrev pub behind : List Info → ℤ → ℤ

@@ -15,7 +15,7 @@ IsFree others number = (first : ℤ) (many : ℕ) → IsHall others first many �
 -- so it is with both ends that are left of a number, where the others find room: all between these
 -- that are in no Hall interval are left, and no narrower ends leave them
 abbrev pub EndsAreFree : Type 0
-EndsAreFree = (number : ℤ) (others : List Info) → length others ≤ 128
+EndsAreFree = (number : ℤ) (others : List Info) → length others ≤ 64
     → any_crowded others others ≡ false
     → IsFree others (past_all others others number number)
     × IsFree others (before_all others others number number)

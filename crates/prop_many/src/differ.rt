@@ -2,18 +2,18 @@
 //!
 //! A Hall interval is one in which as many of the others lie, whichever numbers they are, as it has
 //! numbers: they take them all, and none is left for one more.
-ghost use Rattle.std.specs.Prelude.{◌≡◌, ◌≤ℤ◌, ◌+◌, ◌<◌, ℕ, length, neg_ℤ, slice_index};
+ghost use Rattle.std.specs.Prelude.{◌≡◌, ◌≤ℤ◌, neg_ℤ};
 ghost use Rattle.prop_lattice.specs.declared.span.TheConstants.{B};
 ghost use Rattle.prop_many.specs.Differ.{any_crowded, before, before_all, behind, differ_of};
 ghost use Rattle.prop_many.specs.Free.{EndsAreFree};
-ghost use Rattle.prop_many.specs.Differ.{is_crowded, left_beside, lying_in, past, past_all, widest};
+ghost use Rattle.prop_many.specs.Differ.{is_crowded, left_beside, past, past_all, widest};
 
 use prop_lattice::Info;
 use prop_lattice::span::B;
 use prop_wide::ends::{high_of, known, low_of};
 
 /// How many numbers a Hall interval may have at the most that is looked for.
-const WIDEST: usize = 128;
+const WIDEST: usize = 64;
 
 /// The widest Hall interval that begins with a number.
 #[derive(Clone, Copy)]
@@ -33,33 +33,21 @@ struct Room {
     is_crowded: bool,
 }
 
-/// How many of the others lie in the intervals that begin with a number: at each place, how many
-/// lie in that of one number more, but not in that of so many.
-fn tally(others: &[Info], first: i64) -> [usize; WIDEST]
-    requires least { neg_ℤ B ≤ℤ first }
-    requires most { first ≤ℤ B }
-    ensures long { length result ≡ 128 }
-    ensures told { (k : ℕ) → k < 128
-        → lying_in others.now first k + slice_index result k ≡ lying_in others.now first (k + 1) }
-{
-    let mut counts = [0; WIDEST];
-    for other in others {
-        let last = high_of(*other) - first;
-        if first <= low_of(*other) && last < 128 {
-            counts[last as usize] += 1;
-        }
-    }
-    counts
-}
-
-/// The widest Hall interval of the others that begins with a number.
+/// The widest Hall interval of the others that begins with a number. Counted is for each width how
+/// many of the others lie in the interval of one number more, but not in that of so many.
 fn hall_from(others: &[Info], first: i64) -> Hall
     requires least { neg_ℤ B ≤ℤ first }
     requires most { first ≤ℤ B }
     ensures behind { result.behind ≡ behind others.now first }
     ensures crowded { result.is_crowded ≡ is_crowded others.now first (widest others.now) }
 {
-    let counts = tally(others, first);
+    let mut counts = [0; WIDEST];
+    for other in others {
+        let last = high_of(*other) - first;
+        if first <= low_of(*other) && last < 64 {
+            counts[last as usize] += 1;
+        }
+    }
     let mut width = 0;
     let mut is_crowded = false;
     let mut lying = 0;
@@ -143,7 +131,7 @@ pub fn number_beside(args: &[Info]) -> Info
     }
 }
 
-/// A law: what is left ends with numbers that are in no Hall interval of up to 128 others.
+/// A law: what is left ends with numbers that are in no Hall interval of up to 64 others.
 pub fn ends_are_free()
     ensures { EndsAreFree }
 {}

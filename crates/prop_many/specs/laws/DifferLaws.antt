@@ -463,7 +463,7 @@ closer_long [] (n ∷ news) c = absurd c
 closer_long (o ∷ olds) [] c = absurd c
 
 widest_same : (olds news : List Info) → AreCloser olds news → widest olds ≡ widest news
-widest_same olds news c = ap (λ n. min n 128) (closer_long olds news c)
+widest_same olds news c = ap (λ n. min n 64) (closer_long olds news c)
 
 crowds : (olds news : List Info) → AreCloser olds news → any_crowded olds olds ≡ true
     → any_crowded news news ≡ true

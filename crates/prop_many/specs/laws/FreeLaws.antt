@@ -78,12 +78,12 @@ not_crowded others a (suc k) f n = by (nat_lt (suc k) (lying_in others a (suc k)
     by true e = absurd (never (sym n ∙ crowd_seen others (suc k) a (omega arith) f
         (less_from (suc k) (lying_in others a (suc k)) e)))
 
-hall_fits : (others : List Info) (a : ℤ) (w : ℕ) → length others ≤ 128
+hall_fits : (others : List Info) (a : ℤ) (w : ℕ) → length others ≤ 64
     → w ≤ lying_in others a w → w ≤ widest others
 hall_fits others a w few h = omega (arith, few, h, lying_few others a w)
 
 -- together they are one
-union : (others : List Info) (a : ℤ) (j k v : ℕ) → length others ≤ 128
+union : (others : List Info) (a : ℤ) (j k v : ℕ) → length others ≤ 64
     → any_crowded others others ≡ false → k ≤ v → j + k ≤ lying_in others a (j + k)
     → v ≤ lying_in others (a +ℤ pos j) v → j + v ≤ lying_in others a (j + v)
 union others a j k v few n m h h' =
@@ -100,7 +100,7 @@ record IsMet (others : List Info) (a : ℤ) (w : ℕ) (b : ℤ) (v : ℕ) : Type
   second_hall : v ≤ lying_in others b v
 
 -- it reaches from the first number of the one to the last of the other
-reaches : (others : List Info) (a : ℤ) (w : ℕ) (b : ℤ) (v : ℕ) → length others ≤ 128
+reaches : (others : List Info) (a : ℤ) (w : ℕ) (b : ℤ) (v : ℕ) → length others ≤ 64
     → any_crowded others others ≡ false → IsMet others a w b v
     → (b +ℤ pos v) ≤ℤ behind others a
 reaches others a w b v few n met =
@@ -168,7 +168,7 @@ past_all_is others (o ∷ starting) v e =
       is = is ∙ led.2;
     })
 
-past_is_free : (others : List Info) (v : ℤ) → length others ≤ 128
+past_is_free : (others : List Info) (v : ℤ) → length others ≤ 64
     → any_crowded others others ≡ false → IsFree others (past_all others others v v)
 past_is_free others v few n a w hall p q = by (past_all_is others others v v)
   where
@@ -298,7 +298,7 @@ before_all_is others (o ∷ starting) v e =
       is = ap (λ x. x +ℤ pos 1) is ∙ led.2;
     })
 
-before_is_free : (others : List Info) (v : ℤ) → length others ≤ 128
+before_is_free : (others : List Info) (v : ℤ) → length others ≤ 64
     → any_crowded others others ≡ false → IsFree others (before_all others others v v)
 before_is_free others v few n a w hall p q = by (before_all_is others others v v)
   where
