@@ -201,8 +201,8 @@ pub record IsTold (others : List Info) (i : ℕ) (o : Info) (first behind' : ℤ
   pub first_is : first ≡ low_of o
   pub behind_is : behind' ≡ behind others first
 
-pub past_step : (others : List Info) (i : ℕ) (o : Info) (first behind' v e r total : ℤ) → IsTold others i o first behind'
-    → r ≡ past first behind' v e → past_all others (drop i others) v e ≡ total
+pub past_step : (others : List Info) (i : ℕ) (o : Info) (first behind' v e r total : ℤ)
+    → IsTold others i o first behind' → r ≡ past first behind' v e → past_all others (drop i others) v e ≡ total
     → past_all others (drop (i + 1) others) v r ≡ total
 past_step others i o first behind' v e r total t p h =
     let there : behind' ≡ behind others (low_of o) = t.behind_is ∙ ap (behind others) t.first_is in

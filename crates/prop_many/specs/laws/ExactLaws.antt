@@ -48,7 +48,8 @@ clip_held lo hi v h =
     let held = span_from_held (int_max lo (neg_ℤ B)) (int_min hi B) v h in
     (omega (arith, ints, clamps, held.0), omega (arith, ints, clamps, held.1))
 
-pub known_held : (lo hi v : ℤ) → IsInRange v → Holds (known lo hi) (Number v) → (lo ≤ℤ v) × (v ≤ℤ hi)
+pub known_held : (lo hi v : ℤ) → IsInRange v → Holds (known lo hi) (Number v)
+    → (lo ≤ℤ v) × (v ≤ℤ hi)
 unfolding known
 known_held lo hi v r = by (int_le lo (neg_ℤ B)) refl (int_le B hi) refl
   where

@@ -10,9 +10,10 @@ use Rattle.prop_wide.specs.Ends.{low_of, high_of}
 use Rattle.prop_many.specs.Differ.{any_crowded, before, before_all, behind, lies_in, lying_in}
 use Rattle.prop_many.specs.Differ.{past, past_all, widest, width_of}
 use Rattle.prop_many.specs.Free.{EndsAreFree, IsFree}
-use Rattle.prop_many.specs.laws.DifferLaws.{Begins, before_all_first, behind_of, crowd_seen, hall_begins}
-use Rattle.prop_many.specs.laws.DifferLaws.{in_both, in_parts, le_le, less_from, lt_le_not, lying_few}
-use Rattle.prop_many.specs.laws.DifferLaws.{lying_none, no_less, ones, past_all_behind, width_is_hall}
+use Rattle.prop_many.specs.laws.DifferLaws.{Begins, before_all_first, behind_of, crowd_seen}
+use Rattle.prop_many.specs.laws.DifferLaws.{hall_begins, in_both, in_parts, le_le, less_from}
+use Rattle.prop_many.specs.laws.DifferLaws.{lt_le_not, lying_few, lying_none, no_less, ones}
+use Rattle.prop_many.specs.laws.DifferLaws.{past_all_behind, width_is_hall}
 use Rattle.prop_many.specs.laws.NumberLaws.{never}
 
 -- ---- two Hall intervals that meet

@@ -1,4 +1,5 @@
-use Rattle.std.proofs.Common.{◌≡◌, ◌∙◌, ℕ, ◌+◌, ◌<◌, ◌≤◌, nat_lt, pos, ◌+ℤ◌, ◌-ℤ◌, ◌≤ℤ◌, ◌<ℤ◌, unsigned_abs, take, length, get_or}
+use Rattle.std.proofs.Common.{◌≡◌, ◌∙◌, ℕ, ◌+◌, ◌<◌, ◌≤◌, nat_lt, pos, ◌+ℤ◌, ◌-ℤ◌, ◌≤ℤ◌, ◌<ℤ◌}
+use Rattle.std.proofs.Common.{unsigned_abs, take, length, get_or}
 use Rattle.std.proofs.Common.{arith, refl, sym, ap, subst, to_z, of_z, w64}
 use Rattle.std.proofs.lemmas.Int.{ints}
 use Rattle.std.proofs.lemmas.List.{get_or-replicate, length-set, length-take}
@@ -29,7 +30,8 @@ pub overflow_add-counts : goal.overflow_add-counts
 overflow_add-counts c =
     let ordered = ordered_ends c.other-item.result c.low_of.result c.high_of.result c.low_of.ensures.value
     c.high_of.ensures.value in
-    let place = unsigned_abs (to_z w64 (of_z w64 (to_z w64 (of_z w64 c.high_of.result) -ℤ to_z w64 (of_z w64 c.args.first)))) in
+    let high = to_z w64 (of_z w64 c.high_of.result) in
+    let place = unsigned_abs (to_z w64 (of_z w64 (high -ℤ to_z w64 (of_z w64 c.args.first)))) in
     let within : place < 64 = omega (arith, ints, ordered) in
     omega (arith, c.loop-other.invariant.few place within)
 
@@ -85,9 +87,11 @@ pub overflow_add-lying : goal.overflow_add-lying
 overflow_add-lying c =
     let a = to_z w64 (of_z w64 c.args.first) in
     let k = c.loop-many.many in
+    let counts = c.loop-other.counts in
+    let told = λ (i : ℕ) (l : i < 64). told_all c.args.others.now a c.loop-other.other-index i (get_or counts i 0)
+    c.loop-other-test.false (c.loop-other.invariant.told i l) in
     let sum = lying_step c.args.others.now a c.loop-other.counts c.min.result k c.loop-many.lying c.min.ensures
-    c.loop-many-test.true (λ i l. told_all c.args.others.now a c.loop-other.other-index i (get_or c.loop-other.counts i 0)
-    c.loop-other-test.false (c.loop-other.invariant.told i l)) c.loop-many.invariant.lying in
+    c.loop-many-test.true told c.loop-many.invariant.lying in
     let few = lying_few c.args.others.now a (k + 1) in
     omega (arith, sum, few)
 
@@ -97,9 +101,11 @@ loop-many-preserved c =
     let a = to_z w64 (of_z w64 c.args.first) in
     let k = c.loop-many.many in
     let lying = c.loop-many.lying + get_or (take c.min.result c.loop-other.counts) k 0 in
+    let counts = c.loop-other.counts in
+    let told = λ (i : ℕ) (l : i < 64). told_all c.args.others.now a c.loop-other.other-index i (get_or counts i 0)
+    c.loop-other-test.false (c.loop-other.invariant.told i l) in
     let sum = lying_step others a c.loop-other.counts c.min.result k c.loop-many.lying c.min.ensures
-    c.loop-many-test.true (λ i l. told_all c.args.others.now a c.loop-other.other-index i (get_or c.loop-other.counts i 0)
-    c.loop-other-test.false (c.loop-other.invariant.told i l)) c.loop-many.invariant.lying in
+    c.loop-many-test.true told c.loop-many.invariant.lying in
     let was = c.loop-many.invariant in
     let width : c.if-many-lying.width ≡ width_of others a (k + 1) =
     elim c.if-many-lying.branch [
