@@ -20,8 +20,8 @@ use Rattle.prop_wide.specs.Ends.{low_of, high_of, known}
 use Rattle.prop_wide.specs.laws.EndLaws.{AreWithin, ends_ordered}
 use Rattle.prop_wide.specs.laws.EndLaws.{known_below, known_holds, known_kind}
 use Rattle.prop_many.specs.Differ.{RelatesDiffer, any_crowded, before, before_all, behind}
-use Rattle.prop_many.specs.Differ.{differ_of, is_crowded, left_beside, lies_in, lying_in, past, past_all}
-use Rattle.prop_many.specs.Differ.{widest, width_of}
+use Rattle.prop_many.specs.Differ.{differ_of, is_crowded, left_beside, lies_in, lying_in, past}
+use Rattle.prop_many.specs.Differ.{past_all, widest, width_of}
 use Rattle.prop_many.specs.laws.DisjointLaws.{lt_true}
 use Rattle.prop_many.specs.laws.NumberLaws.{AreCloser, AreKept, both_true, le_true, never}
 
