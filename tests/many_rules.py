@@ -6,9 +6,10 @@ usage: tests/many_rules.py PROGRAM
 
 PROGRAM is a workbench with the rules of prop_many. What `cumulative` has to answer is found by
 trying each start at each time, what `disjoint` has to by trying all points of a task and of one
-other at a time. Each answer has to hold what the points of all leave, and of single numbers just
-those that belong together. The last line is `many rules: N passed, M failed`; the status is 0 where
-none failed.
+other at a time, what `differ` has to by going over all intervals. Each answer has to hold what the
+points of all leave, where it is the narrowest no more than these, of single numbers just those that
+belong together, and no more than that to arguments that know less. The last line is `many rules: N
+passed, M failed`; the status is 0 where none failed.
 """
 import os
 import sys
@@ -30,6 +31,8 @@ Info = Optional[tuple[int, int]]
 Points = Sequence[int]
 CLASH: frozenset[int] = frozenset()
 DRAWN, STEP = 400, 10
+# (between which all drawn numbers lie)
+LEAST, MOST = -3, 12
 
 
 def low(info: Info) -> int:
@@ -74,6 +77,10 @@ def stands_alone(points: Points) -> bool:
     return not any(runs(s, n, time) for time in range(own[0], sum(own)) for s, n in others)
 
 
+def all_differ(points: Points) -> bool:
+    return len(set(points)) == len(points)
+
+
 # ---- what is answered
 
 
@@ -115,6 +122,23 @@ def disjoint(infos: Sequence[Info]) -> Any:
     return between(first, last)
 
 
+def differ(infos: Sequence[Info]) -> Any:
+    """What is in no interval in which as many of the others lie as it has numbers."""
+    own, *others = infos
+    ends = [it for it in others if it is not None]
+    taken: set[int] = set()
+    for first, last in product(range(LEAST, MOST + 1), repeat=2):
+        count, wide = sum(first <= a and b <= last for a, b in ends), last - first + 1
+        if count > max(wide, 0):
+            return CLASH
+        if count == wide:
+            taken |= set(range(first, last + 1))
+    if own is None:
+        return None
+    left = [it for it in numbers(own) if it not in taken]
+    return between(left[0], left[-1]) if left else CLASH
+
+
 @dataclass(frozen=True)
 class Rule:
     """A rule with the inputs that it has beside those of the others, and for each of these."""
@@ -125,6 +149,7 @@ class Rule:
     start: int
     answer: Callable[[Sequence[Info]], Any]
     belongs: Callable[[Points], bool]
+    is_narrowest: bool = False
 
     def kinds(self, others: int) -> str:
         return " ".join(["span"] * (self.own + self.each * others + 1))
@@ -133,6 +158,7 @@ class Rule:
 RULES = [
     Rule("cumulative", 4, 3, 1, cumulative, keeps_capacity),
     Rule("disjoint", 2, 2, 0, disjoint, stands_alone),
+    Rule("differ", 1, 1, 0, differ, all_differ, is_narrowest=True),
 ]
 
 
@@ -156,26 +182,51 @@ def missed(rule: Rule, infos: Sequence[Info], answer: Any) -> Optional[str]:
         count *= BOUND if info is None else len(numbers(info))
     if count > 2000:
         return None
-    left: Info = None if answer is None or answer == CLASH else (answer[0], answer[1])
-    held = range(0) if answer == CLASH else numbers(left)
+    held = held_by(answer)
+    owns: set[int] = set()
     for points in product(*map(numbers, infos)):
-        if rule.belongs(points) and points[rule.start] not in held:
-            return f"{rule.name}: {infos} misses {points}"
-        if count == 1 and rule.belongs(points) != (points[rule.start] in held):
+        if rule.belongs(points):
+            owns.add(points[rule.start])
+            if points[rule.start] not in held:
+                return f"{rule.name}: {infos} misses {points}"
+        elif count == 1 and points[rule.start] in held:
             return f"{rule.name}: {infos} is not exact"
+    if rule.is_narrowest and owns and (min(owns), max(owns)) != (held[0], held[-1]):
+        return f"{rule.name}: {infos} is not the narrowest"
+    if rule.is_narrowest and held and not owns:
+        return f"{rule.name}: {infos} has no points"
     return None
+
+
+def held_by(answer: Any) -> range:
+    """The numbers that an answer leaves."""
+    if answer == CLASH:
+        return range(0)
+    return numbers(None if answer is None else (answer[0], answer[1]))
+
+
+def grown(random: Random, rule: Rule, infos: Sequence[Info], answer: Any) -> Optional[str]:
+    """Where the answer to one argument that knows more leaves a number that the answer doesn't."""
+    place = random.randrange(len(infos))
+    first, last = infos[place] or (LEAST, MOST)
+    inner = sorted(random.randint(first, last) for _ in range(2))
+    closer = [*infos[:place], (inner[0], inner[1]), *infos[place + 1 :]]
+    more, held = held_by(rule.answer(closer)), held_by(answer)
+    if not more or (held and held[0] <= more[0] and more[-1] <= held[-1]):
+        return None
+    return f"{rule.name}: {infos} says more than {closer}"
 
 
 def enumerated() -> Iterator[Case]:
     """Sessions of calls that don't clash, and one for each that does."""
-    random = Random(5)
+    random, closer = Random(5), Random(6)
     for rule in RULES:
         for others in (1, 2, 3, 5):
             sheet = Sheet()
             for _ in range(DRAWN):
                 infos = drawn(random, rule, others)
                 answer = rule.answer(infos)
-                wrong = missed(rule, infos, answer)
+                wrong = missed(rule, infos, answer) or grown(closer, rule, infos, answer)
                 if wrong:
                     raise AssertionError(wrong)
                 inputs = [None if it is None else Ends(it) for it in infos]

@@ -252,3 +252,26 @@ def test_the_wider_kit_is_used_where_it_is_there(program: str) -> None:
                 script.lines_of(event)
             lines = script.lines_of(Required(constraint.node, None))
             assert [line for line in lines if line.split()[1] in WIDER] == wanted
+
+
+def test_many_numbers_that_differ_are_told_at_once(program: str) -> None:
+    """For each number beside the others, where the program can and a line has room for their
+    names."""
+    with Workbench(program) as w:
+        names = [f"{'x' * 62}{at}" for at in range(10, 71)]
+        xs = [w.number(name, 0, 99) for name in names]
+        events, vocabulary = w._network.events, w._network.vocabulary
+        for count, is_offered in ((8, True), (9, True), (60, True), (61, True), (60, False)):
+            script = Script(vocabulary, lambda name: is_offered)
+            for event in events:
+                script.lines_of(event)
+            lines = script.lines_of(Required(all_different(xs[:count]).node, None))
+            told = [line for line in lines if line.startswith("attach differ")]
+            told = [line for line in told if not line.startswith("attach different")]
+            wanted = [
+                f"attach differ{count - 1} {' '.join([own, *others])} {own}"
+                for own in names[:count]
+                for others in [[name for name in names[:count] if name != own]]
+            ]
+            assert told == (wanted if 8 < count <= 60 and is_offered else [])
+            assert all(len(line.encode()) <= 4096 for line in lines)

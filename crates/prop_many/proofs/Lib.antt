@@ -1,3 +1,4 @@
 pub mod Items
+pub mod Intervals
 pub mod Steps
 pub mod Tables

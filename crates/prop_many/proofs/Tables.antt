@@ -1,12 +1,12 @@
 -- The table of procedures.
-use Rattle.std.proofs.Common.{◌≡◌, ◌≤◌, ℕ, zero, suc, ◌+◌, ◌*◌, List, [], ◌∷◌, length, arith, codes, refl, All}
+use Rattle.std.proofs.Common.{◌≡◌, ◌≤◌, ℕ, zero, suc, ◌+◌, ◌*◌, List, [], ◌∷◌, ◌++◌, length, arith, codes, refl, All}
 use Rattle.std.proofs.lemmas.List.Elements.{All-append}
 use Rattle.std.specs.Prelude.{replicate}
 use Rattle.prop_procedures.specs.declared.shape.Shape.TheVariants.{Span}
 use Rattle.prop_many.specs.Many.{AreNumbers, least_of}
 use Rattle.prop_many.specs.Procedures.{EachIsFormed, IsFormed, Named, procedures_of}
 use Rattle.prop_many.specs.declared.many.Many.{Many}
-use Rattle.prop_many.specs.declared.many.Many.TheVariants.{Cumulative, Disjoint}
+use Rattle.prop_many.specs.declared.many.Many.TheVariants.{Cumulative, Differ, Disjoint}
 
 numbers : (n : ℕ) → AreNumbers (replicate n Span)
 numbers zero = refl
@@ -37,6 +37,9 @@ rows_formed name rule own each (suc n) some least few =
 -- all rows are
 pub each_formed : EachIsFormed
 each_formed = All-append IsFormed (procedures_of (codes "cumulative") Cumulative 4 3 40)
-    (procedures_of (codes "disjoint") Disjoint 2 2 40)
+    (procedures_of (codes "disjoint") Disjoint 2 2 40 ++ procedures_of (codes "differ") Differ 1 1 63)
     (rows_formed (codes "cumulative") Cumulative 4 3 40 (omega arith) (omega arith) (omega arith))
+    (All-append IsFormed (procedures_of (codes "disjoint") Disjoint 2 2 40)
+    (procedures_of (codes "differ") Differ 1 1 63)
     (rows_formed (codes "disjoint") Disjoint 2 2 40 (omega arith) (omega arith) (omega arith))
+    (rows_formed (codes "differ") Differ 1 1 63 (omega arith) (omega arith) (omega arith)))

@@ -1,7 +1,11 @@
 pub mod Loads
 pub mod Cumulative
 pub mod Disjoint
+pub mod Differ
+pub mod Free
 pub mod Many
 pub mod Exact
+pub mod Guards
 pub mod Procedures
+pub mod Prelude
 pub mod laws

@@ -1,5 +1,5 @@
 -- The rules: their forms, what they answer, and which points belong together.
-use Rattle.std.specs.Prelude.{◌≡◌, ◌≤◌, ℕ, Bool, true, false, List, length, Option, Some}
+use Rattle.std.specs.Prelude.{◌≡◌, ◌≤◌, ℕ, Bool, true, false, List, length}
 use Rattle.std.specs.List.{list_all}
 use Rattle.prop_lattice.specs.Points.{Point}
 use Rattle.prop_lattice.specs.declared.info.Info.{Info}
@@ -9,9 +9,10 @@ use Rattle.prop_procedures.specs.declared.shape.Param.{Param}
 use Rattle.prop_procedures.specs.declared.shape.Shape.{Shape}
 use Rattle.prop_procedures.specs.declared.shape.Shape.TheVariants.{Span}
 use Rattle.prop_many.specs.Cumulative.{RelatesCumulative, cumulative_of}
+use Rattle.prop_many.specs.Differ.{RelatesDiffer, differ_of}
 use Rattle.prop_many.specs.Disjoint.{RelatesDisjoint, disjoint_of}
 use Rattle.prop_many.specs.declared.many.Many.{Many}
-use Rattle.prop_many.specs.declared.many.Many.TheVariants.{Cumulative, Disjoint}
+use Rattle.prop_many.specs.declared.many.Many.TheVariants.{Cumulative, Differ, Disjoint}
 
 -- the shape is that of numbers
 abbrev pub is_number : Shape → Bool
@@ -26,6 +27,7 @@ AreNumbers shapes = list_all is_number shapes ≡ true
 abbrev pub least_of : Many → ℕ
 least_of Cumulative = 4
 least_of Disjoint = 2
+least_of Differ = 1
 
 -- the rule may have inputs of these shapes
 abbrev pub HasInputs : Many → List Shape → Type 0
@@ -39,13 +41,10 @@ FormOf rule ins out need = HasInputs rule ins × (out ≡ Span) × (need ≡ nee
 abbrev pub value_of : Many → Param → List Info → Info
 value_of Cumulative param args = cumulative_of args
 value_of Disjoint param args = disjoint_of args
+value_of Differ param args = differ_of args
 
 -- the points that belong together
 abbrev pub Related : Many → Param → List Point → Point → Type 0
 Related Cumulative param points point = RelatesCumulative points point
 Related Disjoint param points point = RelatesDisjoint points point
-
--- the input that is the output: the own start
-abbrev pub own_of : Many → Option ℕ
-own_of Cumulative = Some 1
-own_of Disjoint = Some 0
+Related Differ param points point = RelatesDiffer points point

@@ -2,6 +2,8 @@ pub mod NumberLaws
 pub mod LoadLaws
 pub mod CumulativeLaws
 pub mod DisjointLaws
+pub mod DifferLaws
+pub mod FreeLaws
 pub mod ManyLaws
 pub mod ExactLaws
 pub mod GuardLaws

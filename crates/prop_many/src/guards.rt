@@ -1,6 +1,7 @@
 //! The rules, guarded.
-ghost use Rattle.std.specs.Prelude.{◌≡◌, false, None};
-ghost use Rattle.prop_many.specs.Many.{own_of};
+ghost use Rattle.std.specs.Prelude.{◌≡◌, false};
+ghost use Rattle.prop_guards.specs.Known.{number_of};
+ghost use Rattle.prop_many.specs.Guards.{own_of, ruled_out, ruled_out_beside};
 ghost use Rattle.prop_many.specs.laws.GuardLaws.{many_barred, many_own, many_repeated};
 ghost use Rattle.prop_many.specs.laws.GuardLaws.{many_silent};
 
@@ -34,6 +35,29 @@ const ENDS: Changes = Changes {
     hole: false,
 };
 
+/// The number that an information leaves alone.
+fn number_of(info: Info) -> Option<i64>
+    ensures { result ≡ number_of info }
+{
+    match info {
+        Info::Span(span) => (span.lo() == span.hi()).then_some(span.lo()),
+        _ => None,
+    }
+}
+
+/// The number that the argument at this place rules out of the first, from which it differs.
+fn ruled_out_beside(args: &[Info], place: usize) -> Option<i64>
+    ensures { result ≡ ruled_out_beside args.now place }
+{
+    match args {
+        [_, others @ ..] if 0 < place => match others.get(place - 1) {
+            Some(other) => number_of(*other),
+            None => None,
+        },
+        _ => None,
+    }
+}
+
 impl Guarded for Many {
     ghost is_silent = { λ rule param args. false };
 
@@ -41,7 +65,7 @@ impl Guarded for Many {
 
     ghost own_of = { own_of };
 
-    ghost ruled_out = { λ rule param args place. None };
+    ghost ruled_out = { λ rule param args place. ruled_out rule args place };
 
     fn says_nothing(&self, _param: &Param, _args: &[Info]) -> bool {
         false
@@ -54,12 +78,15 @@ impl Guarded for Many {
     fn own_place(&self) -> Option<usize> {
         match self {
             Many::Cumulative => Some(1),
-            Many::Disjoint => Some(0),
+            Many::Disjoint | Many::Differ => Some(0),
         }
     }
 
-    fn rules_out(&self, _param: &Param, _args: &[Info], _place: usize) -> Option<i64> {
-        None
+    fn rules_out(&self, _param: &Param, args: &[Info], place: usize) -> Option<i64> {
+        match self {
+            Many::Differ => ruled_out_beside(args, place),
+            _ => None,
+        }
     }
 
     fn heeds(&self, place: usize, _count: usize) -> Changes {
@@ -67,6 +94,7 @@ impl Guarded for Many {
             Many::Cumulative if place == 0 => HIGH,
             Many::Cumulative if place % 3 == 1 => ENDS,
             Many::Disjoint if place % 2 == 0 => ENDS,
+            Many::Differ => ENDS,
             _ => LOW,
         }
     }

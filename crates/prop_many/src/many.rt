@@ -8,6 +8,7 @@ ghost use Rattle.prop_many.specs.Exact.{EachIsExact};
 ghost use Rattle.prop_many.specs.laws.ManyLaws.{many_monotone, many_keeps_kind, many_sound};
 
 use crate::cumulative::start_beside;
+use crate::differ::number_beside;
 use crate::disjoint::start_apart;
 use prop_lattice::Info;
 use prop_procedures::{Need, Rule, Shape};
@@ -21,6 +22,8 @@ pub enum Many {
     /// From the start and length of a task, and those of each other task, to its start: at no time
     /// does it run beside another.
     Disjoint,
+    /// From a number and each of the others to the number: they are all different.
+    Differ,
 }
 
 /// Whether a shape is that of numbers.
@@ -45,6 +48,7 @@ impl Many {
         match self {
             Many::Cumulative => 4,
             Many::Disjoint => 2,
+            Many::Differ => 1,
         }
     }
 
@@ -67,6 +71,7 @@ impl Many {
         match self {
             Many::Cumulative => start_beside(args),
             Many::Disjoint => start_apart(args),
+            Many::Differ => number_beside(args),
         }
     }
 }

@@ -28,6 +28,7 @@ use Rattle.prop_hall.specs.Excluder.{need_of as excluder_need, out_of as exclude
 use Rattle.prop_hall.specs.Excluder.{Related as ExcluderRelated, value_of as excluder_value}
 use Rattle.prop_many.specs.declared.many.Many.{Many}
 use Rattle.prop_many.specs.Many.{Related as ManyRelated, value_of as many_value}
+use Rattle.prop_many.specs.Prelude.{prelude_lines as many_lines}
 use Rattle.prop_many.specs.Procedures.{Named as ManyNamed, in_order as many_named}
 use Rattle.prop_rows.specs.declared.row.Row.{Row}
 use Rattle.prop_rows.specs.Prelude.{prelude_lines as row_lines}
@@ -108,7 +109,7 @@ in_order =
 
 -- the lines of the preludes, in order
 abbrev pub lines_in_order : List (List ℕ)
-lines_in_order = kit_lines ++ (wide_lines ++ (different_lines ++ row_lines))
+lines_in_order = kit_lines ++ (wide_lines ++ (different_lines ++ (many_lines ++ row_lines)))
 
 -- their library
 abbrev pub wide : List Stored

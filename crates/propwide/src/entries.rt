@@ -12,7 +12,10 @@ ghost use Rattle.propwide.specs.Kits.{of_excluder, of_kit, of_many, of_rows, of_
 use prop_arith::{KITS, Kit, PRELUDE};
 use prop_hall::{EXCLUDERS, Excluder};
 use prop_lattice::Info;
-use prop_many::{Many, PROCEDURES as MANY_PROCEDURES, procedures_are_stated as many_are_stated};
+use prop_many::{
+    Many, PRELUDE as MANY_PRELUDE, PROCEDURES as MANY_PROCEDURES,
+    prelude_is_stated as many_prelude_is_stated, procedures_are_stated as many_are_stated,
+};
 use prop_procedures::{Both, Named, Need, Param, Shape};
 use prop_rows::{
     PRELUDE as ROW_PRELUDE, PROCEDURES as ROW_PROCEDURES, Row, ins as row_ins, prelude_is_stated,
@@ -159,17 +162,19 @@ fn add_rows(made: &mut Vec<Entry>) -> Result<(), AllocError>
     Ok(())
 }
 
-/// The preludes of the kit, of the wider procedures, of the excluders and of the rows, in this
-/// order.
+/// The preludes of the kit, of the wider procedures, of the excluders, of many cells and of the
+/// rows, in this order.
 pub fn lines(alloc: Global) -> Result<Vec<&'static str>, AllocError>
     ensures { IfOk result (λ all. words all.items ≡ lines_in_order) }
 {
     // (so that the lines are those that are stated)
+    many_prelude_is_stated();
     prelude_is_stated();
     let mut all = Vec::new(alloc);
     all.extend_from_slice(&PRELUDE)?;
     all.extend_from_slice(&WIDE_PRELUDE)?;
     all.extend_from_slice(&DIFFERENT)?;
+    all.extend_from_slice(&MANY_PRELUDE)?;
     all.extend_from_slice(&ROW_PRELUDE)?;
     Ok(all)
 }

@@ -2,26 +2,31 @@
 use Rattle.std.specs.Prelude.{◌≡◌, ◌⊎◌, ◌≤◌, ℤ, pos, neg_ℤ, ◌+ℤ◌, ◌-ℤ◌, ◌≤ℤ◌, ◌<ℤ◌, Bool, true}
 use Rattle.std.specs.Prelude.{false, int_le, int_lt, ◌&&◌, if◌then◌else◌, List, [], ◌∷◌, length}
 use Rattle.std.specs.Int.{int_max, int_min}
-use Rattle.std.proofs.Common.{arith, refl, rules, subst, ap, inl, inr}
+use Rattle.std.proofs.Common.{◌∙◌, arith, refl, rules, subst, sym, ap, inl, inr}
 use Rattle.std.proofs.lemmas.Int.{ints, clamps}
+use Rattle.prop_hall.specs.Points.{AreDifferent, IsNoneOf}
 use Rattle.prop_intervals.specs.Clip.{clip}
 use Rattle.prop_intervals.specs.laws.Relations.{IsInRange}
 use Rattle.prop_lattice.specs.Ends.{AreEnds, ends_or_not, span_from}
 use Rattle.prop_lattice.specs.inner.Ends.{span_if}
 use Rattle.prop_lattice.specs.Points.{Point, Number, Element, Symbol, Holds}
 use Rattle.prop_lattice.specs.declared.info.Info.{Info}
-use Rattle.prop_lattice.specs.declared.info.Info.TheVariants.{Nothing}
+use Rattle.prop_lattice.specs.declared.info.Info.TheVariants.{Nothing, Contradiction}
 use Rattle.prop_lattice.specs.declared.span.TheConstants.{B}
 use Rattle.prop_wide.specs.Ends.{low_of, high_of, known}
 use Rattle.prop_many.specs.Cumulative.{RelatesCumulative, cumulative_of, first_of, last_of}
 use Rattle.prop_many.specs.Cumulative.{starts_of}
 use Rattle.prop_many.specs.Disjoint.{IsApart, RelatesDisjoint, disjoint_of, earliest_of}
 use Rattle.prop_many.specs.Disjoint.{is_behind, latest_of, start_before}
+use Rattle.prop_many.specs.Differ.{RelatesDiffer, any_crowded, before_all, differ_of, lying_in}
+use Rattle.prop_many.specs.Differ.{past_all}
 use Rattle.prop_many.specs.Exact.{AreJust, EachIsExact}
 use Rattle.prop_many.specs.Loads.{demand_of, end_of, load_at, load_of, part_at}
-use Rattle.prop_many.specs.declared.many.Many.TheVariants.{Cumulative, Disjoint}
+use Rattle.prop_many.specs.declared.many.Many.TheVariants.{Cumulative, Differ, Disjoint}
 use Rattle.prop_many.specs.laws.CumulativeLaws.{first_is, fits_opens, high_in_range, last_is}
 use Rattle.prop_many.specs.laws.CumulativeLaws.{low_in_range}
+use Rattle.prop_many.specs.laws.DifferLaws.{IsShown, before_all_below, no_two, past_all_above}
+use Rattle.prop_many.specs.laws.DifferLaws.{shown_here, shown_later, shown_past, single_lies}
 use Rattle.prop_many.specs.laws.DisjointLaws.{lt_true}
 use Rattle.prop_many.specs.laws.LoadLaws.{IsOpen}
 use Rattle.prop_many.specs.laws.NumberLaws.{both_true, never}
@@ -43,7 +48,8 @@ clip_held lo hi v h =
     let held = span_from_held (int_max lo (neg_ℤ B)) (int_min hi B) v h in
     (omega (arith, ints, clamps, held.0), omega (arith, ints, clamps, held.1))
 
-known_held : (lo hi v : ℤ) → IsInRange v → Holds (known lo hi) (Number v) → (lo ≤ℤ v) × (v ≤ℤ hi)
+pub known_held : (lo hi v : ℤ) → IsInRange v → Holds (known lo hi) (Number v)
+    → (lo ≤ℤ v) × (v ≤ℤ hi)
 unfolding known
 known_held lo hi v r = by (int_le lo (neg_ℤ B)) refl (int_le B hi) refl
   where
@@ -213,6 +219,77 @@ disjoint_exact (s ∷ l ∷ others) points z some e r h = search rules
 disjoint_exact [] points z some e r h = absurd (omega (arith, some))
 disjoint_exact (s ∷ []) points z some e r h = absurd (omega (arith, some))
 
+-- ---- numbers that are all different
+
+numbers_same : (u v : ℤ) → Number u ≡ Number v → u ≡ v
+numbers_same u v e = cc
+
+none_of : (others : List Info) (points : List Point) (v : ℤ) → AreJust others points
+    → (IsShown others v → ⊥) → IsNoneOf (Number v) points
+none_of [] [] v e n = tt
+none_of (o ∷ others) (Number u ∷ points) v e n = (
+  λ same. n (shown_here o others v (e.0.0 ∙ sym (numbers_same v u same))
+      (e.0.1 ∙ sym (numbers_same v u same))),
+  none_of others points v e.1 (λ s. n (shown_later o others v s)),
+)
+none_of (o ∷ others) (Element i ∷ points) v e n = absurd e.0
+none_of (o ∷ others) (Symbol i ∷ points) v e n = absurd e.0
+none_of [] (p ∷ points) v e n = absurd e
+none_of (o ∷ others) [] v e n = absurd e
+
+all_differ : (others : List Info) (points : List Point) → AreJust others points
+    → ((a : ℤ) → lying_in others a 1 ≤ 1) → AreDifferent points
+all_differ [] [] e n = tt
+all_differ (o ∷ others) (Number u ∷ points) e n = (
+  none_of others points u e.1 (λ s. absurd (omega (
+    arith,
+    n u,
+    s.lies,
+    single_lies o u e.0.0 e.0.1,
+  ))),
+  all_differ others points e.1 (λ a. omega (arith, n a)),
+)
+all_differ (o ∷ others) (Element i ∷ points) e n = absurd e.0
+all_differ (o ∷ others) (Symbol i ∷ points) e n = absurd e.0
+all_differ [] (p ∷ points) e n = absurd e
+all_differ (o ∷ others) [] e n = absurd e
+
+not_both : (p v : ℤ) → v <ℤ p → p ≡ v → ⊥
+not_both p v q e = omega (arith, ints)
+
+differ_exact : (args : List Info) (points : List Point) (z : ℤ) → 1 ≤ length args
+    → AreJust args points → IsInRange z → Holds (differ_of args) (Number z)
+    → RelatesDiffer points (Number z)
+differ_exact (o ∷ others) (Number v ∷ points) z some e r h =
+    by (any_crowded others others) refl h
+  where
+    first : ℤ
+    first = past_all others others (low_of o) (low_of o)
+
+    last : ℤ
+    last = before_all others others (high_of o) (high_of o)
+
+    by : (t : Bool) → any_crowded others others ≡ t
+        → Holds (if t then Contradiction else known first last) (Number z)
+        → RelatesDiffer (Number v ∷ points) (Number z)
+    by true f h = absurd h
+    by false f h =
+        let held = known_held first last z r h in
+        let same = between (low_of o) (high_of o) v first z last e.0.0 e.0.1
+        (past_all_above others others (low_of o) (low_of o)) held.0 held.1
+        (before_all_below others others (high_of o) (high_of o)) in (
+          ap Number same.0,
+          (
+            none_of others points v e.1
+                (λ s. not_both first v (shown_past others (low_of o) v s e.0.0) same.1),
+            all_differ others points e.1 (λ a. no_two others a f),
+          ),
+        )
+differ_exact (o ∷ others) (Element i ∷ points) z some e r h = absurd e.0
+differ_exact (o ∷ others) (Symbol i ∷ points) z some e r h = absurd e.0
+differ_exact (o ∷ others) [] z some e r h = absurd e
+differ_exact [] points z some e r h = absurd (omega (arith, some))
+
 pub each_is_exact : EachIsExact
 each_is_exact Cumulative param args points (Number z) some e r h =
     cumulative_exact args points z some e r h
@@ -222,3 +299,7 @@ each_is_exact Disjoint param args points (Number z) some e r h =
     disjoint_exact args points z some e r h
 each_is_exact Disjoint param args points (Element i) some e r h = absurd r
 each_is_exact Disjoint param args points (Symbol n) some e r h = absurd r
+each_is_exact Differ param args points (Number z) some e r h =
+    differ_exact args points z some e r h
+each_is_exact Differ param args points (Element i) some e r h = absurd r
+each_is_exact Differ param args points (Symbol n) some e r h = absurd r

@@ -5,6 +5,9 @@ from collections.abc import Container, Iterable
 from propbench.refusals import NoSuchProcedure, Refused
 from propbench.session import Session
 
+# What of two to 64 numbers tells that one differs from the others is there where this is.
+DIFFER = "differ63"
+
 # What is used where it is there, with what a user writes for it; else the translation does with the
 # kit that is always there.
 WIDER = {
@@ -15,6 +18,7 @@ WIDER = {
     "divide": "`//` and `%`",
     **{f"count{number}": "count" for number in range(1, 9)},
     **{f"different{number}": "all_different" for number in range(2, 9)},
+    DIFFER: "all_different",
 }
 
 

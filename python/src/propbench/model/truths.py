@@ -5,6 +5,7 @@ from typing import TYPE_CHECKING
 from propbench.model.context import Context
 from propbench.model.core import different, rows_of
 from propbench.model.kinds import Plain, domain_of
+from propbench.model.kit import DIFFER
 from propbench.model.nodes import Node, Op, constant, node
 from propbench.model.relations import Relations
 from propbench.model.vocabulary import SIDES
@@ -14,6 +15,9 @@ if TYPE_CHECKING:
     from propbench.model.translation import Translation
 
 _MOST_DIFFERENT = 8
+# More than these tell more at once where they are numbers: as many as have room on a line, however
+# long their names are.
+_MOST_NUMBERS = 60
 
 
 class Truths:
@@ -60,6 +64,17 @@ class Truths:
         if 2 < count <= _MOST_DIFFERENT and self._writer.offers(f"different{count}"):
             cells = [self._all.cell_of(arg, context) for arg in each.args]
             self._writer.attach(f"different{count}", *cells)
+        elif _MOST_DIFFERENT < count <= _MOST_NUMBERS and self._writer.offers(DIFFER):
+            self._differ_at_once(each, context)
+
+    def _differ_at_once(self, each: Node, context: Context) -> None:
+        """States of each what the others leave of it, where these are numbers."""
+        if each.args[0].kind is not Plain.NUMBER:
+            return
+        cells = [self._all.cell_of(arg, context) for arg in each.args]
+        for at, own in enumerate(cells):
+            others = [*cells[:at], *cells[at + 1 :]]
+            self._writer.attach(f"differ{len(others)}", own, *others, own)
 
     def link(self, pair: Node, holds: bool, context: Context) -> None:
         """States that two are a pair of a relation, or none."""

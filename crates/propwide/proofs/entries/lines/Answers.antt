@@ -4,6 +4,7 @@ use Rattle.propwide.proofs.entries.lines.Goals as goal
 pub returns : goal.returns
 returns c =
     rw (
+      c.in_ok-extend_from_slice-5.ensures.items,
       c.in_ok-extend_from_slice-4.ensures.items,
       c.in_ok-extend_from_slice-3.ensures.items,
       c.in_ok-extend_from_slice-2.ensures.items,
