@@ -9,7 +9,8 @@ use Rattle.prop_lattice.specs.Points.{Point, Element, Symbol}
 use Rattle.prop_lattice.specs.Points as points
 use Rattle.prop_terms.specs.declared.operators.Prefix.{Prefix}
 use Rattle.prop_terms.specs.declared.operators.Prefix.TheVariants.{Negated, Not, If, Abs, Max, Min}
-use Rattle.prop_terms.specs.declared.operators.Prefix.TheVariants.{Sum, Count, Different, Element as Lookup}
+use Rattle.prop_terms.specs.declared.operators.Prefix.TheVariants.{Sum, Count, Different}
+use Rattle.prop_terms.specs.declared.operators.Prefix.TheVariants.{Element as Lookup}
 use Rattle.prop_terms.specs.declared.operators.Infix.{Infix}
 use Rattle.prop_terms.specs.declared.operators.Infix.TheVariants.{Semicolon, Comma, Beside, Colon}
 use Rattle.prop_terms.specs.declared.operators.Infix.TheVariants.{Then, Else, Iff, Implies, Xor, Or}
@@ -85,7 +86,8 @@ abbrev pub of_one : (ℤ → ℤ) → Option Value → Option Value
 of_one f v = option_map (λ x. Whole (f x)) (whole v)
 
 abbrev pub of_two : (ℤ → ℤ → Option ℤ) → Option Value → Option Value → Option Value
-of_two f v w = option_and_then (λ x. option_and_then (λ y. option_map Whole (f x y)) (whole w)) (whole v)
+of_two f v w =
+    option_and_then (λ x. option_and_then (λ y. option_map Whole (f x y)) (whole w)) (whole v)
 
 -- the values, where each has one
 abbrev pub all_of : {V : Type 0} → List (Option V) → Option (List V)

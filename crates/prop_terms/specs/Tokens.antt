@@ -28,9 +28,9 @@ is_blank b = (b == 32) || (b == 9)
 
 -- one of ( ) { } , ; : + - * % < > = ! / .
 abbrev pub is_mark : ℕ → Bool
-is_mark b = (b == 40) || (b == 41) || (b == 123) || (b == 125) || (b == 44) || (b == 59) || (b == 58)
-    || (b == 43) || (b == 45) || (b == 42) || (b == 37) || (b == 60) || (b == 62) || (b == 61)
-    || (b == 33) || (b == 47) || (b == 46)
+is_mark b = (b == 40) || (b == 41) || (b == 123) || (b == 125) || (b == 44) || (b == 59)
+    || (b == 58) || (b == 43) || (b == 45) || (b == 42) || (b == 37) || (b == 60) || (b == 62)
+    || (b == 61) || (b == 33) || (b == 47) || (b == 46)
 
 -- two bytes that are one mark: == != <= >= // ** ..
 abbrev pub is_pair : ℕ → ℕ → Bool
@@ -48,9 +48,11 @@ front_word [] = ([], [])
 front_word (b ∷ []) = cond (is_blank b) ([], []) (cond (is_mark b) ([], (b ∷ []) ∷ []) (b ∷ [], []))
 front_word (b ∷ c ∷ bytes) =
     let rest = front_word (c ∷ bytes) in
-    cond (is_blank b) ([], with_word rest) (cond (is_mark b)
-    ([], cond (is_pair b c) ((b ∷ c ∷ []) ∷ with_word (front_word bytes)) ((b ∷ []) ∷ with_word rest))
-    (b ∷ rest.0, rest.1))
+    cond (is_blank b) ([], with_word rest) (cond (is_mark b) (
+      [],
+      cond (is_pair b c) ((b ∷ c ∷ []) ∷ with_word (front_word bytes))
+          ((b ∷ []) ∷ with_word rest),
+    ) (b ∷ rest.0, rest.1))
 
 -- Each mark is a piece by itself. A word is a longest run of other bytes than marks, spaces and
 -- tabs.

@@ -234,7 +234,8 @@ fn join<'a>(
     held: Held<'a>,
     op: Infix,
 ) -> Result<Option<Held<'a>>, Refusal>
-    ensures { Moves result (machine.join op (shut_in (level_of op) (held_in frames.old.items held.entry)))
+    ensures { Moves result
+        (machine.join op (shut_in (level_of op) (held_in frames.old.items held.entry)))
         frames.new.items }
 {
     let level = level_of(op);
@@ -309,7 +310,8 @@ pub fn step<'a>(
     held: Option<Held<'a>>,
     token: Token<'a>,
 ) -> Result<Option<Held<'a>>, Refusal>
-    ensures { Moves result (machine.step (token_said token.entry) (state_of frames.old.items held.entry))
+    ensures { Moves result
+        (machine.step (token_said token.entry) (state_of frames.old.items held.entry))
         frames.new.items }
 {
     match (held, token) {

@@ -1,6 +1,6 @@
 //! The words and marks of a text.
-ghost use Rattle.std.specs.Prelude.{◌≡◌, ◌≤◌, ◌<◌, ◌∷◌, [], false, MatchOption, IfSome, length, take};
-ghost use Rattle.std.specs.Prelude.{drop};
+ghost use Rattle.std.specs.Prelude.{◌≡◌, ◌≤◌, ◌<◌, ◌∷◌, [], false, MatchOption, IfSome, length};
+ghost use Rattle.std.specs.Prelude.{take, drop};
 ghost use Rattle.std.specs.List.{AllByRecursion};
 ghost use Rattle.prop_terms.specs.Tokens.{pieces, is_blank, is_mark, is_pair};
 ghost use Rattle.prop_terms.specs.inner.Parts.{IsInWord, StartsPast, EndsWord};

@@ -62,8 +62,8 @@ fn refused_at(refusal: Refusal, text: &[u8], rest: &[u8]) -> Fault
 
 /// The term that a text writes, where one of the sort is wanted.
 ///
-/// The refusal is `LineTooLong` for more than 4,096 bytes, `WrongForm` where the text writes no such
-/// term, or `Memory`, where there was none.
+/// The refusal is `LineTooLong` for more than 4,096 bytes, `WrongForm` where the text writes no
+/// such term, or `Memory`, where there was none.
 pub fn read<'a>(alloc: Global, text: &'a [u8], sort: Sort) -> Result<Term<'a>, Fault>
     ensures ok { IfOk result (λ term. IsWritten sort text.now (term_of term)) }
     ensures err { IfErr result (λ fault. (fault.refusal ≡ Refusal.Memory)

@@ -8,7 +8,7 @@ use crate::operators::{Infix, Prefix};
 pub enum Term<'a> {
     /// A whole number, at most 10^18.
     Number(u64),
-    /// A name without its quotes: a cell's, an element's or a symbol's, or behind `in` a relation's.
+    /// A name without its quotes: of a cell, an element or a symbol, or behind `in` of a relation.
     Name(&'a [u8]),
     /// An operator before a term.
     One(Prefix, Box<Term<'a>>),

@@ -58,7 +58,8 @@ stack_of frames = stacked frames []
 
 -- the frames with what is held
 abbrev pub held_in : List kept.Frame → holds.Held → Held
-held_in frames held = record { frames = stack_of frames; term = term_of held.term; level = held.level }
+held_in frames held =
+    record { frames = stack_of frames; term = term_of held.term; level = held.level }
 
 -- where the reader stands
 abbrev pub state_of : List kept.Frame → Option holds.Held → State
