@@ -5,3 +5,5 @@ pub mod Taking
 pub mod Knowing
 pub mod Wholes
 pub mod Printed
+pub mod Rounding
+pub mod Truths

@@ -1,5 +1,6 @@
 -- What a term is worth.
-use Rattle.std.specs.Prelude.{ℕ, zero, suc, ℤ, pos, neg_ℤ, ◌+ℤ◌, ◌-ℤ◌, ◌*ℤ◌, int_le, int_lt}
+use Rattle.std.specs.Prelude.{◌≡◌, ◌⊎◌, ℕ, zero, suc, ℤ, pos, negsuc, neg_ℤ, ◌≤ℤ◌, ◌<ℤ◌}
+use Rattle.std.specs.Prelude.{◌+ℤ◌, ◌-ℤ◌, ◌*ℤ◌, int_le, int_lt}
 use Rattle.std.specs.Prelude.{List, [], ◌∷◌, ◌++◌, Bool, true, false, cond, not, ◌&&◌, ◌||◌, codes}
 use Rattle.std.specs.Prelude.{bytes_eq, map, Option, Some, None}
 use Rattle.std.specs.Int.{int_div_euclid, int_max, int_min}
@@ -18,6 +19,9 @@ use Rattle.prop_terms.specs.declared.operators.Infix.TheVariants.{And, Equal, Un
 use Rattle.prop_terms.specs.declared.operators.Infix.TheVariants.{Greater, AtLeast, In, UpTo, Plus}
 use Rattle.prop_terms.specs.declared.operators.Infix.TheVariants.{Minus, Times, Over, Remainder}
 use Rattle.prop_terms.specs.declared.operators.Infix.TheVariants.{Power}
+use Rattle.prop_terms.specs.declared.forming.Sort.TheVariants.{Truth}
+use Rattle.prop_terms.specs.declared.forming.Place.TheVariants.{Single}
+use Rattle.prop_terms.specs.Forming.{is_formed}
 use Rattle.prop_terms.specs.Terms.{Term, Number, Name, One, Two, Braces}
 
 -- ---- values
@@ -33,8 +37,8 @@ value_of elements symbols (points.Number z) = Whole z
 value_of elements symbols (points.Element i) = Text (elements i)
 value_of elements symbols (points.Symbol n) = Text (symbols n)
 
--- What names stand for: of a cell its value, of any other word the word itself. And what belongs
--- to a relation.
+-- What names stand for: of a cell its value, and of any other word, as `yes` and `no`, the word
+-- itself. And what belongs to a relation.
 pub record Names : Type 0 where
   pub value : List ℕ → Value
   pub related : List ℕ → List Value → Bool
@@ -58,10 +62,20 @@ holds (Some v) = is_same v (Text (codes "yes"))
 
 -- ---- numbers
 
--- the quotient rounded down, which there is none by zero
+-- the quotient rounded down, of which there is none by zero
 abbrev pub quotient : ℤ → ℤ → Option ℤ
-quotient x y = cond (int_lt (pos 0) y) (Some (int_div_euclid x y))
-    (cond (int_lt y (pos 0)) (Some (int_div_euclid (neg_ℤ x) (neg_ℤ y))) None)
+quotient x (pos zero) = None
+quotient x (pos (suc n)) = Some (int_div_euclid x (pos (suc n)))
+quotient x (negsuc n) = Some (int_div_euclid (neg_ℤ x) (pos (suc n)))
+
+-- q is x divided by y and rounded down
+abbrev pub IsRoundedDown : ℤ → ℤ → ℤ → Type 0
+IsRoundedDown x y q =
+    ((pos 0 <ℤ y) × ((q *ℤ y) ≤ℤ x) × (x <ℤ ((q *ℤ y) +ℤ y)))
+    ⊎ ((y <ℤ pos 0) × (x ≤ℤ (q *ℤ y)) × (((q *ℤ y) +ℤ y) <ℤ x))
+
+abbrev pub QuotientsAreRoundedDown : Type 0
+QuotientsAreRoundedDown = (x y q : ℤ) → quotient x y ≡ Some q → IsRoundedDown x y q
 
 abbrev pub power : ℤ → ℕ → ℤ
 power x zero = pos 1
@@ -222,3 +236,10 @@ abbrev mutual
   is_in names (Braces t) (v ∷ []) = list_any (comparison Equal v) (labels t)
   is_in names (Name r) vs = option_map_or (names.related r) (all_of vs) false
   is_in names t vs = false
+
+-- an operator between two terms that may stand where a truth is wanted is worth one, whatever its
+-- sides are worth
+abbrev pub TruthsHaveValues : Type 0
+TruthsHaveValues =
+    (names : Names) (op : Infix) (t u : Term) → is_formed (Two op t u) (Single Truth) ≡ true
+    → (b : Bool) × (worth names (Two op t u) ≡ truth b)
