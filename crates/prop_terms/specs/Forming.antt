@@ -87,6 +87,7 @@ sides (Rows s) Colon = Some (Label, Single s)
 sides (Row s) Colon = Some (Label, Single s)
 sides Range UpTo = Some (Single sort.Number, Single sort.Number)
 sides Words Beside = Some (Words, Label)
+sides Words Comma = Some (Words, Label)
 sides place op = None
 
 abbrev pub fits_number : Place → Bool

@@ -158,8 +158,10 @@ label (Number n) = Some (Whole (pos n))
 label (One Negated t) = of_one neg_ℤ (label t)
 label t = None
 
+-- those in braces
 abbrev pub labels : Term → List (Option Value)
 labels (Two Beside t u) = labels t ++ label u ∷ []
+labels (Two Comma t u) = labels t ++ label u ∷ []
 labels t = label t ∷ []
 
 abbrev pub exponent : Term → Option ℕ

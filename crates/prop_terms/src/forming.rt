@@ -37,7 +37,7 @@ pub enum Place {
     Row(Sort),
     /// What stands behind `in`: a range, words in braces, or a relation's name.
     Range,
-    /// Words or numbers with nothing between them.
+    /// Words or numbers with nothing or commas between them, or one.
     Words,
     /// A word or a number.
     Label,
@@ -141,7 +141,7 @@ fn sides(place: Place, op: Infix) -> Option<(Place, Place)>
         (Place::Range, Infix::UpTo) => {
             Some((Place::Single(Sort::Number), Place::Single(Sort::Number)))
         }
-        (Place::Words, Infix::Beside) => Some((Place::Words, Place::Label)),
+        (Place::Words, Infix::Beside | Infix::Comma) => Some((Place::Words, Place::Label)),
         _ => None,
     }
 }
