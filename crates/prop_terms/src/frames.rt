@@ -17,7 +17,7 @@ use prop_refusals::Refusal;
 use std::alloc::Global;
 
 /// The level of a number and a name.
-const LEAF: u8 = 17;
+pub const LEAF: u8 = 17;
 
 /// What has begun: a bracket, an operator before a term, or a term with an operator behind it.
 #[derive(Drop)]
@@ -35,7 +35,7 @@ pub struct Held<'a> {
 }
 
 /// The level of what stands between two terms.
-fn level_of(op: Infix) -> u8
+pub fn level_of(op: Infix) -> u8
     ensures { result ≡ level_of op }
 {
     match op {
@@ -63,7 +63,7 @@ fn level_of(op: Infix) -> u8
 }
 
 /// The level of what stands before a term.
-fn strength_of(op: Prefix) -> u8
+pub fn strength_of(op: Prefix) -> u8
     ensures { result ≡ strength_of op }
 {
     match op {
@@ -75,7 +75,7 @@ fn strength_of(op: Prefix) -> u8
 }
 
 /// The least level of what stands to the left of an operator of this level.
-fn left_at(level: u8) -> u8
+pub fn left_at(level: u8) -> u8
     requires { level < 32 }
     ensures { result ≡ left_at level }
 {
@@ -86,7 +86,7 @@ fn left_at(level: u8) -> u8
 }
 
 /// The least level of what stands to the right.
-fn right_at(level: u8) -> u8
+pub fn right_at(level: u8) -> u8
     requires { level < 32 }
     ensures { result ≡ right_at level }
 {

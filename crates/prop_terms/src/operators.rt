@@ -3,7 +3,7 @@ ghost use Rattle.std.specs.Prelude.{◌≡◌};
 ghost use Rattle.prop_terms.specs.Levels.{Side, strength_of, level_of, side_at, left_at, right_at};
 
 /// What stands before one term: a sign, a word or a function.
-#[derive(Clone, Copy)]
+#[derive(Clone, Copy, PartialEq, Eq)]
 pub enum Prefix {
     /// `- x`.
     Negated,
@@ -28,7 +28,7 @@ pub enum Prefix {
 }
 
 /// What stands between two terms.
-#[derive(Clone, Copy)]
+#[derive(Clone, Copy, PartialEq, Eq)]
 pub enum Infix {
     /// `;`, between what is looked up and the rows.
     Semicolon,

@@ -1,4 +1,5 @@
 //! Terms, as they are read.
+ghost use Rattle.std.specs.Prelude.{◌≡◌, IsTrue};
 
 use crate::operators::{Infix, Prefix};
 
@@ -16,4 +17,24 @@ pub enum Term<'a> {
     Two(Infix, Box<Term<'a>>, Box<Term<'a>>),
     /// Words in braces.
     Braces(Box<Term<'a>>),
+}
+
+impl Term<'_> {
+    ghost use Rattle.prop_terms.specs.Terms.{term_of};
+
+    /// Whether the two terms are the same.
+    pub fn is_same(&self, other: &Term<'_>) -> bool
+        ensures { IsTrue result → term_of self.now ≡ term_of other.now }
+    {
+        match (self, other) {
+            (Term::Number(number), Term::Number(with)) => number == with,
+            (Term::Name(name), Term::Name(with)) => name == with,
+            (Term::One(op, term), Term::One(with, behind)) => op == with && term.is_same(behind),
+            (Term::Two(op, left, right), Term::Two(with, before, behind)) => {
+                op == with && left.is_same(before) && right.is_same(behind)
+            }
+            (Term::Braces(words), Term::Braces(with)) => words.is_same(with),
+            _ => false,
+        }
+    }
 }
