@@ -1,5 +1,5 @@
 //! Terms, as they are read.
-ghost use Rattle.std.specs.Prelude.{◌≡◌, IsTrue};
+ghost use Rattle.std.specs.Prelude.{◌≡◌, ◌↔◌, IsTrue};
 
 use crate::operators::{Infix, Prefix};
 
@@ -24,7 +24,7 @@ impl Term<'_> {
 
     /// Whether the two terms are the same.
     pub fn is_same(&self, other: &Term<'_>) -> bool
-        ensures { IsTrue result → term_of self.now ≡ term_of other.now }
+        ensures { IsTrue result ↔ (term_of self.now ≡ term_of other.now) }
     {
         match (self, other) {
             (Term::Number(number), Term::Number(with)) => number == with,
