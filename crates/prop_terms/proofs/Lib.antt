@@ -1,0 +1,9 @@
+pub mod Sound
+pub mod Complete
+pub mod Splitting
+pub mod Taking
+pub mod Knowing
+pub mod Wholes
+pub mod Printed
+pub mod Rounding
+pub mod Truths

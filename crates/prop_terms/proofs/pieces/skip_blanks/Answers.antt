@@ -1,0 +1,8 @@
+use Rattle.std.proofs.Common.{sym, ◌∙◌}
+use Rattle.prop_terms.proofs.Splitting.{blank_more}
+use Rattle.prop_terms.proofs.pieces.skip_blanks.Goals as goal
+
+pub loop-i-preserved : goal.loop-i-preserved
+loop-i-preserved c =
+    blank_more c.args.bytes.now c.loop-i.i c.loop-i-test.true (sym c.is_blank.ensures ∙ c.if-not-is_blank.false)
+    c.loop-i.invariant
