@@ -1,8 +1,11 @@
 //! A session with a teller around it that answers questions for points.
-ghost use Rattle.std.specs.Prelude.{◌≡◌, ◌&&◌, codes, not};
+ghost use Rattle.std.specs.Prelude.{◌≡◌, ◌&&◌, codes, not, IfSome, List};
 ghost use Rattle.prop_engine.specs.Answers.{answer_of, is_refusal};
 ghost use Rattle.prop_telling.specs.Notes.{is_done};
+ghost use Rattle.prop_lessons.specs.Lessons.{AreTaught};
+ghost use Rattle.prop_procedures.specs.Stored.{Stored};
 ghost use Rattle.prop_seeking.specs.Asking.{begins};
+ghost use Rattle.prop_seeking.specs.inner.Seekers.{Ground, IsInquiry};
 
 use crate::asking::{as_value, is_limit, is_question, is_step};
 use crate::bound::bounding;
@@ -16,7 +19,7 @@ use prop_scheduler::Order;
 use prop_solve::{Earlier, Goal, Plan};
 use prop_telling::Teller;
 use prop_workbench::Session;
-use std::alloc::AllocError;
+use std::alloc::{AllocError, Global};
 
 /// Whether a line was carried out without a word.
 fn is_done(reply: &Reply) -> bool
@@ -37,6 +40,22 @@ fn is_refused(reply: &Reply) -> bool
     ensures { result ≡ is_refusal (answer_of reply.now) }
 {
     matches!(reply, Reply::Refused(_))
+}
+
+/// What a question that ends leaves, where there is one, and memory for it; else what was left
+/// before.
+fn left(alloc: Global, inquiry: Option<Inquiry>, earlier: Option<Earlier>) -> Option<Earlier>
+    ensures { (library : List Stored)
+        → IfSome inquiry (λ i. (g : Ground) × (g.library ≡ library) × IsInquiry g i)
+        → IfSome earlier (AreTaught library) → IfSome result (AreTaught library) }
+{
+    match inquiry {
+        Some(inquiry) => match inquiry.leave(alloc) {
+            Ok(earlier) => Some(earlier),
+            Err(_) => None,
+        },
+        None => earlier,
+    }
 }
 
 /// A teller, the question that the next line may go on with, and what those before it left.
@@ -198,10 +217,8 @@ impl<R: Guarded + Drop, O: Order + Drop> Seeker<R, O> {
             → IfSome self.old.earlier (AreTaught library)
             → IfSome self.new.earlier (AreTaught library) }
     {
-        if let Some(inquiry) = self.inquiry.take() {
-            let alloc = self.teller.session().alloc();
-            self.earlier = inquiry.leave(alloc).ok();
-        }
+        let alloc = self.teller.session().alloc();
+        self.earlier = left(alloc, self.inquiry.take(), self.earlier.take());
     }
 
     /// Carries out the lines of a prelude, in order. The first that is refused ends it with its
