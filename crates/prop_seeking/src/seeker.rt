@@ -1,5 +1,5 @@
 //! A session with a teller around it that answers questions for points.
-ghost use Rattle.std.specs.Prelude.{◌≡◌, ◌&&◌, codes, not, IfSome, List};
+ghost use Rattle.std.specs.Prelude.{◌≡◌, ◌&&◌, codes, not, IfSome, List, None};
 ghost use Rattle.prop_engine.specs.Answers.{answer_of, is_refusal};
 ghost use Rattle.prop_telling.specs.Notes.{is_done};
 ghost use Rattle.prop_lessons.specs.Lessons.{AreTaught};
@@ -42,19 +42,25 @@ fn is_refused(reply: &Reply) -> bool
     matches!(reply, Reply::Refused(_))
 }
 
-/// What a question that ends leaves, where there is one, and memory for it; else what was left
-/// before.
-fn left(alloc: Global, inquiry: Option<Inquiry>, earlier: Option<Earlier>) -> Option<Earlier>
-    ensures { (library : List Stored)
-        → IfSome inquiry (λ i. (g : Ground) × (g.library ≡ library) × IsInquiry g i)
-        → IfSome earlier (AreTaught library) → IfSome result (AreTaught library) }
+/// Ends a question, where there is one. What it learned is left, where there is memory for it.
+fn put_by(alloc: Global, inquiry: &mut Option<Inquiry>, earlier: &mut Option<Earlier>)
+    ensures ended { inquiry.new ≡ None }
+    ensures left { (library : List Stored)
+        → IfSome inquiry.old (λ i. (g : Ground) × (g.library ≡ library) × IsInquiry g i)
+        → IfSome earlier.old (AreTaught library) → IfSome earlier.new (AreTaught library) }
 {
-    match inquiry {
-        Some(inquiry) => match inquiry.leave(alloc) {
-            Ok(earlier) => Some(earlier),
-            Err(_) => None,
-        },
-        None => earlier,
+    if let Some(ended) = inquiry.take() {
+        *earlier = left(alloc, ended);
+    }
+}
+
+/// What a question that ends leaves, where there is memory for it.
+fn left(alloc: Global, ended: Inquiry) -> Option<Earlier>
+    ensures { (g : Ground) → IsInquiry g ended → IfSome result (AreTaught g.library) }
+{
+    match ended.leave(alloc) {
+        Ok(earlier) => Some(earlier),
+        Err(_) => None,
     }
 }
 
@@ -202,23 +208,11 @@ impl<R: Guarded + Drop, O: Order + Drop> Seeker<R, O> {
     {
         let reply = self.teller.command(line);
         if ends(&reply, line) {
-            self.put_by();
+            let alloc = self.teller.session().alloc();
+            put_by(alloc, &mut self.inquiry, &mut self.earlier);
             return reply;
         }
         reply
-    }
-
-    /// Ends the question. What was learned is left to later ones, where there is memory for it.
-    fn put_by(&mut self)
-        ensures same { self.new.teller ≡ self.old.teller }
-        ensures inquiry { self.new.inquiry ≡ None }
-        ensures earlier { (library : List Stored)
-            → IfSome self.old.inquiry (λ i. (g : Ground) × (g.library ≡ library) × IsInquiry g i)
-            → IfSome self.old.earlier (AreTaught library)
-            → IfSome self.new.earlier (AreTaught library) }
-    {
-        let alloc = self.teller.session().alloc();
-        self.earlier = left(alloc, self.inquiry.take(), self.earlier.take());
     }
 
     /// Carries out the lines of a prelude, in order. The first that is refused ends it with its
@@ -334,7 +328,8 @@ impl<R: Guarded + Drop, O: Order + Drop> Seeker<R, O> {
         if self.is_same(asked) {
             return self.inquiry.take();
         }
-        self.put_by();
+        let alloc = self.teller.session().alloc();
+        put_by(alloc, &mut self.inquiry, &mut self.earlier);
         None
     }
 

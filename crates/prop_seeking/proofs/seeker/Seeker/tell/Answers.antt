@@ -38,16 +38,16 @@ returns-clause-ready g c =
 pub returns-then-ends-clause-ready : goal.returns-then-ends-clause-ready
 returns-then-ends-clause-ready g c =
     let self = c.args.self.now in
-    let old = self.teller in
-    let new = c.command-reply.new.self in
-    let library = stored_of g.R.Rule.value_of old.session.live.network.library in
+    let old = self.teller.session in
+    let library = stored_of g.R.Rule.value_of old.live.network.library in
     let same = c.command-reply.ensures.same in
-    let left = c.put_by.ensures.earlier library
-    (ends_known library (ground_in g.R.Rule.value_of old.session) self.inquiry refl c.requires.ready.inquiry)
+    let left = c.put_by.ensures.left library
+    (ends_known library (ground_in g.R.Rule.value_of old) self.inquiry refl c.requires.ready.inquiry)
     c.requires.ready.earlier in
     record {
-      means = rw (c.put_by.ensures.same, same) c.requires.ready.means;
-      sound = rw c.put_by.ensures.same c.command-reply.ensures.sound;
-      inquiry = rw c.put_by.ensures.inquiry tt;
-      earlier = rw (c.put_by.ensures.same, same) left;
+      means = rw same c.requires.ready.means;
+      sound = c.command-reply.ensures.sound;
+      inquiry = rw c.put_by.ensures.ended tt;
+      earlier = subst (λ (l : List Stored). IfSome c.put_by.new.earlier (AreTaught l))
+          (ap (stored_of g.R.Rule.value_of) (sym same)) left;
     }
