@@ -19,6 +19,9 @@ use std::alloc::Global;
 /// The level of a number and a name.
 pub const LEAF: u8 = 17;
 
+/// The level of what stands in brackets.
+const BRACKET: u8 = 18;
+
 /// What has begun: a bracket, an operator before a term, or a term with an operator behind it.
 #[derive(Drop)]
 pub enum Frame<'a> {
@@ -260,7 +263,10 @@ fn inside<'a>(alloc: Global, shape: Shape, term: Term<'a>) -> Result<Held<'a>, R
             Err(_) => return Err(Refusal::Memory),
         },
     };
-    Ok(Held { term, level: 18 })
+    Ok(Held {
+        term,
+        level: BRACKET,
+    })
 }
 
 /// Whether the brackets are the same.

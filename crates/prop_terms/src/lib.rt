@@ -2,9 +2,9 @@
 //!
 //! A text is read as a term just where its tokens write that term and each operator stands between
 //! what it takes, and is refused else (`read`). Each text has one reading, and each term a writing
-//! (`texts_have_one_reading`, `terms_can_be_written`). What a term is worth is one definition,
-//! `worth` of specs/Meaning.antt, of which laws are proved (`quotients_are_rounded_down`,
-//! `truths_have_values`). No program uses this crate yet.
+//! (`texts_have_one_reading`, `terms_can_be_written`). A text that is printed writes its term
+//! (`print`). What a term is worth is one definition, `worth` of specs/Meaning.antt, of which laws
+//! are proved (`quotients_are_rounded_down`, `truths_have_values`). No program uses this crate yet.
 #![tactic(auto)]
 
 mod forming;

@@ -20,10 +20,13 @@ use std::alloc::Global;
 /// How many bytes a text may have.
 pub const MOST_BYTES: usize = 4096;
 
-/// Why a text is refused, and how many bytes stand before the piece at which no term went on.
+/// Why a text is refused, and where.
 #[derive(Clone, Copy)]
 pub struct Fault {
+    /// The refusal.
     pub refusal: Refusal,
+    /// How many bytes stand before the piece with which no term goes on: all of the text where one
+    /// ends too early, and where what is read may not stand there. No contract says so.
     pub place: usize,
 }
 

@@ -10,7 +10,7 @@ use crate::operators::{Infix, Prefix};
 use prop_language::natural_in;
 
 /// The largest whole number that is written.
-pub const MOST: u64 = 1_000_000_000_000_000_000;
+const MOST: u64 = 1_000_000_000_000_000_000;
 
 /// Which brackets.
 #[derive(Clone, Copy)]
