@@ -163,6 +163,9 @@ class Session:
         self.follow(question, FIRST, 1)
         if question.word == "solve" and slices:
             self.stride(question.again())
+        if is_short:
+            # (whether there is an end may rest on what was asked before)
+            return
         if slices:
             # (what was asked before may have made it shorter than it is now)
             anew = question.again()
@@ -172,8 +175,7 @@ class Session:
             again = question.again()
             self.begin_anew(question, limit)
             most = asked * (2 * FIRST // limit + 2) + 20
-            # (over what is open it may rest on what was asked before whether there is an end)
-            if self.follow(again, limit, most, SLICES[limit]) and not (again.end or is_short):
+            if self.follow(again, limit, most, SLICES[limit]) and again.end is None:
                 self.complain(again, f"no end in {most} lines by {limit} steps")
         self.talk.all([f"limit {FIRST}"])
         if isinstance(question, Rows) and slices and len(question.rows) <= FEW_ROWS:
