@@ -232,4 +232,6 @@ ends ts (Have held) t h e =
 
 -- what the reader finds is written so
 pub sound : (ts : List Token) (t : Term) → parsed ts ≡ Some t → Writes 0 ts t
-sound ts t e = option_and_then_some end (run ts (Want [])) t e (λ last f g. ends ts last t (runs ts [] (Want []) last refl f) g)
+sound ts t e =
+    option_and_then_some end (run ts (Want [])) t e
+    (λ last f g. ends ts last t (runs ts [] (Want []) last refl f) g)

@@ -1,5 +1,6 @@
 -- Pieces, a byte at a time.
-use Rattle.std.proofs.Common.{◌≡◌, ℕ, ◌+◌, ◌<◌, List, [], ◌∷◌, ◌++◌, take, drop, length, get_or, Bool, true, false, cond}
+use Rattle.std.proofs.Common.{◌≡◌, ℕ, ◌+◌, ◌<◌, List, [], ◌∷◌, ◌++◌, take, drop, length, get_or}
+use Rattle.std.proofs.Common.{Bool, true, false, cond}
 use Rattle.std.proofs.Common.{refl, sym, ◌∙◌, ap, suc, add-one, drop-cons, eqb, inl, inr}
 use Rattle.std.specs.Prelude.{◌||◌, ◌==◌, Some, None}
 use Rattle.std.specs.Option.{option_map}

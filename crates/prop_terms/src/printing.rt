@@ -141,7 +141,7 @@ fn check(alloc: Global, text: &[u8], term: &Term<'_>, sort: Sort) -> Result<(), 
 /// A text that writes the term, where one of the sort is wanted, with brackets only where an
 /// operator's level asks for them.
 ///
-/// It is read again before it is answered. So it is `LineTooLong` if it takes more than 4,096 bytes,
+/// It is read again before it is answered. So it is `LineTooLong` if it takes over 4,096 bytes,
 /// and `WrongForm` if no text writes the term there. `Memory` is said where there was none.
 pub fn print(alloc: Global, term: &Term<'_>, sort: Sort) -> Result<Vec<u8>, Refusal>
     ensures { IfOk result (λ text. IsWritten sort text.items (term_of term.now)) }
