@@ -9,7 +9,7 @@ from random import Random
 from typing import Callable, Optional
 
 from networks import Draw, attach_line, choice_line, hidden_of, statement_line
-from questions import Truth
+from asked import Truth
 
 # How often each change is tried.
 SHARES = {"kick or bring": 8, "forget": 4, "tell": 6, "fix": 1, "attach": 3, "cell": 1, "choose": 1}

@@ -1,6 +1,6 @@
 #!/usr/bin/python3
 """Random sessions of questions between changes: each reply to `solve`, `least`, `greatest` and
-`plans` is held to all points that there are in the state of that moment (tests/questions.py).
+`plans` is held to all points that there are in the state of that moment (tests/asked.py).
 
 usage: tests/changing.py PROGRAM [COUNT [FROM]]
 
@@ -25,7 +25,7 @@ from typing import ClassVar, Iterator, Optional
 import solving
 from case import Check
 from changes import State
-from questions import MOST_ROWS, NO_REPLY, Best, Question, Rows, Truth
+from asked import MOST_ROWS, NO_REPLY, Best, Question, Rows, Truth
 from solving import ASIDES, FEW_LINES, FIRST, LINES, asked_for, first_wrong, over_propwide, tell_of
 from talking import Reply
 from wide_rules import PROGRAM

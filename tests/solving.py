@@ -37,7 +37,7 @@ from typing import Callable, ClassVar, Iterable, Iterator, Optional
 
 from case import Case, Check, as_bytes
 from networks import Draw
-from questions import TWICE, Best, Question, Rows, Truth
+from asked import TWICE, Best, Question, Rows, Truth
 from relations import wrong_rooms
 from talking import Cut, Talk
 from wide_rules import PROGRAM

@@ -14,7 +14,7 @@ from dataclasses import dataclass
 from typing import Callable, Iterator, Optional
 
 from case import Check
-from questions import TWICE
+from asked import TWICE
 from solving import Session, tried
 from talking import Reply, Talk, has_reply
 from wide_rules import PROGRAM

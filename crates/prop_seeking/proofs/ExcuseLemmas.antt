@@ -1,7 +1,7 @@
 -- What is excused, by facts and by values.
-use Rattle.std.proofs.Common.{◌≡◌, ◌∙◌, ◌<◌, ◌≤◌, ℕ, zero, suc, Bool, true, false, cond, List, [], ◌∷◌, length, map}
+use Rattle.std.proofs.Common.{◌≡◌, ◌∙◌, ◌<◌, ℕ, zero, suc, Bool, true, false, cond, List, [], ◌∷◌, length, map}
 use Rattle.std.proofs.Common.{get_or, sym, ap, subst, refl, arith, All, Some, None}
-use Rattle.std.specs.Prelude.{ℤ, ◌≤ℤ◌, Contains, Option, slice_get, nat_lt, if◌then◌else◌}
+use Rattle.std.specs.Prelude.{ℤ, ◌≤ℤ◌, nat_lt, if◌then◌else◌}
 use Rattle.std.specs.List.{AllZip}
 use Rattle.std.specs.Ordering.{int_eq}
 use Rattle.std.proofs.lemmas.Bool.{lt-ltb}
@@ -18,13 +18,13 @@ use Rattle.prop_lattice.proofs.EndLemmas.{span_from-ends}
 use Rattle.prop_cells.specs.Points.{Attached}
 use Rattle.prop_facts.specs.Facts.{IsSo}
 use Rattle.prop_facts.specs.declared.fact.Fact.{Fact}
-use Rattle.prop_facts.specs.declared.fact.Fact.TheVariants.{AtLeast, AtMost, Is, Other, Among, Same}
+use Rattle.prop_facts.specs.declared.fact.Fact.TheVariants.{AtLeast, AtMost, Is, Among, Same}
 use Rattle.prop_facts.specs.declared.fact.Literal.{Literal}
 use Rattle.prop_plans.specs.Plans.{value_in}
 use Rattle.prop_refuting.specs.Places.{IsSoAt, point_at}
 use Rattle.prop_deriving.specs.Known.{IsExcused}
 use Rattle.prop_solve.specs.Questions.{IsValueFact, value_fact}
-use Rattle.prop_seeking.specs.Asking.{Aim, Least, Greatest}
+use Rattle.prop_seeking.specs.Asking.{Least, Greatest}
 use Rattle.prop_seeking.specs.Plans.{AreTold, IsNoBetter}
 use Rattle.prop_seeking.specs.inner.Seekers.{AreOf, info_of, row_of}
 

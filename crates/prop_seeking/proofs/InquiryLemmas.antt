@@ -1,17 +1,17 @@
 -- What an inquiry comes to.
 use Rattle.std.proofs.Common.{◌≡◌, ◌∙◌, ◌⊎◌, ◌+◌, ◌<◌, ◌≤◌, ℕ, true, false, List, [], ◌∷◌, ◌++◌}
-use Rattle.std.proofs.Common.{length, map, refl, sym, ap, subst}
+use Rattle.std.proofs.Common.{Bor, length, map, refl, sym, ap, subst}
 use Rattle.std.proofs.Common.{inl, inr, arith, All, Some, None, append_assoc, append-nil, length-append}
 use Rattle.std.specs.Prelude.{IfSome, Option, is_some}
 use Rattle.std.specs.List.{AllZip}
-use Rattle.std.specs.Option.{option_map}
+use Rattle.std.specs.Option.{option_copied, option_map}
 use Rattle.std.proofs.lemmas.List.{map-append}
 use Rattle.std.proofs.lemmas.List.Elements.{All-nil, All-push}
 use Rattle.prop_lattice.specs.declared.info.Info.{Info}
 use Rattle.prop_facts.specs.declared.fact.Literal.{Literal}
 use Rattle.prop_procedures.specs.Stored.{Stored}
 use Rattle.prop_plans.specs.Held.{attached_of}
-use Rattle.prop_plans.specs.Plans.{value_in}
+use Rattle.prop_lessons.specs.Lessons.{Taught}
 use Rattle.prop_deriving.specs.Known.{IsExcused}
 use Rattle.prop_solve.specs.Questions.{AreExcusing, IsValueFact, excused_then, is_optimum}
 use Rattle.prop_solve.specs.Searches.{Search, IsSearch}
@@ -213,6 +213,12 @@ before_taken o old q rows (inl e) h =
 before_taken None old q rows (inr e) (inl none) = inl none
 before_taken None old q rows (inr e) (inr some) = let no : ⊥ = cc in absurd no
 before_taken (Some i) old q rows (inr e) h = let no : ⊥ = cc in absurd no
+
+-- what is so of what a reference lends
+pub copied_so : (o : Option (Bor Taught)) (P : Taught → Type 0) → IfSome (option_copied o) P
+    → IfSome o (λ e. P e.now)
+copied_so None P h = tt
+copied_so (Some e) P h = h
 
 -- a question that was open is, where it is the same and no plan came
 pub open_yet : (i j : InquiryOf) → IsOpen i → IsSameQuestion i j → j.last ≡ i.last

@@ -13,7 +13,7 @@ use Rattle.prop_points.specs.Singles.{IsSingle}
 use Rattle.prop_texts.specs.Texts.{support_text}
 use Rattle.prop_workbench.specs.Machine.{State, choices_in, worldview_at}
 use Rattle.prop_workbench.specs.Points.{Satisfy}
-use Rattle.prop_seeking.specs.Asking.{Aim, Any, Least, Greatest, Differing, Question}
+use Rattle.prop_seeking.specs.Asking.{Aim, Least, Greatest, Differing, Question}
 use Rattle.prop_seeking.specs.Texts.{Plan, many_text, one_text}
 
 -- each value leaves a single point, and these points satisfy all that is believed with these sides

@@ -11,7 +11,7 @@ use Rattle.prop_texts.specs.Texts.{equation, support_text}
 use Rattle.prop_texts.specs.inner.Listed.{label_at}
 use Rattle.prop_workbench.specs.Machine.{State, choices_in}
 use Rattle.prop_workbench.specs.inner.Machine.{text_at}
-use Rattle.prop_seeking.specs.Asking.{Aim, Any, Least, Greatest}
+use Rattle.prop_seeking.specs.Asking.{Aim, Any, Least}
 
 -- a value of each cell, and a side of each choice, counted from 1
 pub record Plan : Type 0 where

@@ -1,5 +1,5 @@
 -- A seeker as the machine sees it, and what it keeps.
-use Rattle.std.specs.Prelude.{◌≡◌, ◌⊎◌, ◌≤◌, ◌<◌, ℕ, List, [], ◌∷◌, ◌++◌, Option, Some, None}
+use Rattle.std.specs.Prelude.{◌≡◌, ◌⊎◌, ◌≤◌, ◌<◌, ℕ, List, [], ◌++◌, Option, Some, None}
 use Rattle.std.specs.Prelude.{IfSome, true}
 use Rattle.std.specs.Prelude.{All, Result, Ok, Err, length, map, slice_index, ⊤}
 use Rattle.std.specs.List.{AllZip}

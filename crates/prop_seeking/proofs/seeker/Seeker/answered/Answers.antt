@@ -8,7 +8,7 @@ use Rattle.prop_seeking.proofs.seeker.Seeker.answered.Goals as goal
 
 pub returns-clause-replied : goal.returns-clause-replied
 returns-clause-replied g c =
-    let s = c.args.self.now.teller.session in
+    let teller = c.taken-before.ensures.same in
     let first = c.in_ok-inquiry.inquiry.solver in
     let last = c.text.new.inquiry.solver in
     let begun = c.in_ok-inquiry.ensures in
@@ -20,7 +20,8 @@ returns-clause-replied g c =
       after = after;
       begins = before_taken c.taken-before.result c.args.self.now.inquiry (asked_of c.args.asked.now).0 before
           c.taken-before.ensures.taken begun.before;
-      says = subst (λ (P : Type 0). P) (λ i. Says (library_of g.R.Rule.value_of s) (state_of s)
+      says = subst (λ (P : Type 0). P) (λ i. Says (library_of g.R.Rule.value_of (teller i).session)
+          (state_of (teller i).session)
           (question_of (begun.goal i) (begun.named i)) c.args.asked.now.most before after
           (string_bytes c.in_ok-text.text)) c.in_ok-text.ensures.answers;
       goes_on = λ i. Some (
