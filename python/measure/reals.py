@@ -80,10 +80,11 @@ def ask_bench(kind: ModuleType, case: Any, seen: Counter[str]) -> None:
     draw, names = case.draw, list(case.quantities)
     found = kind.lost(case)
     seen["asked"] += len(names)
-    if draw.random() < _SOMETIMES:
+    # (a law may be of no quantity at all)
+    if draw.random() < _SOMETIMES and names:
         found += kind.lost_of(case, draw.choice(names), is_shaved=True)
         seen["shaved"] += 1
-    if draw.random() < _SOMETIMES:
+    if draw.random() < _SOMETIMES and names:
         name = draw.choice(names)
         size = Fraction(draw.randint(0, 100), 10)
         shows = case.w.predict(case.quantities[name], size, seconds=_QUESTION).shows
