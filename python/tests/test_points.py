@@ -221,17 +221,19 @@ def test_many_lines_at_once(wide: str) -> None:
 
 @pytest.mark.parametrize("steps", [1, 2, 7, 50])
 def test_slices_tell_the_same(wide: str, steps: int, monkeypatch: pytest.MonkeyPatch) -> None:
-    asked = ["solve", "least z", "greatest x y", "plans 4 x y", "plans 9 x y", "plans 3 u x"]
-    with Session(wide) as whole, Session(wide) as session:
-        wanted = [str(reply) for reply in whole.send_all([*LINES, *asked])]
-        monkeypatch.setattr(seeking, "_STEPS", steps)
-        session.send_all(LINES)
-        told: list[int] = []
-        said = [str(session.send(line, progress=lambda n, reply: told.append(n))) for line in asked]
-        assert said == wanted[len(LINES) :]
-        assert told and all(n % told[0] == 0 for n in told)
-        lines = [line for line in session.lines if line[:5] != "limit"]
-        assert lines == [*LINES, *asked] and session.limit == 10**9
+    """(Each question in a session of its own: what one learned has others find plans elsewhere.)"""
+    told: list[int] = []
+    for line in ["solve", "least z", "greatest x y", "plans 4 x y", "plans 9 x y", "plans 3 u x"]:
+        with Session(wide) as whole, Session(wide) as session:
+            wanted = whole.send_all([*LINES, line])[-1]
+            session.send_all(LINES)
+            with monkeypatch.context() as patch:
+                patch.setattr(seeking, "_STEPS", steps)
+                said = session.send(line, progress=lambda n, reply: told.append(n))
+            assert str(said) == str(wanted)
+            lines = [line for line in session.lines if line[:5] != "limit"]
+            assert lines == [*LINES, line] and session.limit == 10**9
+    assert told and all(n % told[0] == 0 for n in told)
 
 
 @settings(max_examples=20 * TIMES)

@@ -235,7 +235,7 @@ def test_whose_call_it_is(wide: str) -> None:
 def defined() -> dict[str, tuple[list[str], list[list[str]]]]:
     """The definitions of the sources: parameters and steps of each."""
     found = {}
-    for crate in ("prop_arith", "prop_wide", "prop_rows"):
+    for crate in ("prop_arith", "prop_wide", "prop_rows", "prop_many"):
         text = (REPOSITORY / "crates" / crate / "src/prelude.rt").read_text(encoding="utf-8")
         for line in re.findall(r'"define ([^"]*)"', text):
             head, _, steps = line.partition(" = ")
