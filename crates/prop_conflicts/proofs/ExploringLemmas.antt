@@ -1,17 +1,17 @@
 -- What follows of conflicts and repairs.
-use Rattle.std.proofs.Common.{◌≡◌, ◌∙◌, ◌⊎◌, ◌==◌, ◌&&◌, ◌||◌, ◌<◌, ◌+◌, ℕ, zero, suc, Bool, true, false, not, IsTrue, List, []}
+use Rattle.std.proofs.Common.{◌≡◌, ◌∙◌, ◌⊎◌, ◌==◌, ◌||◌, ◌<◌, ℕ, zero, suc, Bool, true, false, not, IsTrue, List, []}
 use Rattle.std.proofs.Common.{◌∷◌, ◌++◌, All, Contains, length, get_or, refl, sym, ap, subst, inl, inr, arith, None, Some}
 use Rattle.std.specs.Prelude.{IfSome, Option}
 use Rattle.std.specs.List.{list_any}
 use Rattle.std.proofs.lemmas.Bool.Decides.{eqb_tells}
 use Rattle.std.proofs.lemmas.List.Elements.{All-contains, All-push}
 use Rattle.prop_numbers.specs.Sets.{Members, IsPart, IsSame, set_of, union, is_within, without}
-use Rattle.prop_numbers.proofs.WithinLemmas.{within_from, within_has}
+use Rattle.prop_numbers.proofs.WithinLemmas.{within_has}
 use Rattle.prop_premises.specs.Origins.{believed_in}
 use Rattle.prop_hitting.specs.Hitting.{HasAllOfOne, HitsAll, IsLean}
 use Rattle.prop_hitting.specs.declared.conflict.Conflict.{Conflict}
-use Rattle.prop_hitting.proofs.HittingLemmas.{any_at, any_in, decide, part_trans, same_part, part_same, without_part, without_parts}
-use Rattle.prop_conflicts.specs.Conflicts.{Fits, Ground, IsConflict, IsLeast, IsRefuted, IsRepair, less}
+use Rattle.prop_hitting.proofs.HittingLemmas.{any_at, any_in, decide, without_part, without_parts}
+use Rattle.prop_conflicts.specs.Conflicts.{Fits, Ground, IsConflict, IsRefuted, IsRepair, less}
 use Rattle.prop_hitting.specs.declared.frontier.Frontier.{Frontier}
 use Rattle.prop_conflicts.specs.declared.explorer.Stage.{Stage}
 use Rattle.prop_conflicts.specs.declared.explorer.Stage.TheVariants.{Seeking, Giving, Shrinking, Trying, Idle}

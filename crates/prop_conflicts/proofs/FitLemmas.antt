@@ -1,5 +1,5 @@
 -- Fewer premises fit where more do.
-use Rattle.std.proofs.Common.{◌≡◌, ◌∙◌, ◌⊎◌, ◌&&◌, ◌||◌, ℕ, Bool, true, false, not, IsTrue, List, [], ◌∷◌, ◌++◌, refl, sym}
+use Rattle.std.proofs.Common.{◌≡◌, ◌∙◌, ◌⊎◌, ◌&&◌, ◌||◌, ℕ, Bool, true, false, not, List, [], ◌∷◌, ◌++◌, refl, sym}
 use Rattle.std.proofs.Common.{suc, ◌+◌, ◌<◌, arith, length}
 use Rattle.prop_lessons.specs.inner.Standing.{Begin}
 use Rattle.std.proofs.Common.{ap, subst, inl, inr, None, Some}
@@ -7,7 +7,7 @@ use Rattle.std.specs.Prelude.{Err, Ok, OnOk, Option, Result, ◌==◌}
 use Rattle.std.proofs.lemmas.Bool.Decides.{eqb_tells, leb_tells}
 use Rattle.std.proofs.lemmas.List.Folds.{list_any-append}
 use Rattle.prop_lattice.specs.Points.{Point}
-use Rattle.prop_numbers.specs.Sets.{Members, IsPart, IsSame, set_of, union, is_within, without}
+use Rattle.prop_numbers.specs.Sets.{Members, IsPart, IsSame, set_of, union, is_within}
 use Rattle.prop_premises.specs.ChoiceLists.{IsChoiceList, hypotheticals_of, worldview}
 use Rattle.prop_premises.specs.Origins.{Origin, believed_in, choices_of}
 use Rattle.prop_premises.proofs.OriginLemmas.{believed_in-past}
@@ -16,7 +16,7 @@ use Rattle.prop_procedures.specs.Stored.{Stored}
 use Rattle.prop_cells.specs.Points.{ArePoints, Attached}
 use Rattle.prop_cells.specs.Problems.{is_member}
 use Rattle.prop_plans.specs.Held.{AreHeld}
-use Rattle.prop_conflicts.specs.Conflicts.{Fits, Ground, IsRefuted, less}
+use Rattle.prop_conflicts.specs.Conflicts.{Fits, Ground}
 use Rattle.prop_hitting.proofs.HittingLemmas.{decide}
 
 -- some points satisfy what these premises say, with these choices

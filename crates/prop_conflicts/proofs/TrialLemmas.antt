@@ -1,5 +1,5 @@
 -- What a search answers of the premises that are tried.
-use Rattle.std.proofs.Common.{◌≡◌, ◌∙◌, ◌≤◌, ℕ, List, [], All, length, refl, take, sym, ap, subst, arith, None, Some}
+use Rattle.std.proofs.Common.{◌≡◌, ◌∙◌, ◌≤◌, ℕ, List, [], All, length, take, sym, ap, subst, arith, None, Some}
 use Rattle.std.specs.Prelude.{IfSome, Option}
 use Rattle.prop_lattice.specs.Points.{Point}
 use Rattle.prop_numbers.specs.Sets.{Members, IsPart, set_of}

@@ -1,5 +1,5 @@
 -- Which premises can't all hold, and what has to be given up of them.
-use Rattle.std.specs.Prelude.{ℕ, List, Bool, not, ◌&&◌, IsTrue}
+use Rattle.std.specs.Prelude.{ℕ, List, not, ◌&&◌, IsTrue}
 use Rattle.prop_lattice.specs.Points.{Point}
 use Rattle.prop_numbers.specs.Sets.{Members, IsPart, set_of, without}
 use Rattle.prop_premises.specs.ChoiceLists.{IsChoiceList, worldview}

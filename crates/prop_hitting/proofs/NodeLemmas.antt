@@ -1,13 +1,11 @@
 -- Which sets are in a node, and in which of the nodes.
-use Rattle.std.proofs.Common.{◌≡◌, ◌∙◌, ◌⊎◌, ◌==◌, ◌&&◌, ◌||◌, ℕ, Bool, true, false, IsTrue, List, [], ◌∷◌, ◌++◌}
+use Rattle.std.proofs.Common.{◌≡◌, ◌∙◌, ◌⊎◌, ◌==◌, ◌||◌, ℕ, Bool, true, false, List, [], ◌∷◌, ◌++◌}
 use Rattle.std.proofs.Common.{arith, refl, suc, sym, ap, subst, inl, inr}
 use Rattle.std.specs.List.{list_any}
 use Rattle.std.proofs.lemmas.Bool.Decides.{eqb_tells}
-use Rattle.std.proofs.lemmas.List.Folds.{list_any-append}
-use Rattle.prop_numbers.specs.Sets.{Members, set_of, union, is_within, IsPart, IsSame}
+use Rattle.prop_numbers.specs.Sets.{Members, set_of, union, is_within, IsSame}
 use Rattle.prop_numbers.proofs.WithinLemmas.{within_from, within_has}
 use Rattle.prop_hitting.specs.declared.conflict.Conflict.{Conflict}
-use Rattle.prop_hitting.specs.declared.frontier.Frontier.{Frontier}
 use Rattle.prop_hitting.specs.declared.node.Node.{Node}
 use Rattle.prop_hitting.specs.Hitting.{HasAllOfOne, HitsAll}
 use Rattle.prop_hitting.specs.inner.Nodes.{IsIn, IsOneOf}

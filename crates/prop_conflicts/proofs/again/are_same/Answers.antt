@@ -1,4 +1,4 @@
-use Rattle.std.proofs.Common.{◌∙◌, arith, sym}
+use Rattle.std.proofs.Common.{arith}
 use Rattle.prop_conflicts.proofs.FitLemmas.{same_lists}
 use Rattle.prop_conflicts.proofs.again.are_same.Goals as goal
 

@@ -1,8 +1,8 @@
-use Rattle.std.proofs.Common.{◌∙◌, ◌<◌, ◌≤◌, All, Contains, List, arith, length, subst, sym}
-use Rattle.std.specs.Prelude.{IsTrue, false}
+use Rattle.std.proofs.Common.{◌∙◌, ◌≤◌, All, arith, length, subst, sym}
+use Rattle.std.specs.Prelude.{IsTrue}
 use Rattle.std.specs.List.{list_any}
 use Rattle.std.proofs.lemmas.List.{take_all}
-use Rattle.std.proofs.lemmas.List.Elements.{All-more, Contains-get_or}
+use Rattle.std.proofs.lemmas.List.Elements.{All-more}
 use Rattle.prop_numbers.specs.Sets.{set_of}
 use Rattle.prop_hitting.specs.declared.conflict.Conflict.{Conflict}
 use Rattle.prop_hitting.proofs.conflict.missed.Goals as goal

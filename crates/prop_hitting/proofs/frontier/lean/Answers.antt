@@ -1,7 +1,6 @@
 use Rattle.std.proofs.Common.{◌≡◌, ◌∙◌, ◌++◌, ◌∷◌, [], ap, append-nil, append_assoc, refl, rules, subst, sym}
 use Rattle.std.specs.Prelude.{List, ℕ}
-use Rattle.prop_numbers.specs.Sets.{set_of, without, IsPart}
-use Rattle.prop_hitting.specs.Hitting.{HitsAll}
+use Rattle.prop_numbers.specs.Sets.{set_of}
 use Rattle.prop_hitting.proofs.HittingLemmas.{AreNeeded, lean_so, needed_less, needed_more, less_part, part_trans}
 use Rattle.prop_hitting.proofs.frontier.lean.Goals as goal
 

@@ -1,4 +1,3 @@
-use Rattle.std.proofs.Common.{false, true}
 use Rattle.prop_conflicts.specs.Conflicts.{IsConflict, IsRepair}
 use Rattle.prop_conflicts.proofs.ExploringLemmas.{none_all}
 use Rattle.prop_conflicts.proofs.explorer.Explorer.new.Goals as goal

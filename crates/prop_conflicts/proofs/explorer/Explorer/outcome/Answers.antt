@@ -1,4 +1,4 @@
-use Rattle.std.proofs.Common.{Option, Some, subst}
+use Rattle.std.proofs.Common.{Option, subst}
 use Rattle.prop_procedures.specs.Kept.{stored_of}
 use Rattle.prop_conflicts.specs.Conflicts.{ground_at}
 use Rattle.prop_conflicts.specs.declared.trial.Trial.{Trial}

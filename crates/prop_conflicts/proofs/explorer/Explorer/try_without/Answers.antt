@@ -1,4 +1,4 @@
-use Rattle.std.proofs.Common.{List, ap, subst, sym, ℕ}
+use Rattle.std.proofs.Common.{List, ap, subst, sym}
 use Rattle.prop_numbers.specs.Sets.{set_of}
 use Rattle.prop_procedures.specs.Kept.{stored_of}
 use Rattle.prop_hitting.specs.Hitting.{HitsAll, IsLean}
