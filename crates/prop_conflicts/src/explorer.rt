@@ -156,8 +156,8 @@ impl Explorer {
         ensures { OnOk result (IsExplored (ground_at (stored_of R.value_of network.now.library)
             network.now.cells premises.now) self.new) }
     {
-        self.steps = self.steps.saturating_add(1);
         let left = until.saturating_sub(self.steps);
+        self.steps = self.steps.saturating_add(1);
         match self.stage {
             Stage::Seeking => self.seek(network, premises),
             Stage::Giving => self.give(network, premises, left),
