@@ -96,7 +96,7 @@ impl Trial {
                 Ok(Outcome::Lost)
             }
             Answer::Unsettled => {
-                if self.solver.is_over() {
+                if self.solver.is_lost() {
                     return Ok(Outcome::Lost);
                 }
                 Ok(Outcome::Open)
