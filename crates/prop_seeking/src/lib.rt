@@ -21,5 +21,6 @@ mod seeker;
 mod striding;
 mod texts;
 
+pub use asking::{as_value, begins};
 pub use running::run;
 pub use seeker::Seeker;

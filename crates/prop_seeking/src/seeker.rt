@@ -113,6 +113,13 @@ impl<R: Guarded + Drop, O: Order + Drop> Seeker<R, O> {
         }
     }
 
+    /// The session.
+    pub fn session(&self) -> &Session<R, O>
+        ensures { result.now ≡ self.now.teller.session }
+    {
+        self.teller.session()
+    }
+
     /// Carries out a line: a question for points, or as its teller does.
     pub fn command(&mut self, line: &[u8]) -> Reply
         requires ready { IsReady R.value_of self.old }

@@ -1,0 +1,3 @@
+pub mod SayLemmas
+pub mod Starting
+pub mod StayLemmas
