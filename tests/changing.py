@@ -25,7 +25,7 @@ from typing import ClassVar, Iterator, Optional
 import solving
 from case import Check
 from changes import State
-from asked import MOST_ROWS, NO_REPLY, Best, Question, Rows, Truth
+from asked import NO_REPLY, Best, Question, Rows, Truth
 from solving import ASIDES, FEW_LINES, FIRST, LINES, asked_for, first_wrong, over_propwide, tell_of
 from talking import Reply
 from wide_rules import PROGRAM
@@ -145,7 +145,7 @@ class Session(solving.Session):
             return self.ask_by_slice(question)
         self.limit_to(FIRST)
         is_short = question.is_endless() or question.truth.is_open()
-        asked = self.follow(question, FIRST, FEW_LINES if is_short else LINES + MOST_ROWS)
+        asked = self.follow(question, FIRST, FEW_LINES if is_short else LINES)
         if asked is not None and question.end is None:
             self.not_ended(question, asked)
             return is_short

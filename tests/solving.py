@@ -37,18 +37,20 @@ from typing import Callable, ClassVar, Iterable, Iterator, Optional
 
 from case import Case, Check, as_bytes
 from networks import Draw
-from asked import TWICE, Best, Question, Rows, Truth
+from asked import MOST_ROWS, TWICE, Best, Question, Rows, Truth
 from relations import wrong_rooms
 from talking import Cut, Talk
 from wide_rules import PROGRAM
 
-# So many networks are tried in the gate, so many in one case.
-TRIED, AT_A_TIME = 1000, 25
+# So many networks are tried in the gate, so many in one case, and one besides in which a question
+# stood still: a number was ruled out of a cell that the excluder doesn't read.
+TRIED, AT_A_TIME, STOOD_STILL = 1000, 25, (314071, 314072)
 # Rows are also asked for one by one where they are so few.
 FEW_ROWS = 12
-# So many steps a line may take at first. Within so many lines each question ends, but where too
-# many numbers are left of a cell; there, and where rows aren't asked for to the end, so few.
-FIRST, LINES, FEW_LINES = 1000, 100, 5
+# So many steps a line may take at first. Within so many lines each question ends, also where a line
+# tells one row, but where too many numbers are left of a cell; there, and where rows aren't asked
+# for to the end, so few.
+FIRST, LINES, FEW_LINES = 1000, 100 + MOST_ROWS, 5
 # By these slices each question is asked again, so many lines at a time.
 SLICES = {100_000: 1, 10: 20, 1: 150}
 # So many steps are told of a question.
@@ -354,6 +356,7 @@ def cases() -> Iterator[Check]:
     for first in range(0, TRIED, AT_A_TIME):
         last = first + AT_A_TIME
         yield Check(f"solving: networks {first} to {last - 1}", first_wrong(range(first, last)))
+    yield Check("solving: where questions stood still", first_wrong(range(*STOOD_STILL)))
 
 
 def over_propwide(check: Check) -> Check:

@@ -127,16 +127,21 @@ fn is_silent<R: Guarded + Drop>(network: &Network<R>, x: &Instance, args: &[Info
     rule.says_nothing(x.param(), args)
 }
 
+/// Whether the output of an instance is its input at the rule's own place.
+fn narrows_itself<R: Guarded + Drop>(rule: &R, x: &Instance) -> bool {
+    match rule.own_place() {
+        Some(own) => x.inputs().get(own) == Some(&x.output()),
+        None => false,
+    }
+}
+
 /// Whether it is seen at a glance that a call answers what is believed.
 fn is_repeating<R: Guarded + Drop>(network: &Network<R>, x: &Instance, args: &[Info]) -> bool {
     if x.procedure() >= network.library().len() {
         return true;
     }
     let rule = network.library().get(x.procedure()).rule();
-    match rule.own_place() {
-        Some(own) if x.inputs().get(own) == Some(&x.output()) => rule.repeats(x.param(), args),
-        _ => false,
-    }
+    narrows_itself(rule, x) && rule.repeats(x.param(), args)
 }
 
 /// Whether a call can tell what was said from what was believed before. A number that is ruled out
@@ -459,7 +464,8 @@ impl Spread {
         self.rule_out_by(network, x, args, by)
     }
 
-    /// Rules out of an instance's output what its arguments do, number by number.
+    /// Rules out of an instance's output what its arguments do, number by number. Where the input at
+    /// the rule's own place is another cell, no step could tell why.
     fn rule_out_by<R: Guarded + Drop>(
         &mut self,
         network: &Network<R>,
@@ -473,7 +479,7 @@ impl Spread {
             return Ok(true);
         }
         let rule = network.library().get(x.procedure()).rule();
-        if rule.own_place().is_none() {
+        if !narrows_itself(rule, x) {
             return Ok(true);
         }
         for place in 0..args.len() {
