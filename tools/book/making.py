@@ -32,13 +32,18 @@ CONTENTS = {
         *(f"docs/{name}" for name in ("COMPARE", "BENCHMARKS", "SECURITY", "PROMISES")),
         "CHANGELOG",
     ],
-    "To build on it": [f"docs/{it}" for it in ("ARCHITECTURE", "HOSTING", "DEVELOPING", "DECISIONS")],
+    "To build on it": [
+        f"docs/{name}" for name in ("ARCHITECTURE", "HOSTING", "DEVELOPING", "DECISIONS")
+    ],
 }
 NEEDED = {"sphinx": "python3-sphinx", "myst_parser": "python3-myst-parser", "furo": "furo"}
 BLOCK = re.compile(r"(?:^    .*\n|^\n(?=    ))+", re.M)
 LINK = re.compile(r"\]\(([^)\s#]+)(#[^)\s]*)?\)")
 # What begins a block of commands for a shell.
-SHELL = "python3 propdesk rt sudo cd ./propbench tools/build tools/believed /usr/bin/python3".split()
+SHELL = """
+python3 propdesk rt sudo cd ./propbench tools/build tools/believed /usr/bin/python3
+PYTHONPATH=python/src
+""".split()
 # Replies that say how many lines follow.
 COUNTED = re.compile(r"(?:nogoods|step|how|list|plans?|least|greatest) (\d+)")
 
@@ -79,15 +84,15 @@ def is_table(text: str) -> bool:
 def language(text: str, before: str, commands: set[str]) -> str:
     """The language of a block, behind this line of its document."""
     word = text.split()[0]
-    if before == "This prints" or "This prints" in before:
+    if before.startswith("This prints"):
         return "text"
     if word in commands:
         return "session"
     if word in SHELL:
-        return "console"
+        return "bash"
     if is_table(text):
         return "toml"
-    return "python" if is_code(text) else "text"
+    return "python" if is_code(text) else "none"
 
 
 def with_fences(text: str, commands: set[str]) -> str:
@@ -103,10 +108,10 @@ def with_fences(text: str, commands: set[str]) -> str:
 
 def examples() -> dict[str, str]:
     """The page of each example, by what there is to read of it: a program, a session, tables."""
-    found = [*glob.glob("examples/*/*.py", root_dir=TOP), *glob.glob("examples/**/*.prop", root_dir=TOP)]
-    found += glob.glob("examples/*/*.prop", root_dir=TOP)
+    found = glob.glob("examples/*/*.py", root_dir=TOP)
+    found += glob.glob("examples/**/*.prop", root_dir=TOP, recursive=True)
     folders = {os.path.dirname(it) for it in glob.glob("examples/*/*/*.csv", root_dir=TOP)}
-    pages = {path: f"{path}.md" for path in sorted({*found})}
+    pages = {path: f"{path}.md" for path in sorted(found)}
     return pages | {folder: f"{folder}/tables.md" for folder in sorted(folders)}
 
 
@@ -153,7 +158,8 @@ def linked(path: str, text: str, pages: dict[str, str]) -> str:
         place = os.path.normpath(f"{folder}/{target}".lstrip("/"))
         stem, kind = os.path.splitext(place)
         if kind == ".svg":
-            place, anchor = next((it for it in (f"{stem}.py", f"{stem}.prop") if it in pages)), "#picture"
+            place = next(it for it in (f"{stem}.py", f"{stem}.prop") if it in pages)
+            anchor = "#picture"
         place = "index.md" if place == "README.md" else pages.get(place, place)
         return f"]({os.path.relpath(place, folder or '.')}{anchor})"
 
