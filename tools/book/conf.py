@@ -11,6 +11,8 @@ root_doc = "index"
 source_suffix = {".md": "markdown"}
 myst_heading_anchors = 4
 highlight_language = "none"
+# (a block that is no shell's throughout is shown plainly)
+suppress_warnings = ["misc.highlighting_failure"]
 
 html_theme = "furo"
 html_title = "propbench"
