@@ -41,7 +41,7 @@ class Outlier(Premises):
 
 class Outliers(Shown, list[Outlier]):
     """The minimal sets of readings to give up: the fewest first, and of as many those that are off
-    by more, as compared with their tolerance. The certificate shows the conflicts among readings."""
+    by more, as compared with their tolerance. The certificate shows conflicts among readings."""
 
     def __init__(
         self,

@@ -2,7 +2,8 @@
 
 The cheapest set that hits all known conflicts is given up for a try. Either the rest has a plan:
 then that set is a repair. Or it has not: then what the program names is shrunk to a minimal
-conflict by leaving out one premise after another. (MARCO's way, with the map solved for its cheapest sets.)
+conflict by leaving out one premise after another. (MARCO's way, with the map solved for its
+cheapest sets.)
 """
 
 from collections.abc import Mapping, Sequence
