@@ -4,7 +4,9 @@ What is laid out for Sphinx is looked at whether Sphinx is there or not: that ea
 the contents, that each block has a language, and that each link leads to a file and a heading. Where
 Sphinx is there, the pages are made, each link in them leads somewhere, and their search knows them.
 """
+import contextlib
 import glob
+import io
 import os
 import re
 import sys
@@ -15,11 +17,13 @@ from urllib.parse import unquote
 from case import Check
 
 TOP = os.path.dirname(os.path.dirname(os.path.realpath(__file__)))
-sys.path.append(f"{TOP}/tools/book")
+sys.path += [f"{TOP}/tools/{folder}" for folder in ("book", "deb", "start")]
 
 # pylint: disable=wrong-import-position
 import making
+import tree
 
+BUILD = tree.Build({}, True, "1.0", 0, "", True)
 LINK = re.compile(r"\]\(([^)\s#]*)(#[^)\s]*)?\)")
 
 
@@ -67,31 +71,58 @@ def ids(text: str) -> set[str]:
     return {*re.findall(r'\bid="([^"]+)"', text)}
 
 
+def links(page: str, text: str) -> Iterator[tuple[str, str]]:
+    """The files beside a page that it leads to, each with what is named of it."""
+    for link in re.findall(r'(?:href|src)="([^"]+)"', text):
+        file, _, anchor = unquote(link).partition("#")
+        if not re.match(r"\w+:", link):
+            place = os.path.normpath(os.path.join(os.path.dirname(page), file.partition("?")[0]))
+            yield (place if file else page), anchor
+
+
 def made() -> Optional[str]:
-    """Of the pages: a link that leads nowhere, or a page that the search doesn't know."""
+    """Of the pages in the Debian package: a link that leads nowhere, or what the search lacks."""
     if making.lacking():
         return None
     with tempfile.TemporaryDirectory(prefix="handbook-test-") as room:
-        making.make(f"{room}/html", 0)
-        pages = glob.glob(f"{room}/html/**/*.html", recursive=True)
-        texts = {page: text_of(page) for page in pages}
+        tree.laid_out(tree.of_handbook(BUILD), room, 0)
+        top = f"{room}/{tree.HTML}"
+        texts = {page: text_of(page) for page in glob.glob(f"{top}/**/*.html", recursive=True)}
         for page, text in texts.items():
-            for link in re.findall(r'(?:href|src)="([^"]+)"', text):
-                file, _, anchor = unquote(link).partition("#")
-                to = os.path.normpath(os.path.join(os.path.dirname(page), file)) if file else page
-                if re.match(r"\w+:", link):
-                    continue
-                if not os.path.isfile(to.partition("?")[0]):
-                    return f"{os.path.relpath(page, room)} links to {link}"
-                if anchor and to in texts and anchor not in ids(texts[to]):
-                    return f"{os.path.relpath(page, room)} links to {link}"
-        index = text_of(f"{room}/html/searchindex.js")
-        names = [f'"{name.removesuffix(".md")}"' for name in making.documents()]
-        unknown = [name for name in names if name not in index]
+            for to, anchor in links(page, text):
+                if (
+                    not os.path.isfile(to)
+                    or anchor
+                    and to in texts
+                    and anchor not in ids(texts[to])
+                ):
+                    return (
+                        f"{os.path.relpath(page, top)} links to {os.path.relpath(to, top)}#{anchor}"
+                    )
+        index = text_of(f"{top}/searchindex.js")
+        names = ["index", *(name.removesuffix(".md") for name in making.documents())]
+        unknown = [name for name in names if f'"{name}"' not in index]
         return f"the search does not know {unknown}" if unknown else None
+
+
+def left_out_of_the_package() -> Optional[str]:
+    """Where something is lacking, the package has no handbook, and it is told what is lacking."""
+    told, needed = io.StringIO(), making.NEEDED
+    making.NEEDED = {"no_such_module": "no-such-package"}
+    try:
+        with contextlib.redirect_stderr(told):
+            files = tree.of_handbook(BUILD)
+    finally:
+        making.NEEDED = needed
+    if files or told.getvalue() != "tools/package: no handbook, for want of no-such-package\n":
+        return f"{sorted(files)}, and it says {told.getvalue()!r}"
+    return None
 
 
 def cases() -> Iterator[Check]:
     yield Check("handbook: its contents", lambda _: left_out())
     yield Check("handbook: what is laid out for it", lambda _: laid_out())
     yield Check("handbook: its pages, where Sphinx is there", lambda _: made())
+    yield Check(
+        "handbook: what is told where Sphinx isn't there", lambda _: left_out_of_the_package()
+    )

@@ -65,7 +65,10 @@ BLACK = ["--check", "--quiet", "--diff", "--line-length", "100"]
 
 def found_by(module: str, words: list[str]) -> Optional[str]:
     """What a module of Debian's Python finds in them, folder by folder, or None."""
-    env = {**os.environ, "MYPYPATH": f"{TOP}/tools/start:{TOP}/tools/book"}
+    env = {
+        **os.environ,
+        "MYPYPATH": ":".join(f"{TOP}/tools/{it}" for it in ("start", "book", "deb")),
+    }
     for folder, patterns in TYPED.items():
         place = f"{TOP}/{folder}"
         names = [it for each in patterns for it in sorted(glob.glob(each, root_dir=place))]
