@@ -27,7 +27,7 @@ CONTENTS = {
         "python/README",
     ],
     "The language": [f"docs/{name}" for name in ("LANGUAGE", "WIDE", "FITTING", "PIPE")],
-    "The proofs": [f"docs/{name}" for name in ("CLAIMS", "TRUST", "PRIMER")],
+    "The proofs": ["docs/CLAIMS", "docs/TRUST", "docs/PRIMER", "python/REALS"],
     "Around it": [
         *(f"docs/{name}" for name in ("COMPARE", "BENCHMARKS", "SECURITY", "PROMISES")),
         "CHANGELOG",

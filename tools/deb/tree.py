@@ -155,7 +155,7 @@ def of_documents() -> dict[str, bytes]:
     """README.md, CHANGELOG.md, docs/, examples/, notebooks/ and what is said of the Python package,
     beside each other as they are in the repository."""
     paths = [f"{TOP}/README.md", f"{TOP}/CHANGELOG.md", *tracked("docs", "*.md")]
-    paths.append(f"{TOP}/python/README.md")
+    paths += [f"{TOP}/python/README.md", f"{TOP}/python/REALS.md"]
     paths += [*tracked("examples", "**/*.*"), *tracked("notebooks", "*.*")]
     return {f"{DOC}/{os.path.relpath(path, TOP)}": read(path) for path in paths}
 
