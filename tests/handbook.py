@@ -99,6 +99,9 @@ def made() -> Optional[str]:
                     return (
                         f"{os.path.relpath(page, top)} links to {os.path.relpath(to, top)}#{anchor}"
                     )
+        for style in glob.glob(f"{top}/**/*.css", recursive=True):
+            if asked := re.search(r"url\(\W{0,2}(?:/|https?:)[^)]*", text_of(style)):
+                return f"{os.path.relpath(style, top)} asks a server: {asked[0]}"
         index = text_of(f"{top}/searchindex.js")
         names = ["index", *(name.removesuffix(".md") for name in making.documents())]
         unknown = [name for name in names if f'"{name}"' not in index]

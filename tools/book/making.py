@@ -48,9 +48,13 @@ PYTHONPATH=python/src
 COUNTED = re.compile(r"(?:nogoods|step|how|list|plans?|least|greatest) (\d+)")
 
 
-def read(path: str) -> str:
-    with open(f"{TOP}/{path}", encoding="utf-8") as it:
+def read_from(path: str) -> str:
+    with open(path, encoding="utf-8") as it:
         return it.read()
+
+
+def read(path: str) -> str:
+    return read_from(f"{TOP}/{path}")
 
 
 def documents() -> list[str]:
@@ -207,6 +211,18 @@ def outside(texts: dict[str, str]) -> Iterator[str]:
             yield os.path.normpath(f"{os.path.dirname(path)}/{target}".lstrip("/"))
 
 
+def mend(path: str) -> None:
+    """Mends the theme's style sheet as Debian has it: it asks a server for a file, and leaves a page
+    light, but for its code, where the system is dark."""
+    text = re.sub(r"@import [^;]*;", "", read_from(path))
+    dark = re.search(r'body\[data-theme="dark"\] (\{[^}]*\})', text)
+    if dark and "prefers-color-scheme" not in text:
+        wanted = "@media screen and (prefers-color-scheme: dark)"
+        text += f'\n{wanted} {{ body:not([data-theme="light"]) {dark[1]} }}\n'
+    with open(path, "w", encoding="utf-8") as it:
+        it.write(text)
+
+
 def make(to: str, moment: int) -> None:
     """Makes the handbook in a folder, as of a moment in seconds since 1970. Errors: OSError with
     what Sphinx said."""
@@ -221,6 +237,7 @@ def make(to: str, moment: int) -> None:
             raise OSError(f"Sphinx: {done.stderr.strip()}")
         for name in (".buildinfo", "objects.inv"):
             os.remove(f"{room}/made/{name}")
+        mend(f"{room}/made/_static/styles/furo.css")
         shutil.rmtree(to, ignore_errors=True)
         shutil.copytree(f"{room}/made", to)
 
