@@ -58,7 +58,7 @@ def wide(program: str) -> str:
 def made(program: str, to: str, **env: str) -> str:
     """The path of a package that is made now."""
     words = [f"{TOP}/tools/package", "--program", program, "--wide", wide(program), "--to", to]
-    done = ran(words, env={**os.environ, **env})
+    done = ran([*words, "--no-handbook"], env={**os.environ, **env})
     if done.returncode:
         raise OSError(done.stderr.decode() + done.stdout.decode())
     return done.stdout.decode().strip()
@@ -443,7 +443,7 @@ def tells_proof(program: str) -> Optional[str]:
         for name in PROGRAMS:
             os.makedirs(f"{copy}/crates/{name}/out")
             shutil.copy(program, f"{copy}/crates/{name}/out/{name}")
-        built = output_of(f"{copy}/tools/package").strip()
+        built = output_of(f"{copy}/tools/package", "--no-handbook").strip()
         fields = output_of("dpkg-deb", "--field", built)
         if "~unproved" in fields or "Every answer is proved" not in fields:
             return fields

@@ -43,7 +43,8 @@ def first_lines() -> Optional[str]:
     return f"{odd}" if odd else None
 
 
-TYPED_TESTS = ["conftest", "documents", "driver", "first_start", "gate", "lines", "networks"]
+TYPED_TESTS = ["conftest", "documents", "driver", "first_start", "gate", "handbook", "lines"]
+TYPED_TESTS += ["networks"]
 TYPED_TESTS += ["package", "pages", "peers", "pipe", "points", "puzzles", "relations", "scripts"]
 TYPED_TESTS += ["searches", "solving", "spoiled_solving", "talking", "test_sessions", "versions"]
 TYPED_TESTS += ["changes", "changing", "questions", "spoiled_changing"]
@@ -51,6 +52,7 @@ TYPED_TESTS += ["many_rules", "row_rules", "wide_puzzles", "wide_rules"]
 # Scripts and modules that are typed and laid out by black, by the folder that they are looked at in.
 TYPED = {
     "tools/start": ["*.py", "../../propbench", "../../propwide"],
+    "tools/book": ["making.py", "../handbook"],
     "tools/deb": ["*.py", "../package"],
     "tools": ["pipe_speed", "python_gate", "release", "steps"],
     "tests": [f"{it}.py" for it in TYPED_TESTS],
@@ -63,7 +65,10 @@ BLACK = ["--check", "--quiet", "--diff", "--line-length", "100"]
 
 def found_by(module: str, words: list[str]) -> Optional[str]:
     """What a module of Debian's Python finds in them, folder by folder, or None."""
-    env = {**os.environ, "MYPYPATH": f"{TOP}/tools/start"}
+    env = {
+        **os.environ,
+        "MYPYPATH": ":".join(f"{TOP}/tools/{it}" for it in ("start", "book", "deb")),
+    }
     for folder, patterns in TYPED.items():
         place = f"{TOP}/{folder}"
         names = [it for each in patterns for it in sorted(glob.glob(each, root_dir=place))]

@@ -10,6 +10,7 @@ PATH is crates/propbench/out/propbench where it is left out. What is run:
 - each NAME.prop in examples/, whose replies are NAME.out beside it;
 - the sessions of README.md and docs/ (tests/documents.py), and these texts themselves: how long
   they are, links and names (tests/pages.py);
+- the handbook in HTML that tools/handbook makes of these texts (tests/handbook.py);
 - how long the lines of the crates are (tests/lines.py);
 - what docs/PIPE.md tells who drives the program from another: its examples, and how lines and
   replies go (tests/pipe.py);
@@ -67,6 +68,7 @@ import cores
 import documents
 import first_start
 import gate
+import handbook
 import lines
 import made
 import many_rules
@@ -138,7 +140,9 @@ def worked() -> Iterator[Case]:
 
 def cases() -> Iterator[Runnable]:
     """What is run, the long ones first. A large or random session is made once it is run."""
-    for module in (scripts, gate, versions, package, first_start, spoiled, lines, pages, believed):
+    for module in (scripts, gate, versions, package, handbook, first_start, spoiled):
+        yield from module.cases()
+    for module in (lines, pages, believed):
         yield from module.cases()
     yield from stacks.cases(worked())
     yield from refusals.cases(list(transcribed()))

@@ -6,16 +6,19 @@ import json
 import os
 import stat
 import subprocess
+import tempfile
 import tomllib
 from dataclasses import dataclass
 
 import completion
+import making
 import manual
 from manual import TOP, document
 
 PYTHON = f"{TOP}/python/src/propbench"
 MODULES = "usr/lib/python3/dist-packages/propbench"
 DOC = "usr/share/doc/propbench"
+HTML = f"{DOC}/html"
 # The checksums of the programs, where these are the proved ones. By them the Python package knows
 # so, and `sha256sum --check` does.
 CHECKSUM = "usr/share/propbench/proved.sha256"
@@ -59,6 +62,7 @@ class Build:
     # Seconds since 1970.
     moment: int
     changes: str
+    with_handbook: bool
 
 
 def read(path: str) -> bytes:
@@ -151,15 +155,31 @@ def of_documents() -> dict[str, bytes]:
     """README.md, CHANGELOG.md, docs/, examples/, notebooks/ and what is said of the Python package,
     beside each other as they are in the repository."""
     paths = [f"{TOP}/README.md", f"{TOP}/CHANGELOG.md", *tracked("docs", "*.md")]
-    paths.append(f"{TOP}/python/README.md")
+    paths += [f"{TOP}/python/README.md", f"{TOP}/python/REALS.md"]
     paths += [*tracked("examples", "**/*.*"), *tracked("notebooks", "*.*")]
     return {f"{DOC}/{os.path.relpath(path, TOP)}": read(path) for path in paths}
+
+
+def of_handbook(build: Build) -> dict[str, bytes]:
+    """The documents once more, as a handbook in HTML. Where what makes it is lacking, that is told.
+
+    Errors: OSError with what Sphinx said."""
+    if not build.with_handbook or making.told_lacking("tools/package"):
+        return {}
+    with tempfile.TemporaryDirectory(prefix="handbook-") as room:
+        making.make(f"{room}/html", build.moment)
+        found = glob.glob(f"{room}/html/**/*", recursive=True)
+        return {
+            f"{HTML}/{os.path.relpath(path, f'{room}/html')}": read(path)
+            for path in found
+            if os.path.isfile(path)
+        }
 
 
 def files(build: Build) -> dict[str, bytes]:
     """Each file of the package, by its path.
 
-    Errors: OSError where a page of the manual can't be made."""
+    Errors: OSError where a page of the manual or the handbook can't be made."""
     found = {
         f"{VIM}/syntax/propbench.vim": read(f"{TOP}/tools/deb/propbench.vim"),
         f"{VIM}/ftdetect/propbench.vim": DETECTS.encode(),
@@ -169,6 +189,7 @@ def files(build: Build) -> dict[str, bytes]:
         **{path: it for name in build.programs for path, it in of_program(build, name).items()},
         **of_proof(build),
         **of_documents(),
+        **of_handbook(build),
         **of_python(build),
         **of_minizinc(build),
     }

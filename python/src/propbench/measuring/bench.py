@@ -273,8 +273,8 @@ class Measuring(Questions):
         seconds: float | None = None,
         progress: Progress | None = None,
     ) -> Outliers:
-        """The least sets of readings to give up so that nothing speaks against the others, `most` of
-        them at the most: the fewest first, and of as many those that are off by more.
+        """The minimal sets of readings to give up so that nothing speaks against the others, `most`
+        of them at the most: the fewest first, and of as many those that are off by more.
 
         >>> w = Workbench()
         >>> height = w.measured("height", "m", 0, 100)

@@ -1,7 +1,7 @@
 """A curve between two quantities, told by pieces: over each of them it lies between two lines.
 
 Of a piece both quantities are cut off at its ends, so what is told of it holds wherever they are:
-pieces can be halved, and told beside those that are there. docs/FUNCTIONS.md has the proof.
+pieces can be halved, and told beside those that are there. python/REALS.md has the proof.
 """
 
 from collections.abc import Iterator

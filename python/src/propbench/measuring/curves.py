@@ -1,7 +1,7 @@
 """Curves: functions that rise throughout, or fall, on a domain, as a branch of a sine does.
 
 Of each are known values between fractions, how far it bends, and where it has a value: that is all
-which laws need of a function. docs/FUNCTIONS.md says how.
+which laws need of a function. python/REALS.md says how.
 """
 
 from bisect import bisect_right

@@ -1,4 +1,4 @@
-"""Outliers: the least sets of readings to give up so that nothing speaks against the others."""
+"""Outliers: the minimal sets of readings to give up so that nothing speaks against the others."""
 
 from collections.abc import Iterable, Mapping, Sequence
 from dataclasses import dataclass
@@ -40,8 +40,8 @@ class Outlier(Premises):
 
 
 class Outliers(Shown, list[Outlier]):
-    """The least sets of readings to give up: the fewest first, and of as many those that are off by
-    more, as compared with their tolerance. The certificate shows the conflicts among readings."""
+    """The minimal sets of readings to give up: the fewest first, and of as many those that are off
+    by more, as compared with their tolerance. The certificate shows conflicts among readings."""
 
     def __init__(
         self,
@@ -138,7 +138,7 @@ class Weeding:
         return sum(1 << place for place, is_in in enumerate(lines) if is_in) & mask, tree
 
     def _shrunk(self, mask: int, tree: Fork | None) -> tuple[int, Fork | None]:
-        """A least conflict within a set, or a smaller one where the time is over."""
+        """A minimal conflict within a set, or a smaller one where the time is over."""
         for bit in reversed(bits_of(mask)):
             if mask & bit and not self.trial.clock.is_over():
                 found = self._refuted(mask & ~bit)
@@ -200,7 +200,7 @@ def find_outliers(
     seconds: float | None,
     progress: Progress | None,
 ) -> Outliers:
-    """The least sets of readings to give up, so many at the most."""
+    """The minimal sets of readings to give up, so many at the most."""
     kept = [name for name in model.believed() if name not in readings]
     trial = Trial(model, kept, Clock(seconds, progress))
     weeding = Weeding(trial, readings, related)

@@ -1,7 +1,7 @@
 """Laws over real numbers as constraints over whole ones, so that no real solution is lost.
 
 Each operation makes parts of parts (`parts`), and a law asks that the sum of its parts is no farther
-from zero than all radii together. docs/MEASURING.md has the proof of each rule.
+from zero than all radii together. python/REALS.md has the proof of each rule.
 """
 
 from collections.abc import Callable

@@ -97,7 +97,7 @@ class Questions:
         seconds: float | None = None,
         progress: Progress | None = None,
     ) -> Conflicts:
-        """All least sets of believed premises that can't all hold, `most` of them at the most.
+        """All minimal sets of believed premises that can't all hold, `most` of them at the most.
 
         Those that are to `keep` are taken as given, and stand in no conflict. The list is empty
         where everything fits. A conflict without any premise says that what always holds can't.
@@ -122,7 +122,7 @@ class Questions:
         seconds: float | None = None,
         progress: Progress | None = None,
     ) -> Repairs:
-        """All least sets of believed premises to give up so that the others fit, cheapest first.
+        """All minimal sets of believed premises to give up so that the others fit, cheapest first.
 
         `weight` says what it costs to give up a premise, 1 where it says nothing of it. Those that
         are to `keep` are not given up.
@@ -254,8 +254,8 @@ class Questions:
         progress: Progress | None = None,
     ) -> Critical:
         """The premises because of which a number can't be less than its least value in any plan, or
-        by `end="greatest"` more than its greatest: a least set of such premises. Raises NothingFits
-        where nothing fits, and ValueError where the end isn't known in time.
+        by `end="greatest"` more than its greatest: a minimal set of such premises. Raises
+        NothingFits where nothing fits, and ValueError where the end isn't known in time.
 
         >>> w = Workbench()
         >>> days, price = w.number("days", 1, 30), w.number("price", 0, 9000)

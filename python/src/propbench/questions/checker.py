@@ -71,7 +71,7 @@ def digits(cell: str, room: Sequence[int], mark: str) -> list[str]:
 
 
 def hitting(sets: Iterable[Names]) -> list[Names]:
-    """The least sets that have a name of each of these sets."""
+    """The minimal sets that have a name of each of these sets."""
     found: list[Names] = [frozenset()]
     for names in sorted(sets, key=len):
         hits, rest = [[h for h in found if bool(h & names) is has] for has in (True, False)]

@@ -1,4 +1,4 @@
-"""Conflicts, the least sets of premises that can't all hold, and repairs, the least to give up."""
+"""Conflicts, minimal sets of premises that can't all hold, and repairs, minimal sets to give up."""
 
 from collections.abc import Callable, Iterable, Iterator, Mapping, Sequence
 from dataclasses import dataclass
@@ -150,7 +150,7 @@ def find_conflicts(
     seconds: float | None,
     progress: Progress | None,
 ) -> Conflicts:
-    """The least sets of believed premises that can't all hold beside those that are kept, so many
+    """The minimal sets of believed premises that can't all hold beside those that are kept, so many
     at the most."""
     clock, texts = Clock(seconds, progress), _texts(model)
     return _searched(
@@ -169,8 +169,8 @@ def find_both(
     seconds: float | None,
     progress: Progress | None = None,
 ) -> tuple[Conflicts, Repairs]:
-    """The least conflicts and the least repairs, so many of each at the most, from one search. What
-    premises say is told by these texts, where they have one."""
+    """The minimal conflicts and the minimal repairs, so many of each at the most, from one search.
+    What premises say is told by these texts, where they have one."""
     clock, said = Clock(seconds, progress), {**_texts(model), **texts}
     return _searched(
         model,
@@ -188,7 +188,7 @@ def find_repairs(
     seconds: float | None,
     progress: Progress | None,
 ) -> Repairs:
-    """The least sets of believed premises without which the others have a plan, by their cost;
+    """The minimal sets of believed premises without which the others have a plan, by their cost;
     nothing is given up of what is kept."""
     _check_weight(model, weight)
     return _searched(

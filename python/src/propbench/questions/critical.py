@@ -72,7 +72,7 @@ class Slack(Shown):
 
 
 class Critical(Shown, Premises):
-    """Premises that leave a cell no less than `value`, or no more: a least set of them, none of
+    """Premises that leave a cell no less than `value`, or no more: a minimal set of them, none of
     which can be left out. Iterates over their names.
 
     >>> w = Workbench()

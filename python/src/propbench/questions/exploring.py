@@ -1,8 +1,9 @@
 """Which premises can't all hold, and which have to be given up: found by trying sets of them.
 
 The cheapest set that hits all known conflicts is given up for a try. Either the rest has a plan:
-then that set is a repair. Or it has not: then what the program names is shrunk to a least conflict
-by leaving out one premise after another. (MARCO's way, with the map solved for its cheapest sets.)
+then that set is a repair. Or it has not: then what the program names is shrunk to a minimal
+conflict by leaving out one premise after another. (MARCO's way, with the map solved for its
+cheapest sets.)
 """
 
 from collections.abc import Mapping, Sequence
@@ -119,7 +120,7 @@ class Exploring:
         return self.mask([premise for premise in self.premises if line[premise] in outcome.names])
 
     def shrunk(self, refuted: Refuted) -> Refuted:
-        """A least conflict among these premises."""
+        """A minimal conflict among these premises."""
         mask, tree, least = refuted.mask, refuted.tree, True
         for bit in reversed(bits_of(mask)):
             if not mask & bit:
