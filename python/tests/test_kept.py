@@ -115,6 +115,13 @@ def test_bases_change_by_lines() -> None:
     assert Base().changed_to(first) == [*first.stated, "kick a"]
 
 
+def test_the_same_question_has_the_same_answer_again(w: Workbench) -> None:
+    for ask in (lambda: w.plans(["y"]), lambda: w.least("y"), w.solve, lambda: w.slack("x")):
+        first, again = ask(), ask()
+        assert str(first) == str(again) and first.complete and again.complete
+    assert sorted(plan["y"] for plan in w.plans(["y"])) == [5, 6, 7, 8, 9]
+
+
 # --- what ends it ---
 
 
@@ -277,7 +284,7 @@ def asked(model: LineModel, data: st.DataObject) -> None:
         assert {plan[cell] for plan in model.all_plans(found.because)} == values
     else:
         best = model.least(cell) if sort == "least" else model.greatest(cell)
-        assert best.proved and best.certificate is not None and best.certificate.check()
+        assert best.proved and best.certificate.check(model.session.program)
         numbers = sorted(int(value) for value in values)
         assert (best.value is None) is not bool(numbers)
         assert not numbers or best.value == numbers[0 if sort == "least" else -1]
