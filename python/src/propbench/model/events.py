@@ -25,6 +25,11 @@ class DomainMade:
     domain: Domain
 
     @property
+    def premise(self) -> None:
+        """It is there always."""
+        return None
+
+    @property
     def text(self) -> str:
         """What is stated."""
         return f"{self.domain.name} is a domain"
@@ -39,6 +44,11 @@ class CellMade:
     """A cell is there; of a number it is fixed between which numbers it lies."""
 
     cell: Declared
+
+    @property
+    def premise(self) -> None:
+        """It is there always."""
+        return None
 
     @property
     def text(self) -> str:
@@ -204,11 +214,6 @@ class ConstraintChoice:
 Choice = ValueChoice | ConstraintChoice
 Event = DomainMade | CellMade | Required | Told | ValueChoice | ConstraintChoice
 Statement = Required | Told | ValueChoice | ConstraintChoice
-
-
-def premise_of(event: Event) -> str | None:
-    """The premise that something is stated under, where it is one."""
-    return event.premise if isinstance(event, (Required, Told)) else None
 
 
 def values_text(cell: Declared, values: Values) -> str:

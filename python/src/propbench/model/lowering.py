@@ -78,7 +78,8 @@ def lowered(
         else:
             bounds += given
     for bound in bounds:
-        fixed.update(bound.without)
+        if bound.without:
+            fixed.update(bound.without)
     free = {c: c.low for c in at if c.low is not None and c.measure is None and c not in fixed}
     raised = sorted((it for it in bounds if it.of in free), key=lambda it: at[it.of])
     at |= free
@@ -90,7 +91,12 @@ def _raise(bounds: Sequence[Bound], at: dict[Declared, int]) -> bool:
     for _ in range(len(at) + 1):
         is_moved = False
         for bound in bounds:
-            least = bound.least(at)
+            # (as `least` does, which is asked for very often here)
+            least = bound.more
+            for cell in bound.others:
+                least += at[cell]
+            for cell in bound.without:
+                least -= at[cell]
             if least > at[bound.of]:
                 at[bound.of], is_moved = least, True
         if not is_moved:

@@ -4,6 +4,7 @@ A quotient or remainder by zero has no value, and a comparison over what has no 
 number beyond 10^18 either way is none that the program holds: whatever needs it doesn't hold.
 """
 
+import operator
 from collections.abc import Callable, Mapping
 
 from propbench.model.kinds import MOST, Point, domain_of
@@ -147,6 +148,26 @@ def _compared(reading: _Reading, node: Node) -> bool:
     return values is not None and _TRUTHS[node.op](node, values)
 
 
+def _ordered(compare: Callable[[Point, Point], bool]) -> Callable[[_Reading, Node], bool]:
+    def compared(reading: _Reading, node: Node) -> bool:
+        left, right = node.args
+        try:
+            return compare(reading.value(left), reading.value(right))
+        except Undefined:
+            # (the other one may lie beyond)
+            return _compared(reading, node)
+
+    return compared
+
+
+def _any_of(reading: _Reading, node: Node) -> bool:
+    found = False
+    for arg in node.args:
+        if reading.value(arg):
+            found = True
+    return found
+
+
 def _connected(reading: _Reading, node: Node) -> bool:
     return _LOGIC[node.op]([bool(reading.value(arg)) for arg in node.args])
 
@@ -167,4 +188,8 @@ _READ: dict[Op, Callable[[_Reading, Node], Point]] = {
     **dict.fromkeys(COMPARISONS, _compared),
     **dict.fromkeys(_LOGIC, _connected),
     **dict.fromkeys(_NUMBERS, _calculated),
+    # (what most constraints are made of)
+    Op.LESS: _ordered(operator.lt),
+    Op.AT_MOST: _ordered(operator.le),
+    Op.OR: _any_of,
 }

@@ -7,7 +7,7 @@ from collections.abc import Callable, Mapping, Sequence
 from typing import TYPE_CHECKING
 
 from propbench.model.cells import Cell, gone
-from propbench.model.events import Event, premise_of
+from propbench.model.events import Statement
 from propbench.model.first import First
 from propbench.model.given import values_of
 from propbench.model.kinds import Domain, Plain, Point
@@ -122,8 +122,11 @@ class BenchModel:
         to hold."""
         points, holding = self._points(plan), {None, *believed}
         for event in self._network.events:
-            if premise_of(event) in holding and not _is_met(event, points):
-                return _against(event, points)
+            try:
+                if event.premise in holding and not event.is_met(points):
+                    return event.text
+            except Beyond as beyond:
+                return f"{event.text} ({text_of(beyond.node)} lies beyond 10^18)"
         return None
 
     def held(self, plan: Mapping[str, Point]) -> list[str]:
@@ -141,7 +144,7 @@ class BenchModel:
         """The plan with numbers as low as they can be in the alternatives that it takes, but for the
         cells that are kept; it is to be looked at whether all holds there."""
         cells, holding = self._network.cells, {None, *believed}
-        events = (each for each in self._network.events if premise_of(each) in holding)
+        events = [each for each in self._network.events if each.premise in holding]
         found = lowered(events, self._points(plan), [cells[name] for name in kept])
         return {name: found[cells[name]] for name in plan}
 
@@ -192,21 +195,12 @@ class BenchModel:
         return self._last
 
 
-def _is_met(event: Event, points: Plan) -> bool:
+def _is_met(event: Statement, points: Plan) -> bool:
     """Whether what is stated holds at these points."""
     try:
         return event.is_met(points)
     except Beyond:
         return False
-
-
-def _against(event: Event, points: Plan) -> str:
-    """What is stated, which doesn't hold at these points."""
-    try:
-        event.is_met(points)
-        return event.text
-    except Beyond as beyond:
-        return f"{event.text} ({text_of(beyond.node)} lies beyond 10^18)"
 
 
 def _point(cell: Declared, value: Point) -> Point:
