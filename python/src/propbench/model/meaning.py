@@ -8,7 +8,7 @@ import operator
 from collections.abc import Callable, Mapping
 
 from propbench.model.kinds import MOST, Point, domain_of
-from propbench.model.nodes import COMPARISONS, Declared, Node, Op
+from propbench.model.nodes import Declared, Node, Op
 
 
 class Beyond(Exception):
@@ -116,10 +116,6 @@ _NUMBERS: dict[Op, Callable[[Node, list[int]], int]] = {
 }
 
 _TRUTHS: dict[Op, Callable[[Node, list[Point]], bool]] = {
-    Op.LESS: lambda node, values: int(values[0]) < int(values[1]),
-    Op.AT_MOST: lambda node, values: int(values[0]) <= int(values[1]),
-    Op.GREATER: lambda node, values: int(values[0]) > int(values[1]),
-    Op.AT_LEAST: lambda node, values: int(values[0]) >= int(values[1]),
     Op.EQUAL: lambda node, values: values[0] == values[1],
     Op.UNEQUAL: lambda node, values: values[0] != values[1],
     Op.ALL_DIFFERENT: lambda node, values: len(set(values)) == len(values),
@@ -130,7 +126,6 @@ _TRUTHS: dict[Op, Callable[[Node, list[Point]], bool]] = {
 _LOGIC: dict[Op, Callable[[list[bool]], bool]] = {
     Op.NOT: lambda truths: not truths[0],
     Op.AND: all,
-    Op.OR: any,
     Op.XOR: lambda truths: truths[0] != truths[1],
     Op.IMPLIES: lambda truths: not truths[0] or truths[1],
 }
@@ -155,7 +150,8 @@ def _ordered(compare: Callable[[Point, Point], bool]) -> Callable[[_Reading, Nod
             return compare(reading.value(left), reading.value(right))
         except Undefined:
             # (the other one may lie beyond)
-            return _compared(reading, node)
+            reading.all_values(node)
+            return False
 
     return compared
 
@@ -185,11 +181,13 @@ _READ: dict[Op, Callable[[_Reading, Node], Point]] = {
     Op.CONSTANT: lambda reading, node: node.constant,
     Op.IF: _one_of_two,
     Op.TABLE: lambda reading, node: _looked_up(node, reading.value(node.args[0])),
-    **dict.fromkeys(COMPARISONS, _compared),
+    **dict.fromkeys(_TRUTHS, _compared),
     **dict.fromkeys(_LOGIC, _connected),
     **dict.fromkeys(_NUMBERS, _calculated),
     # (what most constraints are made of)
     Op.LESS: _ordered(operator.lt),
     Op.AT_MOST: _ordered(operator.le),
+    Op.GREATER: _ordered(operator.gt),
+    Op.AT_LEAST: _ordered(operator.ge),
     Op.OR: _any_of,
 }
