@@ -54,8 +54,8 @@ BUGS = [
     ),
     Bug(
         "model/meaning.py",
-        "int(values[0]) <= int(values[1])",
-        "int(values[0]) < int(values[1])",
+        "Op.AT_MOST: _ordered(operator.le)",
+        "Op.AT_MOST: _ordered(operator.lt)",
         _MEANING,
     ),
     Bug(
@@ -66,14 +66,14 @@ BUGS = [
     ),
     Bug(
         "model/meaning.py",
-        "node.args[1] if self.value(node.args[0]) else node.args[2]",
-        "node.args[2] if self.value(node.args[0]) else node.args[1]",
+        "node.args[1] if reading.value(node.args[0]) else node.args[2]",
+        "node.args[2] if reading.value(node.args[0]) else node.args[1]",
         _MEANING,
     ),
     Bug(
         "model/meaning.py",
-        "Op.OR: any,",
-        "Op.OR: all,",
+        "        if reading.value(arg):\n            found = True\n",
+        "        found = bool(reading.value(arg))\n",
         _MEANING,
     ),
     # What it stands for in fewer operations.
@@ -255,7 +255,7 @@ BUGS = [
     ),
     Bug(
         "model/record.py",
-        "        self.events = [each for each in self.events if premise_of(each) != premise]\n",
+        "        self.events = [each for each in self.events if each.premise != premise]\n",
         "",
         "workbench::a_premise_is_forgotten",
     ),
@@ -273,10 +273,22 @@ BUGS = [
         "either::room_is_how_far_apart_numbers_may_be",
     ),
     Bug(
-        "model/seam.py",
+        "model/events.py",
         "int(value) <= cell.high)",
         "True)",
         "workbench_files::the_seam",
+    ),
+    Bug(
+        "model/lowering.py",
+        "if _raise(raised, at) else dict(points)",
+        "if not raised else dict(points)",
+        "kept::plans_have_the_lowest_numbers",
+    ),
+    Bug(
+        "questions/kept.py",
+        "sorted(other.out - self.out)",
+        "sorted(other.out & self.out)",
+        "kept::only_what_changed_is_told",
     ),
     Bug(
         "model/shrinking.py",

@@ -10,6 +10,7 @@ import pytest
 from modelling import DAYS, Recipe, built
 from propbench import Answer, Conflict, Elements, Nothing, Span, Workbench
 from propbench.model.measures import Interval
+from propbench.questions import NothingFits
 from standing import Chosen, Made, Said, Standing, Values
 from trying import Tried
 
@@ -158,6 +159,28 @@ class Held:
             numbers = [value for (value,) in values]
             best = min if sort == "least" else max
             assert found.proved and found.value == (best(numbers) if numbers else None)
+
+    def some(self) -> None:
+        """Some plan, or premises that leave none."""
+        try:
+            found = self.w.solve()
+        except NothingFits as none:
+            assert not self.tried.fits and none.premises is not None
+            assert set(none.premises) <= set(self.standing.believed)
+            assert not self._fits(none.premises)
+            with pytest.raises(NothingFits):
+                self.fresh.solve()
+            return
+        names = [each.name for each in self.standing.cells.values() if not each.is_measured]
+        values = self.tried.values(names)
+        assert self.fresh.solve().keys() == found.keys() == {*names}
+        assert values is None or tuple(found[name] for name in names) in values
+
+    def room(self, name: str) -> None:
+        """The room of a cell over all plans."""
+        found, wanted = (w.slack(name) for w in (self.w, self.fresh))
+        assert found.room == wanted.room and set(found.values) == set(wanted.values)
+        assert (found.low, found.high, found.complete) == (wanted.low, wanted.high, wanted.complete)
 
     def over_all(self, name: str) -> None:
         """What a cell may be over all plans, and because of what a number can't be less."""

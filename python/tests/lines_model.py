@@ -121,6 +121,11 @@ class LineModel(Questions):
     def telling(self, premise: str, cell: str, value: object, high: object = None) -> str:
         raise NotImplementedError
 
+    def lowered(
+        self, plan: Mapping[str, Point], believed: Sequence[str], kept: Sequence[str]
+    ) -> Mapping[str, Point]:
+        return plan
+
     def held(self, plan: Mapping[str, Point]) -> Sequence[str]:
         return [
             premise

@@ -233,6 +233,20 @@ class Drawing:
     def best(self) -> Call:
         return ("best", self.one(self.wide), self.one(("least", "greatest")))
 
+    def plan_asked(self) -> Call:
+        """A question that is put to the program's own search."""
+        sort = self.number(0, 7) if self.wide else 7
+        if sort < 4:
+            return self.best()
+        if sort < 6:
+            return ("room", self.one([*self.numbers, *self.truths, *self.elements]))
+        return self.plans() if sort < 7 else ("some",)
+
+    def changed(self) -> Call:
+        """What changes little between two questions."""
+        found = [self.believe] * 4 + [self.forget] + [self.tell] * 3 if self.standing.cells else []
+        return self.one(found + [self.require, self.choose])()
+
     def over_all(self) -> Call:
         return ("over all", self.one([*self.wide, *self.truths, *self.elements]))
 
@@ -319,6 +333,24 @@ def walks(draw: st.DrawFn) -> Walks:
     return [*calls, ("all",)]
 
 
+@st.composite
+def asked_walks(draw: st.DrawFn) -> Walks:
+    """The calls of a walk that asks for plans between all that it states."""
+    calls: Walks = [("number", "x", 0, 4), ("number", "y", -1, 3), ("element", "d")]
+    standing = Standing()
+    for call in calls:
+        standing = standing.after(call) or standing
+    for number in range(draw(st.integers(4, 12))):
+        drawing = Drawing(draw, standing)
+        made = drawing.call("cells") if number < 3 else drawing.changed()
+        # (a relation that can't hold in one alternative denies the others too: that isn't mended)
+        is_asked = "later" in repr(made) or draw(st.booleans())
+        calls.append(drawing.plan_asked() if is_asked else made)
+        standing = standing.after(calls[-1]) or standing
+        calls += [Drawing(draw, standing).plan_asked()]
+    return calls
+
+
 def walk(program: str, calls: Walks) -> None:
     """Goes a walk."""
     gone = Walk(program)
@@ -334,6 +366,14 @@ def walk(program: str, calls: Walks) -> None:
 @given(st.sampled_from(sorted(PROGRAMS.values())), walks())
 def test_answers_are_those_of_what_stands(program: str, calls: Walks) -> None:
     walk(program, calls)
+
+
+@seed(1)
+@settings(max_examples=30 * TIMES)
+@given(asked_walks())
+def test_questions_one_after_the_other_are_those_of_what_stands(wide: str, calls: Walks) -> None:
+    """What is kept of earlier questions changes no answer."""
+    walk(wide, calls)
 
 
 ANA = ("ana",)

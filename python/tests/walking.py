@@ -241,6 +241,8 @@ _ASKS: dict[str, Callable[..., None]] = {
     "ask": Held.ask,
     "over all": Held.over_all,
     "best": Held.best,
+    "some": Held.some,
+    "room": Held.room,
     "plans": Held.plans,
     "conflicts": Held.conflicts,
     "repairs": Held.repairs,

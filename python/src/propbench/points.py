@@ -5,7 +5,7 @@ Points are a value of each cell. What is said of them is proved of the program: 
 is believed, with one side of each choice; and the premises that it names refute all others.
 """
 
-from collections.abc import Mapping, Sequence
+from collections.abc import Iterator, Mapping, Sequence
 from dataclasses import dataclass
 
 from propbench.grammar import SEEKING
@@ -37,6 +37,30 @@ class Points:
         """The text of a reply, with a mark behind its first line."""
         lines = [*(f"{cell} = {value}" for cell, value in self.values.items()), *self.sides]
         return "\n".join([f"plan {len(lines)}{mark}", *lines])
+
+
+class Values(Mapping[str, Held]):
+    """Values by the names of cells, of which each is read once somebody asks for it: a plan may have
+    thousands of cells, and few that anybody asks for.
+
+    >>> print(Values({"x": "3", "t": "yes"}, {"x": "span", "t": "truth"}))
+    {'x': Span(low=3, high=3), 't': Elements(names=('yes',))}
+    """
+
+    def __init__(self, texts: Mapping[str, str], kinds: Kinds) -> None:
+        self._texts, self._kinds = texts, kinds
+
+    def __getitem__(self, cell: str) -> Held:
+        return value_of(self._texts[cell], self._kinds[cell])
+
+    def __iter__(self) -> Iterator[str]:
+        return iter(self._texts)
+
+    def __len__(self) -> int:
+        return len(self._texts)
+
+    def __repr__(self) -> str:
+        return repr(dict(self))
 
 
 @dataclass(frozen=True)
@@ -184,9 +208,12 @@ def _points(lines: Sequence[str], mark: str, kinds: Kinds) -> Points | None:
     """The points of these lines, where a mark stands behind the first."""
     if lines[0] != f"plan {len(lines) - 1}{mark}":
         return None
-    values = [line.split(" ") for line in lines[1:] if " = " in line]
+    told = (line.split(" ") for line in lines[1:] if " = " in line)
+    texts = {cell: value for cell, _, value in told}
+    if not texts.keys() <= kinds.keys():
+        return None
     sides = tuple(line for line in lines[1:] if " = " not in line)
-    return Points({cell: value_of(value, kinds[cell]) for cell, _, value in values}, sides)
+    return Points(Values(texts, kinds), sides)
 
 
 def _several(lines: Sequence[str], cells: Sequence[str], kinds: Kinds) -> Several | None:

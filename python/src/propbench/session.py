@@ -174,7 +174,7 @@ class Session(Closing):
 
     def close(self) -> None:
         """Ends the program, and a call that another thread has running: that raises ProgramEnded.
-        Nothing can be sent after that.
+        Nothing can be sent after that. What it was to `keep` is closed as well.
 
         >>> session = Session()
         >>> session.close()
@@ -183,6 +183,15 @@ class Session(Closing):
         RuntimeError: the session is closed
         """
         self._closed = True
+        try:
+            self._end_program()
+        finally:
+            for each in [*self.kept.values()]:
+                if isinstance(each, Closing):
+                    each.close()
+
+    def _end_program(self) -> None:
+        """Ends the program, and a call that another thread has running."""
         turn, program = self._turn, self._talk.program
         is_free = turn.lock.acquire(False)
         if not is_free and turn is not _NOBODYS and self._users():
@@ -545,21 +554,49 @@ class Session(Closing):
         finally:
             turn.lock.release()
 
-    def drop_lines(self) -> None:
-        """Lets go of the lines that were carried out, for a session that asks very much and is never
-        begun anew: `lines` has those from now on, and a `replay` carries out no others.
+    def drop_lines(self, kept: Iterable[str] = ()) -> None:
+        """Lets go of the lines that were carried out, for a session that asks very much: `lines` has
+        those from now on, and a `replay` carries out no others. Lines that are `kept` stand in the
+        place of all of them; they have to make the same.
 
         >>> with Session() as session:
-        ...     said = session.send_all(["cell x span", "tell ana x 3..5"])
-        ...     session.drop_lines()
+        ...     said = session.send_all(["cell x span", "tell ana x 3..5", "ask x"])
+        ...     session.drop_lines(["cell x span", "tell ana x 3..5"])
         ...     print(session.lines)
-        []
+        ['cell x span', 'tell ana x 3..5']
         """
         turn = self._take_turn()
         try:
-            self._talk.lines.clear()
+            self._talk.lines[:] = kept
+            self._talk.sought = ("", 0)
         finally:
             turn.lock.release()
+
+    @property
+    def is_at_rest(self) -> bool:
+        """Whether its program can be asked at once, and is the one that was told what `lines` say: it
+        owes no reply, and needn't be begun anew.
+
+        >>> with Session() as session:
+        ...     print(session.is_at_rest)
+        True
+        """
+        self._notice_end()
+        talk = self._talk
+        is_ours = not self._closed and self._turn is not _NOBODYS
+        return is_ours and talk.in_step and talk.program.is_open
+
+    def keep(self, name: str, one: Closing) -> None:
+        """Keeps something by a name until the session is closed, which closes it too; it is closed at
+        once where the session is, or where there is something of that name.
+
+        >>> with Session() as session:
+        ...     session.keep("other", session.fresh())
+        ...     print(list(session.kept))
+        ['other']
+        """
+        if self.kept.setdefault(name, one) is not one or self._closed:
+            one.close()
 
     def _begun(self, until: float | None) -> Conversation:
         """A conversation in which nothing is said as yet, whose replies come by then."""

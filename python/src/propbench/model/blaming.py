@@ -6,7 +6,7 @@ from collections.abc import Iterable, Iterator, Sequence
 from dataclasses import replace
 
 from propbench.clock import Clock
-from propbench.model.events import ConstraintChoice, Event, Required, Told, premise_of
+from propbench.model.events import ConstraintChoice, Event, Required, Told
 from propbench.model.kinds import MOST, Plain
 from propbench.model.network import Network
 from propbench.model.nodes import Declared, Node, Op, cells_in
@@ -29,7 +29,7 @@ def beyond(network: Network, premises: Sequence[str], seconds: float | None = No
     concerned = [
         node
         for event in network.events
-        if premise_of(event) is None or premise_of(event) in premises
+        if event.premise is None or event.premise in premises
         for constraint in _constraints(event)
         for node in _large(constraint)
     ]

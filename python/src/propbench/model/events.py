@@ -24,12 +24,46 @@ class DomainMade:
 
     domain: Domain
 
+    @property
+    def premise(self) -> None:
+        """It is there always."""
+        return None
+
+    @property
+    def text(self) -> str:
+        """What is stated."""
+        return f"{self.domain.name} is a domain"
+
+    def is_met(self, points: Points) -> bool:
+        """Whether the points fit it: any do."""
+        return True
+
 
 @dataclass(frozen=True)
 class CellMade:
     """A cell is there; of a number it is fixed between which numbers it lies."""
 
     cell: Declared
+
+    @property
+    def premise(self) -> None:
+        """It is there always."""
+        return None
+
+    @property
+    def text(self) -> str:
+        """What is stated, as it reads where a point doesn't fit it."""
+        return f"{self.cell.name} is not what it was declared as"
+
+    def is_met(self, points: Points) -> bool:
+        """Whether the point of the cell, where there is one, is one that it may have."""
+        value, cell = points.get(self.cell), self.cell
+        if value is None:
+            return True
+        if cell.kind is Plain.NUMBER:
+            is_low = cell.low is not None and int(value) < cell.low
+            return not is_low and (cell.high is None or int(value) <= cell.high)
+        return not isinstance(cell.kind, Domain) or value in cell.kind.elements
 
 
 @dataclass(frozen=True)
@@ -180,11 +214,6 @@ class ConstraintChoice:
 Choice = ValueChoice | ConstraintChoice
 Event = DomainMade | CellMade | Required | Told | ValueChoice | ConstraintChoice
 Statement = Required | Told | ValueChoice | ConstraintChoice
-
-
-def premise_of(event: Event) -> str | None:
-    """The premise that something is stated under, where it is one."""
-    return event.premise if isinstance(event, (Required, Told)) else None
 
 
 def values_text(cell: Declared, values: Values) -> str:

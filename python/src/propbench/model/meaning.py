@@ -4,10 +4,11 @@ A quotient or remainder by zero has no value, and a comparison over what has no 
 number beyond 10^18 either way is none that the program holds: whatever needs it doesn't hold.
 """
 
+import operator
 from collections.abc import Callable, Mapping
 
 from propbench.model.kinds import MOST, Point, domain_of
-from propbench.model.nodes import COMPARISONS, Declared, Node, Op
+from propbench.model.nodes import Declared, Node, Op
 
 
 class Beyond(Exception):
@@ -33,7 +34,8 @@ def value_of(node: Node, points: Points) -> Point:
 
 def holds(node: Node, points: Points) -> bool:
     """Whether a constraint holds at these points. Raises Beyond."""
-    return bool(value_of(node, points))
+    reading = points.reading if isinstance(points, Plan) else _Reading(points)
+    return bool(reading.value(node))
 
 
 class _Reading:
@@ -46,40 +48,17 @@ class _Reading:
     def value(self, node: Node) -> Point:
         found = self.found.get(node)
         if found is None:
-            found = self.found[node] = self._value(node)
+            found = self.found[node] = _READ[node.op](self, node)
         return found
 
-    def number(self, node: Node) -> int:
-        return int(self.value(node))
-
-    def _value(self, node: Node) -> Point:
-        if node.op is Op.CELL:
-            return self.points[node.declared]
-        if node.op is Op.CONSTANT:
-            return node.constant
-        if node.op is Op.IF:
-            taken = node.args[1] if self.value(node.args[0]) else node.args[2]
-            # (the other has to be a number that the program holds too, if it has a value)
-            self._all_values(node)
-            return self.value(taken)
-        if node.op in COMPARISONS:
-            values = self._all_values(node)
-            return values is not None and _TRUTHS[node.op](node, values)
-        if node.op in _LOGIC:
-            return _LOGIC[node.op]([bool(self.value(arg)) for arg in node.args])
-        if node.op is Op.TABLE:
-            return _looked_up(node, self.value(node.args[0]))
-        found = _NUMBERS[node.op](node, [self.number(arg) for arg in node.args])
-        if abs(found) > MOST:
-            raise Beyond(node)
-        return found
-
-    def _all_values(self, node: Node) -> list[Point] | None:
+    def all_values(self, node: Node) -> list[Point] | None:
         """The values of all arguments, None where one has none."""
         values: list[Point] = []
         for arg in node.args:
+            # (most have theirs by now)
+            found = self.found.get(arg)
             try:
-                values.append(self.value(arg))
+                values.append(self.value(arg) if found is None else found)
             except Undefined:
                 pass
         return values if len(values) == len(node.args) else None
@@ -137,10 +116,6 @@ _NUMBERS: dict[Op, Callable[[Node, list[int]], int]] = {
 }
 
 _TRUTHS: dict[Op, Callable[[Node, list[Point]], bool]] = {
-    Op.LESS: lambda node, values: int(values[0]) < int(values[1]),
-    Op.AT_MOST: lambda node, values: int(values[0]) <= int(values[1]),
-    Op.GREATER: lambda node, values: int(values[0]) > int(values[1]),
-    Op.AT_LEAST: lambda node, values: int(values[0]) >= int(values[1]),
     Op.EQUAL: lambda node, values: values[0] == values[1],
     Op.UNEQUAL: lambda node, values: values[0] != values[1],
     Op.ALL_DIFFERENT: lambda node, values: len(set(values)) == len(values),
@@ -151,7 +126,68 @@ _TRUTHS: dict[Op, Callable[[Node, list[Point]], bool]] = {
 _LOGIC: dict[Op, Callable[[list[bool]], bool]] = {
     Op.NOT: lambda truths: not truths[0],
     Op.AND: all,
-    Op.OR: any,
     Op.XOR: lambda truths: truths[0] != truths[1],
     Op.IMPLIES: lambda truths: not truths[0] or truths[1],
+}
+
+
+def _one_of_two(reading: _Reading, node: Node) -> Point:
+    taken = node.args[1] if reading.value(node.args[0]) else node.args[2]
+    # (the other has to be a number that the program holds too, if it has a value)
+    reading.all_values(node)
+    return reading.value(taken)
+
+
+def _compared(reading: _Reading, node: Node) -> bool:
+    values = reading.all_values(node)
+    return values is not None and _TRUTHS[node.op](node, values)
+
+
+def _ordered(compare: Callable[[Point, Point], bool]) -> Callable[[_Reading, Node], bool]:
+    def compared(reading: _Reading, node: Node) -> bool:
+        left, right = node.args
+        try:
+            return compare(reading.value(left), reading.value(right))
+        except Undefined:
+            # (the other one may lie beyond)
+            reading.all_values(node)
+            return False
+
+    return compared
+
+
+def _any_of(reading: _Reading, node: Node) -> bool:
+    found = False
+    for arg in node.args:
+        if reading.value(arg):
+            found = True
+    return found
+
+
+def _connected(reading: _Reading, node: Node) -> bool:
+    return _LOGIC[node.op]([bool(reading.value(arg)) for arg in node.args])
+
+
+def _calculated(reading: _Reading, node: Node) -> int:
+    found = _NUMBERS[node.op](node, [int(reading.value(arg)) for arg in node.args])
+    if abs(found) > MOST:
+        raise Beyond(node)
+    return found
+
+
+# How each sort of node gets its value.
+_READ: dict[Op, Callable[[_Reading, Node], Point]] = {
+    Op.CELL: lambda reading, node: reading.points[node.declared],
+    Op.CONSTANT: lambda reading, node: node.constant,
+    Op.IF: _one_of_two,
+    Op.TABLE: lambda reading, node: _looked_up(node, reading.value(node.args[0])),
+    **dict.fromkeys(_TRUTHS, _compared),
+    **dict.fromkeys(_LOGIC, _connected),
+    **dict.fromkeys(_NUMBERS, _calculated),
+    # (what most constraints are made of)
+    Op.LESS: _ordered(operator.lt),
+    Op.AT_MOST: _ordered(operator.le),
+    Op.GREATER: _ordered(operator.gt),
+    Op.AT_LEAST: _ordered(operator.ge),
+    Op.OR: _any_of,
 }

@@ -15,7 +15,6 @@ from propbench.model.events import (
     Required,
     Told,
     ValueChoice,
-    premise_of,
 )
 from propbench.model.first import First
 from propbench.model.kinds import Domain
@@ -74,4 +73,4 @@ class Index:
     def forget(self, premise: str) -> None:
         """Takes in that all that was stated under a premise is gone."""
         self.premises.forget(premise)
-        self.events = [each for each in self.events if premise_of(each) != premise]
+        self.events = [each for each in self.events if each.premise != premise]

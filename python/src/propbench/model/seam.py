@@ -7,10 +7,11 @@ from collections.abc import Callable, Mapping, Sequence
 from typing import TYPE_CHECKING
 
 from propbench.model.cells import Cell, gone
-from propbench.model.events import CellMade, DomainMade, Event, Statement, premise_of
+from propbench.model.events import Statement
 from propbench.model.first import First
 from propbench.model.given import values_of
 from propbench.model.kinds import Domain, Plain, Point
+from propbench.model.lowering import lowered
 from propbench.model.meaning import Beyond, Plan
 from propbench.model.network import Network
 from propbench.model.nodes import Declared
@@ -121,10 +122,11 @@ class BenchModel:
         to hold."""
         points, holding = self._points(plan), {None, *believed}
         for event in self._network.events:
-            if premise_of(event) in holding:
-                said = _against(event, points)
-                if said is not None:
-                    return said
+            try:
+                if event.premise in holding and not event.is_met(points):
+                    return event.text
+            except Beyond as beyond:
+                return f"{event.text} ({text_of(beyond.node)} lies beyond 10^18)"
         return None
 
     def held(self, plan: Mapping[str, Point]) -> list[str]:
@@ -135,6 +137,16 @@ class BenchModel:
             for premise, stated in self._network.premises.statements.items()
             if all(_is_met(each, points) for each in stated)
         ]
+
+    def lowered(
+        self, plan: Mapping[str, Point], believed: Sequence[str], kept: Sequence[str]
+    ) -> dict[str, Point]:
+        """The plan with numbers as low as they can be in the alternatives that it takes, but for the
+        cells that are kept; it is to be looked at whether all holds there."""
+        cells, holding = self._network.cells, {None, *believed}
+        events = [each for each in self._network.events if each.premise in holding]
+        found = lowered(events, self._points(plan), [cells[name] for name in kept])
+        return {name: found[cells[name]] for name in plan}
 
     def chosen(self, plan: Mapping[str, Point]) -> dict[str, object]:
         """For each choice the alternative that holds at these points, as it was written."""
@@ -191,29 +203,8 @@ def _is_met(event: Statement, points: Plan) -> bool:
         return False
 
 
-def _against(event: Event, points: dict[Declared, Point]) -> str | None:
-    """What is stated, where it doesn't hold at these points."""
-    if isinstance(event, DomainMade):
-        return None
-    if isinstance(event, CellMade):
-        is_met = event.cell not in points or _is_declared(points[event.cell], event.cell)
-        return None if is_met else f"{event.cell.name} is not what it was declared as"
-    try:
-        return None if event.is_met(points) else event.text
-    except Beyond as beyond:
-        return f"{event.text} ({text_of(beyond.node)} lies beyond 10^18)"
-
-
 def _point(cell: Declared, value: Point) -> Point:
     """A point, where a truth may be told as a text."""
     if cell.kind is Plain.TRUTH and isinstance(value, str):
         return value == "yes"
     return value
-
-
-def _is_declared(value: Point, cell: Declared) -> bool:
-    """Whether a value is one of those that a cell may have."""
-    if cell.kind is Plain.NUMBER:
-        low = cell.low is None or cell.low <= int(value)
-        return low and (cell.high is None or int(value) <= cell.high)
-    return not isinstance(cell.kind, Domain) or value in cell.kind.elements

@@ -67,8 +67,9 @@ SomeBench = TypeVar("SomeBench", bound=Bench)
 
 
 class Questions:
-    """The questions of a workbench. Each tries things in a session of its own, so the workbench is
-    as it was afterwards.
+    """The questions of a workbench. Each tries things in a second session, so the workbench is as it
+    was afterwards. That of questions for plans is kept, where the program searches for them itself:
+    what one has found out serves the next.
 
     `seconds` ends a question early, with what is known by then; Ctrl-C does so by `Interrupted`,
     which has that as `so_far`. `progress` is called with a line of text now and then; where it is

@@ -5,7 +5,7 @@ from collections.abc import Sequence
 from contextlib import suppress
 
 from propbench.clock import Clock, Progress
-from propbench.points import Best, NoneFits
+from propbench.points import Best, NoneFits, SoFar
 from propbench.questions.asking import CellLike, tried, tried_by, whole_named
 from propbench.questions.bounding import Optimum, bounding_in, check_numbers
 from propbench.questions.certificate import Evidence
@@ -47,18 +47,24 @@ class Ending:
         if isinstance(reply, NoneFits):
             by = seeker.premises(reply.premises)
             return self._optimum(None, None, True, by), [seeker.refuted(reply.premises)], []
-        bound, points = seeker.end_of(self._cell, self._sort), points_of(reply)
+        points = points_of(reply)
         if points is None:
-            return self._optimum(None, bound, False, ()), [], []
+            return self._optimum(None, self._bound(), False, ()), [], []
         fits = seeker.lowest(points, self._cell)
         claim = dict[str, object](given=seeker.given())
         if not isinstance(reply, Best):
             claim["told"] = [[self._line, fits.values[self._cell]]]
-            return self._optimum(fits, bound, False, ()), [("fits", claim)], [fits]
+            return self._optimum(fits, self._bound(), False, ()), [("fits", claim)], [fits]
         claim |= {"sort": self._sort, "cell": self._line, "value": reply.value}
         claim["because"] = sorted(reply.because)
         by = seeker.premises(reply.because)
         return self._optimum(fits, reply.value, True, by), [("best", claim)], [fits]
+
+    def _bound(self) -> int | None:
+        """How far the number goes, by what the search knows, or by what follows without it."""
+        if isinstance(self._reply, SoFar) and self._reply.bound is not None:
+            return self._reply.bound
+        return self._seeker.end_of(self._cell, self._sort)
 
     def _optimum(
         self, fits: Fits | None, bound: int | None, proved: bool, because: tuple[str, ...]

@@ -75,6 +75,13 @@ class Model(Protocol):
         these premises count too, and each choice as one of its sides."""
         ...
 
+    def lowered(
+        self, plan: Mapping[str, Point], believed: Sequence[str], kept: Sequence[str]
+    ) -> Mapping[str, Point]:
+        """The plan with numbers that are as low or lower, but for the cells that are kept, which may
+        fit too with these premises."""
+        ...
+
     def held(self, plan: Mapping[str, Point]) -> Sequence[str]:
         """The premises of which all that is stated holds at these points."""
         ...

@@ -1,36 +1,37 @@
 """Questions for plans put to a program that searches for points itself: one line, one answer.
 
-They are asked in a second session of the network, which ends with the question. Each plan is looked
-at here once more, constraint by constraint in exact whole numbers; where one doesn't hold (as what is
-stated says more than its lines), nothing is said, and the search of this package has its turn.
+They are asked in a second session of the network, which is kept (`propbench.questions.kept`). Each
+plan is looked at here once more, constraint by constraint in exact whole numbers; where one doesn't
+hold (as what is stated says more than its lines), nothing is said, and the search of this package has
+its turn.
 """
 
-from collections.abc import Callable, Iterable, Mapping, Sequence
-from contextlib import suppress
+import time
+from collections.abc import Callable, Iterable, Iterator, Mapping, Sequence
+from contextlib import contextmanager, suppress
 
 from propbench.clock import Clock
 from propbench.closing import Closing
-from propbench.points import Best, NoneFits, Points, Several, SoFar
+from propbench.points import Best, Points, Several, SoFar
 from propbench.program import OutOfTime
 from propbench.questions.bounding import LEAST
 from propbench.questions.certificate import Certificate, Evidence
+from propbench.questions.kept import WITHOUT_END, Base, Kept, begun, kept_for
 from propbench.questions.model import Model, Plan
 from propbench.questions.outcomes import Fits
-from propbench.questions.trial import mark_for
-from propbench.refusals import Refused
-from propbench.replies import UNSETTLED, Contradiction, Reply, Settled, Unsettled, Value
+from propbench.replies import UNSETTLED, Reply, Unsettled, Value
 from propbench.runs import is_settled
 from propbench.session import Session
 from propbench.values import Held, Nothing, Span
-from propbench.words import MOST_NUMBER, MOST_STEPS, is_silent, is_well_encoded
+from propbench.words import MOST_NUMBER, is_well_encoded
 
 # Where a session keeps whether its program searches.
 _SEEKS = "seeks"
 # The program lists so many plans at the most.
 _MOST = 10**9
-# Before it searches a run takes so many steps at the most; and so many cells are said to come first.
-_STEPS, _FIRST = 20_000_000, 50
-# So many seconds are spent on a plan with lower numbers, at the most.
+# So many cells are said to come first.
+_FIRST = 50
+# So many seconds are spent on a bound at the most.
 _SOON = 1.0
 Claims = list[tuple[str, dict[str, object]]]
 
@@ -44,64 +45,41 @@ def seeks(model: Model) -> bool:
     """Whether the program of a model searches for points that fit. It is asked once."""
     kept = model.session.kept
     if _SEEKS not in kept:
-        with model.session.fresh() as session:
-            kept[_SEEKS] = session.seeks
+        first = Kept(model.session.fresh())
+        kept[_SEEKS] = first.session.seeks
+        first.put_back(model) if kept[_SEEKS] else first.close()
     return kept[_SEEKS] is True
 
 
 class Seeker(Closing):
     """A second session of a model's network, whose program is asked for points. Where its clock has
-    an end, it lasts no longer."""
+    an end, it lasts no longer for this question."""
 
     def __init__(self, model: Model, clock: Clock, session: Session | None = None) -> None:
-        """A session in which what is believed is that of the model: one that begins as the model's
-        did, or this one, which is empty as yet. Raises as `Session` does."""
+        """A session in which what is believed is that of the model: the one that is kept for its
+        questions, or this one, which is empty as yet. Raises as `Session` does."""
         self.model, self.clock = model, clock
-        self.base = [line for line in model.base() if not is_silent(line)]
-        self.mark = mark_for(self.base)
+        self._is_kept = session is None
+        if session is None:
+            self._asked = kept_for(model, clock.latest)
+        else:
+            self._asked = begun(session, Base().followed_by(model.base()), clock.latest)
+        self.session, base = self._asked.session, self._asked.base
+        self.base, self._kinds, self.mark = base.lines, base.kinds, base.mark
         self.lines = {cell: model.cell_name(cell) for cell in model.cells()}
-        words = [line.split() for line in self.base]
-        self._kinds = {each[1]: each[2] for each in words if each[0] == "cell"}
         self._premises = {model.line_name(each): each for each in model.premises()}
         # What any symbol is that may be any.
-        self._other = f"{mark_for(self.base, 'other{}_')}0"
+        self._other = f"{base.other}0"
         self.reply: Reply = UNSETTLED
         # Called with what is known, slice by slice; what it raises ends the question.
         self.heard: Callable[[Reply], None] | None = None
-        # Premises that can't all hold, where that follows without any search.
-        self._clash: tuple[str, ...] | None = None
-        self._held: dict[str, Reply | Refused] = {}
-        self.session = session or model.session.fresh()
-        self.session.end_by(clock.latest)
-        try:
-            with suppress(OutOfTime):
-                self._begin()
-        except BaseException:
-            self.close()
-            raise
-
-    def _begin(self) -> None:
-        """Has the network made, and what follows found out."""
-        self.session.send_all(self.base)
-        self.session.send(f"limit {MOST_STEPS}")
-        # (in a session of its own: behind a run the search may stand still)
-        with self.model.session.fresh() as session:
-            session.end_by(self.clock.latest)
-            self._look_around(session)
-
-    def _look_around(self, session: Session) -> None:
-        """Has a session find out what follows whatever the choices take."""
-        left = self.clock.seconds_left()
-        session.send_all([line for line in self.base if line.split()[0] != "choose"])
-        session.send(f"limit {_STEPS}")
-        end = session.send("settle", seconds=None if left is None else left / 2)
-        if isinstance(end, Contradiction):
-            self._clash = end.premises
-        self._held = dict(zip(self.lines, session.look(f"ask {it}" for it in self.lines.values())))
 
     def close(self) -> None:
-        """Ends the session."""
-        self.session.close()
+        """Keeps the session for the next question, or ends it."""
+        if self._is_kept:
+            self._asked.put_back(self.model)
+        else:
+            self._asked.close()
 
     def ask(self, line: str, seconds: float | None = None) -> None:
         """Asks for points, or goes on with the same question, for so many seconds at the most: `reply`
@@ -109,9 +87,6 @@ class Seeker(Closing):
         """
         if not is_well_encoded(line):
             raise Unlike
-        if self._clash is not None:
-            self.reply = NoneFits(self._clash)
-            return
         left = self.clock.seconds_left()
         most = left if left is None or seconds is None else min(seconds, left)
         most = seconds if most is None else most
@@ -135,45 +110,46 @@ class Seeker(Closing):
         return is_settled(self.reply)
 
     def lowest(self, points: Points, cell: str | None = None) -> Fits:
-        """The plan with the lowest numbers that go with the truths and names of these points, and
-        with their value of a cell, where that is one, and there is time; else that of the points.
-        Raises Unlike."""
-        first = self.fits(points)
-        kept = [line for line, kind in self._kinds.items() if kind not in ("span", "symbol")]
-        kept += [] if cell is None else [self.lines[cell]]
-        held = {} if self.clock.is_over() else self._left({it: points.values[it] for it in kept})
-        if held:
-            with suppress(Unlike):
-                return self.plan_of({cell: _low_end(each) for cell, each in held.items()})
-        return first
-
-    def _left(self, told: Mapping[str, Held]) -> dict[str, Held]:
-        """What is left for the user's cells where these have such values; nothing where that isn't
-        found out soon."""
-        session, left = self.session, self.clock.seconds_left()
-        with suppress(OutOfTime):
-            session.send_all(f"tell {self.mark}row {line} {held}" for line, held in told.items())
-            end = session.send("settle", seconds=_SOON if left is None else min(left, _SOON))
-            replies = session.look(f"ask {line}" for line in self.lines.values())
-            session.send_all([f"forget {self.mark}row"] if told else [])
-            if isinstance(end, Settled):
-                return {c: r.value for c, r in zip(self.lines, replies) if isinstance(r, Value)}
-        return {}
+        """The plan of these points with numbers as low as they can be in the alternatives that it
+        takes, but for a cell, where that is one, as far as that is seen soon. Raises Unlike."""
+        held, kept = self._held(points), [] if cell is None else [cell]
+        plan = self._plan(held)
+        low = self.model.lowered(plan, self.model.believed(), kept)
+        moved = {cell: Span(int(v), int(v)) for cell, v in low.items() if v != plan[cell]}
+        with suppress(Unlike):
+            return self.plan_of({**held, **moved})
+        return self.plan_of(held)
 
     def fits(self, points: Points) -> Fits:
         """The plan of the user's cells at points. Raises Unlike where it doesn't hold."""
-        return self.plan_of({cell: points.values[line] for cell, line in self.lines.items()})
+        return self.plan_of(self._held(points))
 
     def plan_of(self, values: Mapping[str, Held]) -> Fits:
         """The plan of these values of all of the user's cells. Raises Unlike."""
-        texts = {cell: self._text(held) for cell, held in values.items()}
-        plan = {cell: self.model.point(cell, text) for cell, text in texts.items()}
+        plan = self._plan(values)
         if self.model.violated(plan, self.model.believed()):
             raise Unlike
-        return Fits(plan, texts)
+        return Fits(plan, {cell: self._text(held) for cell, held in values.items()})
+
+    def _held(self, points: Points) -> dict[str, Held]:
+        """What points have for the user's cells."""
+        return {cell: points.values[line] for cell, line in self.lines.items()}
+
+    def _plan(self, values: Mapping[str, Held]) -> Plan:
+        return {cell: self.model.point(cell, self._text(it)) for cell, it in values.items()}
 
     def _text(self, held: Held) -> str:
         return self._other if isinstance(held, Nothing) else str(held)
+
+    @contextmanager
+    def _row(self, told: Mapping[str, Held]) -> Iterator[None]:
+        """Values of cells count within the block, and are forgotten then. Raises OutOfTime."""
+        row = f"{self.mark}row"
+        self._asked.is_whole = False
+        self.session.send_all(f"tell {row} {line} {held}" for line, held in told.items())
+        yield
+        self.session.send_all([f"forget {row}"] if told else [])
+        self._asked.is_whole = True
 
     def premises(self, names: Iterable[str]) -> tuple[str, ...]:
         """Premises of lines as the user calls them, in the order of their first mention."""
@@ -197,11 +173,9 @@ class Seeker(Closing):
         cells = {line: cell for cell, line in self.lines.items()}
         if len(row) == len(cells):
             return self.plan_of({cells[line]: held for line, held in row.items()})
-        told = f"{self.mark}row"
-        self.session.send_all(f"tell {told} {line} {held}" for line, held in row.items())
-        reply = self.session.send("solve", seconds=self.clock.seconds_left())
-        self.session.send_all([f"forget {told}"])
-        self.session.drop_lines()
+        with self._row(row):
+            reply = self.session.send("solve", seconds=self.clock.seconds_left())
+        self._asked.let_go()
         return self.fits(reply) if isinstance(reply, Points) else None
 
     def shown(self, plan: Plan) -> Plan:
@@ -210,7 +184,8 @@ class Seeker(Closing):
 
     def evidence(self) -> Evidence:
         """What shows claims, as yet without plans."""
-        return Evidence.without_trial(self.model, self.mark)
+        premises = {name: line for line, name in self._premises.items()}
+        return Evidence(self.base, self.mark, self.lines, premises, self.session.program)
 
     def is_number(self, cell: str) -> bool:
         """Whether a cell is for numbers."""
@@ -222,8 +197,7 @@ class Seeker(Closing):
 
     def end_of(self, cell: str, sort: str) -> int | None:
         """How far a number goes by what follows without any search, None where that has no end."""
-        reply = self._held.get(cell)
-        held = reply.value if isinstance(reply, Value) else None
+        held = self._follows(self.lines[cell])
         if isinstance(held, Span):
             end = held.low if sort == LEAST else held.high
             return None if abs(end) == MOST_NUMBER else end
@@ -231,12 +205,22 @@ class Seeker(Closing):
         room = self.model.candidates(cell)
         return room[0 if sort == LEAST else -1] if isinstance(room, range) and room else None
 
+    def _follows(self, line: str) -> Held | None:
+        """What is left for a cell whatever the choices take, where that is found out soon: a session
+        that has the choices would go by some of them."""
+        latest = time.monotonic() + _SOON
+        with suppress(OutOfTime), self.model.session.fresh() as session:
+            session.end_by(latest if self.clock.last is None else min(latest, self.clock.last))
+            stated = [line for line in self.base if line.split()[0] != "choose"]
+            session.send_all([*stated, WITHOUT_END])
+            session.send("settle", seconds=_SOON / 2)
+            [reply] = session.look([f"ask {line}"])
+            return reply.value if isinstance(reply, Value) else None
+        return None
+
     def refuted(self, premises: Iterable[str]) -> tuple[str, dict[str, object]]:
         """The claim that nothing fits with these premises of lines."""
-        given = sorted(premises)
-        if self._clash is not None:
-            return "fails", {"given": given, "told": []}
-        return "refuted", {"given": given}
+        return "refuted", {"given": sorted(premises)}
 
     def first(self) -> list[str]:
         """The cells that are decided first, by their names on lines, as many as a line has room for."""
@@ -253,14 +237,6 @@ class Seeker(Closing):
         for fits in plans:
             evidence.add_plan(self.model.believed(), fits)
         return evidence.certificate(claims)
-
-
-def _low_end(held: Held) -> Held:
-    """The lowest of the numbers that are left, zero where it may be any."""
-    if not isinstance(held, Span):
-        return held
-    low = 0 if (held.low, held.high) == (-MOST_NUMBER, MOST_NUMBER) else held.low
-    return Span(low, low)
 
 
 def count_asked(most: int) -> int:

@@ -82,6 +82,12 @@ class SessionModel:
         """Nothing: that the program settles is all that is known."""
         return None
 
+    def lowered(
+        self, plan: Mapping[str, Point], believed: Sequence[str], kept: Sequence[str]
+    ) -> Mapping[str, Point]:
+        """The plan as it is."""
+        return plan
+
     def held(self, plan: Mapping[str, Point]) -> Sequence[str]:
         """No premise is known to hold beyond those that were believed."""
         return ()

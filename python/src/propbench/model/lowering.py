@@ -1,0 +1,235 @@
+"""A plan with numbers as low as they can be in the alternatives that it takes.
+
+What is stated by sums, differences and the greatest of some gives bounds: a number is no less than
+others and a number more. They are raised from the lowest until all hold. What is stated otherwise
+keeps the numbers in it as they are. Whether all holds at the numbers that come of it has to be looked
+at once more.
+"""
+
+from collections.abc import Iterable, Sequence
+from dataclasses import dataclass
+from weakref import WeakKeyDictionary
+
+from propbench.model.events import ConstraintChoice, Event, Required, Told, ValueChoice
+from propbench.model.kinds import Plain, Point
+from propbench.model.meaning import Plan, holds
+from propbench.model.nodes import Declared, Node, Op, cells_in, node
+
+
+@dataclass(frozen=True)
+class Bound:
+    """A number is no less than others together, but for some that keep their values, and `more`."""
+
+    of: Declared
+    others: tuple[Declared, ...]
+    without: tuple[Declared, ...]
+    more: int
+
+    def least(self, at: dict[Declared, int]) -> int:
+        """The least that the number may be where the others are these."""
+        found = self.more
+        for cell in self.others:
+            found += at[cell]
+        for cell in self.without:
+            found -= at[cell]
+        return found
+
+
+@dataclass(frozen=True)
+class Way:
+    """A truth, whether it has to hold, and the bounds where it does; by one `alone` it does, where
+    there is such a one."""
+
+    truth: Node
+    is_held: bool
+    bounds: tuple[Bound, ...]
+    alone: Bound | None
+
+    def is_taken(self, points: Plan, at: dict[Declared, int]) -> bool:
+        """Whether points go this way, with these numbers among them."""
+        if self.alone is not None:
+            return self.alone.least(at) <= at[self.alone.of]
+        return holds(self.truth, points) is self.is_held
+
+
+@dataclass(frozen=True)
+class Shape:
+    """Bounds that a constraint gives, and ways of which one has to be taken, where there are some."""
+
+    bounds: tuple[Bound, ...] = ()
+    ways: tuple[Way, ...] = ()
+
+
+# What is not known yet.
+_UNKNOWN = Shape()
+_known: "WeakKeyDictionary[Node, Shape | None]" = WeakKeyDictionary()
+
+
+def lowered(
+    events: Iterable[Event], points: Plan, kept: Iterable[Declared]
+) -> dict[Declared, Point]:
+    """The points with numbers as low as these events allow, but for the cells that are kept."""
+    at = {cell: int(value) for cell, value in points.items() if cell.kind is Plain.NUMBER}
+    bounds, fixed = list[Bound](), set(kept)
+    for event in events:
+        given = _bounds_of(event, points, at)
+        if given is None:
+            fixed.update(_cells_of(event))
+        else:
+            bounds += given
+    for bound in bounds:
+        if bound.without:
+            fixed.update(bound.without)
+    free = {c: c.low for c in at if c.low is not None and c.measure is None and c not in fixed}
+    raised = sorted((it for it in bounds if it.of in free), key=lambda it: at[it.of])
+    at |= free
+    return {**points, **at} if _raise(raised, at) else dict(points)
+
+
+def _raise(bounds: Sequence[Bound], at: dict[Declared, int]) -> bool:
+    """Raises numbers until all bounds hold; whether that was done soon."""
+    for _ in range(len(at) + 1):
+        is_moved = False
+        for bound in bounds:
+            # (as `least` does, which is asked for very often here)
+            least = bound.more
+            for cell in bound.others:
+                least += at[cell]
+            for cell in bound.without:
+                least -= at[cell]
+            if least > at[bound.of]:
+                at[bound.of], is_moved = least, True
+        if not is_moved:
+            return True
+    return False
+
+
+def _bounds_of(event: Event, points: Plan, at: dict[Declared, int]) -> Sequence[Bound] | None:
+    """The bounds that something stated gives in the ways that points take; None where it gives
+    others."""
+    if isinstance(event, Required):
+        return _taken(event.constraint, points, at)
+    if isinstance(event, Told):
+        is_number = event.cell.kind is Plain.NUMBER
+        return [Bound(event.cell, (), (), int(event.values[0]))] if is_number else []
+    if isinstance(event, ConstraintChoice):
+        side = event.side_at(points)
+        sides = [] if side is None else [event.alternatives[side][1]]
+        found = [_taken(each, points, at) for nodes in sides for each in nodes]
+        given = [each for each in found if each is not None]
+        return [it for each in given for it in each] if sides and given == found else None
+    return None if isinstance(event, ValueChoice) else []
+
+
+def _cells_of(event: Event) -> list[Declared]:
+    """The cells that something stated is about."""
+    if isinstance(event, Required):
+        return cells_in(event.constraint)
+    if isinstance(event, ConstraintChoice):
+        return [it for _, nodes in event.alternatives for each in nodes for it in cells_in(each)]
+    return [event.cell] if isinstance(event, (Told, ValueChoice)) else []
+
+
+def _taken(constraint: Node, points: Plan, at: dict[Declared, int]) -> Sequence[Bound] | None:
+    """The bounds of a constraint in the first way that points take, None where it has others."""
+    shape = _known.get(constraint, _UNKNOWN)
+    if shape is _UNKNOWN:
+        shape = _known[constraint] = _shape(constraint, True)
+    if shape is None:
+        return None
+    if not shape.ways:
+        return shape.bounds
+    for way in shape.ways:
+        if way.is_taken(points, at):
+            return (*shape.bounds, *way.bounds)
+    return None
+
+
+def _shape(truth: Node, is_held: bool) -> Shape | None:
+    """The shape of a truth that holds, or doesn't; None where it has none."""
+    op, args = truth.op, truth.args
+    if op is Op.NOT:
+        return _shape(args[0], not is_held)
+    if op in (Op.AND, Op.OR):
+        parts = [(arg, is_held, _shape(arg, is_held)) for arg in args]
+        return _all([it for _, _, it in parts]) if (op is Op.AND) is is_held else _any(parts)
+    if op is Op.IMPLIES and is_held:
+        return _any([(arg, held, _shape(arg, held)) for arg, held in zip(args, (False, True))])
+    if op in _ORDERS:
+        first, second, gap = _ORDERS[op]
+        left, right = args[first], args[second]
+        return _order(left, right, gap) if is_held else _order(right, left, 1 - gap)
+    if op is Op.EQUAL and is_held and args[0].kind is Plain.NUMBER:
+        return _all([_order(args[0], args[1], 0), _order(args[1], args[0], 0)])
+    return None if any(it.kind is Plain.NUMBER for it in cells_in(truth)) else Shape()
+
+
+def _all(parts: Sequence[Shape | None]) -> Shape | None:
+    """The shape of what holds together, of which one may have several ways."""
+    there = [part for part in parts if part is not None]
+    ways = [part.ways for part in there if part.ways]
+    if len(there) < len(parts) or len(ways) > 1:
+        return None
+    return Shape(tuple(it for part in there for it in part.bounds), *ways)
+
+
+def _any(parts: Sequence[tuple[Node, bool, Shape | None]]) -> Shape | None:
+    """The shape of what holds in one of several ways."""
+    ways = []
+    for it, held, shape in parts:
+        if shape is None or shape.ways:
+            return None
+        is_alone = it.op in _ORDERS and len(shape.bounds) == 1
+        ways.append(Way(it, held, shape.bounds, shape.bounds[0] if is_alone else None))
+    return Shape(ways=tuple(ways))
+
+
+def _order(left: Node, right: Node, gap: int) -> Shape | None:
+    """The shape of one number being no more than another less a gap."""
+    if left.op is Op.MAXIMUM:
+        return _all([_order(arg, right, gap) for arg in left.args])
+    if right.op is Op.MAXIMUM:
+        sort = Op.LESS if gap else Op.AT_MOST
+        return _any([(node(sort, (left, it)), True, _order(left, it, gap)) for it in right.args])
+    high, low = _linear(right), _linear(left)
+    if high is None or low is None:
+        return None
+    times = {cell: high[0].get(cell, 0) - low[0].get(cell, 0) for cell in high[0] | low[0]}
+    if any(abs(each) > 1 for each in times.values()):
+        return None
+    above = [cell for cell, each in times.items() if each > 0]
+    below = tuple(cell for cell, each in times.items() if each < 0)
+    if not above:
+        return Shape()
+    return Shape((Bound(above[0], below, tuple(above[1:]), gap + low[1] - high[1]),))
+
+
+def _linear(number: Node) -> tuple[dict[Declared, int], int] | None:
+    """A number as cells, each so many times, and a constant; None where it is no such sum."""
+    if number.op is Op.CONSTANT:
+        return {}, int(number.constant)
+    if number.op is Op.CELL:
+        cell = number.declared
+        is_single = cell.low is not None and cell.low == cell.high
+        return ({}, cell.low or 0) if is_single else ({cell: 1}, 0)
+    if number.op not in (Op.SUM, Op.DIFFERENCE, Op.NEGATIVE):
+        return None
+    times, total = dict[Declared, int](), 0
+    for place, arg in enumerate(number.args):
+        sign = -1 if number.op is Op.NEGATIVE or (number.op is Op.DIFFERENCE and place) else 1
+        part = _linear(arg)
+        if part is None:
+            return None
+        total += sign * part[1]
+        for cell, each in part[0].items():
+            times[cell] = times.get(cell, 0) + sign * each
+    return times, total
+
+
+# Which argument is no more than which, and by how much less.
+_ORDERS = {
+    Op.LESS: (0, 1, 1),
+    Op.AT_MOST: (0, 1, 0),
+    Op.GREATER: (1, 0, 1),
+    Op.AT_LEAST: (1, 0, 0),
+}
