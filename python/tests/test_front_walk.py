@@ -343,9 +343,7 @@ def asked_walks(draw: st.DrawFn) -> Walks:
     for number in range(draw(st.integers(4, 12))):
         drawing = Drawing(draw, standing)
         made = drawing.call("cells") if number < 3 else drawing.changed()
-        # (a relation that can't hold in one alternative denies the others too: that isn't mended)
-        is_asked = "later" in repr(made) or draw(st.booleans())
-        calls.append(drawing.plan_asked() if is_asked else made)
+        calls.append(drawing.plan_asked() if draw(st.booleans()) else made)
         standing = standing.after(calls[-1]) or standing
         calls += [Drawing(draw, standing).plan_asked()]
     return calls

@@ -15,8 +15,8 @@ from hypothesis import given, settings
 from hypothesis import strategies as st
 from lines_model import LineModel
 
-from propbench import Interrupted, Session, Workbench, if_else
-from propbench.model.expressions import Number
+from propbench import Interrupted, Session, Workbench, all_different, if_else, pairs
+from propbench.model.expressions import Number, Truth
 from propbench.questions import NothingFits, Optimum
 from propbench.questions import seeking
 from propbench.questions.seeking import Seeker, Unlike
@@ -43,6 +43,43 @@ def test_numbers_of_one_range_behind_a_condition_are_not_tied() -> None:
     points = [(a, b, b != 0 and a // b >= 1) for a in range(2) for b in range(3)]
     assert found.complete
     assert sorted((p["x"], p["y"], p["holds"]) for p in found) == sorted(points)
+
+
+LATER = [("a", "b"), ("a", "c"), ("b", "c")]
+
+
+def before_and_behind(w: Workbench) -> Truth:
+    """Two elements, of which each is to be later than the other."""
+    domain = w.domain("d", "a b c")
+    x, y = w.element("x", domain), w.element("y", domain)
+    return pairs(x, y, LATER) & pairs(y, x, LATER)
+
+
+def three_of_two(w: Workbench) -> Truth:
+    """Three elements of a domain of two, which are to differ."""
+    domain = w.domain("d", "a b")
+    return all_different(w.element(f"x{i}", domain) for i in range(3))
+
+
+def three_truths(w: Workbench) -> Truth:
+    """Three truths that are to differ."""
+    return all_different(w.truth(f"t{i}") for i in range(3))
+
+
+@pytest.mark.parametrize("impossible", [before_and_behind, three_of_two, three_truths])
+def test_what_cannot_hold_denies_nothing_where_it_is_not_said(
+    impossible: Callable[[Workbench], Truth],
+) -> None:
+    with Workbench() as w:
+        said, n = impossible(w), w.number("n", 1, 2)
+        w.require(said, under="p")
+        w.choose("way", {"this": said, "that": n == 2})
+        with pytest.raises(NothingFits) as none:
+            w.solve()
+        assert none.value.premises == ("p",)
+        w.kick("p")
+        assert w.solve()["n"] == 2
+        assert len(w.plans(["n"])) == 1
 
 
 @settings(max_examples=30 * TIMES)

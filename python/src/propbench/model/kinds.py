@@ -2,6 +2,7 @@
 
 from dataclasses import dataclass
 from enum import Enum
+from math import inf
 
 # Numbers of the program lie between these, either way.
 MOST = 10**18
@@ -48,3 +49,10 @@ def domain_of(kind: Kind) -> Domain:
     """The domain of a kind that is one."""
     assert isinstance(kind, Domain)
     return kind
+
+
+def most_different(kind: Kind) -> float:
+    """So many values of a kind can differ from each other."""
+    if isinstance(kind, Domain):
+        return len(kind.elements)
+    return 2 if kind is Plain.TRUTH else inf

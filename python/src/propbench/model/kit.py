@@ -7,6 +7,8 @@ from propbench.session import Session
 
 # What of two to 64 numbers tells that one differs from the others is there where this is.
 DIFFER = "differ63"
+# What is switched by a truth is there where this is, of relations and of what differs.
+SWITCHED = "soft_link"
 
 # What is used where it is there, with what a user writes for it; else the translation does with the
 # kit that is always there.
@@ -19,6 +21,7 @@ WIDER = {
     **{f"count{number}": "count" for number in range(1, 9)},
     **{f"different{number}": "all_different" for number in range(2, 9)},
     DIFFER: "all_different",
+    SWITCHED: "`pairs` and `all_different` under a premise",
 }
 
 

@@ -9,6 +9,7 @@ looked for from any; so it is done by the elements of the second domain too.
 from collections.abc import Iterator, Sequence
 from dataclasses import dataclass
 
+from propbench.model.context import Context
 from propbench.model.kinds import Domain
 from propbench.model.writer import Writer
 from propbench.words import MOST_BYTES
@@ -27,17 +28,17 @@ class _Part:
 
 
 class Relations:
-    """Writes that two cells are a pair of a relation."""
+    """Writes that two cells of a context are a pair of a relation."""
 
-    def __init__(self, writer: Writer) -> None:
-        self._writer = writer
+    def __init__(self, writer: Writer, context: Context) -> None:
+        self._writer, self._context = writer, context
 
     def link(self, domains: tuple[Domain, Domain], pairs: Pairs, cells: tuple[str, str]) -> None:
         """States that the cells, of these domains, are one of the pairs."""
         first, second = domains
         if self._length(domains, pairs) <= MOST_BYTES - _ROOM:
             relation = self._writer.relation(first, second, pairs)
-            self._writer.attach("link", *cells, by=relation)
+            self._attach(*cells, by=relation)
             return
         self._link_by_parts(domains, pairs, cells)
         turned = [(right, left) for left, right in pairs]
@@ -103,5 +104,8 @@ class Relations:
             self._writer.relation(first, between, near),
             self._writer.relation(between, second, far),
         )
-        self._writer.attach("link", cells[0], middle, by=to)
-        self._writer.attach("link", middle, cells[1], by=onward)
+        self._attach(cells[0], middle, by=to)
+        self._attach(middle, cells[1], by=onward)
+
+    def _attach(self, *cells: str, by: str) -> None:
+        self._writer.attach_within(self._context, "link", *cells, by=by)

@@ -4,9 +4,9 @@ from typing import TYPE_CHECKING
 
 from propbench.model.context import Context
 from propbench.model.core import different, rows_of
-from propbench.model.kinds import Plain, domain_of
+from propbench.model.kinds import Plain, domain_of, most_different
 from propbench.model.kit import DIFFER
-from propbench.model.nodes import Node, Op, constant, node
+from propbench.model.nodes import FALSE, Node, Op, constant, node
 from propbench.model.relations import Relations
 from propbench.model.vocabulary import SIDES
 from propbench.model.writer import TRUTHS
@@ -26,7 +26,6 @@ class Truths:
     def __init__(self, translation: "Translation") -> None:
         self._all = translation
         self._writer = translation.writer
-        self._relations = Relations(translation.writer)
 
     def define(self, each: Node, cell: str, context: Context) -> None:
         """Has a cell hold a truth, which is in core operations."""
@@ -59,11 +58,13 @@ class Truths:
 
     def different_at_once(self, each: Node, context: Context) -> None:
         """States that all differ, where the program can tell more from all at once than from any
-        two."""
+        two; of more than there are values, that this can't be."""
         count = len(each.args)
-        if 2 < count <= _MOST_DIFFERENT and self._writer.offers(f"different{count}"):
+        if count > most_different(each.args[0].kind):
+            self._all.state(FALSE, context)
+        elif 2 < count <= _MOST_DIFFERENT and self._writer.offers(f"different{count}"):
             cells = [self._all.cell_of(arg, context) for arg in each.args]
-            self._writer.attach(f"different{count}", *cells)
+            self._writer.attach_within(context, f"different{count}", *cells)
         elif _MOST_DIFFERENT < count <= _MOST_NUMBERS and self._writer.offers(DIFFER):
             self._differ_at_once(each, context)
 
@@ -86,7 +87,7 @@ class Truths:
             if ((left, right) in pair.entries) is holds
         ]
         left, right = (self._all.cell_of(arg, context) for arg in pair.args)
-        self._relations.link((first, second), pairs, (left, right))
+        Relations(self._writer, context).link((first, second), pairs, (left, right))
 
     def _chain(self, procedure: str, each: Node, cell: str, context: Context) -> None:
         """A chain of truths, each joined to those before it, which have a cell too."""

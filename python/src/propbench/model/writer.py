@@ -9,6 +9,7 @@ from dataclasses import dataclass
 
 from propbench.model.context import Context
 from propbench.model.kinds import MOST, Domain, Kind, Plain, Point
+from propbench.model.kit import SWITCHED
 from propbench.model.naming import INNER
 from propbench.model.vocabulary import SIDES, Vocabulary
 
@@ -139,6 +140,15 @@ class Writer:
         """Puts a procedure or compound between cells."""
         given = f" by {by}" if by else ""
         self.line(f"attach {procedure} {' '.join(cells)}{given}")
+
+    def attach_within(self, context: Context, procedure: str, *cells: str, by: str = "") -> None:
+        """Puts a procedure or compound between cells of a context. While its gate is closed it says
+        nothing of them, where the program has a form that is switched: who searches for points has
+        to find one for each cell, also where no gate to it is open."""
+        if context.is_gated and self._offers(SWITCHED):
+            self.attach(f"soft_{procedure}", context.gate, *cells, by=by)
+        else:
+            self.attach(procedure, *cells, by=by)
 
     def new_name(self) -> str:
         """A name that no user can give."""
