@@ -6,12 +6,14 @@ from dataclasses import dataclass
 from typing import TYPE_CHECKING
 
 from propbench.model.network import Network
+from propbench.planning.order import SetUp
 from propbench.planning.schedule import Entry, Schedule
 from propbench.planning.tasks import (
     Away,
     KeptApart,
     KeptOff,
     NotYet,
+    TaskBy,
     TaskOrdered,
     TaskTold,
     Wished,
@@ -192,7 +194,7 @@ def _rooms(
 def _is_own(network: Network, project: "Project", premise: str) -> bool:
     """Whether what is stated under a premise is all of tasks and people."""
     stated = network.premises.statements[premise]
-    kinds = TaskTold, TaskOrdered, KeptApart, KeptOff
+    kinds = TaskTold, TaskBy, TaskOrdered, KeptApart, KeptOff, SetUp
     return all(isinstance(each, kinds) and each.project is project for each in stated)
 
 
@@ -209,6 +211,7 @@ class _Walk:
         self._schedule, self._project = schedule, project
         self._entries = {entry.task: entry for entry in schedule.entries}
         self._busy = {it.person for it in self._stated if isinstance(it, KeptApart)}
+        self._setups = {it.person: dict(it.times) for it in self._stated if isinstance(it, SetUp)}
 
     def links(self) -> Iterator[Link]:
         """The tasks of the chain, by their first days."""
@@ -233,6 +236,8 @@ class _Walk:
         for each in self._stated:
             if isinstance(each, TaskTold) and each.cell in cells:
                 found[cells[each.cell]] = None
+            elif isinstance(each, TaskBy):
+                found[each.task.name] = None
             elif isinstance(each, TaskOrdered):
                 found |= {each.earlier.name: None, each.later.name: None}
         return found
@@ -250,12 +255,15 @@ class _Walk:
         before: list[Entry] = []
         for each in self._stated:
             if isinstance(each, TaskOrdered) and each.later.name == entry.task:
-                self._take(self._entries[each.earlier.name], "", entry, (words, before))
+                other = self._entries[each.earlier.name]
+                if each.ready(other.start, other.end) == entry.start:
+                    self._take(other, "", entry, (words, before))
         for person in (it for it in entry.people if it in self._busy):
             for other in self._entries.values():
-                if person in other.people and other.start < other.end:
+                if person in other.people and other.start < other.end == entry.start:
                     self._take(other, person, entry, (words, before))
-        for away in self._aways(entry):
+        self._wait_for_setups(entry, (words, before))
+        for away in dict.fromkeys([*self._aways(entry), *self._breaks(entry)]):
             days = self._schedule.days_said(away.first, away.last)
             words.append(f"{printable(away.person)}, away {days}")
         for each in self._stated:
@@ -264,14 +272,31 @@ class _Walk:
                     words.append(printable(str(each.premise)))
         return "; ".join(dict.fromkeys(words)), before
 
+    def _wait_for_setups(self, entry: Entry, into: tuple[list[str], list[Entry]]) -> None:
+        """Takes in the tasks behind which somebody is set up for this one."""
+        tasks = self._project.tasks
+        for person in (it for it in entry.people if it in self._setups):
+            for other in (it for it in self._entries.values() if person in it.people):
+                kinds = str(tasks[other.task].kind), str(tasks[entry.task].kind)
+                days = self._setups[person].get(kinds, 0)
+                if days and other.end + days == entry.start and other not in into[1]:
+                    into[0].append(printable(f"{person}, set up behind {other.task}"))
+                    into[1].append(other)
+
     def _take(
         self, other: Entry, person: str, entry: Entry, into: tuple[list[str], list[Entry]]
     ) -> None:
-        """Takes in a task that ends when another starts, which waits for it or for its person."""
+        """Takes in a task that another waits for, or for its person."""
         words, before = into
-        if other.end == entry.start and other.task != entry.task and other not in before:
+        if other.task != entry.task and other not in before:
             words.append(printable(f"{person}, busy with {other.task}" if person else other.task))
             before.append(other)
+
+    def _breaks(self, entry: Entry) -> list[Away]:
+        """The absences through which a task pauses."""
+        found = dict.fromkeys(it.away for it in self._stated if isinstance(it, KeptOff))
+        within = [it for it in found if any(a <= it.first < b for a, b in entry.pauses)]
+        return [it for it in within if it.person in entry.people]
 
     def _aways(self, entry: Entry) -> list[Away]:
         found = dict.fromkeys(it.away for it in self._stated if isinstance(it, KeptOff))

@@ -3,6 +3,7 @@
 from typing import TYPE_CHECKING
 
 from propbench.model.given import values_of
+from propbench.planning.pausing import days_worked
 from propbench.planning.tasks import NotYet, Task, TaskDone, TaskMade, TaskTold
 from propbench.questions.shown import listed
 from propbench.showing import printable
@@ -23,7 +24,7 @@ def state_done(project: "Project", task: Task, days: tuple[int, int], premise: s
             f"{printable(task.name)} was done already: forget the premise of that first"
         )
     w, today = project.workbench, today_of(project)
-    planned = _planned(project, task, last - first)
+    planned = _planned(project, task, days_worked(project, task, first, last))
     try:
         for name in planned:
             w.kick(name)
