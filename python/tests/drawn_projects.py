@@ -72,11 +72,11 @@ def drawn_project(seed: int) -> Drawn:
 def _drawn(draw: random.Random, seed: int) -> Drawn:
     count = draw.choice((2, 2, 3, 3, 3, 4, 5))
     people = NAMES[: draw.randint(1, 3)]
-    days = draw.randint(4, 9) if count < 4 else draw.randint(4, 6)
+    days = draw.randint(5, 10) if count < 4 else draw.randint(4, 7)
     made = Drawn(seed, days, people, draw.random() < 0.5)
     for number in range(count):
         made.tasks.append(_drawn_task(draw, made, number))
-    for _ in range(draw.choice((0, 1, 1, 2))):
+    for _ in range(draw.choice((0, 1, 2, 2, 3))):
         first = draw.randint(0, days - 1)
         last = draw.randint(first + 1, min(days, first + 3))
         who = draw.choice(people)

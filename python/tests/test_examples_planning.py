@@ -19,6 +19,13 @@ def test_a_conference() -> None:
     cost = 4000 + 2200 + 800 + 500 + 120
     chain = 2 + 2 + 3 + 14 + 8 + 2 + 3 + 3 + 3
     assert f"The least total cost is {cost}.\nThe least end is {chain}.\n" in said
+    # (the fastest ways, all of them, and the cheapest; the slower review saves the least)
+    always = 900 + 800 + 500 + 120
+    assert [row[:2] for row in re.findall(r"^ (\d+) (\d+) (\w+) (\w+ each)$", said, re.M)] == [
+        (str(chain - 3), str(4000 + 300 + always)),
+        (str(chain), str(1500 + 300 + always)),
+        (str(chain + 3), str(1500 + always)),
+    ]
     assert "14 conflicts, no others:" in said and "6 repairs, no others:" in said
     assert " 1.5 cheap and very cheap\n" in said
     assert "very cheap total cost <= 4500\n a hotel venue cost >= 4000\n" in said

@@ -214,6 +214,7 @@ class Workbench(PlainWorkbench, Laboratory):
         people: str | Sequence[str] = (),
         start: date | str | None = None,
         off: str | date | Iterable[str | date] = (),
+        skills: Mapping[str, str | Sequence[str]] | None = None,
     ) -> Project:
         """The same as `project`, by its older name, which stays until 2.0. (`plans` are others.)
 
@@ -222,7 +223,7 @@ class Workbench(PlainWorkbench, Laboratory):
         >>> p.task("venue", 3).days.ask().value
         3
         """
-        return self.project(days=days, people=people, start=start, off=off)
+        return self.project(days=days, people=people, start=start, off=off, skills=skills)
 
     # --- within ---
 

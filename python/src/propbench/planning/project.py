@@ -213,8 +213,9 @@ class Project:
         >>> p = w.project(days=30, people="ana")
         >>> trip = p.away("ana", 2, 10)
         >>> venue = p.task("venue", 3, who="ana")
-        >>> w.least(venue.start).value
-        10
+        >>> fair = p.task("fair", 3, who="ana", pauses=False)
+        >>> w.least(venue.end).value, w.least(fair.end).value
+        (11, 13)
         """
         self.staffing.known(person)
         begin, end = self.day(first), self.day(last)

@@ -1,7 +1,7 @@
 """Several goals, the first before the second: the best that one number can be, and then the best of
 another in the plans that have it."""
 
-from collections.abc import Iterable, Mapping, Sequence
+from collections.abc import Iterator, Mapping, Sequence
 from contextlib import suppress
 from dataclasses import dataclass
 
@@ -158,7 +158,7 @@ def cells_of(model: Model, given: object) -> list[CellLike] | None:
     if isinstance(given, str):
         names = names_given(given, model.cells())
         return list(names) if len(names) > 1 else None
-    if hasattr(given, "name") or not isinstance(given, Iterable):
+    if not isinstance(given, Sequence | Iterator):
         return None
     several = list(given)
     if not several:
