@@ -71,48 +71,50 @@ def drawn_project(seed: int) -> Drawn:
 
 def _drawn(draw: random.Random, seed: int) -> Drawn:
     count = draw.choice((2, 2, 3, 3, 3, 4, 5))
-    people = NAMES[: draw.randint(1, 3)]
-    days = draw.randint(5, 10) if count < 4 else draw.randint(4, 7)
+    people = NAMES[: draw.choice((1, 2, 2, 3))]
+    days = draw.randint(6, 12) if count < 4 else draw.randint(5, 8)
     made = Drawn(seed, days, people, draw.random() < 0.5)
     for number in range(count):
         made.tasks.append(_drawn_task(draw, made, number))
     for _ in range(draw.choice((0, 1, 2, 2, 3))):
-        first = draw.randint(0, days - 1)
-        last = draw.randint(first + 1, min(days, first + 3))
-        who = draw.choice(people)
+        first = draw.choice((0, 1, 1, 2, 2, 3, days // 2))
+        last = draw.randint(first + 1, first + 3)
+        who = draw.choice(people[:2])
         made.aways.append((f"off {len(made.aways)}", who, first, last))
     if made.has_dates and draw.random() < 0.4:
-        on = [day for day in WEEK if draw.random() < 0.6] or ["mon"]
+        on = [day for day in WEEK if draw.random() < 0.7] or ["mon"]
         made.works.append((draw.choice(people), " ".join(on)))
     _draw_order(draw, made)
-    for number in range(draw.choice((0, 1, 1, 2))):
+    for number in range(draw.choice((0, 0, 0, 1, 2))):
         sort, task = draw.choice(("by", "from")), draw.randrange(count)
         every = sort == "by" and draw.random() < 0.4
-        day = draw.randint(1, days)
+        day = draw.randint(days // 2, days) if sort == "by" else draw.randint(1, days // 2)
         made.wishes.append((f"wish {number}", sort, None if every else task, day))
     made.early_aways = draw.random() < 0.5
     return made
 
 
 def _drawn_task(draw: random.Random, made: Drawn, number: int) -> DrawnTask:
-    ways = [(draw.randint(0, 4) if draw.random() < 0.1 else draw.randint(1, 3), 0)]
-    if draw.random() < 0.5:
-        ways = [(days, draw.randint(0, 3)) for days, _ in ways]
+    long = draw.choice((0, 1, 1, 2, 2, 3, 4))
+    ways = [(long, draw.choice((0, 0, 1, 2)))]
     others, speeds, free = (), (), list(made.people)
     draw.shuffle(free)
-    people = tuple(free[: draw.choice((0, 1, 1, 1, 2))])
+    people = tuple(free[: draw.choice((0, 1, 1, 1, 1, 2))])
     count, by_skill = 0, False
-    if len(made.people) > 1 and draw.random() < 0.4:
+    if len(made.people) > 1 and draw.random() < 0.35:
         others = tuple(sorted(made.people[: draw.randint(2, len(made.people))]))
         people, count = (), draw.randint(1, len(others) - 1)
         by_skill = draw.random() < 0.4
         if count == 1 and draw.random() < 0.5:
             speeds = tuple(draw.randint(1, 3) for _ in others)
-    elif draw.random() < 0.3:
-        ways.append((draw.randint(1, 3), draw.randint(0, 3)))
-    after = [before for before in range(number) if draw.random() < 0.25]
+    elif draw.random() < 0.5:
+        # (where it takes longer it costs less)
+        ways.append((long + draw.randint(1, 2), max(0, ways[0][1] - draw.randint(1, 2))))
+        ways[0] = ways[0][0], ways[0][1] + draw.randint(0, 2)
+        draw.shuffle(ways)
+    after = [before for before in range(number) if draw.random() < 0.2]
     kind = draw.choice((None, *_KINDS))
-    pauses = draw.random() < 0.7
+    pauses = draw.random() < 0.8
     return DrawnTask(
         tuple(ways), people, count, others, speeds, tuple(after), pauses, kind, by_skill
     )
@@ -120,10 +122,10 @@ def _drawn_task(draw: random.Random, made: Drawn, number: int) -> DrawnTask:
 
 def _draw_order(draw: random.Random, made: Drawn) -> None:
     count = len(made.tasks)
-    if draw.random() < 0.4:
+    if draw.random() < 0.35:
         first, then = draw.sample(range(count), 2)
         least = draw.choice((None, 0, 1, 2))
-        most = draw.choice((None, 2, 3)) if least is not None else draw.randint(0, 3)
+        most = draw.choice((None, 3, 4)) if least is not None else draw.randint(0, 4)
         made.lags.append((first, then, least, most, draw.choice(("end", "start"))))
     if draw.random() < 0.4:
         pairs = [(one, other) for one in _KINDS for other in _KINDS]
@@ -228,23 +230,25 @@ def broken(made: Drawn, plan: tuple[Done, ...]) -> frozenset[str]:
 
 @dataclass
 class Known:
-    """What a search of all plans finds: the ends and costs of those that fit, and the least sets of
-    premises that are broken."""
+    """What a search of all plans finds: the ends and costs of those that fit, when their last task is
+    done, and the least sets of premises that are broken."""
 
     fits: set[tuple[int, int]]
+    days: set[tuple[int, int]]
     repairs: set[frozenset[str]]
 
 
 def searched(made: Drawn) -> Known:
     """By going through all plans."""
-    fits, sets = set(), set()
+    fits, days, sets = set(), set(), set()
     for plan in product(*(list(options_of(made, task)) for task in made.tasks)):
         if is_ordered(made, plan):
             out = broken(made, plan)
             sets.add(out)
             if not out:
                 fits.add((max(it.end for it in plan), sum(it.cost for it in plan)))
-    return Known(fits, {each for each in sets if not any(other < each for other in sets)})
+                days.add((plan[-1].start, plan[-1].end))
+    return Known(fits, days, {each for each in sets if not any(other < each for other in sets)})
 
 
 def front(pairs: set[tuple[int, int]]) -> list[tuple[int, int]]:
@@ -340,6 +344,11 @@ def faults(seed: int, counts: dict[str, int] | None = None) -> list[str]:
         check("the least end and cost", both.values, min(known.fits, default=()))
         least = min((pair[1] for pair in known.fits), default=None)
         check("the least cost", w.least(cost).value, least)
+        most = max((pair[0] for pair in known.fits), default=None)
+        check("the greatest end", w.greatest(end).value, most)
+        last = [*p.tasks.values()][-1]
+        plans = w.plans([last.start, last.end], most=1000)
+        check("when a task is done", {tuple(plan.values()) for plan in plans}, known.days)
         traded = w.trade_off(end, cost)
         check("trade-offs", (traded.pairs, traded.complete), (front(known.fits), True))
         for each in (both, *traded):
@@ -382,7 +391,7 @@ def main(first: int, count: int) -> None:
         for fault in faults(seed, counts):
             wrong += 1
             print(fault, drawn_project(seed), flush=True)
-        if (seed - first) % 100 == 99:
+        if (seed - first) % 100 == 99 or seed == first + count - 1:
             print(f"{seed - first + 1} projects, {wrong} wrong, {counts}", flush=True)
 
 
