@@ -159,6 +159,16 @@ def test_a_pause_is_told_of_the_chain(p: Project) -> None:
     assert chain.links[0].waits == "ana, away 2 to 5"
 
 
+def test_how_far_work_can_move(p: Project) -> None:
+    """Letters take days 0, 1 and 5, or all behind the leave: they can begin on days 0, 1 and 5 to 7."""
+    p.task("letters", 3, who="ana")
+    p.task("review", 10, who="ben")
+    p.away("ana", 2, 5)
+    chain = p.critical()
+    assert chain.tasks == ("review",) and chain.rooms == {"letters": 7}
+    assert str(chain).split("\n")[-1].split() == ["letters", "7", "0", "to", "10"]
+
+
 def test_what_was_done_counts_days_of_work(p: Project) -> None:
     w, review = p.workbench, p.task("review", 5, who="ana")
     p.away("ana", 2, 4)

@@ -1,10 +1,11 @@
 """Why a plan ends no sooner: the tasks, people and absences that make its end, in order, and how
 much room the other tasks have."""
 
-from collections.abc import Iterator, Mapping, Sequence
+from collections.abc import Callable, Iterator, Mapping, Sequence
 from dataclasses import dataclass
 from typing import TYPE_CHECKING
 
+from propbench.model.cells import NumberCell
 from propbench.model.network import Network
 from propbench.planning.order import SetUp
 from propbench.planning.schedule import Entry, Schedule
@@ -18,6 +19,7 @@ from propbench.planning.tasks import (
     TaskTold,
     Wished,
 )
+from propbench.questions.bounding import Optimum
 from propbench.questions.clock import Clock
 from propbench.questions.outcomes import NothingFits
 from propbench.questions.shown import NOT_REFUTED, Shown, listed
@@ -34,6 +36,15 @@ class Link:
 
     entry: Entry
     waits: str
+
+
+@dataclass(frozen=True)
+class Room:
+    """The days within which a task is done, and the last on which it begins."""
+
+    first: int
+    last: int
+    latest: int
 
 
 @dataclass(frozen=True)
@@ -59,7 +70,7 @@ class Chain(Shown):
         links: Sequence[Link],
         reasons: Reasons,
         others: Sequence[str],
-        rooms: Mapping[str, tuple[int, int]],
+        rooms: Mapping[str, Room],
     ) -> None:
         """The chain in a schedule, with premises that are no task's and nobody's."""
         self.schedule, self.links = schedule, tuple(links)
@@ -81,9 +92,7 @@ class Chain(Shown):
     def rooms(self) -> dict[str, int]:
         """The days that each other task can move while all ends as soon."""
         return {
-            entry.task: self._windows[entry.task][1]
-            - self._windows[entry.task][0]
-            - (entry.end - entry.start)
+            entry.task: self._windows[entry.task].latest - self._windows[entry.task].first
             for entry in self._left()
             if entry.task in self._windows
         }
@@ -117,7 +126,8 @@ class Chain(Shown):
 
     def _rooms_told(self) -> Iterator[tuple[str, str, str]]:
         for task, room in self.rooms.items():
-            yield task, str(room), self.schedule.days_said(*self._windows[task])
+            window = self._windows[task]
+            yield task, str(room), self.schedule.days_said(window.first, window.last)
 
 
 def chain_of(project: "Project", schedule: Schedule, clock: Clock) -> Chain:
@@ -175,19 +185,23 @@ def _keep(project: "Project", premises: Sequence[str]) -> None:
             w.kick(premise)
 
 
-def _rooms(
-    project: "Project", tasks: Sequence[str], value: int, clock: Clock
-) -> dict[str, tuple[int, int]]:
-    """For each of these tasks the first day on which it starts in a plan that ends by a day, and the
-    last on which it ends, as far as there is time to find both."""
+def _rooms(project: "Project", tasks: Sequence[str], value: int, clock: Clock) -> dict[str, Room]:
+    """The room of each of these tasks in plans that end by a day, as far as there is time to find
+    it."""
     w, name = project.workbench, project.unused("all ends as soon")
-    rooms: dict[str, tuple[int, int]] = {}
+    rooms: dict[str, Room] = {}
+
+    def best(ask: Callable[..., Optimum], cell: NumberCell) -> int | None:
+        found = ask(cell, seconds=clock.seconds_left(), progress=clock.progress)
+        return found.value if found.proved else None
+
     with w.what_if(tell=[(name, project.end, 0, value)]):
         for task in (project.tasks[it] for it in tasks):
-            first = w.least(task.start, seconds=clock.seconds_left(), progress=clock.progress)
-            last = w.greatest(task.end, seconds=clock.seconds_left(), progress=clock.progress)
-            if first.proved and last.proved and first.value is not None and last.value is not None:
-                rooms[task.name] = first.value, last.value
+            ends = best(w.least, task.start), best(w.greatest, task.end)
+            if ends[0] is not None and ends[1] is not None:
+                latest = best(w.greatest, task.start)
+                if latest is not None:
+                    rooms[task.name] = Room(ends[0], ends[1], latest)
     return rooms
 
 
