@@ -52,6 +52,7 @@ class Drawn:
     wishes: list[tuple[str, str, int | None, int]] = field(default_factory=list)
     setups: dict[str, dict[tuple[str, str], int]] = field(default_factory=dict)
     early_aways: bool = False
+    off: str = ""
 
 
 # --- drawing ---
@@ -91,6 +92,7 @@ def _drawn(draw: random.Random, seed: int) -> Drawn:
         day = draw.randint(days // 2, days) if sort == "by" else draw.randint(1, days // 2)
         made.wishes.append((f"wish {number}", sort, None if every else task, day))
     made.early_aways = draw.random() < 0.5
+    made.off = draw.choice(("", "sun", "sat sun")) if made.has_dates else ""
     return made
 
 
@@ -152,11 +154,12 @@ class Done:
 def all_aways(made: Drawn) -> list[tuple[str, str, int, int]]:
     """Absences, those of the weekdays on which somebody doesn't work too, day by day joined."""
     found = list(made.aways)
+    dates = (START + timedelta(days=each) for each in range(99))
+    worked = [it for it in (WEEK[each.weekday()] for each in dates) if it not in made.off.split()]
     for person, weekdays in made.works:
         begun = None
         for day in range(made.days + 1):
-            weekday = WEEK[(START + timedelta(days=day)).weekday()]
-            is_off = day < made.days and weekday not in weekdays.split()
+            is_off = day < made.days and worked[day] not in weekdays.split()
             if is_off and begun is None:
                 begun = day
             if not is_off and begun is not None:
@@ -270,7 +273,7 @@ def project_of(w: Workbench, made: Drawn) -> Project:
     for number, others in enumerate(sorted(groups)):
         can = {who: f"{has} s{len(others)}" if who in others else has for who, has in can.items()}
     start = START if made.has_dates else None
-    p = w.project(days=made.days, people=made.people, start=start, skills=can)
+    p = w.project(days=made.days, people=made.people, start=start, off=made.off, skills=can)
     if made.early_aways:
         state_aways(p, made)
     done: list[Task] = []
