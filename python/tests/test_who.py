@@ -64,6 +64,23 @@ def test_each_in_days_of_his_own(p: Project) -> None:
     assert w.solve()["review cost"] == 7
 
 
+def test_it_was_done_in_other_days(p: Project) -> None:
+    """Who was to take 3 days or 5 took 4: so that doesn't count, and who it was is open."""
+    w = p.workbench
+    days, ana_or_ben = {"ana": 3, "ben": 5}, any_of("ana", "ben")
+    task = p.task("review", days, who=ana_or_ben)
+    with w.what_if():
+        other = p.task("talk", days, who=ana_or_ben, cost=2, under="all")
+        with pytest.raises(ValueError, match="'all' says more than how long talk takes"):
+            p.done(other, 0, 4)
+    with w.what_if():
+        p.done(task, 0, 5)
+        assert who(p) == {"review": ("ben",)}
+    p.done(task, 0, 4)
+    assert "review takes 3 by ana or 5 by ben" not in w.believed
+    assert w.least(task.end).value == 4 and len(who(p)["review"]) == 1
+
+
 def test_names_are_given_as_everywhere(wide: str) -> None:
     """One by one, as a list, or in one text; a name that has a space is one where there is one."""
     with Workbench(wide) as w:

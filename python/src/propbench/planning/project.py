@@ -641,8 +641,9 @@ class Project:
             says = [f"{days} by {person}" for person, days in speeds.items()]
             takes = [implies(task.may[it], task.days == days) for it, days in speeds.items()]
             written = f"{task.name} takes {' or '.join(says)}"
-            for each in takes:
-                self.state(TaskBy(each.node, under or written, self, task, printable(written)))
+            for each, days in zip(takes, speeds.values()):
+                told = printable(written)
+                self.state(TaskBy(each.node, under or written, self, task, days, told))
         else:
             self._tell(under or f"{task.name} takes {way.days}", task.days, way.days)
         if task.cost is not None:

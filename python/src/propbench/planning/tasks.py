@@ -97,10 +97,11 @@ class TaskTold(Told):
 
 @dataclass(frozen=True)
 class TaskBy(Required):
-    """How long a task of a project takes whoever does it."""
+    """In how many days somebody does a task of a project, who may."""
 
     project: "Project"
     task: Task
+    days: int
     written: str
 
     @property
