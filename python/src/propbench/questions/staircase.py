@@ -4,7 +4,7 @@ the steps between them, below which nothing fits."""
 import csv
 import io
 import os
-from collections.abc import Iterable, Iterator, Sequence
+from collections.abc import Callable, Iterable, Iterator, Sequence
 from dataclasses import dataclass
 from html import escape
 
@@ -16,6 +16,8 @@ from propbench.showing import printable
 # Sizes, in pixels: of the picture, and around what is drawn.
 _WIDE, _HIGH, _LEFT, _RIGHT, _TOP, _BELOW = 640, 400, 84, 130, 24, 52
 _INK, _LINE, _EMPTY, _FITS = "#1d2733", "#3366aa", "#f3f4f6", "#e3edf8"
+# What is said in a corner is so wide.
+_SAID = 120
 # A cell that begins so is a formula to a spreadsheet.
 _FORMULA = ("=", "+", "-", "@", "\t", "\r")
 # So many marks stand on an axis at the most, and so many letters beside a point.
@@ -84,12 +86,12 @@ class Axis:
 @dataclass(frozen=True)
 class Staircase:
     """The pairs of two cells, by the first, with what is said of each. Nothing fits below them; where
-    not all were found, that is known up to the last one alone."""
+    not all were found, that is known up to a number of the first cell alone, the `edge`."""
 
     cells: tuple[str, str]
     pairs: Sequence[tuple[int, int]]
     says: Sequence[str]
-    complete: bool
+    edge: int | None = None
 
     def svg(self) -> str:
         """The picture."""
@@ -113,7 +115,7 @@ class Staircase:
         """What is known to be empty, and above the steps what fits."""
         wide, high = _WIDE - _RIGHT - _LEFT, _HIGH - _BELOW - _TOP
         right = _WIDE - _RIGHT
-        known = right if self.complete or not self.pairs else across.place(self.pairs[-1][0])
+        known = right if self.edge is None else across.place(max(self.edge, across.low))
         width = round(known - _LEFT, 1)
         yield f'<rect x="{_LEFT}" y="{_TOP}" width="{wide}" height="{high}" fill="#ffffff"/>'
         yield f'<rect x="{_LEFT}" y="{_TOP}" width="{width}" height="{high}" fill="{_EMPTY}"/>'
@@ -121,10 +123,17 @@ class Staircase:
             steps = " ".join(self._steps(across, up, right))
             yield f'<path d="{steps} L {right} {_TOP} Z" fill="{_FITS}"/>'
             yield f'<path d="{steps}" fill="none" stroke="{_LINE}" stroke-width="1.5"/>'
-        if not self.complete:
+        if self.edge is not None:
             x, y = _WIDE - _RIGHT - 6, _HIGH - _BELOW - 8
             yield f'<text x="{x}" y="{y}" text-anchor="end" fill="#666">not searched</text>'
-        yield f'<text x="{_LEFT + 6}" y="{_HIGH - _BELOW - 8}" fill="#666">nothing fits here</text>'
+        if width > _SAID and all(map(self._is_beside(across, up), self.pairs)):
+            x, y = _LEFT + 6, _HIGH - _BELOW - 8
+            yield f'<text x="{x}" y="{y}" fill="#666">nothing fits here</text>'
+
+    def _is_beside(self, across: Axis, up: Axis) -> Callable[[tuple[int, int]], bool]:
+        """Whether a point leaves room for what is said in the corner."""
+        wide, high = _LEFT + _SAID, _HIGH - _BELOW - 30
+        return lambda pair: across.place(pair[0]) > wide or up.place(pair[1]) < high
 
     def _steps(self, across: Axis, up: Axis, right: int) -> Iterator[str]:
         """The line from the top along the points to the right."""

@@ -124,8 +124,18 @@ class TradeOff(Shown, list[Optima]):
         """
         from propbench.questions.staircase import Staircase, written
 
-        drawn = Staircase(self.cells, self.pairs, self._said(), self.complete).svg()
+        drawn = Staircase(self.cells, self.pairs, self._said(), self._edge()).svg()
         return written(drawn, path, ".svg")
+
+    def _edge(self) -> int | None:
+        """Up to which value of the first cell all is known, None where that is all there is."""
+        if self.complete or not self:
+            return None
+        before, last = self.pairs[-2:-1], self[-1].steps[0]
+        if last.proved:
+            return self.pairs[-1][0]
+        known = [pair[0] for pair in before] + ([] if last.bound is None else [last.bound])
+        return max(known, default=self.pairs[-1][0] - 1)
 
     def _said(self) -> list[str]:
         """Of each plan which alternatives it takes, in a text."""
