@@ -6,7 +6,7 @@ it is complete, and has a certificate. What answers a question is imported once 
 
 from __future__ import annotations
 
-from collections.abc import Iterable, Iterator, Mapping, Sequence
+from collections.abc import Iterable, Iterator, Mapping
 from contextlib import contextmanager
 from typing import TYPE_CHECKING, TypeVar, overload
 
@@ -19,7 +19,7 @@ from propbench.questions.model import Model as Model
 if TYPE_CHECKING:
     from concurrent.futures import Executor
 
-    from propbench.questions.asking import CellLike, Named
+    from propbench.questions.asking import CellLike, Cells
     from propbench.questions.asking import Interrupted as Interrupted
     from propbench.questions.asking import NoSuchName as NoSuchName
     from propbench.questions.bounding import Optimum as Optimum
@@ -42,9 +42,6 @@ if TYPE_CHECKING:
     from propbench.questions.sensitivity import Sensitivity as Sensitivity
     from propbench.questions.solution import Solution as Solution
     from propbench.questions.trading import TradeOff as TradeOff
-
-    # Several cells, of which the first matters most.
-    Cells = Sequence[Named] | list[str] | tuple[str, ...]
 else:
     _HOMES = {
         "propbench.questions.asking": "Interrupted NoSuchName",
