@@ -24,6 +24,7 @@ badges = p.task("badges", 1, who="cleo", after=[register], cost=120)
 rehearse = p.task("rehearsal", 1, who="ana ben", after=[program])
 meet = p.task("meeting", 3, who="ana ben cleo", after=[prints, badges, rehearse, catering])
 
+print(w.trade_off(p.end, p.total_cost))
 p.away("ana", 5, 15, under="ana away")
 p.done_by(48, under="before summer")
 p.done_by(40, under="early")

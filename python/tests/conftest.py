@@ -24,7 +24,8 @@ sys.path.append(str(REPOSITORY / "tests"))
 
 OF_A_WORKBENCH = """
 test_cases test_certificates test_chains test_flatzinc test_flatzinc_meaning
-test_flatzinc_models test_flatzinc_random test_flatzinc_search test_flatzinc_sets test_planning
+test_flatzinc_models test_flatzinc_random test_flatzinc_search test_flatzinc_sets test_goals
+test_planning
 test_progress test_questions test_questions_page test_schedules test_shown test_solving
 test_spoilt test_what_ifs test_workbench test_workbench_files test_workbench_page
 test_workbench_random

@@ -51,7 +51,7 @@ def project_of(w: Workbench, case: Case) -> Project:
     made: list[Task] = []
     for number, each in enumerate(case.tasks):
         after = [made[before] for before in each.after]
-        made.append(p.task(f"t{number}", each.days, who=each.who, after=after))
+        made.append(p.task(f"t{number}", each.days, who=each.who, after=after, pauses=False))
     p.away("ana", *case.away, under="ana away")
     return p
 
@@ -192,7 +192,7 @@ def test_what_is_the_same_does_not_differ() -> None:
     """However it is told: a project's statements, and the same by hand."""
     with Workbench() as w, Workbench() as other:
         p = w.plan(days=9, people="ana")
-        p.task("a", 2, who="ana")
+        p.task("a", 2, who="ana", pauses=False)
         p.away("ana", 3, 5, under="ill")
         start, end, days = (other.number(f"a {it}", 0, 9) for it in ("start", "end", "days"))
         other.require(end == start + days)

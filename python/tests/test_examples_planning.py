@@ -12,17 +12,25 @@ from plainly import Names, Rule, Values, differing, fits, solutions
 
 
 def test_a_conference() -> None:
-    """Its figures are sums of what the tasks take and cost, along the longest chain."""
+    """Its figures are sums of what the tasks take and cost, along the longest chain. The sponsors
+    are asked behind budget and venue, from day 4 on, and again after the leave."""
     assert ran("planning/conference").seconds < 3
     said = re.sub(" +", " ", ran("planning/conference").printed)
     cost = 4000 + 2200 + 800 + 500 + 120
     chain = 2 + 2 + 3 + 14 + 8 + 2 + 3 + 3 + 3
     assert f"The least total cost is {cost}.\nThe least end is {chain}.\n" in said
+    # (the fastest ways, all of them, and the cheapest; the slower review saves the least)
+    always = 900 + 800 + 500 + 120
+    assert [row[:2] for row in re.findall(r"^ (\d+) (\d+) (\w+) (\w+ each)$", said, re.M)] == [
+        (str(chain - 3), str(4000 + 300 + always)),
+        (str(chain), str(1500 + 300 + always)),
+        (str(chain + 3), str(1500 + always)),
+    ]
     assert "14 conflicts, no others:" in said and "6 repairs, no others:" in said
     assert " 1.5 cheap and very cheap\n" in said
     assert "very cheap total cost <= 4500\n a hotel venue cost >= 4000\n" in said
     assert "'papers takes 14'" in said and "'sponsors takes 6'" not in said
-    assert " sponsors start 15 17 2\n" in said
+    assert " sponsors start 4 17 13\n" in said
     assert "5 plans, no others:" in said and "premise the web site is late" in said
 
 

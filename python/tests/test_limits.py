@@ -91,6 +91,7 @@ QUESTIONS: dict[str, Ask] = {
     "repairs": lambda b, s: b.w.repairs(keep=b.p.facts, seconds=s),
     "least": lambda b, s: b.w.least(b.p.end, seconds=s),
     "greatest": lambda b, s: b.w.greatest(b.p.total_cost, seconds=s),
+    "trade_off": lambda b, s: b.w.trade_off(b.p.end, b.p.total_cost, seconds=s),
     "plans": lambda b, s: b.w.plans(seconds=s),
     "solve": lambda b, s: b.w.solve(seconds=s),
     "slack": lambda b, s: b.w.slack(b.cell, seconds=s),
@@ -118,6 +119,7 @@ QUESTIONS: dict[str, Ask] = {
     "core": lambda b, s: b.p.end.core(seconds=s),
 }
 MORE: dict[str, Ask] = {
+    "least of two": lambda b, s: b.w.least([b.p.end, b.p.total_cost], seconds=s),
     "sensitivity of the least": lambda b, s: b.w.sensitivity(b.p.end, "least", seconds=s),
     "sensitivity of a quantity": lambda b, s: b.w.sensitivity(b.length, seconds=s),
     "over all plans": lambda b, s: b.p.end.ask(over="all plans", seconds=s),

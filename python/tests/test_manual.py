@@ -31,9 +31,11 @@ CLASSES: list[type] = [
     propbench.Solution,
     questions.Critical,
     questions.Differences,
+    questions.Optima,
     questions.Scenarios,
     questions.Sensitivity,
     questions.Slack,
+    questions.TradeOff,
 ]
 # What the examples use without an import.
 GIVEN: dict[str, object] = {

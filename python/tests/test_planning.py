@@ -45,12 +45,13 @@ def project_of(w: Workbench, drawn: list[Drawn], away: tuple[int, int]) -> Proje
     made: list[Task] = []
     for number, each in enumerate(drawn):
         after = [made[before] for before in each.after]
+        name, who = f"t{number}", each.who
         if len(each.ways) == 1:
             [(days, cost)] = each.ways
-            made.append(p.task(f"t{number}", days, cost=cost, who=each.who, after=after))
+            made.append(p.task(name, days, cost=cost, who=who, after=after, pauses=False))
         else:
             options = {f"way {n}": dict(days=d, cost=c) for n, (d, c) in enumerate(each.ways)}
-            made.append(p.task(f"t{number}", who=each.who, after=after, options=options))
+            made.append(p.task(name, who=who, after=after, options=options, pauses=False))
     p.away("ana", *away, under="ana away")
     return p
 
@@ -289,10 +290,10 @@ def test_people_are_names() -> None:
 
 def test_a_chart_says_who_is_waited_for(p: Project, tmp_path: Path) -> None:
     w = p.workbench
-    away = p.away("ben", 4, 20)
+    away = p.away("ben", 0, 20)
     w.forget("review after venue")
     svg = p.chart(rooms=False).svg
-    assert "review (ben): 1-7 Apr; it starts when ben is back, as no task pauses" in svg
+    assert "review (ben): 1-7 Apr; it starts when ben is back" in svg
     w.kick(away)
     assert "is back" not in p.chart(rooms=False).svg
     chart = p.chart(rooms=False)

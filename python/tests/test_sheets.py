@@ -35,13 +35,13 @@ Ran = Callable[..., tuple[int, str, str]]
 
 SPRING: Tables = {
     "tasks": [
-        ["Task", "Days", "Who", "After", "Latest", "Cost", "Way", "Notes"],
-        ["budget", 2, "Ana", None, None, None, None, "a first draft"],
-        ["venue", 2, "Ana", "budget", date(2026, 3, 13), 4000, "hotel", None],
-        ["venue", 5.0, None, None, None, 1500, "uni", None],
-        [None, None, None, None, None, None, None, "(the rest is Ben's)"],
-        ["call", 3, "Ben", "venue", None, None, None, None],
-        ["meeting", 1, "Ana, Ben and Cleo Roy", "call; venue", None, 500, None, None],
+        ["Task", "Days", "Who", "After", "Latest", "Cost", "Way", "Notes", "Pauses"],
+        ["budget", 2, "Ana", None, None, None, None, "a first draft", "yes"],
+        ["venue", 2, "Ana", "budget", date(2026, 3, 13), 4000, "hotel", None, "no"],
+        ["venue", 5.0, None, None, None, 1500, "uni", None, None],
+        [None, None, None, None, None, None, None, "(the rest is Ben's)", None],
+        ["call", 3, "Ben", "venue", None, None, None, None, None],
+        ["meeting", 1, "Ana, Ben and Cleo Roy", "call; venue", None, 500, None, None, None],
     ],
     "People": [["Person"], ["Ana"], ["Ben"], ["Cleo Roy"]],
     "absences": [
@@ -206,12 +206,12 @@ def test_one_table_is_enough(ran: Ran, tmp_path: Path) -> None:
 
 
 def test_what_ifs(ran: Ran, tmp_path: Path) -> None:
-    """Floor 0 to 3, paint 3 to 5: where Ben is ill on days 1 and 2, floor begins on day 3."""
+    """Floor 0 to 3, paint 3 to 5: where Ben is ill on days 1 and 2, floor ends on day 5."""
     path = tmp_path / "work.csv"
     path.write_text("task,days,who,after,cost\nfloor,3,Ben,,\npaint,2,Ana,floor,70\n")
     days = ["--start", "2026-03-06", "--off", "weekends"]
     told = {
-        "ben ill 9-10 March": "on Tue 17 Mar 2026.\n2 tasks moved, and all is done 3 days of work la",
+        "ben ill 9-10 March": "on Mon 16 Mar 2026.\n2 tasks moved, and all is done 2 days of work la",
         "Floor takes 1": "on Tue 10 Mar 2026.\n2 tasks moved, and all is done 2 days of work sooner:",
         "floor takes 3 days": "on Thu 12 Mar 2026.\nNothing moved.",
         "paint not before 12 March": "on Fri 13 Mar 2026.\n1 task moved, and all is done 1 day of wo",
@@ -221,7 +221,7 @@ def test_what_ifs(ran: Ran, tmp_path: Path) -> None:
         status, out, err = ran(path, *days, "--what-if", text)
         assert (status, err) == (0, "") and f"What if {text}?\nAll is done {says}" in out
     assert "ben ill 1" not in ran(path, "--what-if", "ben ill 1-3")[1].partition("What if")[0]
-    assert "  floor  0 to 3  3 to 6  3\n" in ran(path, "--what-if", "ben ill 1-3")[1]
+    assert "  floor  0 to 3  0 to 5  2\n" in ran(path, "--what-if", "ben ill 1-3")[1]
     wrong = {
         "bem ill 9 March": "nothing in the plan is called `bem`. Did you mean Ben?",
         "floor takes long": "can't be read: say `ana ill 3-7 March`",
@@ -255,6 +255,69 @@ def test_a_plan_goes_on(ran: Ran, tmp_path: Path) -> None:
         assert rows["floor"] == ("2026-03-06", "2026-03-11", "4")
         assert rows["paint"] == (*days, "2")
     assert ran(path, "--today", "soon")[0] == 2
+
+
+TEAM = (
+    "task,days,who,after,cost,pauses\nframe,4,skilled in welding,,,\nlamp,2,ana or ben,,30,\n"
+    "lift,1,2 of ana; ben; cem,frame,,no\n"
+)
+PEOPLE_OF_IT = "person,works,skills\nana,mon tue,welding\nben,,\ncem,,welding; wiring\n"
+
+
+def test_whoever_suits_best(ran: Ran, tmp_path: Path) -> None:
+    """Cem makes the frame by Thursday, and Ben the lamp; they lift it on Friday, as Ana is there on
+    Mondays and Tuesdays alone."""
+    (tmp_path / "tasks.csv").write_text(TEAM)
+    (tmp_path / "people.csv").write_text(PEOPLE_OF_IT)
+    words = [tmp_path, "--start", "2026-03-02", "--off", "weekends", "--csv", tmp_path / "out.csv"]
+    assert ran(*words)[0] == 0
+    rows = list(csv.reader(io.StringIO((tmp_path / "out.csv").read_text(), newline="")))
+    found = {row[0]: row[1:5] for row in rows[1:]}
+    assert found["frame"] == ["cem", "2026-03-02", "2026-03-05", "4"]
+    assert found["lift"] == ["ben, cem", "2026-03-06", "2026-03-06", "1"]
+    assert found["lamp"][0] in ("ana", "ben")
+    (tmp_path / "out.csv").unlink()
+    wrong = [
+        ("tasks.csv", "task,days,who\na,1,3 of ana; ben\n", "(who): there are only 2 of them"),
+        ("tasks.csv", "task,days,who\na,1,0 of ana; ben\n", "(who): 0 of some people is nobody"),
+        ("tasks.csv", "task,days,who\na,1,skilled in weldign\n", "Did you mean welding?"),
+        ("tasks.csv", "task,days,pauses\na,1,maybe\n", "`maybe` is neither `yes` nor `no`"),
+        ("people.csv", "person,works\nana,moonday\n", "(works): `moonday` is no weekday: write"),
+    ]
+    for file, text, says in wrong:
+        (tmp_path / "tasks.csv").write_text(TEAM)
+        (tmp_path / "people.csv").write_text(PEOPLE_OF_IT)
+        (tmp_path / file).write_text(text)
+        status, _, err = ran(*words)
+        assert status == 2 and says in err
+    (tmp_path / "people.csv").write_text(PEOPLE_OF_IT)
+    assert "weekdays need a start" in ran(tmp_path)[2]
+
+
+def test_a_trade_off(ran: Ran, tmp_path: Path) -> None:
+    """By a library 3 days and 1800, by their own engine 9 days and nothing."""
+    path = tmp_path / "work.csv"
+    path.write_text(
+        "task,days,who,after,cost,way\nengine,9,ben,,,our own\nengine,3,,,1800,a library\n"
+        "guide,4,ana,engine,50,\n"
+    )
+    words = ["--start", "2026-03-02", "--off", "weekends", "--trade-off", "end", "cost"]
+    files = ["--csv", tmp_path / "out.csv", "--svg", tmp_path / "out.svg"]
+    status, out, err = ran(path, *words, *files)
+    assert (status, err) == (0, "")
+    lines = [line.split() for line in out.split("\n")]
+    assert out.startswith("2 ways to trade end for total cost, no others:\n")
+    assert lines[2] == ["7", "1850", "Tue", "10", "Mar", "2026", "a", "library"]
+    assert lines[3] == ["13", "50", "Wed", "18", "Mar", "2026", "our", "own"]
+    with open(tmp_path / "out.csv", newline="", encoding="utf-8") as file:
+        heads, *rows = csv.reader(file)
+    assert heads == ["end", "total cost", "done", "engine"]
+    assert [row[:2] for row in rows] == [["7", "1850"], ["13", "50"]]
+    assert (tmp_path / "out.svg").read_text().count("<circle") == 2
+    status, out, err = ran(path, *words[:-2], "engine end", "guide cost")
+    assert status == 0 and "One plan is best in both engine end and guide cost:" in out
+    assert "not by --html" in ran(path, *words, "--html", tmp_path / "x.html")[2]
+    assert "There is no cell" in ran(path, "--trade-off", "end", "costs")[2]
 
 
 @pytest.mark.parametrize("name", ["release", "conference.ods"])
@@ -336,12 +399,12 @@ def test_the_best_schedule_is_that_of_all(
     rows, away = case
     folder = tmp_path_factory.mktemp("plan")
     heads: list[Value] = ["task", "way", "days", "cost", "who", "after", "earliest", "latest"]
-    tasks: list[list[Value]] = [heads]
+    tasks: list[list[Value]] = [[*heads, "pauses"]]
     for number, row in enumerate(rows):
         after = ", ".join(f"t{before}" for before in row.after)
         rest: list[Value] = [" & ".join(row.who), after, row.earliest, row.latest]
         for way, (days, cost) in enumerate(row.ways):
-            tasks.append([f"t{number}", f"way {way}", days, cost, *rest])
+            tasks.append([f"t{number}", f"way {way}", days, cost, *rest, "no"])
     absences: list[list[Value]] = [["who", "from", "to"], ["Ana", *away]]
     people: list[list[Value]] = [["person"], ["Ana"], ["Ben"]]
     plan: list[list[Value]] = [["days"], [DAYS]]

@@ -232,6 +232,13 @@ def _add_plan(to: argparse.ArgumentParser) -> None:
         help="tell what becomes of it then: `ana ill 3-7 March`, `review takes 8`",
     )
     to.add_argument("--why", action="store_true", help="tell why it ends no sooner")
+    to.add_argument(
+        "--trade-off",
+        nargs=2,
+        metavar="GOAL",
+        default=(),
+        help="tell what one goal costs the other, as `end cost`; --csv and --svg are of that then",
+    )
     for ending, what in _WRITTEN.items():
         to.add_argument(f"--{ending}", metavar="FILE", help=f"write the schedule {what}")
     to.add_argument(
@@ -341,6 +348,7 @@ def _planned(options: argparse.Namespace) -> int:
         options.why,
         {it: getattr(options, it) for it in _WRITTEN if getattr(options, it) is not None},
         options.seconds,
+        options.trade_off,
     )
     try:
         return plan_file(options.file, asked, options.program)

@@ -12,7 +12,7 @@
 
 from __future__ import annotations
 
-from collections.abc import Iterable, Iterator, Sequence
+from collections.abc import Iterable, Iterator, Mapping, Sequence
 from datetime import date
 from typing import TYPE_CHECKING
 
@@ -59,8 +59,8 @@ class Workbench(PlainWorkbench, Laboratory):
       `how` as a tree, `settle` for whether all fits. A question raises Conflict where what is
       believed can't all hold.
     - what conflicts: `conflicts`, `repairs`, and of readings `outliers`.
-    - what is best: `solve`, `least`, `greatest`, `plans`, `slack`, `critical`; `try_first` says
-      which values come first.
+    - what is best: `solve`, `least`, `greatest`, `trade_off`, `plans`, `slack`, `critical`;
+      `try_first` says which values come first.
     - what if: `what_if`, `scenarios`, `sweep`, `sensitivity`, `snapshot`, `diff`, `compare`.
     - quantities closer: `quantities`, `sought`, `device`, `devices`, `read_csv`,
       `read_table`, `read_laws`, `results`, `shave`, `predict`, `improvements`, `room`,
@@ -187,9 +187,11 @@ class Workbench(PlainWorkbench, Laboratory):
         people: str | Sequence[str] = (),
         start: date | str | None = None,
         off: str | date | Iterable[str | date] = (),
+        skills: Mapping[str, str | Sequence[str]] | None = None,
     ) -> Project:
         """A project over so many days, with people who do one thing at a time: its tasks, their
-        order and what is wished for are stated by its own methods.
+        order and what is wished for are stated by its own methods. `skills` are what some of them
+        can do, as `{"ana": "welding", "ben": "welding wiring"}`.
 
         Day 0 is the date `start`, where one is given, and weekdays (`off="sat sun"`) and dates that
         are off are no days of it. A date may be a text, as `2026-12-04`. Raises ValueError and
@@ -203,7 +205,7 @@ class Workbench(PlainWorkbench, Laboratory):
         8
         """
         calendar = None if start is None else Calendar.of(start, off)
-        return Project(self, days, people, calendar)
+        return Project(self, days, people, calendar, skills)
 
     def plan(
         self,
@@ -212,6 +214,7 @@ class Workbench(PlainWorkbench, Laboratory):
         people: str | Sequence[str] = (),
         start: date | str | None = None,
         off: str | date | Iterable[str | date] = (),
+        skills: Mapping[str, str | Sequence[str]] | None = None,
     ) -> Project:
         """The same as `project`, by its older name, which stays until 2.0. (`plans` are others.)
 
@@ -220,7 +223,7 @@ class Workbench(PlainWorkbench, Laboratory):
         >>> p.task("venue", 3).days.ask().value
         3
         """
-        return self.project(days=days, people=people, start=start, off=off)
+        return self.project(days=days, people=people, start=start, off=off, skills=skills)
 
     # --- within ---
 

@@ -4,7 +4,7 @@ What is stated is carried out whole or not at all: a record of all of it is put 
 one before only when the program was told everything. A copy has a session of its own.
 """
 
-from collections.abc import Callable, Iterator, Sequence
+from collections.abc import Callable, Iterable, Iterator, Sequence
 from contextlib import contextmanager
 from dataclasses import dataclass, field, replace
 from typing import TypeVar
@@ -145,6 +145,17 @@ class Network:
             return found
         finally:
             self._is_stating = False
+
+    def restate(self, events: Iterable[Event], state: Callable[[], Found]) -> Found:
+        """Has these events take the place of all that is stated, and then what a function states;
+        or all is as it was before. The premises stay as they are."""
+        before = self._record
+        try:
+            self._record = before.with_events(list(events))
+            return self.whole(state)
+        except BaseException:
+            self._record = before
+            raise
 
     def kick(self, premise: str) -> None:
         """A premise is no longer believed."""

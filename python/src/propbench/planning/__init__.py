@@ -3,5 +3,6 @@
 from propbench.planning.calendar import Calendar
 from propbench.planning.project import Project
 from propbench.planning.tasks import Task
+from propbench.planning.who import any_of, skilled
 
-__all__ = ["Calendar", "Project", "Task"]
+__all__ = ["Calendar", "Project", "Task", "any_of", "skilled"]

@@ -4,6 +4,7 @@ here whether they were dates or not."""
 from dataclasses import dataclass, field
 
 from propbench.planning.calendar import Calendar
+from propbench.planning.who import AnyOf, Skilled
 
 # What it costs to give something up where no weight says it: a wish, leave, that somebody does one
 # thing at a time.
@@ -22,7 +23,8 @@ class Way:
 @dataclass(frozen=True)
 class Job:
     """A task of a table. It begins on the day `earliest` or later, and ends before `latest`; `done`
-    are its first day and that by which it was over, where it was done."""
+    are its first day and that by which it was over, where it was done. `people` do it, and some of a
+    `group`; it `pauses` while they are away."""
 
     name: str
     ways: tuple[Way, ...]
@@ -31,6 +33,8 @@ class Job:
     earliest: int | None
     latest: int | None
     done: tuple[int, int] | None = None
+    group: AnyOf | Skilled | None = None
+    pauses: bool = True
 
 
 @dataclass(frozen=True)
@@ -75,6 +79,8 @@ class Brief:
     days: int | None = None
     today: int | None = None
     people: dict[str, float] = field(default_factory=dict)
+    skills: dict[str, tuple[str, ...]] = field(default_factory=dict)
+    works: dict[str, tuple[str, ...]] = field(default_factory=dict)
     jobs: dict[str, Job] = field(default_factory=dict)
     leaves: list[Leave] = field(default_factory=list)
     wishes: list[Wish] = field(default_factory=list)

@@ -1,7 +1,7 @@
 """Days of a plan as dates: day 0 is the first one that is worked on, and days off are left out."""
 
 import re
-from collections.abc import Iterable
+from collections.abc import Iterable, Sequence
 from dataclasses import dataclass, field
 from datetime import date, datetime, timedelta
 
@@ -86,6 +86,21 @@ class Calendar:
         """The date of the last day before the day `end`, of what begins with the day `start`; that
         of its beginning where it takes no day."""
         return self.date_of(max(start, end - 1))
+
+    def spans_off(self, weekdays: Sequence[str], days: int) -> list[tuple[int, int]]:
+        """The days of a plan of so many days that are no such weekdays, from one to another. Raises
+        ValueError for another weekday."""
+        for name in weekdays:
+            if name not in _NAMES:
+                raise ValueError(f"{name!r} is no weekday: write {', '.join(_NAMES)}")
+        found: list[tuple[int, int]] = []
+        date = self._next(self.start)
+        for day in range(days):
+            if _NAMES[date.weekday()] not in weekdays:
+                begin = found.pop()[0] if found and found[-1][1] == day else day
+                found.append((begin, day + 1))
+            date = self._next(date + timedelta(days=1))
+        return found
 
     def day_of(self, wanted: date) -> int:
         """The day of the plan on a date, or the next one where that is off. Raises ValueError for a

@@ -1,21 +1,25 @@
 """Why a plan ends no sooner: the tasks, people and absences that make its end, in order, and how
 much room the other tasks have."""
 
-from collections.abc import Iterator, Mapping, Sequence
+from collections.abc import Callable, Iterator, Mapping, Sequence
 from dataclasses import dataclass
 from typing import TYPE_CHECKING
 
+from propbench.model.cells import NumberCell
 from propbench.model.network import Network
+from propbench.planning.order import SetUp
 from propbench.planning.schedule import Entry, Schedule
 from propbench.planning.tasks import (
     Away,
     KeptApart,
     KeptOff,
     NotYet,
+    TaskBy,
     TaskOrdered,
     TaskTold,
     Wished,
 )
+from propbench.questions.bounding import Optimum
 from propbench.questions.clock import Clock
 from propbench.questions.outcomes import NothingFits
 from propbench.questions.shown import NOT_REFUTED, Shown, listed
@@ -32,6 +36,15 @@ class Link:
 
     entry: Entry
     waits: str
+
+
+@dataclass(frozen=True)
+class Room:
+    """The days within which a task is done, and the last on which it begins."""
+
+    first: int
+    last: int
+    latest: int
 
 
 @dataclass(frozen=True)
@@ -57,7 +70,7 @@ class Chain(Shown):
         links: Sequence[Link],
         reasons: Reasons,
         others: Sequence[str],
-        rooms: Mapping[str, tuple[int, int]],
+        rooms: Mapping[str, Room],
     ) -> None:
         """The chain in a schedule, with premises that are no task's and nobody's."""
         self.schedule, self.links = schedule, tuple(links)
@@ -79,9 +92,7 @@ class Chain(Shown):
     def rooms(self) -> dict[str, int]:
         """The days that each other task can move while all ends as soon."""
         return {
-            entry.task: self._windows[entry.task][1]
-            - self._windows[entry.task][0]
-            - (entry.end - entry.start)
+            entry.task: self._windows[entry.task].latest - self._windows[entry.task].first
             for entry in self._left()
             if entry.task in self._windows
         }
@@ -115,7 +126,8 @@ class Chain(Shown):
 
     def _rooms_told(self) -> Iterator[tuple[str, str, str]]:
         for task, room in self.rooms.items():
-            yield task, str(room), self.schedule.days_said(*self._windows[task])
+            window = self._windows[task]
+            yield task, str(room), self.schedule.days_said(window.first, window.last)
 
 
 def chain_of(project: "Project", schedule: Schedule, clock: Clock) -> Chain:
@@ -173,26 +185,30 @@ def _keep(project: "Project", premises: Sequence[str]) -> None:
             w.kick(premise)
 
 
-def _rooms(
-    project: "Project", tasks: Sequence[str], value: int, clock: Clock
-) -> dict[str, tuple[int, int]]:
-    """For each of these tasks the first day on which it starts in a plan that ends by a day, and the
-    last on which it ends, as far as there is time to find both."""
+def _rooms(project: "Project", tasks: Sequence[str], value: int, clock: Clock) -> dict[str, Room]:
+    """The room of each of these tasks in plans that end by a day, as far as there is time to find
+    it."""
     w, name = project.workbench, project.unused("all ends as soon")
-    rooms: dict[str, tuple[int, int]] = {}
+    rooms: dict[str, Room] = {}
+
+    def best(ask: Callable[..., Optimum], cell: NumberCell) -> int | None:
+        found = ask(cell, seconds=clock.seconds_left(), progress=clock.progress)
+        return found.value if found.proved else None
+
     with w.what_if(tell=[(name, project.end, 0, value)]):
         for task in (project.tasks[it] for it in tasks):
-            first = w.least(task.start, seconds=clock.seconds_left(), progress=clock.progress)
-            last = w.greatest(task.end, seconds=clock.seconds_left(), progress=clock.progress)
-            if first.proved and last.proved and first.value is not None and last.value is not None:
-                rooms[task.name] = first.value, last.value
+            ends = best(w.least, task.start), best(w.greatest, task.end)
+            if ends[0] is not None and ends[1] is not None:
+                latest = best(w.greatest, task.start)
+                if latest is not None:
+                    rooms[task.name] = Room(ends[0], ends[1], latest)
     return rooms
 
 
 def _is_own(network: Network, project: "Project", premise: str) -> bool:
     """Whether what is stated under a premise is all of tasks and people."""
     stated = network.premises.statements[premise]
-    kinds = TaskTold, TaskOrdered, KeptApart, KeptOff
+    kinds = TaskTold, TaskBy, TaskOrdered, KeptApart, KeptOff, SetUp
     return all(isinstance(each, kinds) and each.project is project for each in stated)
 
 
@@ -209,6 +225,7 @@ class _Walk:
         self._schedule, self._project = schedule, project
         self._entries = {entry.task: entry for entry in schedule.entries}
         self._busy = {it.person for it in self._stated if isinstance(it, KeptApart)}
+        self._setups = {it.person: dict(it.times) for it in self._stated if isinstance(it, SetUp)}
 
     def links(self) -> Iterator[Link]:
         """The tasks of the chain, by their first days."""
@@ -233,6 +250,8 @@ class _Walk:
         for each in self._stated:
             if isinstance(each, TaskTold) and each.cell in cells:
                 found[cells[each.cell]] = None
+            elif isinstance(each, TaskBy):
+                found[each.task.name] = None
             elif isinstance(each, TaskOrdered):
                 found |= {each.earlier.name: None, each.later.name: None}
         return found
@@ -250,12 +269,15 @@ class _Walk:
         before: list[Entry] = []
         for each in self._stated:
             if isinstance(each, TaskOrdered) and each.later.name == entry.task:
-                self._take(self._entries[each.earlier.name], "", entry, (words, before))
+                other = self._entries[each.earlier.name]
+                if each.ready(other.start, other.end) == entry.start:
+                    self._take(other, "", entry, (words, before))
         for person in (it for it in entry.people if it in self._busy):
             for other in self._entries.values():
-                if person in other.people and other.start < other.end:
+                if person in other.people and other.start < other.end == entry.start:
                     self._take(other, person, entry, (words, before))
-        for away in self._aways(entry):
+        self._wait_for_setups(entry, (words, before))
+        for away in dict.fromkeys([*self._aways(entry), *self._breaks(entry)]):
             days = self._schedule.days_said(away.first, away.last)
             words.append(f"{printable(away.person)}, away {days}")
         for each in self._stated:
@@ -264,14 +286,31 @@ class _Walk:
                     words.append(printable(str(each.premise)))
         return "; ".join(dict.fromkeys(words)), before
 
+    def _wait_for_setups(self, entry: Entry, into: tuple[list[str], list[Entry]]) -> None:
+        """Takes in the tasks behind which somebody is set up for this one."""
+        tasks = self._project.tasks
+        for person in (it for it in entry.people if it in self._setups):
+            for other in (it for it in self._entries.values() if person in it.people):
+                kinds = str(tasks[other.task].kind), str(tasks[entry.task].kind)
+                days = self._setups[person].get(kinds, 0)
+                if days and other.end + days == entry.start and other not in into[1]:
+                    into[0].append(printable(f"{person}, set up behind {other.task}"))
+                    into[1].append(other)
+
     def _take(
         self, other: Entry, person: str, entry: Entry, into: tuple[list[str], list[Entry]]
     ) -> None:
-        """Takes in a task that ends when another starts, which waits for it or for its person."""
+        """Takes in a task that another waits for, or for its person."""
         words, before = into
-        if other.end == entry.start and other.task != entry.task and other not in before:
+        if other.task != entry.task and other not in before:
             words.append(printable(f"{person}, busy with {other.task}" if person else other.task))
             before.append(other)
+
+    def _breaks(self, entry: Entry) -> list[Away]:
+        """The absences through which a task pauses."""
+        found = dict.fromkeys(it.away for it in self._stated if isinstance(it, KeptOff))
+        within = [it for it in found if any(a <= it.first < b for a, b in entry.pauses)]
+        return [it for it in within if it.person in entry.people]
 
     def _aways(self, entry: Entry) -> list[Away]:
         found = dict.fromkeys(it.away for it in self._stated if isinstance(it, KeptOff))

@@ -155,11 +155,13 @@ def _row(schedule: Schedule, entry: Entry, room: tuple[int, int] | None, top: in
         for away in schedule.staff.aways
         if away.last == entry.start and away.person in entry.people
     ]:
-        says += f"; it starts when {escape(listed(back))} is back, as no task pauses"
+        says += f"; it starts when {escape(listed(back))} is back"
     colour = "#555555"
     if entry.people:
         colour = _COLOURS[schedule.people.index(entry.people[0]) % len(_COLOURS)]
-    return [*parts, _bar(entry.start, entry.end, top + 4, 16, colour, says)]
+    if entry.pauses:
+        parts.append(_bar(entry.start, entry.end, top + 11, 2, colour, ""))
+    return [*parts, *(_bar(*part, top + 4, 16, colour, says) for part in entry.parts)]
 
 
 def _said_of(schedule: Schedule, away: Away) -> str:

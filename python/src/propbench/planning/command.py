@@ -6,13 +6,14 @@ from pathlib import Path
 
 from propbench.planning.brief import Given
 from propbench.planning.exports import ENDINGS, check_ending
-from propbench.planning.planner import Plan, best_of, plan_of
+from propbench.planning.planner import Plan, best_of, plan_of, trade_off_of
 from propbench.planning.project import Project
 from propbench.planning.reading import brief_of
 from propbench.planning.schedule import Schedule
 from propbench.planning.sheets import sheets_of
 from propbench.planning.what_ifs import suppose
 from propbench.questions.bounding import Optimum
+from propbench.questions.goals import Optima
 from propbench.questions.shown import listed
 from propbench.showing import printable, shown
 from propbench.workbench import Workbench
@@ -24,7 +25,8 @@ _SPARE = 400
 @dataclass(frozen=True)
 class Asked:
     """What is asked of a plan: to give up the cheapest that stands in the way, what to suppose, why
-    it ends no sooner, where to write it, and how long all that may take."""
+    it ends no sooner, where to write it, how long all that may take, and between which goals to trade
+    in its place."""
 
     given: Given = Given()
     gives_up: bool = False
@@ -32,6 +34,7 @@ class Asked:
     why: bool = False
     files: dict[str, str] = field(default_factory=dict)
     seconds: float | None = None
+    goals: Sequence[str] = ()
 
 
 def plan_file(path: str, asked: Asked, program: str | None) -> int:
@@ -40,6 +43,8 @@ def plan_file(path: str, asked: Asked, program: str | None) -> int:
     ValueError for what can't be taken, OSError, NoSheetReader, and as `Workbench` does."""
     for what, file in asked.files.items():
         check_ending(file, ENDINGS[what])
+        if asked.goals and what in ("html", "ics"):
+            raise ValueError(f"a trade-off is written by --csv and --svg, and not by --{what}")
     brief = brief_of(sheets_of(path), asked.given)
     if "ics" in asked.files and brief.calendar is None:
         raise ValueError("a calendar needs dates: say when the plan begins, as --start 2026-03-02")
@@ -57,13 +62,26 @@ def plan_file(path: str, asked: Asked, program: str | None) -> int:
                 return 1
         elif asked.gives_up:
             print("All fits: nothing has to be given up.")
+        if asked.goals:
+            _trade(plan.project, asked)
+            return 0
         _tell(plan.project, best, Path(path).stem, asked)
         for text in asked.what_ifs:
             _suppose(plan.project, plan.project.schedule(best), text, asked.seconds)
     return 0
 
 
-def _tell(project: Project, best: Optimum, title: str, asked: Asked) -> None:
+def _trade(project: Project, asked: Asked) -> None:
+    """Tells what one goal costs the other, and writes it."""
+    found = trade_off_of(project, asked.goals, asked.seconds)
+    print(shown(str(found)))
+    writers = {"csv": found.to_csv, "svg": found.to_svg}
+    for what, file in asked.files.items():
+        writers[what](file)
+        print(f"The trade-off is in {printable(file)}.")
+
+
+def _tell(project: Project, best: Optimum | Optima, title: str, asked: Asked) -> None:
     """Prints the schedule, and writes it."""
     schedule = project.schedule(best)
     print(shown(str(schedule)))
@@ -82,7 +100,7 @@ def _tell(project: Project, best: Optimum, title: str, asked: Asked) -> None:
         print(shown(str(project.critical(best, seconds=asked.seconds))))
 
 
-def _is_mended(plan: Plan, best: Optimum, asked: Asked) -> bool:
+def _is_mended(plan: Plan, best: Optimum | Optima, asked: Asked) -> bool:
     """Tells what stands in the way; whether the cheapest of what helps is given up then."""
     w, facts = plan.project.workbench, plan.project.facts
     if not best.proved:

@@ -56,7 +56,7 @@ def csv_of(schedule: Schedule) -> str:
                 _as_text(entry.task),
                 _as_text(said(entry.people)),
                 *_ends(schedule, entry),
-                entry.end - entry.start,
+                entry.days,
                 _as_text(entry.way or ""),
                 "" if entry.cost is None else entry.cost,
             )
@@ -107,9 +107,11 @@ def _events(schedule: Schedule, who: str | None) -> Iterator[list[str]]:
             says += [f"cost: {entry.cost}"] if entry.cost else []
             told = ["DESCRIPTION:" + _escaped("\n".join(says))] if says else []
             summary = f"SUMMARY:{_escaped(entry.task + by)}"
-            days = schedule.dates(entry)
-            yield [_uid(schedule, "task", entry.task), *_days(*days), summary, *told]
-    for away in schedule.staff.aways:
+            for number, part in enumerate(entry.parts):
+                days = calendar.date_of(part[0]), calendar.last_date(*part)
+                uid = _uid(schedule, "task", entry.task, *([str(number)] if number else []))
+                yield [uid, *_days(*days), summary, *told]
+    for away in schedule.shown_aways():
         if away.first < away.last and who in (None, away.person):
             first, last = calendar.date_of(away.first), calendar.last_date(away.first, away.last)
             summary = f"SUMMARY:{_escaped(away.person)} away"

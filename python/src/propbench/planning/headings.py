@@ -38,10 +38,19 @@ TASKS = Columns(
         "way": ("option", "how", "alternative"),
         "started": ("begun", "began"),
         "finished": ("ended", "done"),
+        "pauses": ("pause",),
     },
     ("task", "days"),
 )
-PEOPLE = Columns({"person": ("people", "who", "name", "resource"), "weight": ()}, ("person",))
+PEOPLE = Columns(
+    {
+        "person": ("people", "who", "name", "resource"),
+        "works": ("weekdays", "works on"),
+        "skills": ("skill", "can"),
+        "weight": (),
+    },
+    ("person",),
+)
 ABSENCES = Columns(
     {
         "person": ("who", "people", "name", "resource"),

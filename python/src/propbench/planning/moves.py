@@ -4,7 +4,7 @@ from collections.abc import Sequence
 from dataclasses import dataclass
 
 from propbench.planning.schedule import Entry, Schedule
-from propbench.questions.shown import Shown
+from propbench.questions.shown import Shown, listed
 
 
 @dataclass(frozen=True)
@@ -60,12 +60,20 @@ class Moves(Shown, list[Move]):
         return [
             (
                 move.task,
-                move.before and self.before.told_in_short(move.before),
-                move.now and self.now.told_in_short(move.now),
+                _told(self.before, move.before, move.now),
+                _told(self.now, move.now, move.before),
                 move.later,
             )
             for move in self
         ]
+
+
+def _told(schedule: Schedule, entry: Entry | None, other: Entry | None) -> str | None:
+    """When and how a task is done, and by whom where that is somebody else at the other time."""
+    if entry is None:
+        return None
+    is_same = other is None or other.people == entry.people
+    return schedule.told_in_short(entry) + ("" if is_same else f", by {listed(entry.people)}")
 
 
 def _differs(move: Move) -> bool:
@@ -74,8 +82,8 @@ def _differs(move: Move) -> bool:
     return _when(move.before) != _when(move.now)
 
 
-def _when(entry: Entry) -> tuple[int, int, str | None]:
-    return entry.start, entry.end, entry.way
+def _when(entry: Entry) -> tuple[object, ...]:
+    return entry.parts, entry.way, entry.people
 
 
 def _days(count: int) -> str:

@@ -1,15 +1,20 @@
 """A project of what a planner wants, and its best plan."""
 
-from collections.abc import Iterable, Mapping
+from collections.abc import Callable, Iterable, Mapping, Sequence
 from dataclasses import dataclass
 
-from propbench.planning.brief import Brief, Job, Wish
+from propbench.planning.brief import LEAVE, Brief, Job, Wish
 from propbench.planning.project import Project, limit_of
 from propbench.planning.tasks import Option, Task
+from propbench.questions.asking import CellLike
 from propbench.questions.bounding import Optimum
-from propbench.questions.clock import Clock
+from propbench.questions.goals import Optima
+from propbench.questions.trading import TradeOff
 from propbench.showing import printable
 from propbench.workbench import Workbench
+
+# Who works on one weekday alone takes so many times as long.
+_WEEK = 7
 
 
 @dataclass(frozen=True)
@@ -28,7 +33,8 @@ def plan_of(workbench: Workbench, brief: Brief, spare: int = 0) -> Plan:
     """The project of what a planner wants, in a workbench, with so many days more than it needs.
     Raises ValueError where two things have one name."""
     weights = {limit_of(person): weight for person, weight in brief.people.items()}
-    project = Project(workbench, _days(brief, spare), list(brief.people), brief.calendar)
+    people, days = list(brief.people), _days(brief, spare)
+    project = Project(workbench, days, people, brief.calendar, brief.skills)
     for job in brief.jobs.values():
         _add(project, job)
     for job in brief.jobs.values():
@@ -40,6 +46,8 @@ def plan_of(workbench: Workbench, brief: Brief, spare: int = 0) -> Plan:
         if leave.first < leave.back:
             name = project.away(leave.person, leave.first, leave.back, leave.name)
             weights[name] = leave.weight
+    for person, weekdays in brief.works.items():
+        weights[project.works(person, weekdays)] = LEAVE
     for wish in brief.wishes:
         _wish(project, wish, brief)
         weights[wish.name] = wish.weight
@@ -52,6 +60,8 @@ def _days(brief: Brief, spare: int) -> int:
     if brief.days is not None:
         return brief.days
     work = sum(max(way.days for way in job.ways) for job in brief.jobs.values())
+    if brief.works:
+        work *= _WEEK
     away = sum(leave.back - leave.first for leave in brief.leaves)
     late = [job.earliest or 0 for job in brief.jobs.values()]
     late += [wish.earliest or 0 for wish in brief.wishes]
@@ -64,14 +74,17 @@ def _days(brief: Brief, spare: int) -> int:
 def _add(project: Project, job: Job) -> Task:
     """Adds a task, with its first and its last day."""
     after = [project.tasks[name] for name in job.after]
+    who = [*job.people, *([job.group] if job.group else [])]
     if len(job.ways) > 1:
         options: dict[str, Option] = {
             way.name: {"days": way.days, "cost": way.cost} for way in job.ways
         }
-        task = project.task(job.name, who=job.people, after=after, options=options)
+        task = project.task(job.name, who=who, after=after, options=options, pauses=job.pauses)
     else:
         [way] = job.ways
-        task = project.task(job.name, way.days, cost=way.cost, who=job.people, after=after)
+        task = project.task(
+            job.name, way.days, cost=way.cost, who=who, after=after, pauses=job.pauses
+        )
     if job.earliest is not None:
         project.not_before(
             job.earliest, task, f"{job.name} not before {_told(project, job.earliest)}"
@@ -104,15 +117,20 @@ def _wish(project: Project, wish: Wish, brief: Brief) -> None:
         project.wish(takes, wish.name, printable(f"{task.name} by way of {way.name}"))
 
 
-def best_of(project: Project, seconds: float | None) -> Optimum:
+def best_of(project: Project, seconds: float | None) -> Optimum | Optima:
     """The plan that ends soonest, and of those the cheapest, as far as there is time."""
-    clock, w = Clock(seconds, None), project.workbench
-    soonest = w.least(project.end, seconds=seconds)
-    is_free = all(task.cost is None for task in project.tasks.values())
-    if soonest.value is None or is_free or clock.is_over():
-        return soonest
-    cost = project.total_cost
-    name = project.unused("all ends as soon")
-    with w.what_if(tell=[(name, project.end, 0, soonest.value)]):
-        cheapest = w.least(cost, seconds=clock.seconds_left())
-    return soonest if cheapest.plan is None else cheapest
+    w = project.workbench
+    if all(task.cost is None for task in project.tasks.values()):
+        return w.least(project.end, seconds=seconds)
+    return w.least([project.end, project.total_cost], seconds=seconds)
+
+
+def trade_off_of(project: Project, goals: Sequence[str], seconds: float | None) -> TradeOff:
+    """What one goal costs the other: `end`, `cost`, or the name of a cell. Raises ValueError for
+    another."""
+    known: dict[str, Callable[[], CellLike]] = {
+        "end": lambda: project.end,
+        "cost": lambda: project.total_cost,
+    }
+    first, second = (known[goal]() if goal in known else goal for goal in goals)
+    return project.workbench.trade_off(first, second, seconds=seconds)

@@ -3,7 +3,8 @@
 from typing import TYPE_CHECKING
 
 from propbench.model.given import values_of
-from propbench.planning.tasks import NotYet, Task, TaskDone, TaskMade, TaskTold
+from propbench.planning.pausing import days_worked
+from propbench.planning.tasks import NotYet, Task, TaskBy, TaskDone, TaskMade, TaskTold
 from propbench.questions.shown import listed
 from propbench.showing import printable
 
@@ -23,7 +24,7 @@ def state_done(project: "Project", task: Task, days: tuple[int, int], premise: s
             f"{printable(task.name)} was done already: forget the premise of that first"
         )
     w, today = project.workbench, today_of(project)
-    planned = _planned(project, task, last - first)
+    planned = _planned(project, task, days_worked(project, task, first, last))
     try:
         for name in planned:
             w.kick(name)
@@ -58,8 +59,12 @@ def _planned(project: "Project", task: Task, days: int) -> list[str]:
         ways = listed([str(each) for each in made.ways], "or")
         raise ValueError(f"{printable(task.name)} takes {ways} days, and can't have taken {days}")
     others = [each.premise for each in told if each.values != (days, days) and each.premise]
+    by = [it for it in w.network.events if isinstance(it, TaskBy) and it.task is task]
+    if by and days not in [it.days for it in by]:
+        others += dict.fromkeys(it.premise for it in by if it.premise)
     for name in others:
-        if len(w.network.premises.statements[name]) > 1:
+        stated = w.network.premises.statements[name]
+        if any(it not in told and it not in by for it in stated):
             raise ValueError(
                 f"{name!r} says more than how long {printable(task.name)} takes: forget it first"
             )

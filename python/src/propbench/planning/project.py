@@ -6,28 +6,41 @@ from operator import index
 from typing import TYPE_CHECKING, SupportsIndex
 
 from propbench.given import names_given
-from propbench.model.cells import NumberCell
+from propbench.model.cells import Cell, NumberCell
 from propbench.model.events import Required, Told
-from propbench.model.expressions import Truth, maximum, total
+from propbench.model.expressions import Truth, count, implies, maximum, total
 from propbench.model.given import values_of
 from propbench.model.nodes import TRUE
-from propbench.nearby import near_names
 from propbench.planning.calendar import Calendar, date_given, date_said, dates_said
+from propbench.planning.order import (
+    SetUp,
+    TaskLagged,
+    Times,
+    lag_said,
+    lags,
+    state_setup,
+    state_setups,
+    times_given,
+)
+from propbench.planning.pausing import keep_off, pauses_of, state_pauses
 from propbench.planning.tasks import (
     Away,
     KeptApart,
     KeptOff,
     Option,
     Task,
+    TaskBy,
     TaskMade,
     TaskOrdered,
     TaskTold,
     Way,
     Wished,
     aways_of,
+    by_both,
     checked_ways,
     tasks_in,
 )
+from propbench.planning.who import Doers, Staffing, Who, speeds_given
 from propbench.questions.clock import Clock, Progress
 from propbench.questions.model import Plan
 from propbench.questions.outcomes import NothingFits
@@ -66,8 +79,9 @@ class Project:
         days: int,
         people: str | Sequence[str],
         calendar: Calendar | None,
+        skills: Mapping[str, str | Sequence[str]] | None = None,
     ) -> None:
-        """A project of a workbench, over the days from 0 to `days`."""
+        """A project of a workbench, over the days from 0 to `days`, of people with skills."""
         if not isinstance(days, SupportsIndex):
             raise TypeError(f"days={days!r} is no whole number")
         if days < 1:
@@ -79,6 +93,7 @@ class Project:
             )
         self.workbench, self.days, self.calendar = workbench, days, calendar
         self.people = names_given(people)
+        self.staffing = Staffing(self.people, skills or {})
         # The cells that were made last for these; the workbench says whether they are there.
         self._end: NumberCell | None = None
         self._total: NumberCell | None = None
@@ -109,8 +124,8 @@ class Project:
         """
         found: dict[str, None] = {}
         for each in self.workbench.network.events:
-            if isinstance(each, (TaskTold, TaskOrdered)) and each.project is self and each.premise:
-                found[each.premise] = None
+            if isinstance(each, (TaskTold, TaskBy, TaskOrdered)) and each.project is self:
+                found |= {each.premise: None} if each.premise else {}
         return tuple(found)
 
     @property
@@ -130,19 +145,25 @@ class Project:
     def task(
         self,
         name: str,
-        days: int | None = None,
+        days: int | Mapping[str, int] | None = None,
         *,
         cost: int = 0,
-        who: str | Sequence[str] = (),
+        who: Who = (),
         after: Iterable[Task] = (),
         options: Mapping[str, Option] | None = None,
+        pauses: bool = True,
+        kind: str | None = None,
         under: str | None = None,
     ) -> Task:
         """A task that takes so many days and costs so much, or that is done in one of some ways:
         `options={"hotel": dict(days=2, cost=4000), "uni": dict(days=5, cost=1500)}`, the one to be
         tried first in front.
 
-        `who` does it, one person or all of several; `after` are tasks that have to be done before.
+        `who` does it, one person or all of several, or whoever suits best: `any_of("ana", "ben")`,
+        `skilled("welding")`, each in days of his own by `days={"ana": 3, "ben": 5}`. `after` are
+        tasks that have to be done before. Work `pauses` while somebody is away who does it; an event
+        doesn't: it ends before, or begins behind. A `kind` is what `p.setup` speaks of.
+
         What it takes, and that it comes after these, is stated under premises with names such as
         `review takes 5` and `review after venue`, or all of it `under` one. Raises ValueError where
         there is such a task, no such person, a task of another workbench before it, or `end` or
@@ -157,25 +178,26 @@ class Project:
         >>> w.least(p.end).value, w.least(p.total_cost).value
         (7, 1500)
         """
-        people = self._checked(name, who)
-        ways = checked_ways(name, days, cost, options)
+        doers = self._checked(name, who)
+        speeds = speeds_given(name, days, doers) if isinstance(days, Mapping) else {}
+        taken = max(speeds.values(), default=0) if isinstance(days, Mapping) else days
+        ways = checked_ways(name, taken, cost, options)
         earlier = self._earlier(name, after)
         others, aways = self.tasks.values(), self._aways()
 
         def state() -> Task:
-            task = self._made(name, people, list(ways.values()))
+            task = self._made(name, doers, list(ways.values()), (pauses, kind))
             if options is not None:
                 self._choose(task, ways)
             else:
-                self._tell(under or f"{name} takes {days}", task.days, ways[""].days)
-                if task.cost is not None:
-                    self._tell(under or f"{name} costs {cost}", task.cost, cost)
+                self._take(task, ways[""], speeds, under)
             for other in earlier:
                 before = (other.end <= task.start).node
                 premise = under or f"{name} after {other.name}"
-                self._state(TaskOrdered(before, premise, self, other, task))
+                self.state(TaskOrdered(before, premise, self, other, task))
             self._keep_apart(task, others)
-            self._keep_off([task], [away for away in aways if away.person in people])
+            state_setups(self, task, others)
+            state_pauses(self, task, [away for away in aways if away.person in task.doers])
             return task
 
         return self.workbench.network.whole(state)
@@ -183,18 +205,19 @@ class Project:
     def away(self, person: str, first: Day, last: Day, under: str | None = None) -> str:
         """A person does nothing from the beginning of one day to the beginning of another; the
         premise of that, which is named `ana away 5 to 10` where no name is given. Days are numbers,
-        or dates where the plan has a calendar. A task doesn't pause meanwhile: it ends before, or
-        begins behind. Where all of these days are off anyway, nothing more is stated. Raises
-        ValueError for somebody else, and for a return before the leave.
+        or dates where the plan has a calendar. Work pauses meanwhile, and events end before or begin
+        behind. Where all of these days are off anyway, nothing more is stated. Raises ValueError for
+        somebody else, and for a return before the leave.
 
         >>> w = Workbench()
         >>> p = w.project(days=30, people="ana")
         >>> trip = p.away("ana", 2, 10)
         >>> venue = p.task("venue", 3, who="ana")
-        >>> w.least(venue.start).value
-        10
+        >>> fair = p.task("fair", 3, who="ana", pauses=False)
+        >>> w.least(venue.end).value, w.least(fair.end).value
+        (11, 13)
         """
-        self._person(person)
+        self.staffing.known(person)
         begin, end = self.day(first), self.day(last)
         if begin == end and _is_before(first, last):
             premise = under or f"{person} away {self._said(first)} to {self._said(last)}"
@@ -207,13 +230,88 @@ class Project:
             )
         premise = under or f"{person} away {self._said(first)} to {self._said(last)}"
         away = Away(person, begin, end, premise, self._span(begin, end))
-        theirs = [task for task in self.tasks.values() if person in task.people]
-        if theirs:
-            self.workbench.network.whole(lambda: self._keep_off(theirs, [away]))
-        else:
-            # (A premise under which nothing is stated yet would not be known.)
-            self._state(KeptOff(TRUE, away.premise, away, self))
+        self._keep_off([away])
         return away.premise
+
+    def works(self, person: str, weekdays: str | Sequence[str], under: str | None = None) -> str:
+        """A person works on these weekdays alone; the premise of that, which is named `ana works mon
+        tue` where no name is given. Raises ValueError where the plan has no dates, and for another
+        weekday.
+
+        >>> w = Workbench()
+        >>> p = w.project(days=30, people="ana", start="2026-03-02", off="sat sun")
+        >>> review = p.task("review", 3, who="ana")
+        >>> p.works("ana", "mon tue")
+        'ana works mon tue'
+        >>> w.least(p.end).value
+        6
+        """
+        self.staffing.known(person)
+        if self.calendar is None:
+            raise ValueError(f"{person}: weekdays need dates: give the plan a start")
+        names = names_given(weekdays)
+        premise = under or f"{person} works {' '.join(names)}"
+        spans = self.calendar.spans_off(names, self.days)
+        if spans:
+            self._keep_off([Away(person, *it, premise, self._span(*it), True) for it in spans])
+        else:
+            self.workbench.require(True, under=premise)
+        return premise
+
+    def lag(
+        self,
+        first: Task,
+        then: Task,
+        least: int | None = None,
+        most: int | None = None,
+        *,
+        of: str = "end",
+        under: str | None = None,
+    ) -> str:
+        """So many days pass, at least and at the most, from the end of a task to the start of
+        another, or from its start by `of="start"`; the premise of that, which is one of `facts`, and
+        named `review 2 to 5 after venue` where no name is given. Raises ValueError for no such days,
+        and TypeError.
+
+        >>> w = Workbench()
+        >>> p = w.project(days=30)
+        >>> pour, strip = p.task("pour", 1), p.task("strip", 2)
+        >>> p.lag(pour, strip, 3)
+        'strip 3 or more after pour'
+        >>> w.least(p.end).value
+        6
+        """
+        said = lag_said(first, then, (least, most), of)
+        premise = under or said
+        self._check_there(first)
+        self._check_there(then)
+
+        def state() -> None:
+            for truth, days in lags(first, then, (least, most), of):
+                self.state(TaskLagged(truth.node, premise, self, first, then, days, of))
+
+        self.workbench.network.whole(state)
+        return premise
+
+    def setup(self, person: str, times: Times, under: str | None = None) -> str:
+        """Between any task of one `kind` and any of another behind it, both of somebody or of a
+        machine, there are so many days: `{("red", "blue"): 2}`; the premise of that, which is named
+        `press is set up` where no name is given. Raises ValueError and TypeError for what says none.
+
+        >>> w = Workbench()
+        >>> p = w.project(days=30, people="press")
+        >>> red = p.task("posters", 3, who="press", kind="red")
+        >>> blue = p.task("leaflets", 1, who="press", kind="blue")
+        >>> p.setup("press", {("red", "blue"): 2, ("blue", "red"): 1})
+        'press is set up'
+        >>> w.least(p.end).value
+        5
+        """
+        self.staffing.known(person)
+        premise = under or f"{person} is set up"
+        event = SetUp(TRUE, premise, self, person, times_given(person, times))
+        self.workbench.network.whole(lambda: state_setup(self, event, self.tasks.values()))
+        return premise
 
     def done_by(self, day: Day, under: str | None = None, task: Task | None = None) -> str:
         """A task, or all, is done before the beginning of a day; the premise of that.
@@ -252,7 +350,7 @@ class Project:
         premise = under or f"{task.name} not before {self._said(day)}"
         written = f"{printable(task.name)} begins on {self._told(first)} or later"
         constraint = self.workbench.constraint_of(task.start >= first)
-        self._state(Wished(constraint, premise, written, task.name, first))
+        self.state(Wished(constraint, premise, written, task.name, first))
         return premise
 
     def done(self, task: Task, first: Day, end: Day, under: str | None = None) -> str:
@@ -304,7 +402,7 @@ class Project:
         >>> w.least(review.start).value
         3
         """
-        self._state(Wished(self.workbench.constraint_of(constraint), under, says))
+        self.state(Wished(self.workbench.constraint_of(constraint), under, says))
 
     @property
     def end(self) -> NumberCell:
@@ -436,16 +534,13 @@ class Project:
 
         return chart_of(self, plan, rooms, seconds, progress)
 
-    def _checked(self, name: str, who: str | Sequence[str]) -> tuple[str, ...]:
-        """The people of a new task."""
+    def _checked(self, name: str, who: Who) -> Doers:
+        """Who does a new task."""
         if name in self.tasks:
             raise ValueError(f"there is a task {name!r}")
         if any(cell is not None and self._has(cell) for cell in (self._end, self._total)):
             raise ValueError(f"{name}: add tasks before the end or the total cost is asked for")
-        people = names_given(who, self.people)
-        for person in people:
-            self._person(person)
-        return people
+        return self.staffing.doers(name, who)
 
     def _earlier(self, name: str, after: Iterable[Task]) -> tuple[Task, ...]:
         """The tasks that a new one comes after, which are those of this workbench."""
@@ -478,9 +573,11 @@ class Project:
         >>> "venue" in p.cells_told([venue])
         True
         """
-        cells = [cell for cell in (self._end, self._total) if cell is not None]
+        cells: list[Cell] = [cell for cell in (self._end, self._total) if cell is not None]
         for task in tasks:
             cells += [task.start, task.end, task.days, *([] if task.cost is None else [task.cost])]
+            cells += task.may.values()
+            cells += [it.cell for it in pauses_of(self.workbench.network.events, task)]
         return frozenset([*(cell.name for cell in cells), *(task.name for task in tasks)])
 
     def _said(self, day: Day) -> str:
@@ -518,13 +615,9 @@ class Project:
         """Whether the workbench has the cell: one that was made for a what-if is gone behind it."""
         return self.workbench.network.cells.get(cell.name) is cell.declared
 
-    def _person(self, person: str) -> None:
-        if person not in self.people:
-            near = near_names(person, self.people)
-            hint = f" Did you mean {near[0]}?" if near else ""
-            raise ValueError(f"nobody in the plan is called {person!r}.{hint}")
-
-    def _made(self, name: str, people: tuple[str, ...], ways: Sequence[Way]) -> Task:
+    def _made(
+        self, name: str, doers: Doers, ways: Sequence[Way], how: tuple[bool, str | None]
+    ) -> Task:
         """The cells of a task, and that it ends when its days are over."""
         number = self.workbench.number
         start, end, days = (
@@ -532,17 +625,45 @@ class Project:
         )
         has_cost = any(way.cost for way in ways)
         cost = number(f"{name} cost", 0, MOST_COST) if has_cost else None
-        task = Task(name, people, start, end, days, cost)
+        may = {person: self.workbench.truth(f"{name} by {person}") for person in doers.others}
+        task = Task(name, doers.people, start, end, days, cost, how[0], may, how[1])
         takes = tuple(way.days for way in ways)
-        self._state(TaskMade((end == start + days).node, None, task, self, takes))
+        waits = how[0] and any(away.person in task.doers for away in self._aways())
+        ends = TRUE if waits else (end == start + days).node
+        self.state(TaskMade(ends, None, task, self, takes))
+        if may:
+            self.workbench.require(count(*may.values()) == doers.number)
         return task
+
+    def _take(self, task: Task, way: Way, speeds: Mapping[str, int], under: str | None) -> None:
+        """How long a task takes, by whom, and what it costs."""
+        if speeds:
+            says = [f"{days} by {person}" for person, days in speeds.items()]
+            takes = [implies(task.may[it], task.days == days) for it, days in speeds.items()]
+            written = f"{task.name} takes {' or '.join(says)}"
+            for each, days in zip(takes, speeds.values()):
+                told = printable(written)
+                self.state(TaskBy(each.node, under or written, self, task, days, told))
+        else:
+            self._tell(under or f"{task.name} takes {way.days}", task.days, way.days)
+        if task.cost is not None:
+            self._tell(under or f"{task.name} costs {way.cost}", task.cost, way.cost)
 
     def _tell(self, premise: str, cell: NumberCell, value: int) -> None:
         values = values_of(cell.declared, value)
-        self._state(TaskTold(cell.declared, values, premise, self))
+        self.state(TaskTold(cell.declared, values, premise, self))
 
-    def _state(self, event: Required | Told) -> None:
-        """Carries out what is the project's own."""
+    def state(self, event: Required | Told) -> None:
+        """Carries out what is the project's own. Raises ValueError for the name of a choice.
+
+        >>> from propbench.planning.tasks import TaskTold
+        >>> w = Workbench()
+        >>> p = w.project(days=30)
+        >>> venue = p.task("venue", 3)
+        >>> p.state(TaskTold(venue.start.declared, (4, 9), "late", p))
+        >>> w.least(p.end).value
+        7
+        """
         if event.premise is not None:
             self.workbench.network.premises.check(event.premise)
         self.workbench.network.do(event)
@@ -561,16 +682,24 @@ class Project:
     def _keep_apart(self, task: Task, others: Iterable[Task]) -> None:
         """Its people do one thing at a time."""
         for other in others:
-            for person in (each for each in task.people if each in other.people):
+            for person in (each for each in task.doers if each in other.doers):
                 apart = (other.end <= task.start) | (task.end <= other.start)
-                self._state(KeptApart(apart.node, limit_of(person), person, self))
+                both = by_both(person, task, other, apart)
+                self.state(KeptApart(both.node, limit_of(person), person, self))
 
-    def _keep_off(self, tasks: Iterable[Task], aways: Sequence[Away]) -> None:
-        """Nothing of these tasks is done while somebody is away."""
-        for task in tasks:
+    def _keep_off(self, aways: Sequence[Away]) -> None:
+        """Nothing is done by somebody who is away."""
+        theirs = [it for it in self.tasks.values() if any(a.person in it.doers for a in aways)]
+
+        def state() -> None:
+            # (A premise under which nothing is stated yet would not be known.)
             for away in aways:
-                apart = (task.end <= away.first) | (task.start >= away.last)
-                self._state(KeptOff(apart.node, away.premise, away, self))
+                self.state(KeptOff(TRUE, away.premise, away, self))
+
+        if theirs:
+            keep_off(self, theirs, aways)
+        else:
+            self.workbench.network.whole(state)
 
     def _made_total(self) -> NumberCell:
         costs = [task.cost for task in self.tasks.values() if task.cost is not None]
@@ -592,7 +721,7 @@ class Project:
             work = [task.days for task in self.tasks.values() if person in task.people]
             if len(work) > 1:
                 bound = (total(work) <= end).node
-                self._state(KeptApart(bound, limit_of(person), person, self))
+                self.state(KeptApart(bound, limit_of(person), person, self))
 
 
 def limit_of(person: str) -> str:

@@ -5,6 +5,7 @@ Each text is judged where it stands, so that what can't be taken is told by shee
 
 import re
 from collections.abc import Callable, Iterable, Iterator, Sequence
+from dataclasses import replace
 from datetime import date, timedelta
 
 from propbench.nearby import near_names
@@ -21,6 +22,7 @@ from propbench.planning.headings import (
     rows_of,
 )
 from propbench.planning.sheets import Field, Sheet, SheetError
+from propbench.planning.who import AnyOf, Skilled
 from propbench.questions.shown import listed
 from propbench.showing import cut, printable
 
@@ -34,6 +36,10 @@ _WEEKDAYS = ("mon", "tue", "wed", "thu", "fri", "sat", "sun")
 _BETWEEN = re.compile(r"[,;\n]")
 _WHOLE = re.compile(r"\n")
 _BETWEEN_PEOPLE = re.compile(r"[,;\n&+]|\band\b")
+# Some of several people, as `2 of Ana, Ben, Cem`, or of those who can do something.
+_SOME = re.compile(r"\s*(?:(\d{1,3})|one|any)\s+of\s+(.+)", re.I | re.S)
+_ABLE = re.compile(r"\s*(?:(\d{1,3})\s+)?skilled\s+in\s+(.+)", re.I | re.S)
+_OR = re.compile(r"\bor\b", re.I)
 
 
 def brief_of(sheets: Sequence[Sheet], given: Given) -> Brief:
@@ -132,6 +138,21 @@ class _Reader:
             if person.text in self.brief.people:
                 raise person.wrong(f"`{cut(person.text)}` stands here twice")
             self.brief.people[person.text] = _weight(row, HELP)
+            if "skills" in row:
+                self.brief.skills[person.text] = tuple(_split(row["skills"], _BETWEEN))
+            if "works" in row:
+                self.brief.works[person.text] = self._works(row["works"])
+
+    def _works(self, given: Field) -> tuple[str, ...]:
+        """The weekdays on which somebody works."""
+        if self.brief.calendar is None:
+            raise given.wrong("weekdays need a start of the plan: --start 2026-03-02")
+        found: list[str] = []
+        for word in re.split(r"[,;\s]+", given.text.lower()):
+            if not (days := _weekdays(word)):
+                raise given.wrong(f"`{cut(word)}` is no weekday: write mon, tue, wed")
+            found += days
+        return tuple(dict.fromkeys(found))
 
     def read_tasks(self, sheet: Sheet) -> None:
         """The tasks; rows of one task are the ways in which it may be done."""
@@ -149,15 +170,37 @@ class _Reader:
     def _job(self, name: str, rows: Sequence[Row]) -> Job:
         after = _once(rows, "after")
         earliest, latest = _once(rows, "earliest"), _once(rows, "latest")
+        people, group = self._doers(_once(rows, "who"))
+        pauses = _once(rows, "pauses")
         return Job(
             name,
             tuple(_ways(name, rows)),
-            tuple(self._people(_once(rows, "who"))),
+            tuple(people),
             tuple(_split(after, _BETWEEN)),
             None if earliest is None else self._day(earliest),
             None if latest is None else self._day(latest, True),
             self._done(_once(rows, "started"), _once(rows, "finished")),
+            group,
+            pauses is None or _yes(pauses),
         )
+
+    def _doers(self, given: Field | None) -> tuple[list[str], AnyOf | Skilled | None]:
+        """Who does a task: all who are named, or some: `Ana or Ben`, `2 of Ana, Ben, Cem`, `skilled
+        in welding`."""
+        text = given.text if given else ""
+        if given and (able := _ABLE.fullmatch(text)):
+            skills = {skill for has in self.brief.skills.values() for skill in has}
+            wanted = _known(replace(given, text=able[2]), _BETWEEN_PEOPLE, skills, "skill")
+            return [], Skilled(_number(given, able[1]), tuple(wanted))
+        some = _SOME.fullmatch(text)
+        if given is None or not (some or _OR.search(text)):
+            return self._people(given), None
+        names = _OR.sub(",", some[2] if some else text)
+        people = self._people(replace(given, text=names))
+        number = _number(given, some[1] if some else None)
+        if number > len(people):
+            raise given.wrong(f"there are only {len(people)} of them")
+        return [], AnyOf(number, tuple(people))
 
     def _done(self, started: Field | None, finished: Field | None) -> tuple[int, int] | None:
         """When a task was done, where both its ends are told."""
@@ -312,6 +355,20 @@ def _known(
             hint = f"Did you mean {near[0]}?" if near else there
             raise given.wrong(f"no {what} is called `{cut(name)}`. {hint}")
     return found
+
+
+def _number(given: Field, digits: str | None) -> int:
+    """How many people, one where it isn't said."""
+    if digits is not None and int(digits) == 0:
+        raise given.wrong("0 of some people is nobody")
+    return int(digits or 1)
+
+
+def _yes(given: Field) -> bool:
+    """Whether a field says yes."""
+    if given.text.lower() not in ("yes", "no", "y", "n", "true", "false"):
+        raise given.wrong(f"`{cut(given.text)}` is neither `yes` nor `no`")
+    return given.text.lower()[0] in "yt"
 
 
 def _whole(given: Field, least: int, wanted: str = "a whole number, as 5") -> int:

@@ -9,8 +9,10 @@ from typing import TYPE_CHECKING, TypeVar
 
 from propbench.model.network import Network
 from propbench.planning.calendar import Calendar, date_said, dates_said
+from propbench.planning.pausing import Paused, days_off, pauses_of
 from propbench.planning.tasks import Away, Task, TaskMade, aways_of
 from propbench.questions.bounding import Optimum
+from propbench.questions.goals import Optima
 from propbench.questions.model import Model, Point
 from propbench.questions.planned import Planned
 from propbench.questions.shown import Shown
@@ -29,8 +31,8 @@ _WIDE, _BEHIND = 100, 2
 
 @dataclass(frozen=True)
 class Entry:
-    """A task in a plan, from the beginning of the day `start` to that of the day `end`; `way` is the
-    option that is taken, where there are some."""
+    """A task in a plan, from the beginning of the day `start` to that of the day `end`, but for its
+    `pauses`; `way` is the option that is taken, where there are some."""
 
     task: str
     people: tuple[str, ...]
@@ -38,6 +40,18 @@ class Entry:
     end: int
     way: str | None
     cost: int | None
+    pauses: tuple[tuple[int, int], ...] = ()
+
+    @property
+    def days(self) -> int:
+        """How many days it is worked on."""
+        return sum(end - start for start, end in self.parts)
+
+    @property
+    def parts(self) -> list[tuple[int, int]]:
+        """The days between its pauses."""
+        ends = [self.start, *(end for pause in self.pauses for end in pause), self.end]
+        return list(zip(ends[::2], ends[1::2]))
 
 
 @dataclass(frozen=True)
@@ -85,9 +99,12 @@ class Schedule(Shown):
 
     def end_said(self) -> str:
         """When all is done, in words."""
-        if self.calendar is None:
-            return f"by day {self.end}"
-        return f"on {date_said(self.calendar.last_date(0, self.end))}"
+        said = self.date_said()
+        return f"by day {self.end}" if said is None else f"on {said}"
+
+    def date_said(self) -> str | None:
+        """The date on which all is done, None where there are no dates."""
+        return None if self.calendar is None else date_said(self.calendar.last_date(0, self.end))
 
     def by_date(self) -> list[Entry]:
         """The entries by their first days."""
@@ -143,10 +160,15 @@ class Schedule(Shown):
         return [(person, "; ".join(self._doings(person))) for person in self.people]
 
     def _doings(self, person: str) -> Iterator[str]:
-        when = [(e.start, e.end, e.task) for e in self.by_date() if person in e.people]
-        when += [(a.first, a.last, "away") for a in self.staff.aways if a.person == person]
+        own = [each for each in self.by_date() if person in each.people]
+        when = [(*part, each.task) for each in own for part in each.parts]
+        when += [(a.first, a.last, "away") for a in self.shown_aways() if a.person == person]
         for start, end, what in sorted(when):
             yield f"{self.days_said(start, end)} {what}"
+
+    def shown_aways(self) -> list[Away]:
+        """Who is away when, but for those who never work then."""
+        return [away for away in self.staff.aways if not away.is_usual]
 
     def told_in_short(self, entry: Entry) -> str:
         """When a task is done, and how where there are several ways."""
@@ -211,7 +233,7 @@ class Schedule(Shown):
 
 def _said_of(entry: Entry) -> tuple[object, ...]:
     """What the last columns of a schedule say of a task."""
-    days, cost = entry.end - entry.start, entry.cost or None
+    days, cost = entry.days, entry.cost or None
     return days, entry.task, entry.people, entry.way, cost
 
 
@@ -236,7 +258,9 @@ def schedule_of(
         for each in network.events
         if isinstance(each, TaskMade) and each.project is project
     ]
-    entries = [_entry(task, plan, ways.get(task.name)) for task in tasks]
+    entries = [
+        _entry(task, plan, ways.get(task.name), pauses_of(network.events, task)) for task in tasks
+    ]
     believed = set(network.premises.in_force)
     aways = [away for away in aways_of(project, network.events) if away.premise in believed]
     staff = Staff(project.people, project.days, project.calendar, tuple(aways))
@@ -248,7 +272,7 @@ def values_in(
 ) -> tuple[Mapping[str, Point], Mapping[str, object]]:
     """The values in a plan, and which alternatives it takes. Raises TypeError for what is none, and
     ValueError for a result without one."""
-    if isinstance(given, Optimum):
+    if isinstance(given, Optimum | Optima):
         if given.plan is None:
             raise ValueError(f"there is no plan here: {given.headline()}")
         return given.plan, given.choices
@@ -261,11 +285,15 @@ def values_in(
     return given, {}
 
 
-def _entry(task: Task, plan: Mapping[str, Point], way: object) -> Entry:
+def _entry(task: Task, plan: Mapping[str, Point], way: object, pauses: Sequence[Paused]) -> Entry:
     """What a plan says of a task."""
     cells = [task.start, task.end, *([] if task.cost is None else [task.cost])]
     if any(cell.name not in plan for cell in cells):
         raise ValueError(f"the plan doesn't say when {printable(task.name)} is done")
     start, end, *cost = (int(plan[cell.name]) for cell in cells)
     told = way if isinstance(way, str) else None
-    return Entry(task.name, task.people, start, end, told, cost[0] if cost else None)
+    people = [who for who, cell in task.may.items() if plan.get(cell.name) is True]
+    aways = [each.away for each in pauses if plan.get(each.cell.name) is True]
+    off = tuple(days_off(aways, start, end))
+    does = (*task.people, *people)
+    return Entry(task.name, does, start, end, told, cost[0] if cost else None, off)

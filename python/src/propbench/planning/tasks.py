@@ -4,12 +4,12 @@ What a project knows stands in what was stated to its workbench, and nowhere els
 """
 
 from collections.abc import Iterable, Mapping, Sequence
-from dataclasses import dataclass
+from dataclasses import dataclass, field
 from typing import TYPE_CHECKING, SupportsIndex
 
-from propbench.model.cells import NumberCell
+from propbench.model.cells import NumberCell, TruthCell
 from propbench.model.events import Event, Required, Told
-from propbench.model.expressions import Number
+from propbench.model.expressions import Number, Truth
 from propbench.showing import printable
 
 if TYPE_CHECKING:
@@ -30,7 +30,8 @@ class Way:
 @dataclass(frozen=True, eq=False)
 class Task:
     """A task. Its cells can be asked, and may stand in constraints as any others: it is done from
-    the beginning of the day `start` to the beginning of the day `end`, `days` later.
+    the beginning of the day `start` to the beginning of the day `end`, `days` later, and more where
+    it `pauses`. All of its `people` do it; those who `may` have a truth that says whether they do.
 
     >>> w = Workbench()
     >>> p = w.project(days=30)
@@ -46,6 +47,20 @@ class Task:
     end: NumberCell
     days: NumberCell
     cost: NumberCell | None
+    pauses: bool = False
+    may: Mapping[str, TruthCell] = field(default_factory=dict)
+    kind: str | None = None
+
+    @property
+    def doers(self) -> tuple[str, ...]:
+        """Whoever does it, or may.
+
+        >>> w = Workbench()
+        >>> p = w.project(days=30, people="ana ben cem")
+        >>> p.task("venue", 3, who=["ana", any_of("ben", "cem")]).doers
+        ('ana', 'ben', 'cem')
+        """
+        return (*self.people, *self.may)
 
     def before(self, other: "Task") -> Number:
         """How many days there are between the end of this task and the start of another.
@@ -60,7 +75,7 @@ class Task:
         return other.start - self.end
 
     def __repr__(self) -> str:
-        who = f" by {' and '.join(self.people)}" if self.people else ""
+        who = f" by {' and '.join(self.doers)}" if self.doers else ""
         return f"task {self.name}{who}"
 
 
@@ -78,6 +93,21 @@ class TaskTold(Told):
     """What a task of a project takes, or costs."""
 
     project: "Project"
+
+
+@dataclass(frozen=True)
+class TaskBy(Required):
+    """In how many days somebody does a task of a project, who may."""
+
+    project: "Project"
+    task: Task
+    days: int
+    written: str
+
+    @property
+    def told(self) -> str:
+        """What is stated, of each who may do it."""
+        return self.written
 
 
 @dataclass(frozen=True)
@@ -108,6 +138,10 @@ class TaskOrdered(Required):
     project: "Project"
     earlier: Task
     later: Task
+
+    def ready(self, start: int, end: int) -> int | None:
+        """When the later one may begin, where the other is done from a day to a day."""
+        return end
 
 
 @dataclass(frozen=True)
@@ -149,6 +183,10 @@ class Away:
     last: int
     premise: str
     written: str
+    is_usual: bool = False
+
+    def __str__(self) -> str:
+        return f"{self.person} {self.written}"
 
 
 @dataclass(frozen=True)
@@ -162,6 +200,14 @@ class KeptOff(Required):
     def told(self) -> str:
         """What is stated, of all that the person does."""
         return f"no task of {printable(self.away.person)} {self.away.written}"
+
+
+def by_both(person: str, task: Task, other: Task, holds: Truth) -> Truth:
+    """What holds where somebody does both of two tasks, who does or may do each."""
+    truths = [each.may[person] for each in (task, other) if person in each.may]
+    for truth in truths:
+        holds = ~truth | holds
+    return holds
 
 
 def aways_of(project: object, events: Iterable[Event]) -> list[Away]:

@@ -8,7 +8,7 @@ from __future__ import annotations
 
 from collections.abc import Iterable, Iterator, Mapping
 from contextlib import contextmanager
-from typing import TYPE_CHECKING, TypeVar
+from typing import TYPE_CHECKING, TypeVar, overload
 
 from propbench.clock import Clock, Progress
 from propbench.given import count_given
@@ -19,7 +19,7 @@ from propbench.questions.model import Model as Model
 if TYPE_CHECKING:
     from concurrent.futures import Executor
 
-    from propbench.questions.asking import CellLike
+    from propbench.questions.asking import CellLike, Cells
     from propbench.questions.asking import Interrupted as Interrupted
     from propbench.questions.asking import NoSuchName as NoSuchName
     from propbench.questions.bounding import Optimum as Optimum
@@ -32,6 +32,7 @@ if TYPE_CHECKING:
     from propbench.questions.conflicts import Repairs as Repairs
     from propbench.questions.critical import Critical as Critical
     from propbench.questions.critical import Slack as Slack
+    from propbench.questions.goals import Optima as Optima
     from propbench.questions.model import Plan as Plan
     from propbench.questions.model import Point as Point
     from propbench.questions.outcomes import NothingFits as NothingFits
@@ -40,6 +41,7 @@ if TYPE_CHECKING:
     from propbench.questions.scenarios import Scenarios as Scenarios
     from propbench.questions.sensitivity import Sensitivity as Sensitivity
     from propbench.questions.solution import Solution as Solution
+    from propbench.questions.trading import TradeOff as TradeOff
 else:
     _HOMES = {
         "propbench.questions.asking": "Interrupted NoSuchName",
@@ -49,12 +51,14 @@ else:
         "propbench.questions.comparing": "Differences Snapshot",
         "propbench.questions.conflicts": "Conflicts Repairs",
         "propbench.questions.critical": "Critical Slack",
+        "propbench.questions.goals": "Optima",
         "propbench.questions.model": "Plan Point",
         "propbench.questions.outcomes": "NothingFits",
         "propbench.questions.plans": "Plans",
         "propbench.questions.scenarios": "Scenarios",
         "propbench.questions.sensitivity": "Sensitivity",
         "propbench.questions.solution": "Solution",
+        "propbench.questions.trading": "TradeOff",
     }
     __all__ = ["Model", "Questions", *all_of(_HOMES)]
     __getattr__ = names_of(__name__, _HOMES)
@@ -160,6 +164,7 @@ class Questions:
 
         return find_solution(self.model, seconds, progress)
 
+    @overload
     def least(
         self,
         cell: CellLike,
@@ -167,9 +172,31 @@ class Questions:
         seconds: float | None = None,
         progress: Progress | None = None,
     ) -> Optimum:
+        ...
+
+    @overload
+    def least(
+        self,
+        cell: Cells,
+        *,
+        seconds: float | None = None,
+        progress: Progress | None = None,
+    ) -> Optima:
+        ...
+
+    def least(
+        self: Bench,
+        cell: CellLike | Cells,
+        *,
+        seconds: float | None = None,
+        progress: Progress | None = None,
+    ) -> Optimum | Optima:
         """The least value of a cell in any plan. Raises ValueError where there is no such cell, and
         TypeError where it holds no numbers. Where nothing fits, `value` is None and `proved` is
         True.
+
+        Of several cells, `w.least([end, cost])`, it is the least of the first, then that of the
+        second in the plans that have it, and so on.
 
         >>> w = Workbench()
         >>> days, price = w.number("days", 1, 30), w.number("price", 0, 9000)
@@ -178,12 +205,15 @@ class Questions:
         >>> best = w.least(price)
         >>> best.value, best.proved, best.because
         (1200, True, ('three days',))
+        >>> w.least([days, price]).values
+        (3, 1200)
         """
         from propbench.questions.bounding import LEAST
-        from propbench.questions.ends import find_optimum
+        from propbench.questions.goals import least_of
 
-        return find_optimum(self.model, cell, LEAST, seconds, progress)
+        return least_of(self, cell, LEAST, seconds, progress)
 
+    @overload
     def greatest(
         self,
         cell: CellLike,
@@ -191,7 +221,27 @@ class Questions:
         seconds: float | None = None,
         progress: Progress | None = None,
     ) -> Optimum:
-        """The greatest value of a cell in any plan. All else is as in `least`.
+        ...
+
+    @overload
+    def greatest(
+        self,
+        cell: Cells,
+        *,
+        seconds: float | None = None,
+        progress: Progress | None = None,
+    ) -> Optima:
+        ...
+
+    def greatest(
+        self: Bench,
+        cell: CellLike | Cells,
+        *,
+        seconds: float | None = None,
+        progress: Progress | None = None,
+    ) -> Optimum | Optima:
+        """The greatest value of a cell in any plan, or of several, one after the other. All else is
+        as in `least`.
 
         >>> w = Workbench()
         >>> days, price = w.number("days", 1, 30), w.number("price", 0, 9000)
@@ -200,9 +250,32 @@ class Questions:
         22
         """
         from propbench.questions.bounding import GREATEST
-        from propbench.questions.ends import find_optimum
+        from propbench.questions.goals import least_of
 
-        return find_optimum(self.model, cell, GREATEST, seconds, progress)
+        return least_of(self, cell, GREATEST, seconds, progress)
+
+    def trade_off(
+        self: Bench,
+        first: CellLike,
+        second: CellLike,
+        *,
+        seconds: float | None = None,
+        progress: Progress | None = None,
+    ) -> TradeOff:
+        """What one goal costs the other: all plans of which none is as good in both cells as
+        another, where less is better, from the least of the first to that of the second. It prints
+        as a table, and is written by `to_csv`, and by `to_svg` as a picture. Raises as `least`.
+
+        >>> w = Workbench()
+        >>> days, price = w.number("days", 1, 9), w.number("price", 0, 900)
+        >>> w.require(price * days >= 1200)
+        >>> w.require(days <= 4)
+        >>> w.trade_off(days, price).pairs
+        [(2, 600), (3, 400), (4, 300)]
+        """
+        from propbench.questions.trading import find_trade_off
+
+        return find_trade_off(self, (first, second), seconds, progress)
 
     def plans(
         self,

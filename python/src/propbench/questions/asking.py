@@ -1,6 +1,6 @@
 """How a question is asked: with a time, with an end at Ctrl-C, and of cells by name."""
 
-from collections.abc import Callable, Collection, Iterable
+from collections.abc import Callable, Collection, Iterable, Sequence
 from typing import Protocol, TypeVar
 
 from propbench.clock import Clock
@@ -23,8 +23,9 @@ class Named(Protocol):
         ...
 
 
-# A cell, or its name.
+# A cell, or its name; and several, of which the first matters most.
 CellLike = str | Named
+Cells = Sequence[Named] | list[str] | tuple[str, ...]
 
 
 class Interrupted(KeyboardInterrupt):

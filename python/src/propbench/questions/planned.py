@@ -16,6 +16,10 @@ class Scheduled(Protocol):
         """The cells and choices of which it tells the values."""
         ...
 
+    def date_said(self) -> str | None:
+        """The date on which all is done, in words, None where there are no dates."""
+        ...
+
     def to_csv(self, path: str | os.PathLike[str] | None = None) -> str:
         """The schedule for a spreadsheet."""
         ...
