@@ -464,8 +464,8 @@ impl Spread {
         self.rule_out_by(network, x, args, by)
     }
 
-    /// Rules out of an instance's output what its arguments do, number by number. Where another cell
-    /// is the input at the rule's own place, no step could tell why.
+    /// Rules out of an instance's output what its arguments do, number by number. Where another
+    /// cell is the input at the rule's own place, no step could tell why.
     fn rule_out_by<R: Guarded + Drop>(
         &mut self,
         network: &Network<R>,
