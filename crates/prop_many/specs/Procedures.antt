@@ -6,7 +6,7 @@ use Rattle.prop_procedures.specs.declared.shape.Shape.TheVariants.{Span}
 use Rattle.prop_many.specs.Many.{HasInputs}
 use Rattle.prop_many.specs.declared.procedures.TheConstants.{PROCEDURES}
 use Rattle.prop_many.specs.declared.many.Many.{Many}
-use Rattle.prop_many.specs.declared.many.Many.TheVariants.{Cumulative, Differ, Disjoint}
+use Rattle.prop_many.specs.declared.many.Many.TheVariants.{Circuit, Cumulative, Differ, Disjoint}
 
 -- a procedure's name, its rule and the shapes of its inputs
 pub record Named : Type 0 where
@@ -18,7 +18,7 @@ pub record Named : Type 0 where
 abbrev pub digits : ℕ → List ℕ
 digits n = if nat_lt n 10 then (48 + n) ∷ [] else (48 + n / 10) ∷ (48 + n % 10) ∷ []
 
--- a rule's procedures for one other task or number, for two, and on: so many inputs beside the
+-- a rule's procedures for one other task or number, or one node, for two, and on: so many inputs beside the
 -- others', and so many for each of those
 abbrev pub procedures_of : List ℕ → Many → ℕ → ℕ → ℕ → List Named
 procedures_of name rule own each zero = []
@@ -33,6 +33,7 @@ abbrev pub in_order : List Named
 in_order = procedures_of (codes "cumulative") Cumulative 4 3 40
     ++ procedures_of (codes "disjoint") Disjoint 2 2 40
     ++ procedures_of (codes "differ") Differ 1 1 63
+    ++ procedures_of (codes "circuit") Circuit 2 1 40
 
 -- the program's own procedures are these
 abbrev pub ProceduresAreStated : Type 0
