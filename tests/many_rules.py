@@ -154,20 +154,20 @@ def circuit(infos: Sequence[Info]) -> Any:
     """What is left of the own successor where those that are known lead to the node too soon, or
     elsewhere."""
     own, node, *successors = infos
-    if node is None or node[0] != node[1]:
+    home, count = low(node), len(successors)
+    if home != high(node):
         return None
-    count = len(successors)
-    if not 1 <= node[0] <= count:
+    if not 1 <= home <= count:
         return CLASH
 
     def may_follow(at: int) -> bool:
         for steps in range(count):
-            if at == node[0] or not 1 <= at <= count:
-                return at == node[0] and steps == count - 1
+            if at == home or not 1 <= at <= count:
+                return at == home and steps == count - 1
             after = successors[at - 1]
-            if after is None or after[0] != after[1]:
+            if low(after) != high(after):
                 return steps < count - 1
-            at = after[0]
+            at = low(after)
         return False
 
     left = [at for at in range(1, count + 1) if low(own) <= at <= high(own) and may_follow(at)]
