@@ -18,8 +18,8 @@ pub record Named : Type 0 where
 abbrev pub digits : ℕ → List ℕ
 digits n = if nat_lt n 10 then (48 + n) ∷ [] else (48 + n / 10) ∷ (48 + n % 10) ∷ []
 
--- a rule's procedures for one other task or number, or one node, for two, and on: so many inputs beside the
--- others', and so many for each of those
+-- a rule's procedures for one other task or number, or one node, for two, and on: so many inputs
+-- beside the others', and so many for each of those
 abbrev pub procedures_of : List ℕ → Many → ℕ → ℕ → ℕ → List Named
 procedures_of name rule own each zero = []
 procedures_of name rule own each (suc n) = procedures_of name rule own each n ++ record {

@@ -22,7 +22,8 @@ use Rattle.prop_lattice.specs.declared.span.TheConstants.{B}
 use Rattle.prop_wide.specs.Ends.{low_of, high_of, known}
 use Rattle.prop_wide.specs.laws.EndLaws.{AreOrdered, AreWithin, IsBetween, ends_ordered}
 use Rattle.prop_wide.specs.laws.EndLaws.{known_below, known_holds, known_kind}
-use Rattle.prop_many.specs.Circuit.{LeadsHome, LeadsOn, RelatesCircuit, around, circuit_of, entry_at}
+use Rattle.prop_many.specs.Circuit.{LeadsHome, LeadsOn, RelatesCircuit, around, circuit_of}
+use Rattle.prop_many.specs.Circuit.{entry_at}
 use Rattle.prop_many.specs.Circuit.{goes_on, goes_wrong, is_one, lowered, raised}
 use Rattle.prop_many.specs.Exact.{AreJust, IsJust}
 use Rattle.prop_many.specs.laws.ExactLaws.{known_held}

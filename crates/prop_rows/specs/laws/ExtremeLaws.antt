@@ -22,7 +22,7 @@ use Rattle.prop_rows.specs.Extremes.{least_back_of, least_of, top, RelatesGreate
 use Rattle.prop_rows.specs.Row.{AreSpans}
 use Rattle.prop_rows.specs.laws.SumLaws.{first_is_span, others_are_spans}
 use Rattle.prop_wide.specs.Ends.{low_of, high_of, known}
-use Rattle.prop_wide.specs.laws.EndLaws.{AreOrdered, AreWithin, IsBetween, ends_ordered, ends_within}
+use Rattle.prop_wide.specs.laws.EndLaws.{AreOrdered, ends_ordered, ends_within}
 use Rattle.prop_wide.specs.laws.EndLaws.{held_between, known_below, known_holds, known_kind}
 
 -- ---- the greatest
@@ -108,7 +108,8 @@ greatest_back_below z z' olds news p n q m =
     let t = tops_within olds news q m in
     greatest_back_closer _ _ _ _ _ _ _ _ a.low a.high t.0 t.1 (ends_ordered z')
 
-pub greatest_back_kind : (z : Info) (others : List Info) → IsOf kinds.Span 0 (greatest_back_of z others)
+pub greatest_back_kind : (z : Info) (others : List Info)
+    → IsOf kinds.Span 0 (greatest_back_of z others)
 greatest_back_kind z others = by (int_lt (high_of z) (top low_of others))
   where
     by : (m : Bool) → IsOf kinds.Span 0 (if m then Contradiction else known
@@ -164,8 +165,8 @@ pub least_kind : (args : List Info) → IsOf kinds.Span 0 (least_of args)
 least_kind args = known_kind 0 _ _
 
 -- the least of points that are left lies between
-pub bottoms_hold : (any : Shape → Kinded) (ins : List Shape) (args : List Info) (points : List Point)
-    → AreSpans ins → ArePointsOf any ins points → EachHolds args points
+pub bottoms_hold : (any : Shape → Kinded) (ins : List Shape) (args : List Info)
+    (points : List Point) → AreSpans ins → ArePointsOf any ins points → EachHolds args points
     → (bottom low_of args ≤ℤ least_at points) × (least_at points ≤ℤ bottom high_of args)
 bottoms_hold any ins [] [] f ps e = (omega (arith, ints), omega (arith, ints))
 bottoms_hold any (s ∷ ins) (x ∷ args) (p ∷ points) f ps e =
@@ -222,7 +223,8 @@ least_back_below z z' olds news p n q m =
     let t = bottoms_within olds news q m in
     least_back_closer _ _ _ _ _ _ _ _ a.low a.high t.0 t.1 (ends_ordered z')
 
-pub least_back_kind : (z : Info) (others : List Info) → IsOf kinds.Span 0 (least_back_of z others)
+pub least_back_kind : (z : Info) (others : List Info)
+    → IsOf kinds.Span 0 (least_back_of z others)
 least_back_kind z others = by (int_lt (bottom high_of others) (low_of z))
   where
     by : (m : Bool) → IsOf kinds.Span 0 (if m then Contradiction else known (low_of z)

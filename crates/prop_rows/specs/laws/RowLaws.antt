@@ -212,7 +212,8 @@ row_keeps_kind Count ins out need f any param args c =
 row_keeps_kind CountBack ins out need f any param args c =
     wide_keeps_kind wides.CountBack ins out need (f.0, f.1, f.2) any param args c
 row_keeps_kind Greatest ins out need f any param args c = rw f.1 (greatest_kind args)
-row_keeps_kind GreatestBack ins out need f any param args c = rw f.1 (greatest_back_keeps param args)
+row_keeps_kind GreatestBack ins out need f any param args c =
+    rw f.1 (greatest_back_keeps param args)
 row_keeps_kind Least ins out need f any param args c = rw f.1 (least_kind args)
 row_keeps_kind LeastBack ins out need f any param args c = rw f.1 (least_back_keeps param args)
 
