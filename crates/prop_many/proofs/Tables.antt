@@ -4,7 +4,7 @@ use Rattle.std.proofs.lemmas.List.Elements.{All-append}
 use Rattle.std.specs.Prelude.{replicate}
 use Rattle.prop_procedures.specs.declared.shape.Shape.TheVariants.{Span}
 use Rattle.prop_many.specs.Many.{AreNumbers, least_of}
-use Rattle.prop_many.specs.Procedures.{EachIsFormed, IsFormed, Named, procedures_of}
+use Rattle.prop_many.specs.Procedures.{EachCircuitIsFormed, EachIsFormed, IsFormed, Named, procedures_of}
 use Rattle.prop_many.specs.declared.many.Many.{Many}
 use Rattle.prop_many.specs.declared.many.Many.TheVariants.{Circuit, Cumulative, Differ, Disjoint}
 
@@ -36,14 +36,13 @@ rows_formed name rule own each (suc n) some least few =
 
 -- all rows are
 pub each_formed : EachIsFormed
-each_formed =
-    let circuits = procedures_of (codes "circuit") Circuit 2 1 40 in
-    let numbers = procedures_of (codes "differ") Differ 1 1 63 ++ circuits in
-    let tasks = procedures_of (codes "disjoint") Disjoint 2 2 40 ++ numbers in
-    All-append IsFormed (procedures_of (codes "cumulative") Cumulative 4 3 40) tasks
+each_formed = All-append IsFormed (procedures_of (codes "cumulative") Cumulative 4 3 40)
+    (procedures_of (codes "disjoint") Disjoint 2 2 40 ++ procedures_of (codes "differ") Differ 1 1 63)
     (rows_formed (codes "cumulative") Cumulative 4 3 40 (omega arith) (omega arith) (omega arith))
-    (All-append IsFormed (procedures_of (codes "disjoint") Disjoint 2 2 40) numbers
+    (All-append IsFormed (procedures_of (codes "disjoint") Disjoint 2 2 40)
+    (procedures_of (codes "differ") Differ 1 1 63)
     (rows_formed (codes "disjoint") Disjoint 2 2 40 (omega arith) (omega arith) (omega arith))
-    (All-append IsFormed (procedures_of (codes "differ") Differ 1 1 63) circuits
-    (rows_formed (codes "differ") Differ 1 1 63 (omega arith) (omega arith) (omega arith))
-    (rows_formed (codes "circuit") Circuit 2 1 40 (omega arith) (omega arith) (omega arith))))
+    (rows_formed (codes "differ") Differ 1 1 63 (omega arith) (omega arith) (omega arith)))
+
+pub each_circuit_formed : EachCircuitIsFormed
+each_circuit_formed = rows_formed (codes "circuit") Circuit 2 1 40 (omega arith) (omega arith) (omega arith)

@@ -25,4 +25,4 @@ pub use differ::{ends_are_free, number_beside};
 pub use disjoint::start_apart;
 pub use many::Many;
 pub use prelude::{PRELUDE, prelude_is_stated};
-pub use procedures::{PROCEDURES, procedures_are_stated};
+pub use procedures::{CIRCUITS, PROCEDURES, circuits_are_stated, procedures_are_stated};

@@ -1,12 +1,13 @@
 //! The procedures: each rule under its name and the number of other tasks or numbers, or of nodes.
-ghost use Rattle.prop_many.specs.Procedures.{EachIsFormed, ProceduresAreStated};
+ghost use Rattle.prop_many.specs.Procedures.{CircuitsAreStated, EachCircuitIsFormed, EachIsFormed};
+ghost use Rattle.prop_many.specs.Procedures.{ProceduresAreStated};
 
 use crate::many::Many;
 use prop_procedures::Shape;
 
 /// The name of each procedure, its rule and the shapes of its inputs, in the order in which a
 /// program makes them.
-pub const PROCEDURES: [(&'static str, Many, &'static [Shape]); 183] = [
+pub const PROCEDURES: [(&'static str, Many, &'static [Shape]); 143] = [
     ("cumulative1", Many::Cumulative, &[Shape::Span; 7]),
     ("cumulative2", Many::Cumulative, &[Shape::Span; 10]),
     ("cumulative3", Many::Cumulative, &[Shape::Span; 13]),
@@ -150,6 +151,10 @@ pub const PROCEDURES: [(&'static str, Many, &'static [Shape]); 183] = [
     ("differ61", Many::Differ, &[Shape::Span; 62]),
     ("differ62", Many::Differ, &[Shape::Span; 63]),
     ("differ63", Many::Differ, &[Shape::Span; 64]),
+];
+
+/// The same of circuits, by the number of nodes.
+pub const CIRCUITS: [(&'static str, Many, &'static [Shape]); 40] = [
     ("circuit1", Many::Circuit, &[Shape::Span; 3]),
     ("circuit2", Many::Circuit, &[Shape::Span; 4]),
     ("circuit3", Many::Circuit, &[Shape::Span; 5]),
@@ -197,4 +202,10 @@ pub const PROCEDURES: [(&'static str, Many, &'static [Shape]); 183] = [
 pub fn procedures_are_stated()
     ensures stated { ProceduresAreStated }
     ensures formed { EachIsFormed }
+{}
+
+/// So are those of circuits.
+pub fn circuits_are_stated()
+    ensures stated { CircuitsAreStated }
+    ensures formed { EachCircuitIsFormed }
 {}

@@ -7,7 +7,7 @@ use Rattle.std.proofs.lemmas.List.{take-replicate, length-replicate}
 use Rattle.std.proofs.lemmas.List.Elements.{All-append}
 use Rattle.prop_procedures.specs.declared.shape.Shape.{Shape}
 use Rattle.prop_procedures.specs.declared.shape.Shape.TheVariants.{Span, Truth, Any}
-use Rattle.prop_rows.specs.Procedures.{Named, IsFormed, behind, digits, in_order, ins_of, up_to}
+use Rattle.prop_rows.specs.Procedures.{Named, IsFormed, OthersAreFormed, behind, digits, in_order, ins_of, up_to}
 use Rattle.prop_rows.specs.Row.{AreSpans, Begins, is_span, is_any}
 use Rattle.prop_rows.specs.declared.row.Row.{Row}
 use Rattle.prop_rows.specs.declared.row.Row.TheVariants.{Sum, Addend, Element, Index, Entry}
@@ -165,22 +165,20 @@ before some most text rule others h =
 pub all_formed : All IsFormed in_order
 unfolding last
 all_formed =
-    let least_backs = up_to 63 (codes "min_back") LeastBack ++ last in
-    let leasts = up_to 63 (codes "minimizer") Least ++ least_backs in
-    let greatest_backs = up_to 63 (codes "max_back") GreatestBack ++ leasts in
-    let greatests = up_to 63 (codes "maximizer") Greatest ++ greatest_backs in
-    let count_backs = behind 8 55 (codes "count_back") CountBack ++ greatests in
-    let counts = behind 8 55 (codes "counter") Count ++ count_backs in
-    let numbers = up_to 64 (codes "element_number") Index ++ counts in
+    let numbers = up_to 64 (codes "element_number") Index ++ last in
     let values = up_to 64 (codes "element_value") Element ++ numbers in
     let terms = up_to 32 (codes "linear_term") Addend ++ values in
     before 0 32 (codes "linear_sum") Sum terms
     (before 0 32 (codes "linear_term") Addend values
     (before 0 64 (codes "element_value") Element numbers
-    (before 0 64 (codes "element_number") Index counts
-    (before 8 55 (codes "counter") Count count_backs
-    (before 8 55 (codes "count_back") CountBack greatests
-    (before 0 63 (codes "maximizer") Greatest greatest_backs
-    (before 0 63 (codes "max_back") GreatestBack leasts
-    (before 0 63 (codes "minimizer") Least least_backs
-    (before 0 63 (codes "min_back") LeastBack last last_formed)))))))))
+    (before 0 64 (codes "element_number") Index last last_formed)))
+
+pub others_formed : OthersAreFormed
+others_formed = (
+  before 8 55 (codes "counter") Count (behind 8 55 (codes "count_back") CountBack)
+      (all_behind 8 55 (codes "count_back") CountBack),
+  before 0 63 (codes "maximizer") Greatest (up_to 63 (codes "max_back") GreatestBack)
+      (all_behind 0 63 (codes "max_back") GreatestBack),
+  before 0 63 (codes "minimizer") Least (up_to 63 (codes "min_back") LeastBack)
+      (all_behind 0 63 (codes "min_back") LeastBack),
+)

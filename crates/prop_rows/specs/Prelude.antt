@@ -1,6 +1,6 @@
 -- The compounds, as lines of the language.
 use Rattle.std.specs.Prelude.{◌≡◌, ℕ, List, [], ◌∷◌, codes, map}
-use Rattle.prop_rows.specs.declared.prelude.TheConstants.{PRELUDE}
+use Rattle.prop_rows.specs.declared.prelude.TheConstants.{MORE, PRELUDE}
 
 -- each line, byte by byte
 abbrev pub prelude_lines : List (List ℕ)
@@ -51,6 +51,10 @@ prelude_lines =
     "define element15 i c1 c2 c3 c4 c5 c6 c7 c8 c9 c10 c11 c12 c13 c14 c15 y = element_value15 i c1 c2 c3 c4 c5 c6 c7 c8 c9 c10 c11 c12 c13 c14 c15 y ; element_number15 y i c1 c2 c3 c4 c5 c6 c7 c8 c9 c10 c11 c12 c13 c14 c15 i" ∷
     codes
     "define element16 i c1 c2 c3 c4 c5 c6 c7 c8 c9 c10 c11 c12 c13 c14 c15 c16 y = element_value16 i c1 c2 c3 c4 c5 c6 c7 c8 c9 c10 c11 c12 c13 c14 c15 c16 y ; element_number16 y i c1 c2 c3 c4 c5 c6 c7 c8 c9 c10 c11 c12 c13 c14 c15 c16 i" ∷
+    []
+
+abbrev pub more_lines : List (List ℕ)
+more_lines =
     codes
     "define count9 x1 x2 x3 x4 x5 x6 x7 x8 x9 n = counter9 x1 x2 x3 x4 x5 x6 x7 x8 x9 n ; count_back9 n x2 x3 x4 x5 x6 x7 x8 x9 x1 ; count_back9 n x1 x3 x4 x5 x6 x7 x8 x9 x2 ; count_back9 n x1 x2 x4 x5 x6 x7 x8 x9 x3 ; count_back9 n x1 x2 x3 x5 x6 x7 x8 x9 x4 ; count_back9 n x1 x2 x3 x4 x6 x7 x8 x9 x5 ; count_back9 n x1 x2 x3 x4 x5 x7 x8 x9 x6 ; count_back9 n x1 x2 x3 x4 x5 x6 x8 x9 x7 ; count_back9 n x1 x2 x3 x4 x5 x6 x7 x9 x8 ; count_back9 n x1 x2 x3 x4 x5 x6 x7 x8 x9" ∷
     codes
@@ -96,3 +100,6 @@ prelude_lines =
 -- the program's own lines are these
 abbrev pub PreludeIsStated : Type 0
 PreludeIsStated = map (λ line. line.now) PRELUDE ≡ prelude_lines
+
+abbrev pub MoreIsStated : Type 0
+MoreIsStated = map (λ line. line.now) MORE ≡ more_lines

@@ -6,7 +6,7 @@ use Rattle.prop_procedures.specs.declared.shape.Shape.{Shape}
 use Rattle.prop_procedures.specs.declared.shape.Shape.TheVariants.{Span, Truth, Any}
 use Rattle.prop_procedures.specs.declared.shape.Need.TheVariants as needs
 use Rattle.prop_rows.specs.Row.{FormOf, out_of}
-use Rattle.prop_rows.specs.declared.procedures.TheConstants.{PROCEDURES}
+use Rattle.prop_rows.specs.declared.procedures.TheConstants.{COUNTS, GREATEST, LEAST, PROCEDURES}
 use Rattle.prop_rows.specs.declared.row.Row.{Row}
 use Rattle.prop_rows.specs.declared.row.Row.TheVariants.{Sum, Addend, Element, Index, Entry}
 use Rattle.prop_rows.specs.declared.row.Row.TheVariants.{Count, CountBack, Greatest, GreatestBack}
@@ -53,15 +53,36 @@ up_to = behind 0
 abbrev pub in_order : List Named
 in_order = up_to 32 (codes "linear_sum") Sum ++ (up_to 32 (codes "linear_term") Addend
     ++ (up_to 64 (codes "element_value") Element ++ (up_to 64 (codes "element_number") Index
-    ++ (behind 8 55 (codes "counter") Count ++ (behind 8 55 (codes "count_back") CountBack
-    ++ (up_to 63 (codes "maximizer") Greatest ++ (up_to 63 (codes "max_back") GreatestBack
-    ++ (up_to 63 (codes "minimizer") Least ++ (up_to 63 (codes "min_back") LeastBack
-    ++ record { name = codes "element_entry"; rule = Entry; many = 0 } ∷ [])))))))))
+    ++ record { name = codes "element_entry"; rule = Entry; many = 0 } ∷ [])))
+
+-- those of counts, of the greatest and of the least
+abbrev pub counts_in_order : List Named
+counts_in_order =
+    behind 8 55 (codes "counter") Count ++ behind 8 55 (codes "count_back") CountBack
+
+abbrev pub greatest_in_order : List Named
+greatest_in_order =
+    up_to 63 (codes "maximizer") Greatest ++ up_to 63 (codes "max_back") GreatestBack
+
+abbrev pub least_in_order : List Named
+least_in_order = up_to 63 (codes "minimizer") Least ++ up_to 63 (codes "min_back") LeastBack
 
 -- the program's own procedures are these
 abbrev pub ProceduresAreStated : Type 0
 ProceduresAreStated =
     map (λ p. record { name = p.0.now; rule = p.1; many = p.2 }) PROCEDURES ≡ in_order
+
+abbrev pub CountsAreStated : Type 0
+CountsAreStated =
+    map (λ p. record { name = p.0.now; rule = p.1; many = p.2 }) COUNTS ≡ counts_in_order
+
+abbrev pub GreatestAreStated : Type 0
+GreatestAreStated =
+    map (λ p. record { name = p.0.now; rule = p.1; many = p.2 }) GREATEST ≡ greatest_in_order
+
+abbrev pub LeastAreStated : Type 0
+LeastAreStated =
+    map (λ p. record { name = p.0.now; rule = p.1; many = p.2 }) LEAST ≡ least_in_order
 
 -- the inputs are some, as the rule may have
 pub record IsFormed (p : Named) : Type 0 where
@@ -71,3 +92,7 @@ pub record IsFormed (p : Named) : Type 0 where
 -- each has such inputs
 abbrev pub EachIsFormed : Type 0
 EachIsFormed = All IsFormed in_order
+
+abbrev pub OthersAreFormed : Type 0
+OthersAreFormed =
+    All IsFormed counts_in_order × All IsFormed greatest_in_order × All IsFormed least_in_order

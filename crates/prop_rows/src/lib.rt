@@ -19,7 +19,9 @@ pub mod sums;
 pub use entries::{element, entry, index};
 pub use extremes::{greatest, greatest_back, least, least_back};
 pub use laws::rows_are_exact;
-pub use prelude::{PRELUDE, prelude_is_stated};
-pub use procedures::{PROCEDURES, ins, procedures_are_stated};
+pub use prelude::{MORE, PRELUDE, more_is_stated, prelude_is_stated};
+pub use procedures::{
+    COUNTS, GREATEST, LEAST, PROCEDURES, ins, others_are_stated, procedures_are_stated,
+};
 pub use row::Row;
 pub use sums::{addend, sum};

@@ -1,9 +1,9 @@
 //! The prelude: compounds of these procedures that work in all directions but to coefficients and
 //! entries.
-ghost use Rattle.prop_rows.specs.Prelude.{PreludeIsStated};
+ghost use Rattle.prop_rows.specs.Prelude.{MoreIsStated, PreludeIsStated};
 
 /// The definitions, a line of the workbench's language each, in order.
-pub const PRELUDE: [&'static str; 43] = [
+pub const PRELUDE: [&'static str; 23] = [
     "define linear1 c1 x1 z = linear_sum1 c1 x1 z ; linear_term1 z c1 x1",
     "define linear2 c1 x1 c2 x2 z = linear_sum2 c1 x1 c2 x2 z ; linear_term2 z c1 c2 x2 x1 ; linear_term2 z c2 c1 x1 x2",
     "define linear3 c1 x1 c2 x2 c3 x3 z = linear_sum3 c1 x1 c2 x2 c3 x3 z ; linear_term3 z c1 c2 x2 c3 x3 x1 ; linear_term3 z c2 c1 x1 c3 x3 x2 ; linear_term3 z c3 c1 x1 c2 x2 x3",
@@ -27,6 +27,10 @@ pub const PRELUDE: [&'static str; 43] = [
     "define element14 i c1 c2 c3 c4 c5 c6 c7 c8 c9 c10 c11 c12 c13 c14 y = element_value14 i c1 c2 c3 c4 c5 c6 c7 c8 c9 c10 c11 c12 c13 c14 y ; element_number14 y i c1 c2 c3 c4 c5 c6 c7 c8 c9 c10 c11 c12 c13 c14 i",
     "define element15 i c1 c2 c3 c4 c5 c6 c7 c8 c9 c10 c11 c12 c13 c14 c15 y = element_value15 i c1 c2 c3 c4 c5 c6 c7 c8 c9 c10 c11 c12 c13 c14 c15 y ; element_number15 y i c1 c2 c3 c4 c5 c6 c7 c8 c9 c10 c11 c12 c13 c14 c15 i",
     "define element16 i c1 c2 c3 c4 c5 c6 c7 c8 c9 c10 c11 c12 c13 c14 c15 c16 y = element_value16 i c1 c2 c3 c4 c5 c6 c7 c8 c9 c10 c11 c12 c13 c14 c15 c16 y ; element_number16 y i c1 c2 c3 c4 c5 c6 c7 c8 c9 c10 c11 c12 c13 c14 c15 c16 i",
+];
+
+/// The definitions of counts, of the greatest and of the least.
+pub const MORE: [&'static str; 20] = [
     "define count9 x1 x2 x3 x4 x5 x6 x7 x8 x9 n = counter9 x1 x2 x3 x4 x5 x6 x7 x8 x9 n ; count_back9 n x2 x3 x4 x5 x6 x7 x8 x9 x1 ; count_back9 n x1 x3 x4 x5 x6 x7 x8 x9 x2 ; count_back9 n x1 x2 x4 x5 x6 x7 x8 x9 x3 ; count_back9 n x1 x2 x3 x5 x6 x7 x8 x9 x4 ; count_back9 n x1 x2 x3 x4 x6 x7 x8 x9 x5 ; count_back9 n x1 x2 x3 x4 x5 x7 x8 x9 x6 ; count_back9 n x1 x2 x3 x4 x5 x6 x8 x9 x7 ; count_back9 n x1 x2 x3 x4 x5 x6 x7 x9 x8 ; count_back9 n x1 x2 x3 x4 x5 x6 x7 x8 x9",
     "define count10 x1 x2 x3 x4 x5 x6 x7 x8 x9 x10 n = counter10 x1 x2 x3 x4 x5 x6 x7 x8 x9 x10 n ; count_back10 n x2 x3 x4 x5 x6 x7 x8 x9 x10 x1 ; count_back10 n x1 x3 x4 x5 x6 x7 x8 x9 x10 x2 ; count_back10 n x1 x2 x4 x5 x6 x7 x8 x9 x10 x3 ; count_back10 n x1 x2 x3 x5 x6 x7 x8 x9 x10 x4 ; count_back10 n x1 x2 x3 x4 x6 x7 x8 x9 x10 x5 ; count_back10 n x1 x2 x3 x4 x5 x7 x8 x9 x10 x6 ; count_back10 n x1 x2 x3 x4 x5 x6 x8 x9 x10 x7 ; count_back10 n x1 x2 x3 x4 x5 x6 x7 x9 x10 x8 ; count_back10 n x1 x2 x3 x4 x5 x6 x7 x8 x10 x9 ; count_back10 n x1 x2 x3 x4 x5 x6 x7 x8 x9 x10",
     "define count11 x1 x2 x3 x4 x5 x6 x7 x8 x9 x10 x11 n = counter11 x1 x2 x3 x4 x5 x6 x7 x8 x9 x10 x11 n ; count_back11 n x2 x3 x4 x5 x6 x7 x8 x9 x10 x11 x1 ; count_back11 n x1 x3 x4 x5 x6 x7 x8 x9 x10 x11 x2 ; count_back11 n x1 x2 x4 x5 x6 x7 x8 x9 x10 x11 x3 ; count_back11 n x1 x2 x3 x5 x6 x7 x8 x9 x10 x11 x4 ; count_back11 n x1 x2 x3 x4 x6 x7 x8 x9 x10 x11 x5 ; count_back11 n x1 x2 x3 x4 x5 x7 x8 x9 x10 x11 x6 ; count_back11 n x1 x2 x3 x4 x5 x6 x8 x9 x10 x11 x7 ; count_back11 n x1 x2 x3 x4 x5 x6 x7 x9 x10 x11 x8 ; count_back11 n x1 x2 x3 x4 x5 x6 x7 x8 x10 x11 x9 ; count_back11 n x1 x2 x3 x4 x5 x6 x7 x8 x9 x11 x10 ; count_back11 n x1 x2 x3 x4 x5 x6 x7 x8 x9 x10 x11",
@@ -52,4 +56,9 @@ pub const PRELUDE: [&'static str; 43] = [
 /// The lines are those that the specification states.
 pub fn prelude_is_stated()
     ensures { PreludeIsStated }
+{}
+
+/// So are those of counts, of the greatest and of the least.
+pub fn more_is_stated()
+    ensures { MoreIsStated }
 {}

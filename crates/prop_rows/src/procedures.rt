@@ -1,6 +1,8 @@
 //! The procedures: each rule under its name, with as many inputs as it may have.
 ghost use Rattle.std.specs.Prelude.{◌≡◌};
-ghost use Rattle.prop_rows.specs.Procedures.{EachIsFormed, ProceduresAreStated, ins_of};
+ghost use Rattle.prop_rows.specs.Procedures.{CountsAreStated, EachIsFormed, GreatestAreStated};
+ghost use Rattle.prop_rows.specs.Procedures.{LeastAreStated, OthersAreFormed};
+ghost use Rattle.prop_rows.specs.Procedures.{ProceduresAreStated, ins_of};
 
 use crate::row::Row;
 use prop_procedures::Shape;
@@ -223,7 +225,7 @@ static NUMBERS_AND_VALUE: [Shape; 3] = [Shape::Span, Shape::Span, Shape::Any(0)]
 
 /// The name of each procedure, its rule, and how many pairs or entries it has, in the order in
 /// which a program makes them.
-pub const PROCEDURES: [(&'static str, Row, usize); 555] = [
+pub const PROCEDURES: [(&'static str, Row, usize); 193] = [
     ("linear_sum1", Row::Sum, 1),
     ("linear_sum2", Row::Sum, 2),
     ("linear_sum3", Row::Sum, 3),
@@ -416,6 +418,11 @@ pub const PROCEDURES: [(&'static str, Row, usize); 555] = [
     ("element_number62", Row::Index, 62),
     ("element_number63", Row::Index, 63),
     ("element_number64", Row::Index, 64),
+    ("element_entry", Row::Entry, 0),
+];
+
+/// The same of counts of nine truths or more.
+pub const COUNTS: [(&'static str, Row, usize); 110] = [
     ("counter9", Row::Count, 9),
     ("counter10", Row::Count, 10),
     ("counter11", Row::Count, 11),
@@ -526,6 +533,10 @@ pub const PROCEDURES: [(&'static str, Row, usize); 555] = [
     ("count_back61", Row::CountBack, 61),
     ("count_back62", Row::CountBack, 62),
     ("count_back63", Row::CountBack, 63),
+];
+
+/// The same of the greatest of numbers.
+pub const GREATEST: [(&'static str, Row, usize); 126] = [
     ("maximizer1", Row::Greatest, 1),
     ("maximizer2", Row::Greatest, 2),
     ("maximizer3", Row::Greatest, 3),
@@ -652,6 +663,10 @@ pub const PROCEDURES: [(&'static str, Row, usize); 555] = [
     ("max_back61", Row::GreatestBack, 61),
     ("max_back62", Row::GreatestBack, 62),
     ("max_back63", Row::GreatestBack, 63),
+];
+
+/// The same of the least of numbers.
+pub const LEAST: [(&'static str, Row, usize); 126] = [
     ("minimizer1", Row::Least, 1),
     ("minimizer2", Row::Least, 2),
     ("minimizer3", Row::Least, 3),
@@ -778,7 +793,6 @@ pub const PROCEDURES: [(&'static str, Row, usize); 555] = [
     ("min_back61", Row::LeastBack, 61),
     ("min_back62", Row::LeastBack, 62),
     ("min_back63", Row::LeastBack, 63),
-    ("element_entry", Row::Entry, 0),
 ];
 
 /// The shapes of the inputs of a rule with so many pairs, entries or others, 64 at the most.
@@ -802,4 +816,12 @@ pub fn ins(rule: Row, many: usize) -> &'static [Shape]
 pub fn procedures_are_stated()
     ensures stated { ProceduresAreStated }
     ensures formed { EachIsFormed }
+{}
+
+/// So are those of counts, of the greatest and of the least.
+pub fn others_are_stated()
+    ensures counts { CountsAreStated }
+    ensures greatest { GreatestAreStated }
+    ensures least { LeastAreStated }
+    ensures formed { OthersAreFormed }
 {}

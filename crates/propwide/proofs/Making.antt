@@ -6,7 +6,6 @@ use Rattle.std.proofs.lemmas.List.Elements.{All-head, All-tail, All-map, All-app
 use Rattle.std.proofs.lemmas.Option.{none-some, same_Some}
 use Rattle.std.specs.Borrow.{Bor}
 use Rattle.std.specs.Prelude.{Some, slice_get}
-use Rattle.prop_language.specs.Said.{words}
 use Rattle.prop_procedures.specs.declared.both.Both.TheVariants as boths
 use Rattle.prop_procedures.specs.declared.procedure.Procedure.{Procedure}
 use Rattle.prop_procedures.specs.declared.shape.Need.{Need}
@@ -56,7 +55,7 @@ use Rattle.prop_points.proofs.KitLaws.{kit_is_exact}
 use Rattle.prop_points.proofs.NetworkLaws.{singles_solve}
 use Rattle.prop_points.proofs.WideLaws.{wide_is_exact}
 use Rattle.propwide.specs.Kits.{Larger, LargerRelated, Mixed, Made, answer_of, RelatedBy, of_kit, of_wide}
-use Rattle.propwide.specs.Kits.{of_excluder, of_many, of_many_row, of_row_row, of_rows, in_order, larger_of, shown, wide, wide_related}
+use Rattle.propwide.specs.Kits.{of_excluder, of_many, of_rows, in_order, larger_of, shown, wide, wide_related}
 use Rattle.propwide.specs.Kits.{wide_tells, wider_of, TellsBy}
 use Rattle.propwide.specs.declared.entries.Entry.{Entry}
 use Rattle.propwide.proofs.Singles.{many_are_exact}
@@ -249,21 +248,26 @@ pub rows_are : (rows : List (Bor (List ℕ) × Wide × Bor (List Shape)))
 rows_are [] = refl
 rows_are (r ∷ rest) = ap (λ ms. of_row r ∷ ms) (rows_are rest)
 
+-- what a row of the table of procedures of many cells is made into
+abbrev pub of_many_row : Bor (List ℕ) × Many × Bor (List Shape) → Made
+of_many_row row = of_many (record { name = row.0.now; rule = row.1; ins = row.2.now })
+
 many_rows_are : (rows : List (Bor (List ℕ) × Many × Bor (List Shape)))
     → map of_many_row rows ≡ map of_many (map (λ p. record { name = p.0.now; rule = p.1; ins = p.2.now }) rows)
 many_rows_are [] = refl
 many_rows_are (r ∷ rest) = ap (λ ms. of_many_row r ∷ ms) (many_rows_are rest)
 
-pub from_many_rows : (items : List Entry) (front : List Made) (rows : List (Bor (List ℕ) × Many × Bor (List Shape)))
-    (stated : List ManyNamed) → map shown items ≡ front ++ map of_many_row rows
+pub from_many_rows : (items : List Entry) (front : List Made) (i : ℕ)
+    (rows : List (Bor (List ℕ) × Many × Bor (List Shape))) (stated : List ManyNamed)
+    → map shown items ≡ front ++ map of_many_row (take i rows) → length rows ≤ i
     → map (λ p. record { name = p.0.now; rule = p.1; ins = p.2.now }) rows ≡ stated
     → map shown items ≡ front ++ map of_many stated
-from_many_rows items front rows stated h s = h ∙ ap (λ ms. front ++ ms) (many_rows_are rows ∙ ap (map of_many) s)
+from_many_rows items front i rows stated h l s = h ∙ ap (λ rs. front ++ map of_many_row rs) (take_all i rows l)
+    ∙ ap (λ ms. front ++ ms) (many_rows_are rows ∙ ap (map of_many) s)
 
--- where each row had its turn, all are made
-pub from_each : {A : Type 0} (g : A → Made) (items : List Entry) (front : List Made) (i : ℕ) (rows : List A)
-    → map shown items ≡ front ++ map g (take i rows) → length rows ≤ i → map shown items ≡ front ++ map g rows
-from_each g items front i rows h l = h ∙ ap (λ rs. front ++ map g rs) (take_all i rows l)
+-- what a row of the table of procedures of rows is made into
+abbrev pub of_row_row : Bor (List ℕ) × Row × ℕ → Made
+of_row_row row = of_rows (record { name = row.0.now; rule = row.1; many = row.2 })
 
 pub row_shown : {i : List Shape} {o : Shape} → (n : List ℕ) (rule : Row) (many : ℕ) → i ≡ row_ins rule many
     → o ≡ row_out rule → made_of n i o needs.Nothing (boths.Two (boths.Two (boths.Two (boths.Two rule))))
@@ -275,29 +279,12 @@ row_rows_are : (rows : List (Bor (List ℕ) × Row × ℕ))
 row_rows_are [] = refl
 row_rows_are (r ∷ rest) = ap (λ ms. of_row_row r ∷ ms) (row_rows_are rest)
 
-pub from_row_rows : (items : List Entry) (front : List Made) (rows : List (Bor (List ℕ) × Row × ℕ))
-    (stated : List RowNamed) → map shown items ≡ front ++ map of_row_row rows
+pub from_row_rows : (items : List Entry) (front : List Made) (i : ℕ) (rows : List (Bor (List ℕ) × Row × ℕ))
+    (stated : List RowNamed) → map shown items ≡ front ++ map of_row_row (take i rows) → length rows ≤ i
     → map (λ p. record { name = p.0.now; rule = p.1; many = p.2 }) rows ≡ stated
     → map shown items ≡ front ++ map of_rows stated
-from_row_rows items front rows stated h s = h ∙ ap (λ ms. front ++ ms) (row_rows_are rows ∙ ap (map of_rows) s)
-
--- lines that are joined one list after another
-pub joined : (a b c d e f p q r s t : List (Bor (List ℕ))) (k l m n o : List (List ℕ)) → a ≡ [] → b ≡ a ++ p
-    → c ≡ b ++ q → d ≡ c ++ r → e ≡ d ++ s → f ≡ e ++ t → words p ≡ k → words q ≡ l → words r ≡ m
-    → words s ≡ n → words t ≡ o → words f ≡ k ++ (l ++ (m ++ (n ++ o)))
-joined a b c d e f p q r s t k l m n o ea eb ec ed ee ef ep eq er es et =
-    ap words (ef ∙ ap (λ x. x ++ t) (ee ∙ ap (λ x. x ++ s) (ed ∙ ap (λ x. x ++ r) (ec ∙ ap (λ x. x ++ q)
-    (eb ∙ ap (λ x. x ++ p) ea))))) ∙ flat p q r s t ∙ (λ i. ep i ++ (eq i ++ (er i ++ (es i ++ et i))))
-  where
-    flat : (p q r s t : List (Bor (List ℕ)))
-        → words ((((p ++ q) ++ r) ++ s) ++ t) ≡ words p ++ (words q ++ (words r ++ (words s ++ words t)))
-    flat p q r s t = ap words (append_assoc ((p ++ q) ++ r) s t ∙ append_assoc (p ++ q) r (s ++ t)
-        ∙ append_assoc p q (r ++ (s ++ t))) ∙ rw (
-      map-append (λ (w : Bor (List ℕ)). w.now) p (q ++ (r ++ (s ++ t))),
-      map-append (λ (w : Bor (List ℕ)). w.now) q (r ++ (s ++ t)),
-      map-append (λ (w : Bor (List ℕ)). w.now) r (s ++ t),
-      map-append (λ (w : Bor (List ℕ)). w.now) s t,
-    ) refl
+from_row_rows items front i rows stated h l s = h ∙ ap (λ rs. front ++ map of_row_row rs) (take_all i rows l)
+    ∙ ap (λ ms. front ++ ms) (row_rows_are rows ∙ ap (map of_rows) s)
 
 -- where each row had its turn, what the specification lists is made
 pub from_rows : (items : List Entry) (front : List Made) (i : ℕ)

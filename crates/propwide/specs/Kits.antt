@@ -1,6 +1,5 @@
 -- What the program comes with: the kit, the wider procedures, the excluders, those of many cells
 -- and of rows, and their preludes.
-use Rattle.std.specs.Borrow.{Bor}
 use Rattle.std.specs.Prelude.{ℕ, List, ◌++◌, map}
 use Rattle.prop_lattice.specs.Points.{Point}
 use Rattle.prop_lattice.specs.declared.info.Info.{Info}
@@ -8,7 +7,6 @@ use Rattle.prop_procedures.specs.declared.both.Both.{Both}
 use Rattle.prop_procedures.specs.declared.both.Both.TheVariants.{One, Two}
 use Rattle.prop_procedures.specs.declared.shape.Need.TheVariants.{Nothing}
 use Rattle.prop_procedures.specs.declared.shape.Param.{Param}
-use Rattle.prop_procedures.specs.declared.shape.Shape.{Shape}
 use Rattle.prop_procedures.specs.declared.shape.Shape.TheVariants.{Span}
 use Rattle.prop_procedures.specs.Both.{either_of}
 use Rattle.prop_procedures.specs.Stored.{Stored}
@@ -101,13 +99,6 @@ of_rows p = record {
   form = form p.name (row_ins p.rule p.many) (row_out p.rule) Nothing;
   rule = Two (Two (Two (Two p.rule)));
 }
-
--- the procedures of rows of the program's tables
-abbrev pub of_many_row : Bor (List ℕ) × Many × Bor (List Shape) → Made
-of_many_row row = of_many (record { name = row.0.now; rule = row.1; ins = row.2.now })
-
-abbrev pub of_row_row : Bor (List ℕ) × Row × ℕ → Made
-of_row_row row = of_rows (record { name = row.0.now; rule = row.1; many = row.2 })
 
 -- all of them, in order
 abbrev pub in_order : List Made

@@ -7,8 +7,7 @@ ghost use Rattle.prop_many.specs.Procedures.{in_order as many_named};
 ghost use Rattle.prop_rows.specs.Procedures.{in_order as row_named};
 ghost use Rattle.prop_wide.specs.Procedures.{in_order as named};
 ghost use Rattle.propwide.specs.Kits.{answer_of, in_order, larger_of, lines_in_order};
-ghost use Rattle.propwide.specs.Kits.{of_excluder, of_kit, of_many, of_many_row, of_row_row};
-ghost use Rattle.propwide.specs.Kits.{of_rows, of_wide, shown};
+ghost use Rattle.propwide.specs.Kits.{of_excluder, of_kit, of_many, of_rows, of_wide, shown};
 
 use prop_arith::{KITS, Kit, PRELUDE};
 use prop_hall::{EXCLUDERS, Excluder};
@@ -130,19 +129,7 @@ fn add_many(made: &mut Vec<Entry>) -> Result<(), AllocError>
 {
     // (so that the table is the one that is stated)
     many_are_stated();
-    add_each_many(made, &MANY_PROCEDURES)?;
-    Ok(())
-}
-
-/// Adds the procedures of some rows of the table of many cells.
-fn add_each_many(
-    made: &mut Vec<Entry>,
-    rows: &[(&'static str, Many, &'static [Shape])],
-) -> Result<(), AllocError>
-    ensures { OnOk result
-        (map shown made.new.items ≡ map shown made.old.items ++ map of_many_row rows.now) }
-{
-    for row in rows {
+    for row in &MANY_PROCEDURES {
         let (name, rule, ins) = *row;
         made.push(Entry {
             name,
@@ -162,19 +149,7 @@ fn add_rows(made: &mut Vec<Entry>) -> Result<(), AllocError>
 {
     // (so that the table is the one that is stated)
     rows_are_stated();
-    add_each_row(made, &ROW_PROCEDURES)?;
-    Ok(())
-}
-
-/// Adds the procedures of some rows of the table of rows.
-fn add_each_row(
-    made: &mut Vec<Entry>,
-    rows: &[(&'static str, Row, usize)],
-) -> Result<(), AllocError>
-    ensures { OnOk result
-        (map shown made.new.items ≡ map shown made.old.items ++ map of_row_row rows.now) }
-{
-    for row in rows {
+    for row in &ROW_PROCEDURES {
         let (name, rule, many) = *row;
         made.push(Entry {
             name,

@@ -1,6 +1,7 @@
 use Rattle.std.proofs.Common.{◌≡◌, ◌++◌, take, map}
-use Rattle.propwide.specs.Kits.{of_many_row, shown}
-use Rattle.propwide.proofs.entries.add_each_many.Given as goal
+use Rattle.propwide.specs.Kits.{shown}
+use Rattle.propwide.proofs.Making.{of_many_row}
+use Rattle.propwide.proofs.entries.add_many.Given as goal
 
 abbrev pub invariant-loop-row : goal.invariant-loop-row
 invariant-loop-row l = record {
