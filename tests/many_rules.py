@@ -6,7 +6,8 @@ usage: tests/many_rules.py PROGRAM
 
 PROGRAM is a workbench with the rules of prop_many. What `cumulative` has to answer is found by
 trying each start at each time, what `disjoint` has to by trying all points of a task and of one
-other at a time, what `differ` has to by going over all intervals. Each answer has to hold what the
+other at a time, what `differ` has to by going over all intervals, what
+`circuit` has to by going along what is known. Each answer has to hold what the
 points of all leave, where it is the narrowest no more than these, of single numbers just those that
 belong together, and no more than that to arguments that know less. The last line is `many rules: N
 passed, M failed`; the status is 0 where none failed.
@@ -81,6 +82,16 @@ def all_differ(points: Points) -> bool:
     return len(set(points)) == len(points)
 
 
+def is_circuit(points: Points) -> bool:
+    """From the successor of a node the others lead back to it, behind all nodes and no sooner."""
+    at, node, *successors = points
+    seen = [at]
+    while at != node and 1 <= at <= len(successors) and len(seen) <= len(successors):
+        at = successors[at - 1]
+        seen.append(at)
+    return 1 <= node <= len(successors) and at == node and len(seen) == len(successors)
+
+
 # ---- what is answered
 
 
@@ -139,6 +150,30 @@ def differ(infos: Sequence[Info]) -> Any:
     return between(left[0], left[-1]) if left else CLASH
 
 
+def circuit(infos: Sequence[Info]) -> Any:
+    """What is left of the own successor where those that are known lead to the node too soon, or
+    elsewhere."""
+    own, node, *successors = infos
+    home, count = low(node), len(successors)
+    if home != high(node):
+        return None
+    if not 1 <= home <= count:
+        return CLASH
+
+    def may_follow(at: int) -> bool:
+        for steps in range(count):
+            if at == home or not 1 <= at <= count:
+                return at == home and steps == count - 1
+            after = successors[at - 1]
+            if low(after) != high(after):
+                return steps < count - 1
+            at = low(after)
+        return False
+
+    left = [at for at in range(1, count + 1) if low(own) <= at <= high(own) and may_follow(at)]
+    return between(left[0], left[-1]) if left else CLASH
+
+
 @dataclass(frozen=True)
 class Rule:
     """A rule with the inputs that it has beside those of the others, and for each of these."""
@@ -159,11 +194,20 @@ RULES = [
     Rule("cumulative", 4, 3, 1, cumulative, keeps_capacity),
     Rule("disjoint", 2, 2, 0, disjoint, stands_alone),
     Rule("differ", 1, 1, 0, differ, all_differ, is_narrowest=True),
+    Rule("circuit", 2, 1, 0, circuit, is_circuit),
 ]
+
+
+def drawn_node(random: Random, count: int) -> Info:
+    """A number that is mostly a node's, and mostly known."""
+    first = random.randint(0 if random.random() < 0.1 else 1, count + (random.random() < 0.1))
+    return None if random.random() < 0.05 else (first, first + random.choice([0, 0, 0, 1, count]))
 
 
 def drawn(random: Random, rule: Rule, others: int) -> list[Info]:
     """Small informations: of starts that overlap, short lengths and small demands."""
+    if rule.name == "circuit":
+        return [drawn_node(random, others) for _ in range(others + 2)]
     infos: list[Info] = []
     for place in range(rule.own + rule.each * others):
         is_start = (place - rule.start) % rule.each == 0 and place >= rule.start

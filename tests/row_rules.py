@@ -14,12 +14,14 @@ from itertools import islice
 from typing import Callable, Iterator, Optional
 
 from case import Case, Check
-from wide_rules import BOUND, FEW, NUMBERS, PROGRAM, SET, SYMBOL, Compound, Info
-from wide_rules import Points, Rule, over_propwide, spans
+from wide_rules import BOUND, FEW, NUMBERS, OPEN, PROGRAM, SET, SYMBOL, Compound, Info
+from wide_rules import Points, Rule, counted, last_of, over_propwide, some, spans
 
 STEP = 10
 ONE: list[Info] = [frozenset([number]) for number in range(-3, 4)]
 # numbers of entries, some of which there are not
+YES: list[Info] = [frozenset(["yes"])]
+NO: list[Info] = [frozenset(["no"])]
 AT: list[Info] = [frozenset(range(low, high + 1)) for low in range(4) for high in range(low, 5)]
 
 # ---- which points belong together
@@ -49,6 +51,35 @@ def entered(i: int, j: int, y: int) -> Points:
     return [y] if i == j else NUMBERS
 
 
+def greatest(*xs: int) -> Points:
+    return [max(xs)]
+
+
+def least(*xs: int) -> Points:
+    return [min(xs)]
+
+
+def greatest_back(z: int, *others: int) -> Points:
+    most = max((-BOUND, *others))
+    return [z] if most < z else [-BOUND, z] if most == z else []
+
+
+def least_back(z: int, *others: int) -> Points:
+    fewest = min((BOUND, *others))
+    return [z] if z < fewest else [z, BOUND] if fewest == z else []
+
+
+def truths(many: int, known: int) -> tuple[list[Info], ...]:
+    """What is tried of so many truths, of which the first are known, two of these to be `yes`."""
+    return (*(YES,) * 2, *(NO,) * (known - 2), *(OPEN,) * (many - known))
+
+
+EXTREMES = [
+    ("maximizer", "max_back", greatest, greatest_back),
+    ("minimizer", "min_back", least, least_back),
+]
+SMALL: list[Info] = [frozenset([1]), frozenset([0, 1, 2]), frozenset([2, 3])]
+
 RULES = [
     Rule("linear_sum1", "span span span", (spans(3), spans(3)), summed),
     Rule("linear_sum2", "span " * 5, (FEW,) * 4, summed),
@@ -70,6 +101,33 @@ RULES = [
         "element_number2", "symbol span symbol symbol span", (SYMBOL, AT, SYMBOL, SYMBOL), numbered
     ),
     Rule("element_entry", "span span span span", (AT, AT, FEW), entered),
+    *[
+        Rule(f"counter{many}", "truth " * many + "span", truths(many, many - 4), counted)
+        for many in (9, 10, 63)
+    ],
+    *[
+        Rule(
+            f"count_back{many}",
+            "span " + "truth " * many,
+            ([frozenset([2]), frozenset([5, 6, 7]), None], *truths(many - 1, many - 4)),
+            last_of,
+        )
+        for many in (9, 63)
+    ],
+    *[
+        Rule(f"{name}{many}", "span " * (many + 1), (tried,) * many, whole)
+        for name, _, whole, _ in EXTREMES
+        for many, tried in [(1, some(3)), (2, some(2)), (3, SMALL), (4, SMALL[:2])]
+    ],
+    *[
+        Rule(f"{name}{many}", "span " * (many + 1), (spans(4), *(SMALL,) * (many - 1)), back)
+        for _, name, _, back in EXTREMES
+        for many in (1, 2, 3)
+    ],
+    *[
+        Rule(f"{name}63", "span " * 64, (ONE,) * 2 + (ONE[:1],) * 61, whole)
+        for name, _, whole, _ in EXTREMES
+    ],
 ]
 
 
@@ -84,6 +142,12 @@ def element(i: int, *cells: int) -> bool:
 COMPOUNDS = [
     *[Compound(f"linear{many}", "span " * (2 * many + 1), linear) for many in (1, 2)],
     *[Compound(f"element{many}", "span " * (many + 2), element) for many in (2, 3)],
+    Compound("count9", "truth " * 9 + "span", lambda *it: it[:-1].count("yes") == it[-1]),
+    *[
+        Compound(f"{name}{many}", "span " * (many + 1), lambda *it, of=of: of(it[:-1]) == it[-1])
+        for name, of in [("max", max), ("min", min)]
+        for many in (3, 4)
+    ],
 ]
 
 

@@ -1,4 +1,5 @@
 pub mod Items
+pub mod Circuits
 pub mod Intervals
 pub mod Steps
 pub mod Tables

@@ -4,9 +4,9 @@ use Rattle.std.proofs.lemmas.List.Elements.{All-append}
 use Rattle.std.specs.Prelude.{replicate}
 use Rattle.prop_procedures.specs.declared.shape.Shape.TheVariants.{Span}
 use Rattle.prop_many.specs.Many.{AreNumbers, least_of}
-use Rattle.prop_many.specs.Procedures.{EachIsFormed, IsFormed, Named, procedures_of}
+use Rattle.prop_many.specs.Procedures.{EachCircuitIsFormed, EachIsFormed, IsFormed, Named, procedures_of}
 use Rattle.prop_many.specs.declared.many.Many.{Many}
-use Rattle.prop_many.specs.declared.many.Many.TheVariants.{Cumulative, Differ, Disjoint}
+use Rattle.prop_many.specs.declared.many.Many.TheVariants.{Circuit, Cumulative, Differ, Disjoint}
 
 numbers : (n : ℕ) → AreNumbers (replicate n Span)
 numbers zero = refl
@@ -43,3 +43,6 @@ each_formed = All-append IsFormed (procedures_of (codes "cumulative") Cumulative
     (procedures_of (codes "differ") Differ 1 1 63)
     (rows_formed (codes "disjoint") Disjoint 2 2 40 (omega arith) (omega arith) (omega arith))
     (rows_formed (codes "differ") Differ 1 1 63 (omega arith) (omega arith) (omega arith)))
+
+pub each_circuit_formed : EachCircuitIsFormed
+each_circuit_formed = rows_formed (codes "circuit") Circuit 2 1 40 (omega arith) (omega arith) (omega arith)

@@ -4,13 +4,14 @@ use Rattle.std.specs.Option.{option_and_then}
 use Rattle.prop_guards.specs.Known.{number_of}
 use Rattle.prop_lattice.specs.declared.info.Info.{Info}
 use Rattle.prop_many.specs.declared.many.Many.{Many}
-use Rattle.prop_many.specs.declared.many.Many.TheVariants.{Cumulative, Differ, Disjoint}
+use Rattle.prop_many.specs.declared.many.Many.TheVariants.{Circuit, Cumulative, Differ, Disjoint}
 
--- the input that is the output: the own start or number
+-- the input that is the output: the own start, number or successor
 abbrev pub own_of : Many → Option ℕ
 own_of Cumulative = Some 1
 own_of Disjoint = Some 0
 own_of Differ = Some 0
+own_of Circuit = Some 0
 
 -- each number that another has alone can't be the own
 abbrev pub ruled_out_beside : List Info → ℕ → Option ℤ

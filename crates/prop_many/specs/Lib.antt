@@ -3,6 +3,7 @@ pub mod Cumulative
 pub mod Disjoint
 pub mod Differ
 pub mod Free
+pub mod Circuit
 pub mod Many
 pub mod Exact
 pub mod Guards

@@ -8,11 +8,12 @@ use Rattle.prop_procedures.specs.declared.shape.Need.TheVariants as needs
 use Rattle.prop_procedures.specs.declared.shape.Param.{Param}
 use Rattle.prop_procedures.specs.declared.shape.Shape.{Shape}
 use Rattle.prop_procedures.specs.declared.shape.Shape.TheVariants.{Span}
+use Rattle.prop_many.specs.Circuit.{RelatesCircuit, circuit_of}
 use Rattle.prop_many.specs.Cumulative.{RelatesCumulative, cumulative_of}
 use Rattle.prop_many.specs.Differ.{RelatesDiffer, differ_of}
 use Rattle.prop_many.specs.Disjoint.{RelatesDisjoint, disjoint_of}
 use Rattle.prop_many.specs.declared.many.Many.{Many}
-use Rattle.prop_many.specs.declared.many.Many.TheVariants.{Cumulative, Differ, Disjoint}
+use Rattle.prop_many.specs.declared.many.Many.TheVariants.{Circuit, Cumulative, Differ, Disjoint}
 
 -- the shape is that of numbers
 abbrev pub is_number : Shape → Bool
@@ -28,6 +29,7 @@ abbrev pub least_of : Many → ℕ
 least_of Cumulative = 4
 least_of Disjoint = 2
 least_of Differ = 1
+least_of Circuit = 2
 
 -- the rule may have inputs of these shapes
 abbrev pub HasInputs : Many → List Shape → Type 0
@@ -42,9 +44,11 @@ abbrev pub value_of : Many → Param → List Info → Info
 value_of Cumulative param args = cumulative_of args
 value_of Disjoint param args = disjoint_of args
 value_of Differ param args = differ_of args
+value_of Circuit param args = circuit_of args
 
 -- the points that belong together
 abbrev pub Related : Many → Param → List Point → Point → Type 0
 Related Cumulative param points point = RelatesCumulative points point
 Related Disjoint param points point = RelatesDisjoint points point
 Related Differ param points point = RelatesDiffer points point
+Related Circuit param points point = RelatesCircuit points point

@@ -4,9 +4,9 @@ use Rattle.std.specs.Prelude.{◌++◌, codes, if◌then◌else◌, map, length,
 use Rattle.prop_procedures.specs.declared.shape.Shape.{Shape}
 use Rattle.prop_procedures.specs.declared.shape.Shape.TheVariants.{Span}
 use Rattle.prop_many.specs.Many.{HasInputs}
-use Rattle.prop_many.specs.declared.procedures.TheConstants.{PROCEDURES}
+use Rattle.prop_many.specs.declared.procedures.TheConstants.{CIRCUITS, PROCEDURES}
 use Rattle.prop_many.specs.declared.many.Many.{Many}
-use Rattle.prop_many.specs.declared.many.Many.TheVariants.{Cumulative, Differ, Disjoint}
+use Rattle.prop_many.specs.declared.many.Many.TheVariants.{Circuit, Cumulative, Differ, Disjoint}
 
 -- a procedure's name, its rule and the shapes of its inputs
 pub record Named : Type 0 where
@@ -18,8 +18,8 @@ pub record Named : Type 0 where
 abbrev pub digits : ℕ → List ℕ
 digits n = if nat_lt n 10 then (48 + n) ∷ [] else (48 + n / 10) ∷ (48 + n % 10) ∷ []
 
--- a rule's procedures for one other task or number, for two, and on: so many inputs beside the
--- others', and so many for each of those
+-- a rule's procedures for one other task or number, or one node, for two, and on: so many inputs
+-- beside the others', and so many for each of those
 abbrev pub procedures_of : List ℕ → Many → ℕ → ℕ → ℕ → List Named
 procedures_of name rule own each zero = []
 procedures_of name rule own each (suc n) = procedures_of name rule own each n ++ record {
@@ -34,10 +34,17 @@ in_order = procedures_of (codes "cumulative") Cumulative 4 3 40
     ++ procedures_of (codes "disjoint") Disjoint 2 2 40
     ++ procedures_of (codes "differ") Differ 1 1 63
 
+abbrev pub circuits_in_order : List Named
+circuits_in_order = procedures_of (codes "circuit") Circuit 2 1 40
+
 -- the program's own procedures are these
 abbrev pub ProceduresAreStated : Type 0
 ProceduresAreStated =
     map (λ p. record { name = p.0.now; rule = p.1; ins = p.2.now }) PROCEDURES ≡ in_order
+
+abbrev pub CircuitsAreStated : Type 0
+CircuitsAreStated =
+    map (λ p. record { name = p.0.now; rule = p.1; ins = p.2.now }) CIRCUITS ≡ circuits_in_order
 
 -- the inputs are 1 to 128, as the rule may have
 pub record IsFormed (p : Named) : Type 0 where
@@ -48,3 +55,6 @@ pub record IsFormed (p : Named) : Type 0 where
 -- each has such inputs
 abbrev pub EachIsFormed : Type 0
 EachIsFormed = All IsFormed in_order
+
+abbrev pub EachCircuitIsFormed : Type 0
+EachCircuitIsFormed = All IsFormed circuits_in_order

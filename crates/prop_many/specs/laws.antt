@@ -4,6 +4,8 @@ pub mod CumulativeLaws
 pub mod DisjointLaws
 pub mod DifferLaws
 pub mod FreeLaws
-pub mod ManyLaws
 pub mod ExactLaws
+pub mod CircuitLaws
+pub mod SinglesLaws
+pub mod ManyLaws
 pub mod GuardLaws

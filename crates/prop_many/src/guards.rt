@@ -35,6 +35,14 @@ const ENDS: Changes = Changes {
     hole: false,
 };
 
+/// The change to one number alone.
+const POINT: Changes = Changes {
+    low: false,
+    high: false,
+    point: true,
+    hole: false,
+};
+
 /// The number that an information leaves alone.
 fn number_of(info: Info) -> Option<i64>
     ensures { result ≡ number_of info }
@@ -78,7 +86,7 @@ impl Guarded for Many {
     fn own_place(&self) -> Option<usize> {
         match self {
             Many::Cumulative => Some(1),
-            Many::Disjoint | Many::Differ => Some(0),
+            Many::Disjoint | Many::Differ | Many::Circuit => Some(0),
         }
     }
 
@@ -94,7 +102,8 @@ impl Guarded for Many {
             Many::Cumulative if place == 0 => HIGH,
             Many::Cumulative if place % 3 == 1 => ENDS,
             Many::Disjoint if place % 2 == 0 => ENDS,
-            Many::Differ => ENDS,
+            Many::Circuit if 0 < place => POINT,
+            Many::Differ | Many::Circuit => ENDS,
             _ => LOW,
         }
     }

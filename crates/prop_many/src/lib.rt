@@ -1,5 +1,5 @@
 //! Rules of many cells: what tasks leave to one more that shares a resource with them, and numbers
-//! to one more that differs from all of them.
+//! to one more that differs from all of them, and nodes that are one circuit.
 //!
 //! Each of the rules is its plain function, which is its formula; it is monotone, keeps kinds and
 //! holds every related point (`Many`), and of single numbers those alone (`Many::exact`). Lengths,
@@ -9,6 +9,7 @@
 //! rule has (`procedures_are_stated`).
 #![tactic(auto)]
 
+pub mod circuit;
 pub mod cumulative;
 pub mod differ;
 pub mod disjoint;
@@ -18,9 +19,10 @@ pub mod many;
 pub mod prelude;
 pub mod procedures;
 
+pub use circuit::successor_around;
 pub use cumulative::start_beside;
 pub use differ::{ends_are_free, number_beside};
 pub use disjoint::start_apart;
 pub use many::Many;
 pub use prelude::{PRELUDE, prelude_is_stated};
-pub use procedures::{PROCEDURES, procedures_are_stated};
+pub use procedures::{CIRCUITS, PROCEDURES, circuits_are_stated, procedures_are_stated};

@@ -7,6 +7,7 @@ ghost use Rattle.prop_many.specs.Many.{value_of};
 ghost use Rattle.prop_many.specs.Exact.{EachIsExact};
 ghost use Rattle.prop_many.specs.laws.ManyLaws.{many_monotone, many_keeps_kind, many_sound};
 
+use crate::circuit::successor_around;
 use crate::cumulative::start_beside;
 use crate::differ::number_beside;
 use crate::disjoint::start_apart;
@@ -24,6 +25,9 @@ pub enum Many {
     Disjoint,
     /// From a number and each of the others to the number: they are all different.
     Differ,
+    /// From the successor of a node, the node's number and the successors of all nodes to the
+    /// successor: the nodes are one circuit.
+    Circuit,
 }
 
 /// Whether a shape is that of numbers.
@@ -47,7 +51,7 @@ impl Many {
     {
         match self {
             Many::Cumulative => 4,
-            Many::Disjoint => 2,
+            Many::Disjoint | Many::Circuit => 2,
             Many::Differ => 1,
         }
     }
@@ -72,6 +76,7 @@ impl Many {
             Many::Cumulative => start_beside(args),
             Many::Disjoint => start_apart(args),
             Many::Differ => number_beside(args),
+            Many::Circuit => successor_around(args),
         }
     }
 }

@@ -1,5 +1,6 @@
-//! The procedures: each rule under its name and the number of other tasks or numbers.
-ghost use Rattle.prop_many.specs.Procedures.{EachIsFormed, ProceduresAreStated};
+//! The procedures: each rule under its name and the number of other tasks or numbers, or of nodes.
+ghost use Rattle.prop_many.specs.Procedures.{CircuitsAreStated, EachCircuitIsFormed, EachIsFormed};
+ghost use Rattle.prop_many.specs.Procedures.{ProceduresAreStated};
 
 use crate::many::Many;
 use prop_procedures::Shape;
@@ -152,9 +153,59 @@ pub const PROCEDURES: [(&'static str, Many, &'static [Shape]); 143] = [
     ("differ63", Many::Differ, &[Shape::Span; 64]),
 ];
 
+/// The same of circuits, by the number of nodes.
+pub const CIRCUITS: [(&'static str, Many, &'static [Shape]); 40] = [
+    ("circuit1", Many::Circuit, &[Shape::Span; 3]),
+    ("circuit2", Many::Circuit, &[Shape::Span; 4]),
+    ("circuit3", Many::Circuit, &[Shape::Span; 5]),
+    ("circuit4", Many::Circuit, &[Shape::Span; 6]),
+    ("circuit5", Many::Circuit, &[Shape::Span; 7]),
+    ("circuit6", Many::Circuit, &[Shape::Span; 8]),
+    ("circuit7", Many::Circuit, &[Shape::Span; 9]),
+    ("circuit8", Many::Circuit, &[Shape::Span; 10]),
+    ("circuit9", Many::Circuit, &[Shape::Span; 11]),
+    ("circuit10", Many::Circuit, &[Shape::Span; 12]),
+    ("circuit11", Many::Circuit, &[Shape::Span; 13]),
+    ("circuit12", Many::Circuit, &[Shape::Span; 14]),
+    ("circuit13", Many::Circuit, &[Shape::Span; 15]),
+    ("circuit14", Many::Circuit, &[Shape::Span; 16]),
+    ("circuit15", Many::Circuit, &[Shape::Span; 17]),
+    ("circuit16", Many::Circuit, &[Shape::Span; 18]),
+    ("circuit17", Many::Circuit, &[Shape::Span; 19]),
+    ("circuit18", Many::Circuit, &[Shape::Span; 20]),
+    ("circuit19", Many::Circuit, &[Shape::Span; 21]),
+    ("circuit20", Many::Circuit, &[Shape::Span; 22]),
+    ("circuit21", Many::Circuit, &[Shape::Span; 23]),
+    ("circuit22", Many::Circuit, &[Shape::Span; 24]),
+    ("circuit23", Many::Circuit, &[Shape::Span; 25]),
+    ("circuit24", Many::Circuit, &[Shape::Span; 26]),
+    ("circuit25", Many::Circuit, &[Shape::Span; 27]),
+    ("circuit26", Many::Circuit, &[Shape::Span; 28]),
+    ("circuit27", Many::Circuit, &[Shape::Span; 29]),
+    ("circuit28", Many::Circuit, &[Shape::Span; 30]),
+    ("circuit29", Many::Circuit, &[Shape::Span; 31]),
+    ("circuit30", Many::Circuit, &[Shape::Span; 32]),
+    ("circuit31", Many::Circuit, &[Shape::Span; 33]),
+    ("circuit32", Many::Circuit, &[Shape::Span; 34]),
+    ("circuit33", Many::Circuit, &[Shape::Span; 35]),
+    ("circuit34", Many::Circuit, &[Shape::Span; 36]),
+    ("circuit35", Many::Circuit, &[Shape::Span; 37]),
+    ("circuit36", Many::Circuit, &[Shape::Span; 38]),
+    ("circuit37", Many::Circuit, &[Shape::Span; 39]),
+    ("circuit38", Many::Circuit, &[Shape::Span; 40]),
+    ("circuit39", Many::Circuit, &[Shape::Span; 41]),
+    ("circuit40", Many::Circuit, &[Shape::Span; 42]),
+];
+
 /// The procedures are those that the specification states, and each has inputs, up to 128, that
 /// its rule may have.
 pub fn procedures_are_stated()
     ensures stated { ProceduresAreStated }
     ensures formed { EachIsFormed }
+{}
+
+/// So are those of circuits.
+pub fn circuits_are_stated()
+    ensures stated { CircuitsAreStated }
+    ensures formed { EachCircuitIsFormed }
 {}

@@ -34,6 +34,11 @@ use Rattle.prop_rows.specs.Exact.{RowsAreExact}
 use Rattle.prop_rows.specs.Row.{AreSpans, AreAny, Begins, at_most, value_of, Related}
 use Rattle.prop_rows.specs.Sums.{corner, total, sum_of, sum_at, shares_of, parts_of, addend_of}
 use Rattle.prop_rows.specs.declared.row.Row.TheVariants.{Sum, Addend, Element, Index, Entry}
+use Rattle.prop_rows.specs.declared.row.Row.TheVariants.{Count, CountBack, Greatest, GreatestBack, Least, LeastBack}
+use Rattle.prop_rows.specs.Extremes.{bottom, greatest_at, greatest_back_of, greatest_of, least_at, least_back_of}
+use Rattle.prop_rows.specs.Extremes.{least_of, top}
+use Rattle.prop_points.proofs.WideLaws.{wide_is_exact}
+use Rattle.prop_wide.specs.declared.wide.Wide.TheVariants as wides
 use Rattle.prop_rows.specs.laws.SumLaws.{first_is_span, others_are_spans}
 use Rattle.prop_wide.specs.Ends.{low_of, high_of, known}
 use Rattle.prop_lattice.specs.declared.span.TheConstants.{B}
@@ -297,6 +302,128 @@ entry_exact n j v a b p point e f g h same =
     let eq : (k m : ℤ) → k ≡ m → int_eq k m ≡ true = λ k m r. (Decides-int_eq k m).1 r in
     single_only v p point g (rw (x.0, x.1, y.0, y.1, eq a a refl, eq b b refl, eq a b same) at h)
 
+-- ---- the greatest
+
+tops_at : (any : Shape → Kinded) (ins : List Shape) (args : List Info) (points : List Point) → AreSpans ins
+    → AreOf any ins args → AreSingle args points
+    → (top low_of args ≡ greatest_at points) × (top high_of args ≡ greatest_at points)
+tops_at any ins [] [] f o e = (refl, refl)
+tops_at any (s ∷ ins) (a ∷ args) (p ∷ points) f o e =
+    by (tops_at any ins args points (others_are_spans s ins f) o.1 e.1) a p (rw (first_is_span s ins f) at o.0) e.0
+  where
+    by : (top low_of args ≡ greatest_at points) × (top high_of args ≡ greatest_at points) → (a : Info) (p : Point)
+        → IsOf kinds.Span 0 a → IsSingle a p → (top low_of (a ∷ args) ≡ greatest_at (p ∷ points))
+        × (top high_of (a ∷ args) ≡ greatest_at (p ∷ points))
+    by rest (Span b) (Number v) k h = (λ i. int_max (h.0 i) (rest.0 i), λ i. int_max (h.1 i) (rest.1 i))
+    by rest a p k h = search rules
+tops_at any ins args points f o e = search rules
+
+greatest_exact : (any : Shape → Kinded) (ins : List Shape) (param : Param) (args : List Info) (points : List Point)
+    (point : Point) → AreSpans ins → AreOf any ins args → AreSingle args points
+    → IsPointOf kinds.Span 0 point → Holds (value_of Greatest param args) point → Related Greatest param points point
+greatest_exact any ins param args points point f o e p h =
+    number_out 0 point (λ w. Holds (value_of Greatest param args) w → Related Greatest param points w) p by h
+  where
+    by : (z : ℤ) → IsInRange z → Holds (greatest_of args) (Number z) → z ≡ greatest_at points
+    by z i k =
+        let t = tops_at any ins args points f o e in
+        let held = known_held (top low_of args) (top high_of args) z i k in
+        between (greatest_at points) z (rw (← t.0) held.0) (rw (← t.1) held.1)
+
+-- what is left by numbers that are known
+greatest_left : (w g x : ℤ) → IsInRange x → Holds (if int_lt w g then Contradiction
+    else known (if int_lt g w then w else neg_ℤ B) w) (Number x) → w ≡ int_max x g
+greatest_left w g x r = by (int_lt w g) refl (int_lt g w) refl
+  where
+    by : (s : Bool) → int_lt w g ≡ s → (t : Bool) → int_lt g w ≡ t
+        → Holds (if s then Contradiction else known (if t then w else neg_ℤ B) w) (Number x) → w ≡ int_max x g
+    by true e t f h = absurd h
+    by false e true f h = let k = known_held w w x r h in same_in _ _ (omega (arith, ints, clamps, k.0, k.1))
+    by false e false f h = let k = known_held (neg_ℤ B) w x r h in same_in _ _ (omega (arith, ints, clamps, k.1))
+
+greatest_back_exact : (z : Info) (others : List Info) (w g x : ℤ) → IsInRange x → IsSingle z (Number w)
+    → top low_of others ≡ g → top high_of others ≡ g → Holds (greatest_back_of z others) (Number x)
+    → w ≡ int_max x g
+greatest_back_exact z others w g x r e k m h =
+    let a = only_number z w e in greatest_left w g x r (rw (a.0, a.1, k, m) at h)
+
+greatest_back_at : (any : Shape → Kinded) (ins : List Shape) (param : Param) (args : List Info) (points : List Point)
+    (point : Point) → Begins shapes.Span AreSpans ins → AreOf any ins args → AreSingle args points
+    → IsPointOf kinds.Span 0 point → Holds (value_of GreatestBack param args) point
+    → Related GreatestBack param points point
+greatest_back_at any (s ∷ ins) param (z ∷ others) (p ∷ points) point f o e k h =
+    by z p (rw f.0 at o.0) e.0 point k h
+  where
+    by : (z : Info) (p : Point) → IsOf kinds.Span 0 z → IsSingle z p → (point : Point)
+        → IsPointOf kinds.Span 0 point → Holds (greatest_back_of z others) point
+        → Related GreatestBack param (p ∷ points) point
+    by (Span a) (Number w) i g (Number x) n m =
+        let t = tops_at any ins others points f.1 o.1 e.1 in
+        greatest_back_exact (Span a) others w (greatest_at points) x n g t.0 t.1 m
+    by z p i g point n m = search rules
+greatest_back_at any ins param args points point f o e k h = search rules
+
+-- ---- the least
+
+bottoms_at : (any : Shape → Kinded) (ins : List Shape) (args : List Info) (points : List Point) → AreSpans ins
+    → AreOf any ins args → AreSingle args points
+    → (bottom low_of args ≡ least_at points) × (bottom high_of args ≡ least_at points)
+bottoms_at any ins [] [] f o e = (refl, refl)
+bottoms_at any (s ∷ ins) (a ∷ args) (p ∷ points) f o e =
+    by (bottoms_at any ins args points (others_are_spans s ins f) o.1 e.1) a p (rw (first_is_span s ins f) at o.0) e.0
+  where
+    by : (bottom low_of args ≡ least_at points) × (bottom high_of args ≡ least_at points) → (a : Info) (p : Point)
+        → IsOf kinds.Span 0 a → IsSingle a p → (bottom low_of (a ∷ args) ≡ least_at (p ∷ points))
+        × (bottom high_of (a ∷ args) ≡ least_at (p ∷ points))
+    by rest (Span b) (Number v) k h = (λ i. int_min (h.0 i) (rest.0 i), λ i. int_min (h.1 i) (rest.1 i))
+    by rest a p k h = search rules
+bottoms_at any ins args points f o e = search rules
+
+least_exact : (any : Shape → Kinded) (ins : List Shape) (param : Param) (args : List Info) (points : List Point)
+    (point : Point) → AreSpans ins → AreOf any ins args → AreSingle args points
+    → IsPointOf kinds.Span 0 point → Holds (value_of Least param args) point → Related Least param points point
+least_exact any ins param args points point f o e p h =
+    number_out 0 point (λ w. Holds (value_of Least param args) w → Related Least param points w) p by h
+  where
+    by : (z : ℤ) → IsInRange z → Holds (least_of args) (Number z) → z ≡ least_at points
+    by z i k =
+        let t = bottoms_at any ins args points f o e in
+        let held = known_held (bottom low_of args) (bottom high_of args) z i k in
+        between (least_at points) z (rw (← t.0) held.0) (rw (← t.1) held.1)
+
+-- what is left by numbers that are known
+least_left : (w g x : ℤ) → IsInRange x → Holds (if int_lt g w then Contradiction
+    else known w (if int_lt w g then w else B)) (Number x) → w ≡ int_min x g
+least_left w g x r = by (int_lt g w) refl (int_lt w g) refl
+  where
+    by : (s : Bool) → int_lt g w ≡ s → (t : Bool) → int_lt w g ≡ t
+        → Holds (if s then Contradiction else known w (if t then w else B)) (Number x) → w ≡ int_min x g
+    by true e t f h = absurd h
+    by false e true f h = let k = known_held w w x r h in same_in _ _ (omega (arith, ints, clamps, k.0, k.1))
+    by false e false f h = let k = known_held w B x r h in same_in _ _ (omega (arith, ints, clamps, k.0))
+
+least_back_exact : (z : Info) (others : List Info) (w g x : ℤ) → IsInRange x → IsSingle z (Number w)
+    → bottom low_of others ≡ g → bottom high_of others ≡ g → Holds (least_back_of z others) (Number x)
+    → w ≡ int_min x g
+least_back_exact z others w g x r e k m h =
+    let a = only_number z w e in least_left w g x r (rw (a.0, a.1, k, m) at h)
+
+least_back_at : (any : Shape → Kinded) (ins : List Shape) (param : Param) (args : List Info) (points : List Point)
+    (point : Point) → Begins shapes.Span AreSpans ins → AreOf any ins args → AreSingle args points
+    → IsPointOf kinds.Span 0 point → Holds (value_of LeastBack param args) point
+    → Related LeastBack param points point
+least_back_at any (s ∷ ins) param (z ∷ others) (p ∷ points) point f o e k h =
+    by z p (rw f.0 at o.0) e.0 point k h
+  where
+    by : (z : Info) (p : Point) → IsOf kinds.Span 0 z → IsSingle z p → (point : Point)
+        → IsPointOf kinds.Span 0 point → Holds (least_back_of z others) point
+        → Related LeastBack param (p ∷ points) point
+    by (Span a) (Number w) i g (Number x) n m =
+        let t = bottoms_at any ins others points f.1 o.1 e.1 in
+        least_back_exact (Span a) others w (least_at points) x n g t.0 t.1 m
+    by z p i g point n m = search rules
+least_back_at any ins param args points point f o e k h = search rules
+
 -- ---- all rules
 
 summed : (any : Shape → Kinded) (ins : List Shape) (param : Param) (args : List Info) (points : List Point)
@@ -382,3 +509,15 @@ rows_are_exact Index ins out need f any param args points point c e p h =
     found_at any ins param args points point f.0 f.3 c.of_kinds e (rw f.1 at p) h
 rows_are_exact Entry ins out need f any param args points point c e p h =
     entered any param args points point (rw f.0 at c.of_kinds) e h
+rows_are_exact Count ins out need f any param args points point c e p h =
+    wide_is_exact wides.Count ins out need (f.0, f.1, f.2) any param args points point c e p h
+rows_are_exact CountBack ins out need f any param args points point c e p h =
+    wide_is_exact wides.CountBack ins out need (f.0, f.1, f.2) any param args points point c e p h
+rows_are_exact Greatest ins out need f any param args points point c e p h =
+    greatest_exact any ins param args points point f.0 c.of_kinds e (rw f.1 at p) h
+rows_are_exact GreatestBack ins out need f any param args points point c e p h =
+    greatest_back_at any ins param args points point f.0 c.of_kinds e (rw f.1 at p) h
+rows_are_exact Least ins out need f any param args points point c e p h =
+    least_exact any ins param args points point f.0 c.of_kinds e (rw f.1 at p) h
+rows_are_exact LeastBack ins out need f any param args points point c e p h =
+    least_back_at any ins param args points point f.0 c.of_kinds e (rw f.1 at p) h

@@ -1,5 +1,6 @@
 pub mod Sums
 pub mod Entries
+pub mod Extremes
 pub mod Row
 pub mod Exact
 pub mod Guards

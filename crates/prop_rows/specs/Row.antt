@@ -8,13 +8,22 @@ use Rattle.prop_lattice.specs.declared.info.Info.{Info}
 use Rattle.prop_lattice.specs.declared.info.Info.TheVariants.{Nothing}
 use Rattle.prop_procedures.specs.declared.shape.Param.{Param}
 use Rattle.prop_procedures.specs.declared.shape.Shape.{Shape}
-use Rattle.prop_procedures.specs.declared.shape.Shape.TheVariants.{Span, Any}
+use Rattle.prop_procedures.specs.declared.shape.Shape.TheVariants.{Span, Truth, Any}
 use Rattle.prop_procedures.specs.declared.shape.Need.{Need}
 use Rattle.prop_procedures.specs.declared.shape.Need.TheVariants as needs
 use Rattle.prop_rows.specs.Entries.{element_of, index_of, entry_of, IsEntry}
+use Rattle.prop_rows.specs.Extremes.{greatest_of, greatest_back_of, least_of, least_back_of}
+use Rattle.prop_rows.specs.Extremes.{RelatesGreatest, RelatesGreatestBack, RelatesLeast}
+use Rattle.prop_rows.specs.Extremes.{RelatesLeastBack}
 use Rattle.prop_rows.specs.Sums.{sum_of, addend_of, sum_at}
 use Rattle.prop_rows.specs.declared.row.Row as rows
 use Rattle.prop_rows.specs.declared.row.Row.TheVariants.{Sum, Addend, Element, Index, Entry}
+use Rattle.prop_rows.specs.declared.row.Row.TheVariants.{Count, CountBack, Greatest, GreatestBack}
+use Rattle.prop_rows.specs.declared.row.Row.TheVariants.{Least, LeastBack}
+use Rattle.prop_wide.specs.Points.{Related as WideRelated}
+use Rattle.prop_wide.specs.Values.{value_of as wide_value}
+use Rattle.prop_wide.specs.Wide.{AreNumberAndTruths, AreTruths}
+use Rattle.prop_wide.specs.declared.wide.Wide.TheVariants as wides
 
 -- the shape is that of numbers
 abbrev pub is_span : Shape → Bool
@@ -45,11 +54,18 @@ HasInputs Addend ins = Begins Span (Begins Span AreSpans) ins
 HasInputs Element ins = Begins Span AreAny ins
 HasInputs Index ins = Begins (Any 0) (Begins Span AreAny) ins
 HasInputs Entry ins = ins ≡ Span ∷ Span ∷ Any 0 ∷ []
+HasInputs Count ins = AreTruths ins
+HasInputs CountBack ins = AreNumberAndTruths ins
+HasInputs Greatest ins = AreSpans ins
+HasInputs GreatestBack ins = Begins Span AreSpans ins
+HasInputs Least ins = AreSpans ins
+HasInputs LeastBack ins = Begins Span AreSpans ins
 
 -- the shape of its output
 abbrev pub out_of : rows.Row → Shape
 out_of Element = Any 0
 out_of Entry = Any 0
+out_of CountBack = Truth
 out_of rule = Span
 
 -- the forms of a rule, which have up to 128 inputs
@@ -68,6 +84,12 @@ value_of Addend param (z ∷ c ∷ pairs) = at_most 126 (addend_of z c) pairs
 value_of Element param (number ∷ row) = at_most 127 (element_of number) row
 value_of Index param (value ∷ number ∷ row) = at_most 126 (index_of value number) row
 value_of Entry param (number ∷ this ∷ value ∷ []) = entry_of number this value
+value_of Count param args = wide_value wides.Count param args
+value_of CountBack param args = wide_value wides.CountBack param args
+value_of Greatest param args = greatest_of args
+value_of GreatestBack param (z ∷ others) = greatest_back_of z others
+value_of Least param args = least_of args
+value_of LeastBack param (z ∷ others) = least_back_of z others
 value_of rule param args = Nothing
 
 -- pairs, and what their products sum to
@@ -102,3 +124,9 @@ Related Addend param points point = RelatesAddend points point
 Related Element param points point = RelatesElement points point
 Related Index param points point = RelatesIndex points point
 Related Entry param points point = RelatesEntry points point
+Related Count param points point = WideRelated wides.Count param points point
+Related CountBack param points point = WideRelated wides.CountBack param points point
+Related Greatest param points point = RelatesGreatest points point
+Related GreatestBack param points point = RelatesGreatestBack points point
+Related Least param points point = RelatesLeast points point
+Related LeastBack param points point = RelatesLeastBack points point

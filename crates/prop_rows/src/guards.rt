@@ -20,6 +20,14 @@ const ENDS: Changes = Changes {
     hole: false,
 };
 
+/// The change to one value alone.
+const POINT: Changes = Changes {
+    low: false,
+    high: false,
+    point: true,
+    hole: false,
+};
+
 impl Guarded for Row {
     ghost is_silent = { λ rule param args. false };
 
@@ -51,7 +59,10 @@ impl Guarded for Row {
     fn heeds(&self, place: usize, _count: usize) -> Changes {
         match (self, place) {
             (Row::Sum | Row::Addend, _) | (Row::Element, 0) | (Row::Index, 1) => ENDS,
-            _ => Changes::ALL,
+            (Row::Element | Row::Index | Row::Entry, _) => Changes::ALL,
+            (Row::Count, _) => POINT,
+            (Row::CountBack, _) if 0 < place => POINT,
+            _ => ENDS,
         }
     }
 

@@ -1,4 +1,5 @@
-//! Rules over rows of cells: sums of products, and the entry of a number in a row.
+//! Rules over rows of cells: sums of products, the entry of a number in a row, how many truths are
+//! `yes`, and the greatest and the least of numbers.
 //!
 //! A coefficient is a cell as any other, so a constant one is a cell that is fixed. Each rule is
 //! its plain function, which is its formula; it is monotone, keeps kinds, and holds every related
@@ -7,6 +8,7 @@
 #![tactic(auto)]
 
 pub mod entries;
+pub mod extremes;
 mod guards;
 pub mod laws;
 pub mod prelude;
@@ -15,8 +17,11 @@ pub mod row;
 pub mod sums;
 
 pub use entries::{element, entry, index};
+pub use extremes::{greatest, greatest_back, least, least_back};
 pub use laws::rows_are_exact;
-pub use prelude::{PRELUDE, prelude_is_stated};
-pub use procedures::{PROCEDURES, ins, procedures_are_stated};
+pub use prelude::{MORE, PRELUDE, more_is_stated, prelude_is_stated};
+pub use procedures::{
+    COUNTS, GREATEST, LEAST, PROCEDURES, ins, others_are_stated, procedures_are_stated,
+};
 pub use row::Row;
 pub use sums::{addend, sum};

@@ -3,14 +3,17 @@ ghost use Rattle.std.specs.Prelude.{◌≡◌, ◌↔◌, IsTrue, ◌∷◌, []}
 ghost use Rattle.std.specs.List.{list_all};
 ghost use Rattle.prop_procedures.specs.declared.shape.Shape.TheVariants.{Span, Any};
 ghost use Rattle.prop_rows.specs.Row.{FormOf, HasInputs, Related, is_any, is_span, out_of};
+ghost use Rattle.prop_wide.specs.Wide.{is_truth};
 ghost use Rattle.prop_rows.specs.Row.{value_of};
 ghost use Rattle.prop_procedures.specs.declared.shape.Param.{Param};
 ghost use Rattle.prop_rows.specs.laws.RowLaws.{row_monotone, row_keeps_kind, row_sound};
 
 use crate::entries::{element, entry, index};
+use crate::extremes::{greatest, greatest_back, least, least_back};
 use crate::sums::{addend, sum};
 use prop_lattice::Info;
 use prop_procedures::{Need, Param, Rule, Shape};
+use prop_wide::{count_back, counter};
 
 /// The rules over rows. A rule works in one direction: from its inputs to its output.
 #[derive(Clone, Copy, Debug, PartialEq, Eq)]
@@ -25,6 +28,18 @@ pub enum Row {
     Index,
     /// From i, j and y to the entry of number j, where y is the entry of number i, in any kind.
     Entry,
+    /// From truths to n, which is how many of them are `yes`.
+    Count,
+    /// From n and other truths to t, where n is how many of all these are `yes`.
+    CountBack,
+    /// From numbers to z, which is the greatest of them.
+    Greatest,
+    /// From z and other numbers to x, where z is the greatest of all these.
+    GreatestBack,
+    /// From numbers to z, which is the least of them.
+    Least,
+    /// From z and other numbers to x, where z is the least of all these.
+    LeastBack,
 }
 
 /// Whether a shape is that of numbers.
@@ -41,6 +56,13 @@ fn is_any(shape: Shape) -> bool
     matches!(shape, Shape::Any(0))
 }
 
+/// Whether a shape is that of truths.
+fn is_truth(shape: Shape) -> bool
+    ensures { result ≡ is_truth shape }
+{
+    matches!(shape, Shape::Truth)
+}
+
 /// Whether each shape is that of numbers.
 fn are_spans(shapes: &[Shape]) -> bool
     ensures { result ≡ list_all is_span shapes.now }
@@ -55,13 +77,29 @@ fn are_any(shapes: &[Shape]) -> bool
     shapes.iter().all(|shape| is_any(*shape))
 }
 
+/// Whether each shape is that of truths.
+fn are_truths(shapes: &[Shape]) -> bool
+    ensures { result ≡ list_all is_truth shapes.now }
+{
+    shapes.iter().all(|shape| is_truth(*shape))
+}
+
 impl Row {
     /// Whether the rule may have inputs of these shapes.
     fn takes(self, ins: &[Shape]) -> bool
         ensures { IsTrue result ↔ HasInputs self ins.now }
     {
         match self {
-            Row::Sum => are_spans(ins),
+            Row::Sum | Row::Greatest | Row::Least => are_spans(ins),
+            Row::GreatestBack | Row::LeastBack => match ins {
+                [Shape::Span, others @ ..] => are_spans(others),
+                _ => false,
+            },
+            Row::Count => are_truths(ins),
+            Row::CountBack => match ins {
+                [Shape::Span, others @ ..] => are_truths(others),
+                _ => false,
+            },
             Row::Addend => match ins {
                 [Shape::Span, Shape::Span, pairs @ ..] => are_spans(pairs),
                 _ => false,
@@ -83,8 +121,9 @@ impl Row {
         ensures { result ≡ out_of self }
     {
         match self {
-            Row::Sum | Row::Addend | Row::Index => Shape::Span,
             Row::Element | Row::Entry => Shape::Any(0),
+            Row::CountBack => Shape::Truth,
+            _ => Shape::Span,
         }
     }
 
@@ -115,6 +154,21 @@ impl Row {
             Row::Entry => match args {
                 [number, this, value] => entry(*number, *this, *value),
                 _ => Info::Nothing,
+            },
+            Row::Count => counter(args),
+            Row::CountBack => match args {
+                [n, others @ ..] => count_back(*n, others),
+                [] => Info::Nothing,
+            },
+            Row::Greatest => greatest(args),
+            Row::GreatestBack => match args {
+                [z, others @ ..] => greatest_back(*z, others),
+                [] => Info::Nothing,
+            },
+            Row::Least => least(args),
+            Row::LeastBack => match args {
+                [z, others @ ..] => least_back(*z, others),
+                [] => Info::Nothing,
             },
         }
     }

@@ -6,6 +6,7 @@ use Rattle.std.proofs.lemmas.List.Elements.{All-head, All-tail, All-map, All-app
 use Rattle.std.proofs.lemmas.Option.{none-some, same_Some}
 use Rattle.std.specs.Borrow.{Bor}
 use Rattle.std.specs.Prelude.{Some, slice_get}
+use Rattle.prop_language.specs.Said.{words}
 use Rattle.prop_procedures.specs.declared.both.Both.TheVariants as boths
 use Rattle.prop_procedures.specs.declared.procedure.Procedure.{Procedure}
 use Rattle.prop_procedures.specs.declared.shape.Need.{Need}
@@ -36,13 +37,14 @@ use Rattle.prop_hall.specs.declared.excluder.Excluder.TheVariants.{One, Two, Thr
 use Rattle.prop_hall.specs.laws.ExcluderLaws.{excluder_sound}
 use Rattle.prop_many.specs.declared.many.Many.{Many}
 use Rattle.prop_many.specs.Many.{FormOf as ManyForm, Related as ManyRelated, value_of as many_value}
-use Rattle.prop_many.specs.Procedures.{IsFormed as IsManyFormed, Named as ManyNamed, in_order as many_named}
+use Rattle.prop_many.specs.Procedures.{IsFormed as IsManyFormed, Named as ManyNamed, circuits_in_order as circuits_named, in_order as many_named}
 use Rattle.prop_many.specs.laws.ManyLaws.{many_sound}
-use Rattle.prop_many.proofs.Tables.{each_formed}
+use Rattle.prop_many.proofs.Tables.{each_circuit_formed, each_formed}
 use Rattle.prop_rows.proofs.ExactLaws.{rows_are_exact}
-use Rattle.prop_rows.proofs.TableLemmas.{all_formed as all_rows_formed}
+use Rattle.prop_rows.proofs.TableLemmas.{all_formed as all_rows_formed, others_formed}
 use Rattle.prop_rows.specs.Procedures.{IsFormed as IsRowFormed, Named as RowNamed, in_order as row_named}
-use Rattle.prop_rows.specs.Procedures.{ins_of as row_ins}
+use Rattle.prop_rows.specs.Procedures.{counts_in_order as counts_named, greatest_in_order as greatest_named}
+use Rattle.prop_rows.specs.Procedures.{ins_of as row_ins, least_in_order as least_named}
 use Rattle.prop_rows.specs.Row.{FormOf as RowForm, Related as RowRelated, out_of as row_out, value_of as row_value}
 use Rattle.prop_procedures.specs.declared.shape.Need.TheVariants as needs
 use Rattle.prop_rows.specs.declared.row.Row.{Row}
@@ -198,19 +200,27 @@ rows_made : (p : RowNamed) → IsRowFormed p → IsFormed (of_rows p)
 rows_made p h = record { some = h.some; few = h.formed.3; formed = h.formed }
 
 -- those of many cells and of rows
-last_formed : All IsFormed (map of_many many_named ++ map of_rows row_named)
-last_formed = All-append IsFormed (map of_many many_named) (map of_rows row_named)
-    (All-map IsFormed of_many many_named (λ k d l. many_made (get_or many_named k d) (each_formed k d l)))
-    (All-map IsFormed of_rows row_named (λ k d l. rows_made (get_or row_named k d) (all_rows_formed k d l)))
+manys_formed : (named : List ManyNamed) → All IsManyFormed named → All IsFormed (map of_many named)
+manys_formed named h = All-map IsFormed of_many named (λ k d l. many_made (get_or named k d) (h k d l))
+
+rows_formed : (named : List RowNamed) → All IsRowFormed named → All IsFormed (map of_rows named)
+rows_formed named h = All-map IsFormed of_rows named (λ k d l. rows_made (get_or named k d) (h k d l))
+
+last_formed : All IsFormed (map of_many many_named ++ (map of_many circuits_named ++ (map of_rows row_named ++ (map of_rows counts_named
+    ++ (map of_rows greatest_named ++ map of_rows least_named)))))
+last_formed = All-append IsFormed (map of_many many_named) _ (manys_formed many_named each_formed)
+    (All-append IsFormed (map of_many circuits_named) _ (manys_formed circuits_named each_circuit_formed)
+    (All-append IsFormed (map of_rows row_named) _ (rows_formed row_named all_rows_formed)
+    (All-append IsFormed (map of_rows counts_named) _ (rows_formed counts_named others_formed.0)
+    (All-append IsFormed (map of_rows greatest_named) _ (rows_formed greatest_named others_formed.1)
+    (rows_formed least_named others_formed.2)))))
 
 pub all_formed : All IsFormed in_order
-all_formed = All-append IsFormed (map of_kit kits)
-    (map of_wide named ++ (map of_excluder excluders ++ (map of_many many_named ++ map of_rows row_named)))
+all_formed = All-append IsFormed (map of_kit kits) _
     (All-map IsFormed of_kit kits (λ k d l. kit_made (get_or kits k d)))
-    (All-append IsFormed (map of_wide named)
-    (map of_excluder excluders ++ (map of_many many_named ++ map of_rows row_named))
+    (All-append IsFormed (map of_wide named) _
     (All-map IsFormed of_wide named (λ k d l. wide_made (get_or named k d) (wides_formed k d l)))
-    (All-append IsFormed (map of_excluder excluders) (map of_many many_named ++ map of_rows row_named)
+    (All-append IsFormed (map of_excluder excluders) _
     (All-map IsFormed of_excluder excluders (λ k d l. excluder_made (get_or excluders k d))) last_formed))
 
 -- what the program makes a procedure of is formed
@@ -285,6 +295,26 @@ pub from_row_rows : (items : List Entry) (front : List Made) (i : ℕ) (rows : L
     → map shown items ≡ front ++ map of_rows stated
 from_row_rows items front i rows stated h l s = h ∙ ap (λ rs. front ++ map of_row_row rs) (take_all i rows l)
     ∙ ap (λ ms. front ++ ms) (row_rows_are rows ∙ ap (map of_rows) s)
+
+-- lines that are joined one list after another
+pub joined : (a b c d e f g p q r s t u : List (Bor (List ℕ))) (k l m n o v : List (List ℕ)) → a ≡ []
+    → b ≡ a ++ p → c ≡ b ++ q → d ≡ c ++ r → e ≡ d ++ s → f ≡ e ++ t → g ≡ f ++ u → words p ≡ k → words q ≡ l
+    → words r ≡ m → words s ≡ n → words t ≡ o → words u ≡ v → words g ≡ k ++ (l ++ (m ++ (n ++ (o ++ v))))
+joined a b c d e f g p q r s t u k l m n o v ea eb ec ed ee ef eg ep eq er es et eu =
+    ap words (eg ∙ ap (λ x. x ++ u) (ef ∙ ap (λ x. x ++ t) (ee ∙ ap (λ x. x ++ s) (ed ∙ ap (λ x. x ++ r)
+    (ec ∙ ap (λ x. x ++ q) (eb ∙ ap (λ x. x ++ p) ea)))))) ∙ flat p q r s t u
+    ∙ (λ i. ep i ++ (eq i ++ (er i ++ (es i ++ (et i ++ eu i)))))
+  where
+    flat : (p q r s t u : List (Bor (List ℕ))) → words (((((p ++ q) ++ r) ++ s) ++ t) ++ u)
+        ≡ words p ++ (words q ++ (words r ++ (words s ++ (words t ++ words u))))
+    flat p q r s t u = ap words (append_assoc (((p ++ q) ++ r) ++ s) t u ∙ append_assoc ((p ++ q) ++ r) s (t ++ u)
+        ∙ append_assoc (p ++ q) r (s ++ (t ++ u)) ∙ append_assoc p q (r ++ (s ++ (t ++ u)))) ∙ rw (
+      map-append (λ (w : Bor (List ℕ)). w.now) p (q ++ (r ++ (s ++ (t ++ u)))),
+      map-append (λ (w : Bor (List ℕ)). w.now) q (r ++ (s ++ (t ++ u))),
+      map-append (λ (w : Bor (List ℕ)). w.now) r (s ++ (t ++ u)),
+      map-append (λ (w : Bor (List ℕ)). w.now) s (t ++ u),
+      map-append (λ (w : Bor (List ℕ)). w.now) t u,
+    ) refl
 
 -- where each row had its turn, what the specification lists is made
 pub from_rows : (items : List Entry) (front : List Made) (i : ℕ)

@@ -14,7 +14,7 @@ use Rattle.prop_procedures.specs.inner.Places.{AreOf}
 use Rattle.prop_many.specs.Exact.{AreJust, IsJust}
 use Rattle.prop_many.specs.Many.{AreNumbers, FormOf, Related, is_number, value_of}
 use Rattle.prop_many.specs.declared.many.Many.{Many}
-use Rattle.prop_many.specs.laws.ExactLaws.{each_is_exact}
+use Rattle.prop_many.specs.laws.SinglesLaws.{each_is_exact}
 use Rattle.prop_many.specs.laws.NumberLaws.{first_is_number}
 use Rattle.prop_points.specs.Singles.{AreSingle, IsExact, IsSingle}
 

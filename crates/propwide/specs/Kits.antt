@@ -29,11 +29,14 @@ use Rattle.prop_hall.specs.Excluder.{Related as ExcluderRelated, value_of as exc
 use Rattle.prop_many.specs.declared.many.Many.{Many}
 use Rattle.prop_many.specs.Many.{Related as ManyRelated, value_of as many_value}
 use Rattle.prop_many.specs.Prelude.{prelude_lines as many_lines}
-use Rattle.prop_many.specs.Procedures.{Named as ManyNamed, in_order as many_named}
+use Rattle.prop_many.specs.Procedures.{Named as ManyNamed, circuits_in_order as circuits_named}
+use Rattle.prop_many.specs.Procedures.{in_order as many_named}
 use Rattle.prop_rows.specs.declared.row.Row.{Row}
-use Rattle.prop_rows.specs.Prelude.{prelude_lines as row_lines}
+use Rattle.prop_rows.specs.Prelude.{more_lines, prelude_lines as row_lines}
 use Rattle.prop_rows.specs.Procedures.{Named as RowNamed, in_order as row_named}
-use Rattle.prop_rows.specs.Procedures.{ins_of as row_ins}
+use Rattle.prop_rows.specs.Procedures.{counts_in_order as counts_named, ins_of as row_ins}
+use Rattle.prop_rows.specs.Procedures.{greatest_in_order as greatest_named}
+use Rattle.prop_rows.specs.Procedures.{least_in_order as least_named}
 use Rattle.prop_rows.specs.Row.{Related as RowRelated, out_of as row_out, value_of as row_value}
 use Rattle.prop_points.specs.Kit.{KitTells}
 use Rattle.propwide.specs.declared.entries.Entry as entries
@@ -105,11 +108,14 @@ abbrev pub in_order : List Made
 in_order =
     map of_kit kits
     ++ (map of_wide named
-    ++ (map of_excluder excluders ++ (map of_many many_named ++ map of_rows row_named)))
+    ++ (map of_excluder excluders ++ (map of_many many_named ++ (map of_many circuits_named
+    ++ (map of_rows row_named ++ (map of_rows counts_named ++ (map of_rows greatest_named
+    ++ map of_rows least_named)))))))
 
 -- the lines of the preludes, in order
 abbrev pub lines_in_order : List (List ℕ)
-lines_in_order = kit_lines ++ (wide_lines ++ (different_lines ++ (many_lines ++ row_lines)))
+lines_in_order = kit_lines ++ (wide_lines ++ (different_lines ++ (many_lines
+    ++ (row_lines ++ more_lines))))
 
 -- their library
 abbrev pub wide : List Stored

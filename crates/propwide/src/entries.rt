@@ -3,8 +3,12 @@ ghost use Rattle.std.specs.Prelude.{◌≡◌, ◌++◌, [], IfOk, OnOk, map};
 ghost use Rattle.prop_language.specs.Said.{words};
 ghost use Rattle.prop_arith.specs.Kit.{in_order as kits};
 ghost use Rattle.prop_hall.specs.Excluder.{in_order as excluders};
+ghost use Rattle.prop_many.specs.Procedures.{circuits_in_order as circuits_named};
 ghost use Rattle.prop_many.specs.Procedures.{in_order as many_named};
+ghost use Rattle.prop_rows.specs.Procedures.{counts_in_order as counts_named};
+ghost use Rattle.prop_rows.specs.Procedures.{greatest_in_order as greatest_named};
 ghost use Rattle.prop_rows.specs.Procedures.{in_order as row_named};
+ghost use Rattle.prop_rows.specs.Procedures.{least_in_order as least_named};
 ghost use Rattle.prop_wide.specs.Procedures.{in_order as named};
 ghost use Rattle.propwide.specs.Kits.{answer_of, in_order, larger_of, lines_in_order};
 ghost use Rattle.propwide.specs.Kits.{of_excluder, of_kit, of_many, of_rows, of_wide, shown};
@@ -13,12 +17,14 @@ use prop_arith::{KITS, Kit, PRELUDE};
 use prop_hall::{EXCLUDERS, Excluder};
 use prop_lattice::Info;
 use prop_many::{
-    Many, PRELUDE as MANY_PRELUDE, PROCEDURES as MANY_PROCEDURES,
-    prelude_is_stated as many_prelude_is_stated, procedures_are_stated as many_are_stated,
+    CIRCUITS, Many, PRELUDE as MANY_PRELUDE, PROCEDURES as MANY_PROCEDURES,
+    circuits_are_stated, prelude_is_stated as many_prelude_is_stated,
+    procedures_are_stated as many_are_stated,
 };
 use prop_procedures::{Both, Named, Need, Param, Shape};
 use prop_rows::{
-    PRELUDE as ROW_PRELUDE, PROCEDURES as ROW_PROCEDURES, Row, ins as row_ins, prelude_is_stated,
+    COUNTS, GREATEST, LEAST, MORE, PRELUDE as ROW_PRELUDE, PROCEDURES as ROW_PROCEDURES, Row,
+    ins as row_ins, more_is_stated, others_are_stated, prelude_is_stated,
     procedures_are_stated as rows_are_stated,
 };
 use prop_wide::{DIFFERENT, PRELUDE as WIDE_PRELUDE, PROCEDURES, Wide, procedures_are_stated};
@@ -66,7 +72,11 @@ fn add_all(made: &mut Vec<Entry>) -> Result<(), AllocError>
     add_wider(made)?;
     add_excluders(made)?;
     add_many(made)?;
-    add_rows(made)
+    add_circuits(made)?;
+    add_rows(made)?;
+    add_counts(made)?;
+    add_greatest(made)?;
+    add_least(made)
 }
 
 /// Adds the procedures of the kit.
@@ -142,6 +152,26 @@ fn add_many(made: &mut Vec<Entry>) -> Result<(), AllocError>
     Ok(())
 }
 
+/// Adds the procedures of circuits.
+fn add_circuits(made: &mut Vec<Entry>) -> Result<(), AllocError>
+    ensures { OnOk result
+        (map shown made.new.items ≡ map shown made.old.items ++ map of_many circuits_named) }
+{
+    // (so that the table is the one that is stated)
+    circuits_are_stated();
+    for row in &CIRCUITS {
+        let (name, rule, ins) = *row;
+        made.push(Entry {
+            name,
+            ins,
+            out: Shape::Span,
+            need: Need::Nothing,
+            rule: Both::Two(Both::Two(Both::Two(Both::One(rule)))),
+        })?;
+    }
+    Ok(())
+}
+
 /// Adds the procedures of rows.
 fn add_rows(made: &mut Vec<Entry>) -> Result<(), AllocError>
     ensures { OnOk result
@@ -162,6 +192,66 @@ fn add_rows(made: &mut Vec<Entry>) -> Result<(), AllocError>
     Ok(())
 }
 
+/// Adds the procedures of counts.
+fn add_counts(made: &mut Vec<Entry>) -> Result<(), AllocError>
+    ensures { OnOk result
+        (map shown made.new.items ≡ map shown made.old.items ++ map of_rows counts_named) }
+{
+    // (so that the table is the one that is stated)
+    others_are_stated();
+    for row in &COUNTS {
+        let (name, rule, many) = *row;
+        made.push(Entry {
+            name,
+            ins: row_ins(rule, many),
+            out: rule.out(),
+            need: Need::Nothing,
+            rule: Both::Two(Both::Two(Both::Two(Both::Two(rule)))),
+        })?;
+    }
+    Ok(())
+}
+
+/// Adds the procedures of the greatest of numbers.
+fn add_greatest(made: &mut Vec<Entry>) -> Result<(), AllocError>
+    ensures { OnOk result
+        (map shown made.new.items ≡ map shown made.old.items ++ map of_rows greatest_named) }
+{
+    // (so that the table is the one that is stated)
+    others_are_stated();
+    for row in &GREATEST {
+        let (name, rule, many) = *row;
+        made.push(Entry {
+            name,
+            ins: row_ins(rule, many),
+            out: rule.out(),
+            need: Need::Nothing,
+            rule: Both::Two(Both::Two(Both::Two(Both::Two(rule)))),
+        })?;
+    }
+    Ok(())
+}
+
+/// Adds the procedures of the least of numbers.
+fn add_least(made: &mut Vec<Entry>) -> Result<(), AllocError>
+    ensures { OnOk result
+        (map shown made.new.items ≡ map shown made.old.items ++ map of_rows least_named) }
+{
+    // (so that the table is the one that is stated)
+    others_are_stated();
+    for row in &LEAST {
+        let (name, rule, many) = *row;
+        made.push(Entry {
+            name,
+            ins: row_ins(rule, many),
+            out: rule.out(),
+            need: Need::Nothing,
+            rule: Both::Two(Both::Two(Both::Two(Both::Two(rule)))),
+        })?;
+    }
+    Ok(())
+}
+
 /// The preludes of the kit, of the wider procedures, of the excluders, of many cells and of the
 /// rows, in this order.
 pub fn lines(alloc: Global) -> Result<Vec<&'static str>, AllocError>
@@ -170,12 +260,14 @@ pub fn lines(alloc: Global) -> Result<Vec<&'static str>, AllocError>
     // (so that the lines are those that are stated)
     many_prelude_is_stated();
     prelude_is_stated();
+    more_is_stated();
     let mut all = Vec::new(alloc);
     all.extend_from_slice(&PRELUDE)?;
     all.extend_from_slice(&WIDE_PRELUDE)?;
     all.extend_from_slice(&DIFFERENT)?;
     all.extend_from_slice(&MANY_PRELUDE)?;
     all.extend_from_slice(&ROW_PRELUDE)?;
+    all.extend_from_slice(&MORE)?;
     Ok(all)
 }
 

@@ -20,9 +20,8 @@ use Rattle.prop_many.specs.Disjoint.{IsApart, RelatesDisjoint, disjoint_of, earl
 use Rattle.prop_many.specs.Disjoint.{is_behind, latest_of, start_before}
 use Rattle.prop_many.specs.Differ.{RelatesDiffer, any_crowded, before_all, differ_of, lying_in}
 use Rattle.prop_many.specs.Differ.{past_all}
-use Rattle.prop_many.specs.Exact.{AreJust, EachIsExact}
+use Rattle.prop_many.specs.Exact.{AreJust}
 use Rattle.prop_many.specs.Loads.{demand_of, end_of, load_at, load_of, part_at}
-use Rattle.prop_many.specs.declared.many.Many.TheVariants.{Cumulative, Differ, Disjoint}
 use Rattle.prop_many.specs.laws.CumulativeLaws.{first_is, fits_opens, high_in_range, last_is}
 use Rattle.prop_many.specs.laws.CumulativeLaws.{low_in_range}
 use Rattle.prop_many.specs.laws.DifferLaws.{IsShown, before_all_below, no_two, past_all_above}
@@ -101,7 +100,7 @@ starts_held tasks room length start v z p q r h =
     through : (a b : ℤ) → a ≤ℤ b → b ≤ℤ B → a ≤ℤ B
     through a b p q = omega (arith, ints)
 
-cumulative_exact : (args : List Info) (points : List Point) (z : ℤ) → 4 ≤ length args
+pub cumulative_exact : (args : List Info) (points : List Point) (z : ℤ) → 4 ≤ length args
     → AreJust args points → IsInRange z → Holds (cumulative_of args) (Number z)
     → RelatesCumulative points (Number z)
 cumulative_exact (c ∷ s ∷ l ∷ d ∷ tasks) (Number u ∷ Number v ∷ Number w ∷ Number x ∷ points) z some
@@ -200,7 +199,7 @@ apart_from s l v w (o ∷ []) points p q e h = search rules
 apart_from s l v w [] [] p q e h = tt
 apart_from s l v w [] (u ∷ points) p q e h = absurd e
 
-disjoint_exact : (args : List Info) (points : List Point) (z : ℤ) → 2 ≤ length args
+pub disjoint_exact : (args : List Info) (points : List Point) (z : ℤ) → 2 ≤ length args
     → AreJust args points → IsInRange z → Holds (disjoint_of args) (Number z)
     → RelatesDisjoint points (Number z)
 disjoint_exact (s ∷ l ∷ others) (Number v ∷ Number w ∷ points) z some e r h =
@@ -257,7 +256,7 @@ all_differ (o ∷ others) [] e n = absurd e
 not_both : (p v : ℤ) → v <ℤ p → p ≡ v → ⊥
 not_both p v q e = omega (arith, ints)
 
-differ_exact : (args : List Info) (points : List Point) (z : ℤ) → 1 ≤ length args
+pub differ_exact : (args : List Info) (points : List Point) (z : ℤ) → 1 ≤ length args
     → AreJust args points → IsInRange z → Holds (differ_of args) (Number z)
     → RelatesDiffer points (Number z)
 differ_exact (o ∷ others) (Number v ∷ points) z some e r h =
@@ -289,17 +288,3 @@ differ_exact (o ∷ others) (Element i ∷ points) z some e r h = absurd e.0
 differ_exact (o ∷ others) (Symbol i ∷ points) z some e r h = absurd e.0
 differ_exact (o ∷ others) [] z some e r h = absurd e
 differ_exact [] points z some e r h = absurd (omega (arith, some))
-
-pub each_is_exact : EachIsExact
-each_is_exact Cumulative param args points (Number z) some e r h =
-    cumulative_exact args points z some e r h
-each_is_exact Cumulative param args points (Element i) some e r h = absurd r
-each_is_exact Cumulative param args points (Symbol n) some e r h = absurd r
-each_is_exact Disjoint param args points (Number z) some e r h =
-    disjoint_exact args points z some e r h
-each_is_exact Disjoint param args points (Element i) some e r h = absurd r
-each_is_exact Disjoint param args points (Symbol n) some e r h = absurd r
-each_is_exact Differ param args points (Number z) some e r h =
-    differ_exact args points z some e r h
-each_is_exact Differ param args points (Element i) some e r h = absurd r
-each_is_exact Differ param args points (Symbol n) some e r h = absurd r

@@ -19,17 +19,18 @@ use Rattle.prop_many.specs.Differ.{RelatesDiffer, any_crowded, before_all, diffe
 use Rattle.prop_many.specs.Guards.{own_of, ruled_out}
 use Rattle.prop_many.specs.Many.{Related, value_of}
 use Rattle.prop_many.specs.declared.many.Many.{Many}
-use Rattle.prop_many.specs.declared.many.Many.TheVariants.{Cumulative, Differ, Disjoint}
+use Rattle.prop_many.specs.declared.many.Many.TheVariants.{Circuit, Cumulative, Differ, Disjoint}
 use Rattle.prop_many.specs.laws.DifferLaws.{IsShown, lt_le_not, shown_here, shown_later, shown_past}
 use Rattle.prop_many.specs.laws.ExactLaws.{known_held}
 use Rattle.prop_many.specs.laws.NumberLaws.{never}
 
--- the output is the own start or number
+-- the output is the own start, number or successor
 pub many_own : (rule : Many) → IsOwn (Related rule) (own_of rule)
 many_own Cumulative param (Number c ∷ Number s ∷ Number l ∷ Number d ∷ points) point r =
     ap Some (sym r.0)
 many_own Disjoint param (Number s ∷ Number l ∷ points) point r = ap Some (sym r.0)
 many_own Differ param (p ∷ points) point r = ap Some (sym r.0)
+many_own Circuit param (Number v ∷ Number i ∷ points) point r = ap Some (sym r.0)
 many_own rule param points point r = search rules
 
 -- no rule is silent or repeats an argument at a glance
@@ -97,6 +98,7 @@ pub many_barred : (rule : Many)
     (λ param args place. ruled_out rule args place)
 many_barred Cumulative param args place = tt
 many_barred Disjoint param args place = tt
+many_barred Circuit param args place = tt
 many_barred Differ param [] place = tt
 many_barred Differ param (own ∷ others) zero = tt
 many_barred Differ param (own ∷ others) (suc k) = by (slice_get others k) refl

@@ -7,6 +7,8 @@ use Rattle.prop_rows.specs.Guards.{own_of}
 use Rattle.prop_rows.specs.Row.{Related, value_of}
 use Rattle.prop_rows.specs.declared.row.Row.{Row}
 use Rattle.prop_rows.specs.declared.row.Row.TheVariants.{Sum, Addend, Element, Index, Entry}
+use Rattle.prop_rows.specs.declared.row.Row.TheVariants.{Count, CountBack, Greatest, GreatestBack}
+use Rattle.prop_rows.specs.declared.row.Row.TheVariants.{Least, LeastBack}
 use Rattle.prop_wide.specs.laws.TruthLaws.{never}
 
 pub row_silent : (rule : Row) → AreSilent (value_of rule) (λ param args. false)
@@ -26,3 +28,9 @@ row_own Sum param points point r = tt
 row_own Addend param points point r = tt
 row_own Element param points point r = tt
 row_own Entry param points point r = tt
+row_own Count param points point r = tt
+row_own CountBack param points point r = tt
+row_own Greatest param points point r = tt
+row_own GreatestBack param points point r = tt
+row_own Least param points point r = tt
+row_own LeastBack param points point r = tt

@@ -26,6 +26,16 @@ use Rattle.prop_rows.specs.Row.{RelatesEntry}
 use Rattle.prop_rows.specs.Sums.{sum_of, addend_of}
 use Rattle.prop_rows.specs.declared.row.Row.{Row}
 use Rattle.prop_rows.specs.declared.row.Row.TheVariants.{Sum, Addend, Element, Index, Entry}
+use Rattle.prop_rows.specs.declared.row.Row.TheVariants.{Count, CountBack, Greatest, GreatestBack}
+use Rattle.prop_rows.specs.declared.row.Row.TheVariants.{Least, LeastBack}
+use Rattle.prop_rows.specs.Extremes.{RelatesGreatestBack, RelatesLeastBack}
+use Rattle.prop_rows.specs.laws.ExtremeLaws.{greatest_below, greatest_kind, greatest_sound}
+use Rattle.prop_rows.specs.laws.ExtremeLaws.{greatest_back_below, greatest_back_kind}
+use Rattle.prop_rows.specs.laws.ExtremeLaws.{greatest_back_sound, least_below, least_kind}
+use Rattle.prop_rows.specs.laws.ExtremeLaws.{least_sound, least_back_below, least_back_kind}
+use Rattle.prop_rows.specs.laws.ExtremeLaws.{least_back_sound}
+use Rattle.prop_wide.specs.declared.wide.Wide.TheVariants as wides
+use Rattle.prop_wide.specs.laws.WideLaws.{wide_monotone, wide_keeps_kind, wide_sound}
 use Rattle.prop_rows.specs.laws.EntryLaws.{AreOfKind, picked_below, picked_kind, picked_holds}
 use Rattle.prop_rows.specs.laws.EntryLaws.{found_below, found_kind, found_holds, entry_below}
 use Rattle.prop_rows.specs.laws.EntryLaws.{entry_kind, entry_holds}
@@ -94,6 +104,18 @@ entry_monotone param (i ∷ j ∷ v ∷ []) (i' ∷ j' ∷ v' ∷ []) p n =
     entry_below i j v i' j' v' p.0 p.1.0 p.1.1.0 n.0 n.1.0 n.1.1.0
 entry_monotone param olds news p n = search rules
 
+greatest_back_monotone : (param : Param) (olds news : List Info) → EachBelow olds news
+    → AreClear news → Below (value_of GreatestBack param olds) (value_of GreatestBack param news)
+greatest_back_monotone param (z ∷ olds) (z' ∷ news) p n =
+    greatest_back_below z z' olds news p.0 n.0 p.1 n.1
+greatest_back_monotone param olds news p n = search rules
+
+least_back_monotone : (param : Param) (olds news : List Info) → EachBelow olds news
+    → AreClear news → Below (value_of LeastBack param olds) (value_of LeastBack param news)
+least_back_monotone param (z ∷ olds) (z' ∷ news) p n =
+    least_back_below z z' olds news p.0 n.0 p.1 n.1
+least_back_monotone param olds news p n = search rules
+
 pub row_monotone : (rule : Row) (ins : List Shape) (out : Shape) (need : Need)
     → FormOf rule ins out need → IsMonotone (value_of rule) ins need
 row_monotone Sum ins out need f any param olds news c d p =
@@ -106,6 +128,16 @@ row_monotone Index ins out need f any param olds news c d p =
     index_monotone param olds news p d.clear
 row_monotone Entry ins out need f any param olds news c d p =
     entry_monotone param olds news p d.clear
+row_monotone Count ins out need f any param olds news c d p =
+    wide_monotone wides.Count ins out need (f.0, f.1, f.2) any param olds news c d p
+row_monotone CountBack ins out need f any param olds news c d p =
+    wide_monotone wides.CountBack ins out need (f.0, f.1, f.2) any param olds news c d p
+row_monotone Greatest ins out need f any param olds news c d p = greatest_below olds news p d.clear
+row_monotone GreatestBack ins out need f any param olds news c d p =
+    greatest_back_monotone param olds news p d.clear
+row_monotone Least ins out need f any param olds news c d p = least_below olds news p d.clear
+row_monotone LeastBack ins out need f any param olds news c d p =
+    least_back_monotone param olds news p d.clear
 
 -- ---- answers of their kind
 
@@ -155,6 +187,16 @@ entry_keeps any param (i ∷ j ∷ v ∷ []) h =
     entry_kind (any (Any 0)).kind (any (Any 0)).size i j v h.1.1.0
 entry_keeps any param args h = search rules
 
+greatest_back_keeps : (param : Param) (args : List Info)
+    → IsOf kinds.Span 0 (value_of GreatestBack param args)
+greatest_back_keeps param (z ∷ others) = greatest_back_kind z others
+greatest_back_keeps param args = search rules
+
+least_back_keeps : (param : Param) (args : List Info)
+    → IsOf kinds.Span 0 (value_of LeastBack param args)
+least_back_keeps param (z ∷ others) = least_back_kind z others
+least_back_keeps param args = search rules
+
 pub row_keeps_kind : (rule : Row) (ins : List Shape) (out : Shape) (need : Need)
     → FormOf rule ins out need → KeepsKind (value_of rule) ins out need
 row_keeps_kind Sum ins out need f any param args c =
@@ -165,6 +207,15 @@ row_keeps_kind Element ins out need f any param args c =
 row_keeps_kind Index ins out need f any param args c = rw f.1 (index_keeps param args)
 row_keeps_kind Entry ins out need f any param args c =
     rw f.1 (entry_keeps any param args (rw f.0 at c.of_kinds))
+row_keeps_kind Count ins out need f any param args c =
+    wide_keeps_kind wides.Count ins out need (f.0, f.1, f.2) any param args c
+row_keeps_kind CountBack ins out need f any param args c =
+    wide_keeps_kind wides.CountBack ins out need (f.0, f.1, f.2) any param args c
+row_keeps_kind Greatest ins out need f any param args c = rw f.1 (greatest_kind args)
+row_keeps_kind GreatestBack ins out need f any param args c =
+    rw f.1 (greatest_back_keeps param args)
+row_keeps_kind Least ins out need f any param args c = rw f.1 (least_kind args)
+row_keeps_kind LeastBack ins out need f any param args c = rw f.1 (least_back_keeps param args)
 
 -- ---- answers that hold what belongs to the arguments
 
@@ -203,6 +254,22 @@ entry_sounds any param (i ∷ j ∷ v ∷ []) (Number a ∷ Number b ∷ p ∷ [
     entry_holds i j v a b p point e.0 ps.0 e.1.0 ps.1.0 e.1.1.0 r
 entry_sounds any param args points point ps e r = search rules
 
+greatest_back_sounds : (any : Shape → Kinded) (ins : List Shape) (param : Param) (args : List Info)
+    (points : List Point) (point : Point) → Begins Span AreSpans ins → ArePointsOf any ins points
+    → IsPointOf kinds.Span 0 point → EachHolds args points → RelatesGreatestBack points point
+    → Holds (value_of GreatestBack param args) point
+greatest_back_sounds any (s ∷ ins) param (z ∷ others) (Number v ∷ points) (Number x) f ps k e r =
+    greatest_back_sound any ins z others points v x f.1 ps.1 (rw f.0 at ps.0) k e.0 e.1 r
+greatest_back_sounds any ins param args points point f ps k e r = search rules
+
+least_back_sounds : (any : Shape → Kinded) (ins : List Shape) (param : Param) (args : List Info)
+    (points : List Point) (point : Point) → Begins Span AreSpans ins → ArePointsOf any ins points
+    → IsPointOf kinds.Span 0 point → EachHolds args points → RelatesLeastBack points point
+    → Holds (value_of LeastBack param args) point
+least_back_sounds any (s ∷ ins) param (z ∷ others) (Number v ∷ points) (Number x) f ps k e r =
+    least_back_sound any ins z others points v x f.1 ps.1 (rw f.0 at ps.0) k e.0 e.1 r
+least_back_sounds any ins param args points point f ps k e r = search rules
+
 pub row_sound : (rule : Row) (ins : List Shape) (out : Shape) (need : Need)
     → FormOf rule ins out need → IsSound (value_of rule) (Related rule) ins out need
 row_sound Sum ins out need f any param args points point c ps p h r =
@@ -216,3 +283,15 @@ row_sound Index ins out need f any param args points point c ps p h r =
     index_sounds any ins param args points point f.0 ps h r
 row_sound Entry ins out need f any param args points point c ps p h r =
     entry_sounds any param args points point (rw f.0 at ps) h r
+row_sound Count ins out need f any param args points point c ps p h r =
+    wide_sound wides.Count ins out need (f.0, f.1, f.2) any param args points point c ps p h r
+row_sound CountBack ins out need f any param args points point c ps p h r =
+    wide_sound wides.CountBack ins out need (f.0, f.1, f.2) any param args points point c ps p h r
+row_sound Greatest ins out need f any param args points point c ps p h r =
+    greatest_sound any ins args points point f.0 ps (rw f.1 at p) h r
+row_sound GreatestBack ins out need f any param args points point c ps p h r =
+    greatest_back_sounds any ins param args points point f.0 ps (rw f.1 at p) h r
+row_sound Least ins out need f any param args points point c ps p h r =
+    least_sound any ins args points point f.0 ps (rw f.1 at p) h r
+row_sound LeastBack ins out need f any param args points point c ps p h r =
+    least_back_sounds any ins param args points point f.0 ps (rw f.1 at p) h r

@@ -1,4 +1,4 @@
-use Rattle.prop_many.specs.laws.ExactLaws.{each_is_exact}
+use Rattle.prop_many.specs.laws.SinglesLaws.{each_is_exact}
 use Rattle.prop_many.proofs.many.Many.exact.Goals as goal
 
 pub returns : goal.returns
