@@ -5,5 +5,6 @@ pub mod Naming
 pub mod Listing
 pub mod How
 pub mod Telling
+pub mod Posting
 pub mod inner
 pub mod laws

@@ -1,5 +1,5 @@
 -- The names of cells that have none of their own, and of instances, by the uses that made them.
-use Rattle.std.specs.Prelude.{ℕ, zero, suc, ◌-◌, List, [], ◌∷◌, ◌++◌, cond, nat_le, codes}
+use Rattle.std.specs.Prelude.{ℕ, zero, suc, ◌+◌, ◌-◌, List, [], ◌∷◌, ◌++◌, cond, nat_le, codes}
 use Rattle.std.specs.Prelude.{decimal, Option, Some, None, filter, flat_map, length, slice_get}
 use Rattle.std.specs.Prelude.{unwrap_or}
 use Rattle.std.specs.Option.{option_and_then, option_map_or}
@@ -19,19 +19,32 @@ abbrev pub use_at : Notes → ℕ → Option Use
 use_at notes zero = None
 use_at notes (suc n) = slice_get notes.uses n
 
+-- what was required is named so by the number of its use
+abbrev pub required_text : ℕ → List ℕ
+required_text number = codes "require:" ++ decimal number
+
 -- ---- cells
+
+-- a cell of which no use is known
+abbrev pub unknown_text : ℕ → List ℕ
+unknown_text cell = codes "#" ++ decimal cell
 
 -- the path of a cell within the use that made it
 abbrev pub local_of : Notes → ℕ → Use → Option (List ℕ)
 local_of notes cell u =
     option_and_then (λ (d : Inner). slice_get d.locals (cell - u.cells)) (inner_at notes u.of)
 
+-- a cell by the use of this number; those that were required have numbers from 1 on
+abbrev pub local_by : Notes → ℕ → ℕ → Use → List ℕ
+local_by notes cell number u = cond u.required
+    (required_text number ++ (codes "." ++ decimal (cell - u.cells + 1)))
+    (option_map_or (path_within number) (local_of notes cell u) (unknown_text cell))
+
 -- a cell by its use, or by `#` and its number where none is known
 abbrev pub local_text : Notes → ℕ → List ℕ
 local_text notes cell =
     let number = uses_by_cell notes.uses cell in
-    option_map_or (path_within number)
-    (option_and_then (local_of notes cell) (use_at notes number)) (codes "#" ++ decimal cell)
+    option_map_or (local_by notes cell number) (use_at notes number) (unknown_text cell)
 
 -- a cell by its name, or by the use that made it
 abbrev pub cell_name : Notes → CellNames → ℕ → List ℕ
@@ -59,9 +72,14 @@ made_by number given (Some part) =
     record { path = path_within number part.path; by = cond part.own given part.by }
 made_by number given None = record { path = decimal number; by = given }
 
+-- an instance of the use of this number
+abbrev pub made_in : Notes → ℕ → ℕ → Use → Made
+made_in notes i number u = cond u.required (record { path = required_text number; by = [] })
+    (made_by number u.by (part_of notes i u))
+
 -- an instance by its use
 abbrev pub made_at : Notes → ℕ → Made
 made_at notes i =
     let number = uses_by_instance notes.uses i in
-    option_map_or (λ (u : Use). made_by number u.by (part_of notes i u)) (use_at notes number)
-    (record { path = codes "#" ++ decimal i; by = [] })
+    option_map_or (made_in notes i number) (use_at notes number)
+    (record { path = unknown_text i; by = [] })

@@ -21,10 +21,12 @@ pub record Inner : Type 0 where
   pub locals : List (List ℕ)
   pub parts : List Part
 
--- a use that was attached: of the definition with this number, if it is of one, what it is given as
--- text, and how many cells and instances there were before it
+-- a use that was attached, or what a line required: of the definition with this number, if it is of
+-- one, whether it was required, what it is given as text, and how many cells and instances there
+-- were before it
 pub record Use : Type 0 where
   pub of : Option ℕ
+  pub required : Bool
   pub by : List ℕ
   pub cells : ℕ
   pub instances : ℕ
@@ -134,11 +136,22 @@ note_of notes cells instances (Command.Define name params steps) =
 note_of notes cells instances (Command.Attach name on by) =
     Some (Attached (record {
       of = definition_named notes name;
+      required = false;
       by = by_text by;
       cells = cells;
       instances = instances;
     }))
 note_of notes cells instances command = None
+
+-- what a line required, where there are so many cells and instances
+abbrev pub required : ℕ → ℕ → Note
+required cells instances = Attached (record {
+  of = None;
+  required = true;
+  by = [];
+  cells = cells;
+  instances = instances;
+})
 
 -- one note more
 abbrev pub with_note : Notes → Note → Notes

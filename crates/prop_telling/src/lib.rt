@@ -18,8 +18,10 @@ mod how;
 mod listing;
 mod naming;
 mod notes;
+mod posting;
 mod telling;
 mod texts;
 
 pub use asking::is_apart;
+pub use posting::is_without_trace;
 pub use telling::Teller;

@@ -1,10 +1,9 @@
 //! The names of cells that have none of their own, and of instances, by the uses that made them.
 ghost use Rattle.std.specs.Prelude.{◌≡◌, ◌<◌, ◌≤◌, ◌++◌, ◌∷◌, [], IfOk, IfSome, OnOk, Some, None};
 ghost use Rattle.std.specs.Prelude.{length, string_bytes, option_copied, cond};
-ghost use Rattle.std.specs.Option.{option_and_then};
 ghost use Rattle.prop_telling.specs.Naming.{uses_by_cell, uses_by_instance, use_at, local_of};
-ghost use Rattle.prop_telling.specs.Naming.{local_text, cell_name, cell_names, part_of, made_by};
-ghost use Rattle.prop_telling.specs.Naming.{made_at};
+ghost use Rattle.prop_telling.specs.Naming.{local_by, local_text, cell_name, cell_names};
+ghost use Rattle.prop_telling.specs.Naming.{part_of, made_by, made_in, made_at};
 
 use crate::notes::{Notes, Part, Use};
 use prop_vocabulary::CellNames;
@@ -88,17 +87,35 @@ impl Notes {
         self.uses.get(number.checked_sub(1)?)
     }
 
-    /// The path of a cell within the use of this number.
-    fn local(&self, number: usize, cell: usize) -> Option<&str>
-        ensures some { IfSome result (λ local.
-            option_and_then (local_of self.now cell) (use_at self.now number) ≡ Some local.now) }
-        ensures none { result ≡ None
-            → option_and_then (local_of self.now cell) (use_at self.now number) ≡ None }
+    /// The path of a cell within the use that made it.
+    fn local(&self, made: &Use, cell: usize) -> Option<&str>
+        ensures some { IfSome result (λ local. local_of self.now cell made.now ≡ Some local.now) }
+        ensures none { result ≡ None → local_of self.now cell made.now ≡ None }
     {
-        let made = self.use_at(number)?;
         let inner = self.inner_at(made.of)?;
         let local = inner.locals.get(cell.saturating_sub(made.cells))?;
         Some(local.as_str())
+    }
+
+    /// A cell by the use of this number, which made it.
+    fn local_by(
+        &self,
+        alloc: Global,
+        cell: usize,
+        number: usize,
+        made: &Use,
+    ) -> Result<String, AllocError>
+        ensures { IfOk result (λ text.
+            string_bytes text ≡ local_by self.now cell number made.now) }
+    {
+        if made.required {
+            let place = cell.saturating_sub(made.cells) as u128 + 1;
+            return format!(in alloc; "require:{number}.{place}");
+        }
+        match self.local(made, cell) {
+            Some(local) => format!(in alloc; "{number}.{local}"),
+            None => format!(in alloc; "#{cell}"),
+        }
     }
 
     /// A cell by the use that made it, or `#` and its number.
@@ -106,8 +123,8 @@ impl Notes {
         ensures { IfOk result (λ text. string_bytes text ≡ local_text self.now cell) }
     {
         let number = count_by_cell(&self.uses, cell);
-        match self.local(number, cell) {
-            Some(local) => format!(in alloc; "{number}.{local}"),
+        match self.use_at(number) {
+            Some(made) => self.local_by(alloc, cell, number, made),
             None => format!(in alloc; "#{cell}"),
         }
     }
@@ -153,13 +170,31 @@ impl Notes {
         inner.parts.get(instance.saturating_sub(made.instances))
     }
 
+    /// An instance of the use of this number.
+    fn made_in(
+        &self,
+        alloc: Global,
+        instance: usize,
+        number: usize,
+        made: &Use,
+    ) -> Result<Made, AllocError>
+        ensures { IfOk result (λ m. m ≡ made_in self.now instance number made.now) }
+    {
+        if made.required {
+            let path = format!(in alloc; "require:{number}")?;
+            let by = String::new(alloc);
+            return Ok(Made { path, by });
+        }
+        made_by(alloc, number, &made.by, self.part(made, instance))
+    }
+
     /// An instance by the use that made it, or `#` and its number.
     pub(crate) fn made_at(&self, alloc: Global, instance: usize) -> Result<Made, AllocError>
         ensures { IfOk result (λ made. made ≡ made_at self.now instance) }
     {
         let number = count_by_instance(&self.uses, instance);
         match self.use_at(number) {
-            Some(made) => made_by(alloc, number, &made.by, self.part(made, instance)),
+            Some(made) => self.made_in(alloc, instance, number, made),
             None => {
                 let path = format!(in alloc; "#{instance}")?;
                 let by = String::new(alloc);

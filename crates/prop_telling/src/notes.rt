@@ -60,11 +60,13 @@ impl Model for Inner {
     } };
 }
 
-/// A use that was attached: of the definition with this number, if it is of one, what it is given
-/// as text, and how many cells and instances there were before it.
+/// A use that was attached, or what a line required: of the definition with this number, if it is
+/// of one, whether it was required, what it is given as text, and how many cells and instances
+/// there were before it.
 #[derive(Drop)]
 pub(crate) struct Use {
     pub(crate) of: Option<usize>,
+    pub(crate) required: bool,
     pub(crate) by: String,
     pub(crate) cells: usize,
     pub(crate) instances: usize,
@@ -78,6 +80,7 @@ impl Model for Use {
 
     ghost view = { λ u. record {
       of = u.of;
+      required = u.required;
       by = string_bytes u.by;
       cells = u.cells;
       instances = u.instances;
@@ -342,6 +345,7 @@ impl Notes {
             }
             Command::Attach(name, _, by) => Ok(Some(Note::Attached(Use {
                 of: self.find(name),
+                required: false,
                 by: by_text(alloc, *by)?,
                 cells,
                 instances,

@@ -300,7 +300,7 @@ module _ (library : List Stored) (names : CellNames) (words : Vocabulary) (defin
 -- ---- the places of a use
 
 -- there is a cell at each place
-there_placed : (kinds fresh : List Kinded) (cells : List ℕ) (place : ℕ) → All (λ c. c < length kinds) cells
+pub there_placed : (kinds fresh : List Kinded) (cells : List ℕ) (place : ℕ) → All (λ c. c < length kinds) cells
     → place < length cells + length fresh → cell_placed cells (length kinds) place < length (kinds ++ fresh)
 there_placed kinds fresh cells place below l = by (cases_lt place (length cells))
   where

@@ -8,3 +8,4 @@ pub mod Sessions
 pub mod Choosing
 pub mod Machine
 pub mod Points
+pub mod Posting

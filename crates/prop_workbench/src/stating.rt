@@ -100,7 +100,7 @@ impl<R: Rule + Drop, O: Order + Drop> Session<R, O> {
 
     /// Under what is stated by this name, or `IsAChoice` where it is that of a choice. The name is
     /// looked up once.
-    fn under<'a>(&self, premise: Option<&'a str>) -> Result<Under<'a>, Refusal>
+    pub(crate) fn under<'a>(&self, premise: Option<&'a str>) -> Result<Under<'a>, Refusal>
         ensures name { IfOk result (λ under. name_under under ≡ name_of premise.entry) }
         ensures ok { IfOk result (IsUnder self.now.search.premises) }
         ensures free { OnOk result
@@ -197,7 +197,12 @@ impl<R: Rule + Drop, O: Order + Drop> Session<R, O> {
     }
 
     /// Makes a statement under this, where there is room.
-    fn state_said(&mut self, under: Under, cell: usize, info: Info) -> Result<(), Refusal>
+    pub(crate) fn state_said(
+        &mut self,
+        under: Under,
+        cell: usize,
+        info: Info,
+    ) -> Result<(), Refusal>
         requires sound { IsInOrder R.value_of self.old }
         requires under { IsUnder self.old.search.premises under }
         requires room { statement_limit (state_of self.old) (name_under under) ≡ None }

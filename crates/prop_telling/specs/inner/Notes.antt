@@ -1,6 +1,8 @@
 -- How paths are added, and notes as they stand in memory.
-use Rattle.std.specs.Prelude.{◌≡◌, ℕ, ◌≤◌, List, [], ◌++◌, length, take}
+use Rattle.std.specs.Prelude.{◌≡◌, ℕ, ◌≤◌, Bool, true, false, List, [], ◌++◌, length, take}
+use Rattle.std.specs.Prelude.{Result, Ok, Err, ⊤}
 use Rattle.std.specs.String.{string_bytes}
+use Rattle.prop_refusals.specs.declared.refusal.Refusal.{Refusal}
 use Rattle.prop_refusals.specs.declared.refusal.Refusal.TheVariants.{Memory}
 use Rattle.prop_procedures.specs.Stored.{Stored}
 use Rattle.prop_language.specs.Reading.{AsRead}
@@ -34,3 +36,9 @@ pub record AddsBefore {A : Type 0} (left all new : List A) : Type 0 where
 abbrev pub LacksMemory : List ℕ → Type 0
 LacksMemory line = AsRead line (λ read. (library : List Stored) (old : State)
     → Follows library old read (Refused Memory) old 0)
+
+-- it was refused before anything was made
+abbrev pub is_without_trace : Result ⊤ Refusal → Bool
+is_without_trace (Ok done) = false
+is_without_trace (Err Memory) = false
+is_without_trace (Err refusal) = true

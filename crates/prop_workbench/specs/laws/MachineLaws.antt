@@ -12,10 +12,9 @@ use Rattle.prop_language.specs.Reading.{IsReading, AsRead}
 use Rattle.prop_language.proofs.ReadingLaws.{have_one_reading}
 use Rattle.prop_engine.specs.Lines.{kept_of}
 use Rattle.prop_engine.specs.Answers.{Answer, Silent, Refused}
-use Rattle.prop_workbench.specs.Machine.{State, worldview_at}
-use Rattle.prop_workbench.specs.inner.Machine.{naming}
+use Rattle.prop_workbench.specs.Machine.{State}
 use Rattle.prop_workbench.specs.Steps.{Follows, Step}
-use Rattle.prop_workbench.specs.Engine.{workbench, working, Works}
+use Rattle.prop_workbench.specs.Engine.{workbench, working}
 use Rattle.prop_workbench.specs.Questions.{Picks}
 use Rattle.prop_engine.specs.Machines.{AsksByPrefix, IsTotal}
 

@@ -9,7 +9,6 @@ use Rattle.prop_workbench.proofs.BeliefLemmas.{found_free, believed_or_not, beli
 use Rattle.prop_workbench.proofs.ForgettingLemmas.{missing_from}
 use Rattle.prop_workbench.proofs.StandingLemmas.{believing_keeps, same_keeps, same_done}
 use Rattle.std.proofs.lemmas.Result.{err_from_is_err_and}
-use Rattle.prop_numbers.specs.Sets.{set_of}
 use Rattle.prop_workbench.specs.Sessions.{state_of, state_from, work_of}
 use Rattle.prop_workbench.proofs.AskLemmas.{believes_same}
 use Rattle.prop_workbench.proofs.WakingLemmas.{stands_by, still_shifted}

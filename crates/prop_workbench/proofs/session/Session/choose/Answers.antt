@@ -1,4 +1,4 @@
-use Rattle.std.proofs.Common.{◌++◌, ◌∷◌, [], ◌≡◌, ◌∙◌, ◌⊎◌, All, Some, None, refl, sym, ap, subst, map, arith}
+use Rattle.std.proofs.Common.{◌≡◌, ◌∙◌, ◌⊎◌, All, Some, None, refl, sym, ap, subst, map, arith}
 use Rattle.std.specs.Prelude.{OnOk, IfErr}
 use Rattle.prop_refusals.specs.declared.refusal.Refusal.TheVariants.{Memory}
 use Rattle.prop_premises.specs.Origins.{premise_number, is_choice}

@@ -7,7 +7,7 @@ use Rattle.prop_amb.specs.Search.{IsSearch}
 use Rattle.prop_language.specs.Said.{by_of}
 use Rattle.prop_scheduler.specs.Making.{with_flat}
 use Rattle.prop_compound.specs.Compounds.{given_by}
-use Rattle.prop_workbench.specs.Sessions.{state_of, state_from, AreKnown}
+use Rattle.prop_workbench.specs.Sessions.{state_from, AreKnown}
 use Rattle.prop_compound.specs.Kinds.{IsSized}
 use Rattle.prop_workbench.proofs.AttachLemmas.{may_make, sized_made, named_made, room_made, state_made}
 use Rattle.prop_workbench.proofs.NamesLemmas.{used_is}
