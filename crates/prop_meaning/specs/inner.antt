@@ -1,0 +1,4 @@
+pub mod Steps
+pub mod Drafts
+pub mod Spans
+pub mod Formulas

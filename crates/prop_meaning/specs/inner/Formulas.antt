@@ -1,0 +1,53 @@
+-- What operators are made of.
+use Rattle.std.specs.Prelude.{◌≡◌, ⊤, ⊥}
+use Rattle.prop_lattice.specs.Points.{Point}
+use Rattle.prop_procedures.specs.declared.shape.Kinded.{Kinded}
+use Rattle.prop_terms.specs.declared.operators.Infix.{Infix}
+use Rattle.prop_terms.specs.declared.operators.Infix.TheVariants.{Iff, Implies, Xor, Or, And, Equal}
+use Rattle.prop_terms.specs.declared.operators.Infix.TheVariants.{Unequal, Less, AtMost, Greater}
+use Rattle.prop_terms.specs.declared.operators.Infix.TheVariants.{AtLeast, Plus, Minus, Times}
+use Rattle.prop_meaning.specs.declared.steps.Single.TheVariants.{Not}
+use Rattle.prop_meaning.specs.declared.steps.Pair.TheVariants as pairs
+use Rattle.prop_meaning.specs.inner.Steps.{of_one, of_two}
+use Rattle.prop_meaning.specs.inner.Drafts.{number_kind, truth_kind}
+
+-- which kind both sides of an operator may be of
+abbrev pub Takes : Infix → Kinded → Type 0
+Takes Equal kinded = ⊤
+Takes Unequal kinded = ⊤
+Takes And kinded = kinded ≡ truth_kind
+Takes Or kinded = kinded ≡ truth_kind
+Takes Xor kinded = kinded ≡ truth_kind
+Takes Iff kinded = kinded ≡ truth_kind
+Takes Implies kinded = kinded ≡ truth_kind
+Takes Less kinded = kinded ≡ number_kind
+Takes AtMost kinded = kinded ≡ number_kind
+Takes Greater kinded = kinded ≡ number_kind
+Takes AtLeast kinded = kinded ≡ number_kind
+Takes Plus kinded = kinded ≡ number_kind
+Takes Minus kinded = kinded ≡ number_kind
+Takes Times kinded = kinded ≡ number_kind
+Takes op kinded = ⊥
+
+abbrev pub kind_of : Infix → Kinded
+kind_of Plus = number_kind
+kind_of Minus = number_kind
+kind_of Times = number_kind
+kind_of op = truth_kind
+
+abbrev pub formula : Infix → Point → Point → Point
+formula Plus p q = of_two pairs.Sum p q
+formula Minus p q = of_two pairs.Difference p q
+formula Times p q = of_two pairs.Product p q
+formula Equal p q = of_two pairs.Same p q
+formula Unequal p q = of_one Not (of_two pairs.Same p q)
+formula Less p q = of_two pairs.Less p q
+formula Greater p q = of_two pairs.Less q p
+formula AtMost p q = of_one Not (of_two pairs.Less q p)
+formula AtLeast p q = of_one Not (of_two pairs.Less p q)
+formula And p q = of_two pairs.And p q
+formula Or p q = of_two pairs.Or p q
+formula Iff p q = of_two pairs.Same p q
+formula Xor p q = of_one Not (of_two pairs.Same p q)
+formula Implies p q = of_two pairs.Or (of_one Not p) q
+formula op p q = p

@@ -1,0 +1,20 @@
+//! What a constraint becomes in a network: fresh cells, constants, and instances of rules.
+#![tactic(auto)]
+
+pub mod acts;
+mod draft;
+pub mod fault;
+pub mod known;
+mod making;
+pub mod palette;
+pub mod posting;
+mod spans;
+mod steps;
+pub mod words;
+
+pub use acts::{Act, Inputs, Rule};
+pub use fault::{Fault, Why};
+pub use known::Known;
+pub use palette::{Palette, flat};
+pub use posting::{Posted, compute, post};
+pub use words::Words;
