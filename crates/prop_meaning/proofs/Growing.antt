@@ -1,6 +1,7 @@
 -- Fresh cells stay as more are made.
-use Rattle.std.proofs.Common.{◌≡◌, ◌⊎◌, ◌∙◌, ℕ, zero, suc, ◌+◌, ◌-◌, ◌<◌, List, [], ◌∷◌, ◌++◌, length, Bool, true, false}
-use Rattle.std.proofs.Common.{Option, Some, None, cond, nat_lt, slice_get, inl, inr, refl, ap, sym, subst, arith}
+use Rattle.std.proofs.Common.{◌≡◌, ◌⊎◌, ◌∙◌, ℕ, zero, suc, ◌+◌, ◌-◌, ◌<◌, ◌≤◌, List, [], ◌∷◌, ◌++◌, length, Bool, true, false}
+use Rattle.std.proofs.Common.{Option, Some, None, IsSomeAnd, cond, nat_lt, slice_get, inl, inr, refl, ap, sym, subst, arith}
+use Rattle.std.specs.Prelude.{Result, Ok, Err, OnOk, IfOk}
 use Rattle.std.specs.Option.{option_map}
 use Rattle.std.proofs.lemmas.Option.{slice_get_within}
 use Rattle.std.proofs.lemmas.Bool.{ltb-true, ltb-false}
@@ -17,6 +18,13 @@ use Rattle.prop_meaning.specs.declared.known.Known.{Known}
 use Rattle.prop_meaning.specs.declared.steps.Step.{Step}
 use Rattle.prop_meaning.specs.declared.steps.Step.TheVariants as steps
 use Rattle.prop_terms.specs.Terms.{Term}
+
+-- ---- results
+
+pub both_ok : {X E : Type 0} (r : Result X E) (P : Type 0) (Q R : X → Type 0) → OnOk r P → IfOk r Q
+    → ((x : X) → P → Q x → R x) → IfOk r R
+both_ok (Ok x) P Q R p q f = f x p q
+both_ok (Err e) P Q R p q f = tt
 
 -- ---- lists
 
@@ -57,6 +65,7 @@ has_grows lexicon olds news place kinded g h =
 pub suits_grows : (lexicon : Lexicon) (olds news : List Made) (kinded : Kinded) (s : Step) → Grows olds news
     → Suits lexicon olds kinded s → Suits lexicon news kinded s
 suits_grows lexicon olds news kinded (steps.Number z) g h = h
+suits_grows lexicon olds news kinded (steps.Element i) g h = h
 suits_grows lexicon olds news kinded (steps.One op x) g h = (has_grows lexicon olds news x _ g h.0, h.1)
 suits_grows lexicon olds news kinded (steps.Two op x y) g h =
     (h.0, h.1, has_grows lexicon olds news x _ g h.2, has_grows lexicon olds news y _ g h.3, h.4)
@@ -211,3 +220,53 @@ stands_before lexicon made place kinded h =
     before (nat_lt place lexicon.count) lexicon.count place (length made) (lexicon.known place)
     (slice_get made (place - lexicon.count)) known.0 refl
     (λ m e. slice_get_within made (place - lexicon.count) m e) known.1
+
+-- ---- a cell that is found or made
+
+has_at : (b : Bool) (c p n k : ℕ) (given : Known) (made : List Made) (m : Made) → nat_lt p c ≡ b → p ≡ c + k → n ≡ p - c
+    → slice_get made k ≡ Some m
+    → option_map (λ k. k.kinded) (cond b (Some given) (option_map (λ m. m.known) (slice_get made n))) ≡ Some m.known.kinded
+has_at true c p n k given made m e f g h = absurd (omega (arith, ltb-true p c e))
+has_at false c p n k given made m e f g h =
+    let P : ℕ → Type 0 = λ i. option_map (λ k. k.kinded) (option_map (λ m. m.known) (slice_get made i)) ≡ Some m.known.kinded in
+    let same : k ≡ n = omega arith in
+    subst P same (ap (λ o. option_map (λ k. k.kinded) (option_map (λ m. m.known) o)) h)
+
+pub makes_at : (lexicon : Lexicon) (made : List Made) (m : Made) (k : ℕ) → slice_get made k ≡ Some m
+    → Makes lexicon made m.known.kinded (made_by m.step) (lexicon.count + k)
+makes_at lexicon made m k e = record {
+  has = has_at (nat_lt (lexicon.count + k) lexicon.count) lexicon.count (lexicon.count + k) ((lexicon.count + k) - lexicon.count) k
+      (lexicon.known (lexicon.count + k)) made m refl refl refl e;
+  is = λ a r. r.fresh k m e;
+}
+
+found_by : (lexicon : Lexicon) (made : List Made) (new : Made) (k : ℕ) (o : Option Made) → slice_get made k ≡ o
+    → IsSomeAnd o (λ m. (m.step ≡ new.step) × (m.known.kinded ≡ new.known.kinded))
+    → Makes lexicon made new.known.kinded (made_by new.step) (lexicon.count + k)
+found_by lexicon made new k (Some m) e h =
+    let P : Kinded → Type 0 = λ n. Makes lexicon made n (made_by new.step) (lexicon.count + k) in
+    let Q : Step → Type 0 = λ s. Makes lexicon made m.known.kinded (made_by s) (lexicon.count + k) in
+    subst P h.1 (subst Q h.0 (makes_at lexicon made m k e))
+found_by lexicon made new k None e h = absurd h
+
+pub found : (lexicon : Lexicon) (made : List Made) (new : Made) (k place : ℕ) → place ≡ lexicon.count + k
+    → IsSomeAnd (slice_get made k) (λ m. (m.step ≡ new.step) × (m.known.kinded ≡ new.known.kinded))
+    → Makes lexicon made new.known.kinded (made_by new.step) place
+found lexicon made new k place e h =
+    let P : ℕ → Type 0 = λ i. Makes lexicon made new.known.kinded (made_by new.step) i in
+    subst P (sym e) (found_by lexicon made new k (slice_get made k) refl h)
+
+pub pushed : (lexicon : Lexicon) (made : List Made) (new : Made) (place : ℕ) → place ≡ lexicon.count + length made
+    → Makes lexicon (made ++ new ∷ []) new.known.kinded (made_by new.step) place
+pushed lexicon made new place e =
+    let P : ℕ → Type 0 = λ i. Makes lexicon (made ++ new ∷ []) new.known.kinded (made_by new.step) i in
+    subst P (sym e) (makes_at lexicon (made ++ new ∷ []) new (length made) (at_last made new))
+
+-- what is made of what is made
+pub then_makes : (lexicon : Lexicon) (first second : List Made) (k l : Kinded) (f : (ℕ → Point) → Point)
+    (h : Point → (ℕ → Point) → Point) (z place : ℕ) → Makes lexicon first k f z → Grown lexicon first second
+    → Makes lexicon second l (λ a. h (a z) a) place → Makes lexicon second l (λ a. h (f a) a) place
+then_makes lexicon first second k l f h z place m g n = record {
+  has = n.has;
+  is = λ a r. n.is a r ∙ ap (λ p. h p a) (m.is a (runs_back lexicon first second a g.grows r));
+}

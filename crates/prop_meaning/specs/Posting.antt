@@ -1,5 +1,5 @@
 -- What a term becomes, and that this says the same.
-use Rattle.std.specs.Prelude.{◌≡◌, ◌↔◌, ◌×◌, ℕ, ◌+◌, ◌<◌, List, Bool, IsTrue, Some, slice_get}
+use Rattle.std.specs.Prelude.{◌≡◌, ◌↔◌, ℕ, ◌+◌, ◌<◌, List, Bool, IsTrue, Some, slice_get}
 use Rattle.std.specs.List.{AllByRecursion}
 use Rattle.prop_lattice.specs.Points.{Point, Element, Holds, IsPointOf}
 use Rattle.prop_procedures.specs.declared.shape.Kinded.{Kinded}

@@ -2,3 +2,4 @@ pub mod Steps
 pub mod Drafts
 pub mod Spans
 pub mod Formulas
+pub mod Expanding

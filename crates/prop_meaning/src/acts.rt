@@ -4,7 +4,7 @@ use prop_arith::Kit;
 use prop_wide::Wide;
 
 /// A rule of which a program has procedures.
-#[derive(Clone, Copy, Debug, PartialEq, Eq)]
+#[derive(Clone, Copy)]
 pub enum Rule {
     /// One of the kit.
     OfKit(Kit),
@@ -13,7 +13,7 @@ pub enum Rule {
 }
 
 /// The places of an instance's inputs.
-#[derive(Clone, Copy, Debug, PartialEq, Eq)]
+#[derive(Clone, Copy)]
 pub enum Inputs {
     One(usize),
     Two(usize, usize),
@@ -21,7 +21,7 @@ pub enum Inputs {
 }
 
 /// An instance of a rule, by the places of its cells. One that takes a scale has the scale 1.
-#[derive(Clone, Copy, Debug, PartialEq, Eq)]
+#[derive(Clone, Copy)]
 pub struct Act {
     pub rule: Rule,
     pub inputs: Inputs,

@@ -1,5 +1,5 @@
 //! Fresh cells, each found among those that there are, or made.
-ghost use Rattle.std.specs.Prelude.{◌≡◌, ◌+◌, ◌×◌, length, slice_get, IfSome, IsSomeAnd, IfOk, OnOk};
+ghost use Rattle.std.specs.Prelude.{◌≡◌, ◌+◌, length, slice_get, IfSome, IsSomeAnd, IfOk, OnOk};
 ghost use Rattle.std.specs.Prelude.{IsTrue};
 ghost use Rattle.prop_meaning.specs.inner.Drafts.{known_at, IsSound, IsGood, Grown, Makes};
 ghost use Rattle.prop_meaning.specs.inner.Steps.{made_by};

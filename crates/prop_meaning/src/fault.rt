@@ -3,7 +3,7 @@
 use prop_terms::Term;
 
 /// What is wrong with a part of a term.
-#[derive(Clone, Copy, Debug, PartialEq, Eq)]
+#[derive(Clone, Copy)]
 pub enum Why {
     /// There was no memory.
     Memory,

@@ -1,9 +1,12 @@
 //! Fresh cells made of others.
-ghost use Rattle.std.specs.Prelude.{◌≡◌, ◌×◌, ◌≤ℤ◌, pos, ⊤, ℕ, ℤ, IfSome, IfOk, OnOk};
+ghost use Rattle.std.specs.Prelude.{◌≡◌, ◌≤ℤ◌, pos, ⊤, ℕ, ℤ, IsTrue, IfOk, OnOk};
 ghost use Rattle.prop_lattice.specs.Points.{Point};
 ghost use Rattle.prop_lattice.specs.Points as points;
 ghost use Rattle.prop_meaning.specs.Words.{IsWithin};
-ghost use Rattle.prop_meaning.specs.inner.Drafts.{known_at, Has, IsSound, Grown, Makes, TakesTwo};
+ghost use Rattle.prop_meaning.specs.inner.Drafts.{Has, IsSound, Grown, Makes, TakesTwo, AreTaken};
+ghost use Rattle.prop_meaning.specs.inner.Drafts.{AreAlike};
+ghost use Rattle.prop_procedures.specs.declared.shape.Kinded.{Kinded as Kinds};
+ghost use Rattle.prop_meaning.specs.inner.Drafts.{known_at};
 ghost use Rattle.prop_meaning.specs.inner.Drafts.{number_kind, truth_kind, kind_before, kind_between};
 ghost use Rattle.prop_meaning.specs.inner.Spans.{Tells};
 ghost use Rattle.prop_meaning.specs.inner.Steps.{of_one, of_two, chosen};
@@ -14,7 +17,6 @@ use crate::known::Known;
 use crate::spans;
 use crate::steps::{Pair, Single, Step};
 use crate::words::Words;
-use prop_lattice::span::B;
 use prop_lattice::{Kind, Span};
 use prop_procedures::Kinded;
 
@@ -30,13 +32,11 @@ pub(crate) const TRUTH: Kinded = Kinded {
     size: 2,
 };
 
-/// All numbers.
-fn whole() -> Result<Span, Why>
+/// Whether the kinds are the same.
+pub(crate) fn is_same_kind(kinded: Kinded, other: Kinded) -> bool
+    ensures { IsTrue result → (kinded ≡ other) }
 {
-    match Span::new(-B, B) {
-        Some(span) => Ok(span),
-        None => Err(Why::OutOfRange),
-    }
+    kinded == other
 }
 
 /// A number, of which this is known.
@@ -142,5 +142,29 @@ pub(crate) fn one<W: Words>(
     };
     let known = bounded_one(op, under)?;
     let step = Step::One(op, x);
+    placed(words, made, Made { step, known })
+}
+
+/// The cell that is the second where the first is `yes`, and else the third.
+pub(crate) fn choice<W: Words>(
+    words: &W,
+    made: &mut Vec<Made>,
+    t: usize,
+    x: usize,
+    y: usize,
+) -> Result<usize, Why>
+    requires sound { IsSound (W.lexicon words.now) made.old.items }
+    requires truth { Has (W.lexicon words.now) made.old.items t truth_kind }
+    requires suits { AreAlike (W.lexicon words.now) made.old.items x y }
+    ensures grown { OnOk result (Grown (W.lexicon words.now) made.old.items made.new.items) }
+    ensures makes { (kinded : Kinds) → Has (W.lexicon words.now) made.old.items x kinded
+        → IfOk result (Makes (W.lexicon words.now) made.new.items kinded
+        (λ a. chosen (a t) (a x) (a y))) }
+{
+    let (Some(left), Some(right)) = (known_at(words, made, x), known_at(words, made, y)) else {
+        unreachable!()
+    };
+    let known = bounded_choice(left, right)?;
+    let step = Step::Choice(t, x, y);
     placed(words, made, Made { step, known })
 }

@@ -84,7 +84,6 @@ fn largest_product(x: Span, y: Span) -> i128
     low.max(high)
 }
 
-#[tactic(auto, using(crate::proofs::Products::within))]
 pub(crate) fn product(x: Span, y: Span) -> Option<Span>
     ensures { IfSome result (HoldsTwo (λ u v. u *ℤ v) x y) }
 {

@@ -1,7 +1,7 @@
 //! Of what a fresh cell is made.
 
 /// A function of one point.
-#[derive(Clone, Copy, Debug, PartialEq, Eq)]
+#[derive(Clone, Copy, PartialEq, Eq)]
 pub enum Single {
     /// How far a number is from zero.
     Abs,
@@ -10,7 +10,7 @@ pub enum Single {
 }
 
 /// A function of two points.
-#[derive(Clone, Copy, Debug, PartialEq, Eq)]
+#[derive(Clone, Copy, PartialEq, Eq)]
 pub enum Pair {
     Sum,
     Difference,
@@ -26,7 +26,7 @@ pub enum Pair {
 }
 
 /// What a fresh cell is: a constant, or a function of cells before it.
-#[derive(Clone, Copy, Debug, PartialEq, Eq)]
+#[derive(Clone, Copy, PartialEq, Eq)]
 pub enum Step {
     Number(i64),
     Element(u8),

@@ -1,11 +1,11 @@
 -- Fresh cells, each made of given ones and those before it.
-use Rattle.std.specs.Prelude.{◌≡◌, ℕ, ◌+◌, ◌-◌, ◌<◌, List, length, cond, nat_lt, Option, Some, ⊤}
-use Rattle.std.specs.Prelude.{slice_get, ◌×◌}
+use Rattle.std.specs.Prelude.{◌≡◌, ℕ, ◌+◌, ◌-◌, ◌<◌, List, length, cond, nat_lt, Option, Some, ⊤, Bool}
+use Rattle.std.specs.Prelude.{slice_get}
 use Rattle.std.specs.Option.{option_map}
 use Rattle.prop_lattice.specs.Points.{Point, Element, IsPointOf}
 use Rattle.prop_lattice.specs.declared.info.Kind.TheVariants as kinds
 use Rattle.prop_procedures.specs.declared.shape.Kinded.{Kinded}
-use Rattle.prop_terms.specs.Meaning.{Value, worth}
+use Rattle.prop_terms.specs.Meaning.{Value, Text, worth}
 use Rattle.prop_terms.specs.Terms.{Term}
 use Rattle.prop_meaning.specs.Words.{Lexicon, IsLexicon, Fits, IsWithin, names_at, value_as}
 use Rattle.prop_meaning.specs.Words.{domain_of}
@@ -56,9 +56,20 @@ abbrev pub Has : Lexicon → List Made → ℕ → Kinded → Type 0
 Has lexicon made place kinded =
     option_map (λ k. k.kinded) (known_at lexicon made place) ≡ Some kinded
 
+-- both cells are of a kind that two points may be of
+abbrev pub AreTaken : Lexicon → List Made → pairs.Pair → ℕ → ℕ → Type 0
+AreTaken lexicon made op x y =
+    (both : Kinded) × TakesTwo op both × Has lexicon made x both × Has lexicon made y both
+
+-- both cells are of one kind
+abbrev pub AreAlike : Lexicon → List Made → ℕ → ℕ → Type 0
+AreAlike lexicon made x y =
+    (both : Kinded) × Has lexicon made x both × Has lexicon made y both
+
 -- the cells of which a step is made are of the kinds that it takes, and it is of this one
 abbrev pub Suits : Lexicon → List Made → Kinded → Step → Type 0
 Suits lexicon made kinded (steps.Number z) = kinded ≡ number_kind
+Suits lexicon made kinded (steps.Element i) = i < 64
 Suits lexicon made kinded (steps.One op x) =
     Has lexicon made x (kind_before op) × (kinded ≡ kind_before op)
 Suits lexicon made kinded (steps.Two op x y) = (both : Kinded) × TakesTwo op both
@@ -117,6 +128,12 @@ pub record Makes (lexicon : Lexicon) (made : List Made) (kinded : Kinded)
     (f : (ℕ → Point) → Point) (place : ℕ) : Type 0 where
   pub has : Has lexicon made place kinded
   pub is : (a : ℕ → Point) → Runs lexicon made a → a place ≡ f a
+
+-- the cell at the place is of the kind, and is called so
+pub record Names (lexicon : Lexicon) (made : List Made) (kinded : Kinded) (word : List ℕ)
+    (place : ℕ) : Type 0 where
+  pub has : Has lexicon made place kinded
+  pub is : (a : ℕ → Point) → Runs lexicon made a → Text word ≡ value_as lexicon kinded (a place)
 
 -- the cell at the place is of the kind, and what the term is worth
 pub record Shows (lexicon : Lexicon) (made : List Made) (kinded : Kinded) (t : Term)

@@ -1,15 +1,19 @@
 -- What operators are made of.
-use Rattle.std.specs.Prelude.{◌≡◌, ⊤, ⊥}
+use Rattle.std.specs.Prelude.{◌≡◌, ℕ, List, Bool, true, false, ⊤}
 use Rattle.prop_lattice.specs.Points.{Point}
 use Rattle.prop_procedures.specs.declared.shape.Kinded.{Kinded}
 use Rattle.prop_terms.specs.declared.operators.Infix.{Infix}
 use Rattle.prop_terms.specs.declared.operators.Infix.TheVariants.{Iff, Implies, Xor, Or, And, Equal}
 use Rattle.prop_terms.specs.declared.operators.Infix.TheVariants.{Unequal, Less, AtMost, Greater}
 use Rattle.prop_terms.specs.declared.operators.Infix.TheVariants.{AtLeast, Plus, Minus, Times}
-use Rattle.prop_meaning.specs.declared.steps.Single.TheVariants.{Not}
+use Rattle.prop_terms.specs.declared.operators.Prefix.{Prefix}
+use Rattle.prop_terms.specs.declared.operators.Prefix.TheVariants as before
+use Rattle.prop_meaning.specs.declared.steps.Single.TheVariants.{Abs, Not}
 use Rattle.prop_meaning.specs.declared.steps.Pair.TheVariants as pairs
-use Rattle.prop_meaning.specs.inner.Steps.{of_one, of_two}
-use Rattle.prop_meaning.specs.inner.Drafts.{number_kind, truth_kind}
+use Rattle.prop_meaning.specs.inner.Steps.{of_one, of_two, negative}
+use Rattle.prop_meaning.specs.Words.{Lexicon}
+use Rattle.prop_meaning.specs.declared.draft.Made.{Made}
+use Rattle.prop_meaning.specs.inner.Drafts.{Has, number_kind, truth_kind}
 
 -- which kind both sides of an operator may be of
 abbrev pub Takes : Infix → Kinded → Type 0
@@ -28,6 +32,11 @@ Takes Plus kinded = kinded ≡ number_kind
 Takes Minus kinded = kinded ≡ number_kind
 Takes Times kinded = kinded ≡ number_kind
 Takes op kinded = ⊥
+
+-- both cells are of a kind that the operator takes
+abbrev pub AreFitting : Lexicon → List Made → Infix → ℕ → ℕ → Type 0
+AreFitting lexicon made op x y =
+    (both : Kinded) × Takes op both × Has lexicon made x both × Has lexicon made y both
 
 abbrev pub kind_of : Infix → Kinded
 kind_of Plus = number_kind
@@ -51,3 +60,21 @@ formula Iff p q = of_two pairs.Same p q
 formula Xor p q = of_one Not (of_two pairs.Same p q)
 formula Implies p q = of_two pairs.Or (of_one Not p) q
 formula op p q = p
+
+-- ---- operators before one term
+
+abbrev pub is_taken : Prefix → Bool
+is_taken before.Negated = true
+is_taken before.Abs = true
+is_taken before.Not = true
+is_taken op = false
+
+abbrev pub kind_before : Prefix → Kinded
+kind_before before.Not = truth_kind
+kind_before op = number_kind
+
+abbrev pub formula_before : Prefix → Point → Point
+formula_before before.Negated p = negative p
+formula_before before.Abs p = of_one Abs p
+formula_before before.Not p = of_one Not p
+formula_before op p = p

@@ -1,6 +1,6 @@
 -- What a step makes of points.
-use Rattle.std.specs.Prelude.{ℕ, zero, suc, ℤ, neg_ℤ, ◌+ℤ◌, ◌-ℤ◌, ◌*ℤ◌, int_le, int_lt}
-use Rattle.std.specs.Prelude.{Bool, false, cond, not, ◌&&◌, ◌||◌, ◌==◌, ◌<◌, ⊤, ◌×◌}
+use Rattle.std.specs.Prelude.{ℕ, ℤ, pos, neg_ℤ, ◌+ℤ◌, ◌-ℤ◌, ◌*ℤ◌, int_le, int_lt}
+use Rattle.std.specs.Prelude.{Bool, false, cond, not, ◌&&◌, ◌||◌, ◌==◌, ◌<◌, ⊤}
 use Rattle.std.specs.Int.{int_max, int_min}
 use Rattle.prop_lattice.specs.Points.{Point, Element, Symbol}
 use Rattle.prop_lattice.specs.Points as points
@@ -42,6 +42,9 @@ of_two op p q = p
 abbrev pub chosen : Point → Point → Point → Point
 chosen (Element t) p q = cond (t == 0) p q
 chosen t p q = q
+
+abbrev pub negative : Point → Point
+negative p = of_two Difference (points.Number (pos 0)) p
 
 -- the point of a step's cell, by those of the cells before it
 abbrev pub made_by : Step → (ℕ → Point) → Point
