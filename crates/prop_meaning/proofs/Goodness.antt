@@ -1,5 +1,5 @@
 -- What is made of cells is good where their kinds suit.
-use Rattle.std.proofs.Common.{◌≡◌, ◌∙◌, ℕ, ℤ, ◌+◌, ◌<◌, List, length, Option, Some, None, refl, ap, sym, subst, arith}
+use Rattle.std.proofs.Common.{◌≡◌, ◌∙◌, ℕ, ℤ, ◌+◌, ◌<◌, ◌==◌, Bool, true, false, cond, List, length, Option, Some, None, refl, ap, sym, subst, arith}
 use Rattle.std.specs.Option.{option_map}
 use Rattle.prop_lattice.specs.Points.{Point, Number, Element, Symbol, IsPointOf}
 use Rattle.prop_lattice.specs.declared.info.Kind.TheVariants.{Span as SpanKind, Set}
@@ -102,3 +102,45 @@ good_one lexicon made op x under k sound h e kind tells = record {
       let P : Kinded → Type 0 = λ n. IsPointOf n.kind n.size (of_one op (a x)) → IsNamed lexicon n (of_one op (a x)) in
       record { within = w; named = subst P (sym kind) (named_before lexicon r.words op _) w.0 };
 }
+
+has_known : (o : Option Known) (k : Known) (kinded : Kinded) → o ≡ Some k → k.kinded ≡ kinded
+    → option_map (λ k. k.kinded) o ≡ Some kinded
+has_known o k kinded e f = ap (option_map (λ k. k.kinded)) e ∙ ap Some f
+
+named_chosen : (lexicon : Lexicon) (kinded : Kinded) (t p q : Point) → IsNamed lexicon kinded p → IsNamed lexicon kinded q
+    → IsNamed lexicon kinded (chosen t p q)
+named_chosen lexicon kinded (Element t) p q h g = by (t == 0)
+  where
+    by : (b : Bool) → IsNamed lexicon kinded (cond b p q)
+    by true = h
+    by false = g
+named_chosen lexicon kinded (Number z) p q h g = g
+named_chosen lexicon kinded (Symbol n) p q h g = g
+
+pub good_choice : (lexicon : Lexicon) (made : List Made) (t x y : ℕ) (left right k : Known) → IsSound lexicon made
+    → Has lexicon made t truth_kind → AreAlike lexicon made x y → known_at lexicon made x ≡ Some left
+    → known_at lexicon made y ≡ Some right → k.kinded ≡ left.kinded → ((s : Point) → Tells (chosen s) left right k)
+    → IsGood lexicon made (lexicon.count + length made) (record { step = steps.Choice t x y; known = k })
+good_choice lexicon made t x y left right k sound ht both e f kind tells =
+    let same : right.kinded ≡ left.kinded = alike_known lexicon made x y left right e f both in
+    let hx = has_known (known_at lexicon made x) left k.kinded e (sym kind) in
+    let hy = has_known (known_at lexicon made y) right k.kinded f (same ∙ sym kind) in
+    record {
+      behind = (stands_before lexicon made t truth_kind ht, stands_before lexicon made x k.kinded hx,
+          stands_before lexicon made y k.kinded hy);
+      suits = (ht, hx, hy);
+      within = λ a r.
+          let p = is_point lexicon made x left a sound r e in
+          let q = is_point lexicon made y right a sound r f in
+          let P : Kinded → Type 0 = λ n. IsNamed lexicon n (a x) in
+          let Q : Kinded → Type 0 = λ n. IsNamed lexicon n (a y) in
+          record {
+            within = tells (a t) (a x) (a y) p.within q.within;
+            named = named_chosen lexicon k.kinded (a t) (a x) (a y) (subst P (sym kind) p.named)
+                (subst Q (same ∙ sym kind) q.named);
+          };
+    }
+
+pub only_kind : (lexicon : Lexicon) (made : List Made) (x : ℕ) (k : Known) (kinded : Kinded)
+    → known_at lexicon made x ≡ Some k → Has lexicon made x kinded → k.kinded ≡ kinded
+only_kind lexicon made x k kinded e h = kind_known (known_at lexicon made x) k kinded e h
