@@ -134,3 +134,39 @@ shows_one lexicon before.Negated t x place first second k ft g m = shows_negativ
 shows_one lexicon before.Abs t x place first second k ft g m = shows_abs lexicon t x place first second ft g m
 shows_one lexicon before.Not t x place first second k ft g m = shows_not lexicon t x place first second ft g m
 shows_one lexicon op t x place first second k ft g m = absurd (cc)
+
+-- ---- a choice
+
+choice_means : (lexicon : Lexicon) → IsLexicon lexicon → (kinded : Kinded) (t p q : Point) → IsPointOf truth_kind.kind 2 t
+    → cond (holds (Some (value_as lexicon truth_kind t))) (Some (value_as lexicon kinded p)) (Some (value_as lexicon kinded q))
+    ≡ Some (value_as lexicon kinded (chosen t p q))
+choice_means lexicon law kinded t p q h = on_truth
+    (λ t. cond (holds (Some (value_as lexicon truth_kind t))) (Some (value_as lexicon kinded p)) (Some (value_as lexicon kinded q))
+    ≡ Some (value_as lexicon kinded (chosen t p q))) by t h
+  where
+    by : (b : Bool) → cond (holds (Some (value_as lexicon truth_kind (truth_point b)))) (Some (value_as lexicon kinded p))
+        (Some (value_as lexicon kinded q)) ≡ Some (value_as lexicon kinded (chosen (truth_point b) p q))
+    by true = ap (λ b. cond b (Some (value_as lexicon kinded p)) (Some (value_as lexicon kinded q))) (holds_told lexicon law true)
+    by false = ap (λ b. cond b (Some (value_as lexicon kinded p)) (Some (value_as lexicon kinded q))) (holds_told lexicon law false)
+
+pub shows_choice : (lexicon : Lexicon) (kinded : Kinded) (test left right : Term) (t x y place : ℕ)
+    (first second third fourth : List Made) → Shows lexicon first truth_kind test t → Grown lexicon first second
+    → Shows lexicon second kinded left x → Grown lexicon second third → Shows lexicon third kinded right y
+    → Grown lexicon third fourth → Makes lexicon fourth kinded (λ a. chosen (a t) (a x) (a y)) place
+    → Shows lexicon fourth kinded (One before.If (Two between.Then test (Two between.Else left right))) place
+shows_choice lexicon kinded test left right t x y place first second third fourth ft g fx h fy i m = record {
+  has = m.has;
+  worth_is = λ a related r.
+      let st = shows_grows lexicon third fourth truth_kind test t i
+      (shows_grows lexicon second third truth_kind test t h (shows_grows lexicon first second truth_kind test t g ft)) in
+      let sx = shows_grows lexicon third fourth kinded left x i (shows_grows lexicon second third kinded left x h fx) in
+      let sy = shows_grows lexicon third fourth kinded right y i fy in
+      let names = names_at lexicon related a in
+      let value : Point → Value = value_as lexicon kinded in
+      ap (λ v. cond (holds v) (worth names left) (worth names right)) (st.worth_is a related r)
+      ∙ (ap (λ v. cond (holds (Some (value_as lexicon truth_kind (a t)))) v (worth names right)) (sx.worth_is a related r)
+      ∙ (ap (λ v. cond (holds (Some (value_as lexicon truth_kind (a t)))) (Some (value (a x))) v) (sy.worth_is a related r)
+      ∙ (choice_means lexicon r.words kinded (a t) (a x) (a y)
+      (is_proper lexicon fourth t truth_kind a i.sound r st.has).of_kind
+      ∙ ap (λ p. Some (value p)) (sym (m.is a r)))));
+}

@@ -5,6 +5,8 @@ ghost use Rattle.prop_meaning.specs.inner.Drafts.{kind_between, number_kind};
 ghost use Rattle.prop_meaning.specs.inner.Formulas.{AreFitting, kind_of, formula};
 ghost use Rattle.prop_meaning.specs.inner.Formulas.{kind_before, is_taken, formula_before};
 ghost use Rattle.prop_meaning.specs.inner.Steps.{of_one, of_two, negative};
+ghost use Rattle.prop_terms.specs.declared.operators.Prefix.TheVariants.{If};
+ghost use Rattle.prop_terms.specs.declared.operators.Infix.TheVariants.{Then, Else};
 ghost use Rattle.prop_meaning.specs.declared.steps.Single.TheVariants.{Not};
 ghost use Rattle.prop_meaning.specs.declared.steps.Pair.TheVariants.{Or};
 
@@ -76,6 +78,16 @@ pub(crate) fn is_taken(op: Prefix) -> bool
     ensures { result ≡ is_taken op }
 {
     matches!(op, Prefix::Negated | Prefix::Abs | Prefix::Not)
+}
+
+/// Whether the operators are those of a choice.
+pub(crate) fn is_choice(op: Prefix, then: Infix, other: Infix) -> bool
+    ensures { IsTrue result → (op ≡ If) × (then ≡ Then) × (other ≡ Else) }
+{
+    matches!(
+        (op, then, other),
+        (Prefix::If, Infix::Then, Infix::Else)
+    )
 }
 
 /// The cell of the other truth than the pair's.

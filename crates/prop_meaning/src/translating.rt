@@ -4,15 +4,15 @@ ghost use Rattle.prop_terms.specs.Terms as terms;
 ghost use Rattle.prop_terms.specs.Terms.{term_of};
 ghost use Rattle.prop_meaning.specs.inner.Drafts.{IsSound, Grown, Shows};
 
-use crate::combining::{combined, is_taken, kind_before, kind_of, prefixed};
+use crate::combining::{combined, is_choice, is_taken, kind_before, kind_of, prefixed};
 use crate::constants::{name, number};
 use crate::draft::Made;
 use crate::fault::{Fault, Why};
 use crate::kinds::sides;
-use crate::making::{NUMBER, is_same_kind};
+use crate::making::{NUMBER, TRUTH, choice, is_same_kind};
 use crate::words::Words;
 use prop_procedures::Kinded;
-use prop_terms::Term;
+use prop_terms::{Infix, Prefix, Term};
 
 /// The cell of a number of a term.
 fn numeral<W: Words>(
@@ -117,6 +117,9 @@ fn before_one<'t, 'a, W: Words>(
             part: term,
         });
     };
+    if matches!(*op, Prefix::If) {
+        return chosen_way(words, made, term, kinded);
+    }
     if !is_taken(*op) {
         return Err(Fault {
             why: Why::NotYet,
@@ -131,6 +134,44 @@ fn before_one<'t, 'a, W: Words>(
     }
     let x = translated(words, made, under, kinded)?;
     match prefixed(words, made, *op, x) {
+        Ok(place) => Ok(place),
+        Err(why) => Err(Fault { why, part: term }),
+    }
+}
+
+/// The same of a choice.
+#[cycle(translating)]
+fn chosen_way<'t, 'a, W: Words>(
+    words: &W,
+    made: &mut Vec<Made>,
+    term: &'t Term<'a>,
+    kinded: Kinded,
+) -> Result<usize, Fault<'t, 'a>>
+    requires sound { IsSound (W.lexicon words.now) made.old.items }
+    ensures grown { OnOk result (Grown (W.lexicon words.now) made.old.items made.new.items) }
+    ensures shows { IfOk result
+        (Shows (W.lexicon words.now) made.new.items kinded (term_of term.now)) }
+{
+    let wrong = Fault {
+        why: Why::WrongForm,
+        part: term,
+    };
+    let Term::One(op, under) = term else {
+        return Err(wrong);
+    };
+    let Term::Two(then, test, ways) = &**under else {
+        return Err(wrong);
+    };
+    let Term::Two(other, left, right) = &**ways else {
+        return Err(wrong);
+    };
+    if !is_choice(*op, *then, *other) {
+        return Err(wrong);
+    }
+    let t = translated(words, made, test, TRUTH)?;
+    let x = translated(words, made, left, kinded)?;
+    let y = translated(words, made, right, kinded)?;
+    match choice(words, made, t, x, y) {
         Ok(place) => Ok(place),
         Err(why) => Err(Fault { why, part: term }),
     }

@@ -1,8 +1,11 @@
 use Rattle.std.proofs.Common.{◌≡◌, ◌∙◌, true, ap, sym, subst}
 use Rattle.prop_terms.specs.Terms.{One, Two, term_of}
+use Rattle.prop_terms.specs.declared.operators.Prefix.TheVariants.{If}
+use Rattle.prop_terms.specs.declared.operators.Infix.TheVariants.{Then, Else}
 use Rattle.prop_meaning.specs.inner.Drafts.{Shows}
 use Rattle.prop_meaning.specs.inner.Formulas as formulas
-use Rattle.prop_meaning.proofs.Showing.{shows_one, shows_two}
+use Rattle.prop_meaning.proofs.Growing.{grown_trans, has_grows}
+use Rattle.prop_meaning.proofs.Showing.{shows_one, shows_two, shows_choice}
 use Rattle.prop_meaning.proofs.translating.+translating.Goals as goal
 
 pub before_one-returns-in-Ok-clause-shows : goal.before_one-returns-in-Ok-clause-shows
@@ -43,3 +46,48 @@ between_two-returns-in-Ok-combined-clause-shows g t c =
     c.in-Ok-combined.ensures.makes in
     subst (λ k. Shows lexicon third k (term_of c.args.term.now) place) kind
     (subst (λ u. Shows lexicon third (formulas.kind_of op) u place) (sym whole) all)
+
+pub chosen_way-returns-in-Ok-clause-grown : goal.chosen_way-returns-in-Ok-clause-grown
+chosen_way-returns-in-Ok-clause-grown g t c =
+    let lexicon = g.W.Words.lexicon c.args.words.now in
+    let old = c.args.made.now.items in
+    let first = c.translated.new.made.items in
+    let second = c.translated-2.new.made.items in
+    let third = c.translated-3.new.made.items in
+    let fourth = c.choice.new.made.items in
+    grown_trans lexicon old first fourth c.in_ok-t.ensures.grown
+    (grown_trans lexicon first second fourth c.in_ok-x.ensures.grown
+    (grown_trans lexicon second third fourth c.in_ok-y.ensures.grown c.in-Ok.ensures.grown))
+
+pub chosen_way-returns-in-Ok-clause-shows : goal.chosen_way-returns-in-Ok-clause-shows
+chosen_way-returns-in-Ok-clause-shows g t c =
+    let lexicon = g.W.Words.lexicon c.args.words.now in
+    let outer = c.in-One in
+    let inner = c.in-Two in
+    let last = c.in-Two-deref in
+    let test = term_of c.deref-3.result.now in
+    let left = term_of c.deref-4.result.now in
+    let right = term_of c.deref-5.result.now in
+    let first = c.translated.new.made.items in
+    let second = c.translated-2.new.made.items in
+    let third = c.translated-3.new.made.items in
+    let fourth = c.choice.new.made.items in
+    let which = c.is_choice.ensures c.if-not-is_choice.false in
+    let ways : term_of c.deref-2.result.now ≡ Two Else left right = ap term_of last.is
+    ∙ (ap (λ o. Two o (term_of last.left.value) (term_of last.right.value)) which.2
+    ∙ (ap (λ u. Two Else (term_of u) (term_of last.right.value)) (sym c.deref-4.ensures)
+    ∙ ap (λ u. Two Else left (term_of u)) (sym c.deref-5.ensures))) in
+    let body : term_of c.deref.result.now ≡ Two Then test (Two Else left right) = ap term_of inner.is
+    ∙ (ap (λ o. Two o (term_of inner.test.value) (term_of inner.ways.value)) which.1
+    ∙ (ap (λ u. Two Then (term_of u) (term_of inner.ways.value)) (sym c.deref-3.ensures)
+    ∙ (ap (λ u. Two Then test (term_of u)) (sym c.deref-2.ensures) ∙ ap (Two Then test) ways))) in
+    let whole : term_of c.args.term.now ≡ One If (Two Then test (Two Else left right)) = ap term_of outer.is
+    ∙ (ap (λ o. One o (term_of outer.under.value)) which.0
+    ∙ (ap (λ u. One If (term_of u)) (sym c.deref.ensures) ∙ ap (One If) body)) in
+    let has = has_grows lexicon second third c.in_ok-x.x c.args.kinded c.in_ok-y.ensures.grown.grows
+    c.in_ok-x.ensures.shows.has in
+    let all = shows_choice lexicon c.args.kinded test left right c.in_ok-t.t c.in_ok-x.x c.in_ok-y.y c.in-Ok.place
+    first second third fourth c.in_ok-t.ensures.shows c.in_ok-x.ensures.grown c.in_ok-x.ensures.shows
+    c.in_ok-y.ensures.grown c.in_ok-y.ensures.shows c.in-Ok.ensures.grown
+    (c.in-Ok.ensures.makes c.args.kinded has) in
+    subst (λ u. Shows lexicon fourth c.args.kinded u c.in-Ok.place) (sym whole) all
