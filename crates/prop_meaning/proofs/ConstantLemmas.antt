@@ -1,5 +1,5 @@
 -- A constant leaves its point alone.
-use Rattle.std.proofs.Common.{◌≡◌, ◌≢◌, ◌⊎◌, ◌∙◌, ℕ, ℤ, neg_ℤ, ◌≤ℤ◌, ◌<◌, ◌^◌, List, [], ◌∷◌, Bool, true, false, cond}
+use Rattle.std.proofs.Common.{◌≡◌, ◌≢◌, ◌⊎◌, ℕ, ℤ, neg_ℤ, ◌≤ℤ◌, ◌^◌, List, Bool, true, false, cond}
 use Rattle.std.proofs.Common.{nat_lt, inl, inr, refl, ap, sym, subst, arith}
 use Rattle.std.specs.List.{AllByRecursion}
 use Rattle.std.specs.Int.{bit_at}
@@ -11,18 +11,17 @@ use Rattle.std.proofs.Math.Pow.{pow-lt}
 use Rattle.prop_lattice.specs.Ends.{AreEnds, ends_or_not, some_or_not, span_from, elements_from}
 use Rattle.prop_lattice.specs.inner.Ends.{AreSome, span_if, elements_if}
 use Rattle.prop_lattice.specs.Points.{Point, Number, Element, Symbol, Holds, IsPointOf}
-use Rattle.prop_lattice.specs.declared.info.Info.{Info}
 use Rattle.prop_lattice.specs.declared.info.Info.TheVariants.{Sym}
 use Rattle.prop_lattice.specs.declared.span.TheConstants.{B}
 use Rattle.prop_intervals.specs.laws.ClipLaws.{span_from_holds}
-use Rattle.prop_sets.specs.laws.NarrowestLaws.{elements_hold, bit_from_held}
+use Rattle.prop_sets.specs.laws.NarrowestLaws.{elements_hold}
 use Rattle.prop_procedures.specs.declared.shape.Kinded.{Kinded}
 use Rattle.prop_meaning.specs.Words.{Lexicon}
 use Rattle.prop_meaning.specs.declared.draft.Made.{Made}
 use Rattle.prop_meaning.specs.declared.steps.Step.{Step}
 use Rattle.prop_meaning.specs.declared.steps.Step.TheVariants as steps
 use Rattle.prop_meaning.specs.inner.Drafts.{Suits, number_kind}
-use Rattle.prop_meaning.specs.inner.Expanding.{constants_of, constant_of}
+use Rattle.prop_meaning.specs.inner.Expanding.{constants_of}
 use Rattle.prop_meaning.specs.inner.Steps.{made_by}
 
 number_held : (z : ℤ) (p : Point) → Holds (span_from z z) p → p ≡ Number z

@@ -1,10 +1,10 @@
 -- What is made of cells is good where their kinds suit.
-use Rattle.std.proofs.Common.{◌≡◌, ◌∙◌, ℕ, ℤ, ◌+◌, ◌<◌, ◌==◌, Bool, true, false, cond, List, length, Option, Some, None, refl, ap, sym, subst, arith}
+use Rattle.std.proofs.Common.{◌≡◌, ◌∙◌, ℕ, ◌+◌, ◌<◌, ◌==◌, Bool, true, false, cond, List, length, Option, Some, None, ap, sym, subst}
 use Rattle.std.specs.Option.{option_map}
 use Rattle.prop_lattice.specs.Points.{Point, Number, Element, Symbol, IsPointOf}
 use Rattle.prop_lattice.specs.declared.info.Kind.TheVariants.{Span as SpanKind, Set}
 use Rattle.prop_procedures.specs.declared.shape.Kinded.{Kinded}
-use Rattle.prop_meaning.specs.Words.{Lexicon, IsLexicon, IsWithin, Lies, LiesIn}
+use Rattle.prop_meaning.specs.Words.{Lexicon, IsLexicon, IsWithin}
 use Rattle.prop_meaning.specs.declared.draft.Made.{Made}
 use Rattle.prop_meaning.specs.declared.known.Known.{Known}
 use Rattle.prop_meaning.specs.declared.steps.Single as singles
@@ -13,11 +13,11 @@ use Rattle.prop_meaning.specs.declared.steps.Pair as pairs
 use Rattle.prop_meaning.specs.declared.steps.Pair.TheVariants.{Sum, Difference, Product, Max, Min, Less, Same, And, Or}
 use Rattle.prop_meaning.specs.declared.steps.Step.TheVariants as steps
 use Rattle.prop_meaning.specs.inner.Drafts.{known_at, Has, AreTaken, AreAlike, TakesTwo, kind_between, kind_before}
-use Rattle.prop_meaning.specs.inner.Drafts.{number_kind, truth_kind, IsNamed, IsPoint, IsGood, IsSound, Runs}
+use Rattle.prop_meaning.specs.inner.Drafts.{number_kind, truth_kind, IsNamed, IsGood, IsSound}
 use Rattle.prop_meaning.specs.inner.Spans.{Tells}
 use Rattle.prop_meaning.specs.inner.Steps.{of_one, of_two, chosen}
 use Rattle.prop_meaning.proofs.Formulas.{on_number}
-use Rattle.prop_meaning.proofs.Growing.{is_point, is_proper, stands_before}
+use Rattle.prop_meaning.proofs.Growing.{is_point, stands_before}
 
 -- ---- names
 
@@ -126,8 +126,11 @@ good_choice lexicon made t x y left right k sound ht both e f kind tells =
     let hx = has_known (known_at lexicon made x) left k.kinded e (sym kind) in
     let hy = has_known (known_at lexicon made y) right k.kinded f (same ∙ sym kind) in
     record {
-      behind = (stands_before lexicon made t truth_kind ht, stands_before lexicon made x k.kinded hx,
-          stands_before lexicon made y k.kinded hy);
+      behind = (
+        stands_before lexicon made t truth_kind ht,
+        stands_before lexicon made x k.kinded hx,
+        stands_before lexicon made y k.kinded hy,
+      );
       suits = (ht, hx, hy);
       within = λ a r.
           let p = is_point lexicon made x left a sound r e in

@@ -12,7 +12,7 @@ use Rattle.prop_procedures.specs.declared.shape.Kinded.{Kinded}
 use Rattle.prop_meaning.specs.Words.{Lexicon, IsLexicon, IsWithin}
 use Rattle.prop_meaning.specs.inner.Drafts.{known_at, Has, Suits, Runs, Grows, IsGood, IsSound, Grown, Makes, Shows}
 use Rattle.prop_meaning.specs.inner.Drafts.{IsNamed, IsProper, IsPoint}
-use Rattle.prop_meaning.specs.inner.Steps.{IsBehind, made_by}
+use Rattle.prop_meaning.specs.inner.Steps.{made_by}
 use Rattle.prop_meaning.specs.declared.draft.Made.{Made}
 use Rattle.prop_meaning.specs.declared.known.Known.{Known}
 use Rattle.prop_meaning.specs.declared.steps.Step.{Step}

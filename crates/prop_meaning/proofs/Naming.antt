@@ -1,21 +1,21 @@
 -- Constants, and what words name.
-use Rattle.std.proofs.Common.{◌≡◌, ◌∙◌, ℕ, ℤ, pos, neg_ℤ, ◌≤ℤ◌, ◌+◌, ◌<◌, List, length, Bool, true, false, cond, nat_lt, Option, Some, None}
-use Rattle.std.proofs.Common.{slice_get, refl, ap, sym, subst, arith}
+use Rattle.std.proofs.Common.{◌≡◌, ◌∙◌, ℕ, ℤ, pos, ◌≤ℤ◌, ◌<◌, List, Bool, true, false, cond, nat_lt, Option, Some, None}
+use Rattle.std.proofs.Common.{refl, ap, sym, subst, arith}
 use Rattle.std.specs.Option.{option_map, option_map_or}
 use Rattle.std.proofs.lemmas.Bool.{lt-ltb}
 use Rattle.std.proofs.lemmas.Int.{ints}
-use Rattle.prop_lattice.specs.Points.{Point, Number, Element, Symbol, IsPointOf}
+use Rattle.prop_lattice.specs.Points.{Number, Element, Symbol, IsPointOf}
 use Rattle.prop_lattice.specs.declared.info.Kind.{Kind}
 use Rattle.prop_lattice.specs.declared.info.Kind.TheVariants.{Span as SpanKind, Set, Symbol as SymbolKind}
 use Rattle.prop_lattice.specs.declared.span.Span as spans
 use Rattle.prop_procedures.specs.declared.shape.Kinded.{Kinded}
-use Rattle.prop_terms.specs.Meaning.{Value, Text, Whole, worth}
+use Rattle.prop_terms.specs.Meaning.{Value, Text}
 use Rattle.prop_terms.specs.Terms as terms
-use Rattle.prop_meaning.specs.Words.{Lexicon, IsLexicon, IsWithin, names_at, value_as, domain_of}
+use Rattle.prop_meaning.specs.Words.{Lexicon, value_as, domain_of}
 use Rattle.prop_meaning.specs.declared.draft.Made.{Made}
 use Rattle.prop_meaning.specs.declared.known.Known.{Known}
 use Rattle.prop_meaning.specs.declared.steps.Step.TheVariants as steps
-use Rattle.prop_meaning.specs.inner.Drafts.{known_at, Has, IsGood, IsPoint, IsNamed, Makes, Names, Shows, Runs, number_kind}
+use Rattle.prop_meaning.specs.inner.Drafts.{IsGood, Makes, Names, Shows, number_kind}
 
 -- ---- numbers
 

@@ -1,21 +1,18 @@
 -- What is posted shows what the term is worth.
-use Rattle.std.proofs.Common.{◌≡◌, ◌↔◌, ◌∙◌, ℕ, zero, suc, ◌+◌, ◌<◌, List, [], ◌∷◌, map, Bool, true, false, Some, None, slice_get}
+use Rattle.std.proofs.Common.{◌≡◌, ◌↔◌, ◌∙◌, ℕ, zero, suc, ◌+◌, ◌<◌, List, [], ◌∷◌, map, Bool, true, false, Some, slice_get}
 use Rattle.std.proofs.Common.{refl, ap, sym, subst, arith, ◌++◌, length, drop, get_or, append_assoc}
-use Rattle.std.specs.List.{AllByRecursion}
 use Rattle.std.proofs.lemmas.List.{drop_more}
 use Rattle.prop_meaning.specs.declared.steps.Step.{Step}
-use Rattle.prop_lattice.specs.Points.{Point, Element, Holds, IsPointOf}
+use Rattle.prop_lattice.specs.Points.{Point, Element, IsPointOf}
 use Rattle.prop_procedures.specs.declared.shape.Kinded.{Kinded}
-use Rattle.prop_procedures.specs.declared.shape.Param.{Param}
-use Rattle.prop_terms.specs.Meaning.{Value, holds, worth}
+use Rattle.prop_terms.specs.Meaning.{holds, worth}
 use Rattle.prop_terms.specs.Terms.{Term}
-use Rattle.prop_meaning.specs.Acts.{RelatedBy, TellsBy, HoldsAt}
+use Rattle.prop_meaning.specs.Acts.{RelatedBy, TellsBy}
 use Rattle.prop_meaning.specs.Posting.{Solves, LosesNone, IsValue, SaysSame}
 use Rattle.prop_meaning.specs.Words.{Lexicon, IsLexicon, Fits, IsWithin, names_at, value_as}
-use Rattle.prop_meaning.specs.declared.acts.Rule.{Rule}
 use Rattle.prop_meaning.specs.declared.draft.Made.{Made}
 use Rattle.prop_meaning.specs.declared.posting.Posted.{Posted}
-use Rattle.prop_meaning.specs.inner.Drafts.{Runs, Follows, IsSound, IsPoint, Shows, truth_kind}
+use Rattle.prop_meaning.specs.inner.Drafts.{Runs, IsSound, Shows, truth_kind}
 use Rattle.prop_meaning.specs.inner.Expanding.{ArePosted}
 use Rattle.prop_meaning.specs.inner.Steps.{truth_point}
 use Rattle.prop_meaning.proofs.Formulas.{on_truth, holds_told}

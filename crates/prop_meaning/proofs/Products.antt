@@ -1,11 +1,10 @@
 -- Spans that hold what is made of numbers of spans.
-use Rattle.std.proofs.Common.{◌≡◌, ℤ, pos, neg_ℤ, ◌+ℤ◌, ◌-ℤ◌, ◌*ℤ◌, ◌≤ℤ◌, Option, Some, None, IfSome, arith}
+use Rattle.std.proofs.Common.{◌≡◌, ℤ, pos, neg_ℤ, ◌+ℤ◌, ◌-ℤ◌, ◌*ℤ◌, Option, Some, None, IfSome, arith}
 use Rattle.std.specs.Int.{int_max, int_min}
 use Rattle.std.proofs.lemmas.Int.{ints, clamps}
 use Rattle.prop_lattice.specs.declared.span.Span as spans
 use Rattle.prop_intervals.specs.Spans.{least_product, greatest_product}
 use Rattle.prop_intervals.specs.laws.ProductLaws.{product_within}
-use Rattle.prop_meaning.specs.Words.{Lies}
 use Rattle.prop_meaning.specs.inner.Spans.{HoldsOne, HoldsTwo}
 
 -- the span that there may be has these ends

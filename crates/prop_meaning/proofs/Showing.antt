@@ -1,25 +1,23 @@
 -- Cells show what terms are worth.
-use Rattle.std.proofs.Common.{◌≡◌, ◌∙◌, ℕ, ℤ, pos, neg_ℤ, ◌-ℤ◌, List, Bool, true, false, cond, not, ◌==◌, Some, refl, ap, sym, subst, Option}
+use Rattle.std.proofs.Common.{◌≡◌, ◌∙◌, ℕ, ℤ, pos, neg_ℤ, ◌-ℤ◌, List, Bool, true, false, cond, not, ◌==◌, Some, refl, ap, sym, Option}
 use Rattle.std.proofs.Common.{arith}
-use Rattle.std.specs.Int.{int_max}
 use Rattle.std.proofs.lemmas.Int.{ints}
-use Rattle.prop_lattice.specs.Points.{Point, Number, Element, IsPointOf}
+use Rattle.prop_lattice.specs.Points.{Point, Number, IsPointOf}
 use Rattle.prop_procedures.specs.declared.shape.Kinded.{Kinded}
 use Rattle.prop_terms.specs.declared.operators.Infix.{Infix}
 use Rattle.prop_terms.specs.declared.operators.Infix.TheVariants as between
 use Rattle.prop_terms.specs.declared.operators.Prefix.{Prefix}
 use Rattle.prop_terms.specs.declared.operators.Prefix.TheVariants as before
-use Rattle.prop_terms.specs.Meaning.{Value, Names, holds, truth, combined, applied, worth, each}
+use Rattle.prop_terms.specs.Meaning.{Value, Names, holds, combined, applied, worth, each}
 use Rattle.prop_terms.specs.Terms.{Term, One, Two}
-use Rattle.prop_terms.specs.Terms as terms
 use Rattle.prop_meaning.specs.Words.{Lexicon, IsLexicon, names_at, value_as}
 use Rattle.prop_meaning.specs.declared.draft.Made.{Made}
 use Rattle.prop_meaning.specs.declared.steps.Single.TheVariants.{Abs, Not}
-use Rattle.prop_meaning.specs.inner.Drafts.{Has, IsSound, Grown, Makes, Shows, Runs, IsProper, number_kind, truth_kind}
+use Rattle.prop_meaning.specs.inner.Drafts.{Grown, Makes, Shows, number_kind, truth_kind}
 use Rattle.prop_meaning.specs.inner.Formulas.{Takes, kind_of, formula, is_taken, kind_before, formula_before}
 use Rattle.prop_meaning.specs.inner.Steps.{truth_point, negative, of_one, chosen}
-use Rattle.prop_meaning.proofs.Formulas.{formula_means, on_number, on_truth, told, holds_told, untold}
-use Rattle.prop_meaning.proofs.Growing.{has_grows, is_proper, shows_grows}
+use Rattle.prop_meaning.proofs.Formulas.{formula_means, on_number, on_truth, told, holds_told}
+use Rattle.prop_meaning.proofs.Growing.{is_proper, shows_grows}
 
 -- ---- an operator between two terms
 

@@ -1,26 +1,20 @@
 -- What fresh cells become is solved just where each is what it is made of.
-use Rattle.std.proofs.Common.{◌≡◌, ◌≢◌, ◌⊎◌, ◌∙◌, ℕ, zero, suc, ◌+◌, ◌-◌, ◌<◌, ◌≤◌, ◌^◌, List, [], ◌∷◌, ◌++◌, length, map}
+use Rattle.std.proofs.Common.{◌≡◌, ◌∙◌, ℕ, zero, suc, ◌+◌, ◌-◌, ◌<◌, ◌≤◌, List, [], ◌∷◌, ◌++◌}
 use Rattle.std.proofs.Common.{Bool, true, false, cond, nat_lt, ◌==◌, Option, Some, None, slice_get, refl, ap, sym, subst, arith}
 use Rattle.std.specs.List.{AllByRecursion}
 use Rattle.std.specs.Option.{option_map}
 use Rattle.std.proofs.lemmas.Bool.{ltb-true, ltb-false}
 use Rattle.std.proofs.lemmas.Bool.Decides.{Decides-eqb}
 use Rattle.prop_lattice.specs.Points.{Point, Holds, IsPointOf}
-use Rattle.prop_lattice.specs.declared.info.Info.{Info}
 use Rattle.prop_procedures.specs.declared.shape.Kinded.{Kinded}
-use Rattle.prop_procedures.specs.declared.shape.Param.{Param}
 use Rattle.prop_meaning.specs.Acts.{RelatedBy, TellsBy, HoldsAt}
-use Rattle.prop_meaning.specs.Words.{Lexicon, IsLexicon, Fits, IsWithin}
-use Rattle.prop_meaning.specs.declared.acts.Act.{Act}
-use Rattle.prop_meaning.specs.declared.acts.Rule.{Rule}
+use Rattle.prop_meaning.specs.Words.{Lexicon, Fits}
 use Rattle.prop_meaning.specs.declared.draft.Made.{Made}
-use Rattle.prop_meaning.specs.declared.known.Known.{Known}
 use Rattle.prop_meaning.specs.declared.steps.Step.{Step}
 use Rattle.prop_meaning.specs.declared.steps.Step.TheVariants as steps
-use Rattle.prop_meaning.specs.inner.Drafts.{Has, Suits, Runs, Follows, IsGood, IsSound, truth_kind}
-use Rattle.prop_meaning.specs.inner.Expanding.{acts_of, constants_of, constant_of, all_acts, all_constants}
+use Rattle.prop_meaning.specs.inner.Drafts.{Has, Suits, Follows, IsSound}
+use Rattle.prop_meaning.specs.inner.Expanding.{acts_of, constants_of, all_acts, all_constants}
 use Rattle.prop_meaning.specs.inner.Steps.{made_by, IsBehind, of_one, of_two, chosen}
-use Rattle.prop_meaning.proofs.Growing.{is_proper}
 use Rattle.prop_meaning.proofs.StepLemmas.{pair_forth, pair_back, single_forth, single_back, choice_forth, choice_back}
 use Rattle.prop_meaning.proofs.ConstantLemmas.{constant_forth, number_back, element_back, symbol_back}
 

@@ -1,11 +1,10 @@
 -- The instances and the constant of a step hold just where its cell's point is what it makes.
-use Rattle.std.proofs.Common.{◌≡◌, ◌↔◌, ◌∙◌, ℕ, zero, suc, ℤ, pos, neg_ℤ, ◌+ℤ◌, ◌-ℤ◌, ◌*ℤ◌, ◌<ℤ◌, ◌≤ℤ◌, List, [], ◌∷◌, ◌<◌}
-use Rattle.std.proofs.Common.{Bool, true, false, cond, not, ◌&&◌, ◌==◌, Some, None, refl, ap, sym, subst, arith, int_lt, int_le}
+use Rattle.std.proofs.Common.{◌≡◌, ◌↔◌, ◌∙◌, ℕ, ℤ, ◌+ℤ◌, ◌-ℤ◌, List, [], ◌∷◌}
+use Rattle.std.proofs.Common.{Bool, true, false, cond, ◌&&◌, ◌==◌, refl, ap, sym, subst, arith, int_le}
 use Rattle.std.specs.List.{AllByRecursion}
-use Rattle.std.specs.Int.{int_max, int_min}
 use Rattle.std.specs.Bool.{Decides}
 use Rattle.std.proofs.lemmas.Bool.Decides.{Decides-eqb}
-use Rattle.std.proofs.lemmas.Int.{ints, clamps}
+use Rattle.std.proofs.lemmas.Int.{ints}
 use Rattle.prop_lattice.specs.Points.{Point, Number, Element, Symbol, IsPointOf}
 use Rattle.prop_lattice.specs.declared.info.Kind.TheVariants.{Span as SpanKind, Set}
 use Rattle.prop_procedures.specs.declared.shape.Kinded.{Kinded}
@@ -17,13 +16,12 @@ use Rattle.prop_meaning.specs.declared.acts.Rule.TheVariants.{OfKit, OfWide}
 use Rattle.prop_arith.specs.declared.kit.Kit.TheVariants as kits
 use Rattle.prop_wide.specs.declared.wide.Wide.TheVariants as wides
 use Rattle.prop_procedures.specs.declared.shape.Param.TheVariants.{Plain}
-use Rattle.prop_meaning.specs.declared.draft.Made.{Made}
 use Rattle.prop_meaning.specs.declared.steps.Single as singles
 use Rattle.prop_meaning.specs.declared.steps.Single.TheVariants.{Abs, Not}
 use Rattle.prop_meaning.specs.declared.steps.Pair as pairs
 use Rattle.prop_meaning.specs.declared.steps.Pair.TheVariants.{Sum, Difference, Product, Max, Min, Less, Same, And, Or}
-use Rattle.prop_meaning.specs.inner.Drafts.{number_kind, truth_kind, TakesTwo, kind_between, kind_before}
-use Rattle.prop_meaning.specs.inner.Expanding.{Rules, rules_of, all_ways, alike_acts, square_acts, pair_acts, single_acts}
+use Rattle.prop_meaning.specs.inner.Drafts.{number_kind, TakesTwo, kind_between, kind_before}
+use Rattle.prop_meaning.specs.inner.Expanding.{rules_of, all_ways, alike_acts, square_acts, pair_acts, single_acts}
 use Rattle.prop_meaning.specs.inner.Expanding.{choice_acts}
 use Rattle.prop_meaning.specs.inner.Steps.{truth_point, same_point, of_one, of_two, chosen}
 use Rattle.prop_meaning.proofs.Formulas.{on_number, on_numbers, on_truth, on_truths}
@@ -260,13 +258,17 @@ choice_forth a t x y z h e = on_truth (λ p. (s : Point) → s ≡ chosen p (a x
         × ((RelatedBy (OfWide wides.Choose) Plain (truth_point b ∷ a y ∷ s ∷ []) (a y)) × Unit {0})))
     by true s e = (
       record { first = λ _. e; second = λ f. zero_one f },
-      (record { first = λ _. e; second = λ f. zero_one f },
-      (λ _. sym e, (record { first = λ _. refl; second = λ f. zero_one f }, tt))),
+      (
+        record { first = λ _. e; second = λ f. zero_one f },
+        (λ _. sym e, (record { first = λ _. refl; second = λ f. zero_one f }, tt)),
+      ),
     )
     by false s e = (
       record { first = λ f. one_zero f; second = λ _. e },
-      (record { first = λ f. one_zero f; second = λ _. e },
-      (λ f. one_zero f, (record { first = λ f. one_zero f; second = λ _. sym e }, tt))),
+      (
+        record { first = λ f. one_zero f; second = λ _. e },
+        (λ f. one_zero f, (record { first = λ f. one_zero f; second = λ _. sym e }, tt)),
+      ),
     )
 
 pub choice_back : (a : ℕ → Point) (t x y z : ℕ) → IsPointOf (Set 0) 2 (a t) → All TellsBy a (choice_acts t x y z)

@@ -1,11 +1,11 @@
 -- The instances that make a cell hold just where its point is what is made.
-use Rattle.std.proofs.Common.{◌≡◌, ◌↔◌, ◌∙◌, ℕ, zero, suc, ℤ, pos, ◌+ℤ◌, ◌-ℤ◌, ◌*ℤ◌, ◌<ℤ◌, ◌≤ℤ◌, List, [], ◌∷◌, ◌<◌}
-use Rattle.std.proofs.Common.{Bool, true, false, cond, not, ◌==◌, Some, refl, ap, sym, subst, arith, int_lt, int_le}
+use Rattle.std.proofs.Common.{◌≡◌, ◌↔◌, ℕ, ℤ, pos, ◌+ℤ◌, ◌-ℤ◌, ◌*ℤ◌, ◌<ℤ◌, List, [], ◌∷◌}
+use Rattle.std.proofs.Common.{Bool, true, false, cond, refl, ap, sym, subst, arith, int_lt}
 use Rattle.std.specs.Int.{int_max, int_min}
 use Rattle.std.proofs.lemmas.Int.{ints, clamps}
 use lib.IntN.{*ℤ_comm}
 use Rattle.prop_intervals.specs.Relations.{IsProduct}
-use Rattle.prop_lattice.specs.Points.{Point, Number, Element, Symbol, IsPointOf}
+use Rattle.prop_lattice.specs.Points.{Point, Number, IsPointOf}
 use Rattle.prop_lattice.specs.declared.info.Kind.TheVariants.{Span as SpanKind, Set}
 use Rattle.prop_procedures.specs.declared.shape.Kinded.{Kinded}
 use Rattle.prop_procedures.specs.declared.shape.Param.{Param}

@@ -1,14 +1,10 @@
 -- Instances of a program's procedures.
-use Rattle.std.specs.Prelude.{◌≡◌, ◌↔◌, ℕ, pos, List, [], ◌∷◌, map, Option, Some, None}
-use Rattle.std.specs.List.{AllByRecursion}
-use Rattle.prop_lattice.specs.Points.{Point}
-use Rattle.prop_procedures.specs.Flats.{param_at}
+use Rattle.std.specs.Prelude.{◌≡◌, ℕ, pos, List, [], ◌∷◌, map, Option, Some, None}
 use Rattle.prop_procedures.specs.declared.flat.Flat.{Flat}
 use Rattle.prop_procedures.specs.declared.flat.Placed.{Placed}
-use Rattle.prop_procedures.specs.declared.shape.Param.{Param}
-use Rattle.prop_procedures.specs.declared.shape.Param.TheVariants.{Plain, Scale}
+use Rattle.prop_procedures.specs.declared.shape.Param.TheVariants.{Scale}
 use Rattle.prop_arith.specs.declared.kit.Kit.TheVariants.{Mul, Div}
-use Rattle.prop_meaning.specs.Acts.{RelatedBy, inputs_of}
+use Rattle.prop_meaning.specs.Acts.{inputs_of}
 use Rattle.prop_meaning.specs.declared.acts.Act.{Act}
 use Rattle.prop_meaning.specs.declared.acts.Rule.{Rule}
 use Rattle.prop_meaning.specs.declared.acts.Rule.TheVariants.{OfKit}

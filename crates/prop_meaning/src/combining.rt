@@ -84,10 +84,7 @@ pub(crate) fn is_taken(op: Prefix) -> bool
 pub(crate) fn is_choice(op: Prefix, then: Infix, other: Infix) -> bool
     ensures { IsTrue result → (op ≡ If) × (then ≡ Then) × (other ≡ Else) }
 {
-    matches!(
-        (op, then, other),
-        (Prefix::If, Infix::Then, Infix::Else)
-    )
+    matches!((op, then, other), (Prefix::If, Infix::Then, Infix::Else))
 }
 
 /// The cell of the other truth than the pair's.

@@ -34,7 +34,11 @@ fn rules_of(op: Pair) -> (Rule, Rule, Rule)
     ensures first { rules result.0 result.1 result.2 ≡ rules_of op }
 {
     match op {
-        Pair::Product => (Rule::OfKit(Kit::Mul), Rule::OfKit(Kit::Div), Rule::OfKit(Kit::Div)),
+        Pair::Product => (
+            Rule::OfKit(Kit::Mul),
+            Rule::OfKit(Kit::Div),
+            Rule::OfKit(Kit::Div),
+        ),
         Pair::Max => (
             Rule::OfWide(Wide::Max),
             Rule::OfWide(Wide::MaxBack),
@@ -45,14 +49,26 @@ fn rules_of(op: Pair) -> (Rule, Rule, Rule)
             Rule::OfWide(Wide::MinBack),
             Rule::OfWide(Wide::MinBack),
         ),
-        Pair::Less => (Rule::OfKit(Kit::Less), Rule::OfKit(Kit::Below), Rule::OfKit(Kit::Above)),
+        Pair::Less => (
+            Rule::OfKit(Kit::Less),
+            Rule::OfKit(Kit::Below),
+            Rule::OfKit(Kit::Above),
+        ),
         Pair::And => (
             Rule::OfKit(Kit::And),
             Rule::OfKit(Kit::AndBack),
             Rule::OfKit(Kit::AndBack),
         ),
-        Pair::Or => (Rule::OfKit(Kit::Or), Rule::OfKit(Kit::OrBack), Rule::OfKit(Kit::OrBack)),
-        _ => (Rule::OfKit(Kit::Add), Rule::OfKit(Kit::Sub), Rule::OfKit(Kit::Sub)),
+        Pair::Or => (
+            Rule::OfKit(Kit::Or),
+            Rule::OfKit(Kit::OrBack),
+            Rule::OfKit(Kit::OrBack),
+        ),
+        _ => (
+            Rule::OfKit(Kit::Add),
+            Rule::OfKit(Kit::Sub),
+            Rule::OfKit(Kit::Sub),
+        ),
     }
 }
 
@@ -107,13 +123,7 @@ fn put_square(acts: &mut Vec<Act>, x: usize, z: usize) -> Result<(), AllocError>
 }
 
 /// Writes the instances of what is made of two.
-fn put_pair(
-    acts: &mut Vec<Act>,
-    op: Pair,
-    x: usize,
-    y: usize,
-    z: usize,
-) -> Result<(), AllocError>
+fn put_pair(acts: &mut Vec<Act>, op: Pair, x: usize, y: usize, z: usize) -> Result<(), AllocError>
     ensures { OnOk result (acts.new.items ≡ acts.old.items ++ pair_acts op x y z) }
 {
     match op {
@@ -147,13 +157,7 @@ fn put_single(acts: &mut Vec<Act>, op: Single, x: usize, y: usize) -> Result<(),
 }
 
 /// Writes the instances of a choice.
-fn put_choice(
-    acts: &mut Vec<Act>,
-    t: usize,
-    x: usize,
-    y: usize,
-    z: usize,
-) -> Result<(), AllocError>
+fn put_choice(acts: &mut Vec<Act>, t: usize, x: usize, y: usize, z: usize) -> Result<(), AllocError>
     ensures { OnOk result (acts.new.items ≡ acts.old.items ++ choice_acts t x y z) }
 {
     put(

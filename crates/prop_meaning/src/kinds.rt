@@ -34,12 +34,8 @@ pub fn kind_of_term<W: Words>(words: &W, term: &Term<'_>) -> Option<Kinded> {
 /// The kind of what an operator makes.
 fn kind_made(op: Infix) -> Option<Kinded> {
     match op {
-        Infix::Plus
-        | Infix::Minus
-        | Infix::Times
-        | Infix::Over
-        | Infix::Remainder
-        | Infix::Power => Some(NUMBER),
+        Infix::Plus | Infix::Minus | Infix::Times | Infix::Over | Infix::Remainder | Infix::Power =>
+            Some(NUMBER),
         Infix::Iff
         | Infix::Implies
         | Infix::Xor
@@ -57,11 +53,7 @@ fn kind_made(op: Infix) -> Option<Kinded> {
 }
 
 /// The kind of both terms, by the one of which it shows.
-fn kind_of_both<W: Words>(
-    words: &W,
-    left: &Term<'_>,
-    right: &Term<'_>,
-) -> Result<Kinded, Why> {
+fn kind_of_both<W: Words>(words: &W, left: &Term<'_>, right: &Term<'_>) -> Result<Kinded, Why> {
     match kind_of_term(words, left) {
         Some(kinded) => Ok(kinded),
         None => match kind_of_term(words, right) {

@@ -81,11 +81,7 @@ fn copied(alloc: Global, kinds: &[Kinded]) -> Result<Vec<Kinded>, AllocError>
 
 /// The instances as those of a program's procedures. Those that take a scale are given the scale 1,
 /// which is the one parameter.
-pub fn flat<P: Palette>(
-    alloc: Global,
-    palette: &P,
-    posted: &Posted,
-) -> Result<Flat, AllocError>
+pub fn flat<P: Palette>(alloc: Global, palette: &P, posted: &Posted) -> Result<Flat, AllocError>
     ensures { IfOk result (λ flat. IsFlatOf (P.number_of palette.now) posted.now flat) }
 {
     let fresh = copied(alloc, &posted.fresh)?;

@@ -15,12 +15,7 @@ use prop_procedures::Kinded;
 use prop_terms::{Infix, Prefix, Term};
 
 /// The cell of a number of a term.
-fn numeral<W: Words>(
-    words: &W,
-    made: &mut Vec<Made>,
-    n: u64,
-    kinded: Kinded,
-) -> Result<usize, Why>
+fn numeral<W: Words>(words: &W, made: &mut Vec<Made>, n: u64, kinded: Kinded) -> Result<usize, Why>
     requires sound { IsSound (W.lexicon words.now) made.old.items }
     ensures grown { OnOk result (Grown (W.lexicon words.now) made.old.items made.new.items) }
     ensures shows { IfOk result

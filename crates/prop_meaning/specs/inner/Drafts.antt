@@ -1,5 +1,5 @@
 -- Fresh cells, each made of given ones and those before it.
-use Rattle.std.specs.Prelude.{◌≡◌, ℕ, ◌+◌, ◌-◌, ◌<◌, List, length, cond, nat_lt, Option, Some, ⊤, Bool}
+use Rattle.std.specs.Prelude.{◌≡◌, ℕ, ◌+◌, ◌-◌, ◌<◌, List, cond, nat_lt, Option, Some, ⊤, Bool}
 use Rattle.std.specs.Prelude.{slice_get}
 use Rattle.std.specs.Option.{option_map}
 use Rattle.prop_lattice.specs.Points.{Point, Element, IsPointOf}

@@ -1,5 +1,5 @@
 -- The instances that make a step's cell, in all directions.
-use Rattle.std.specs.Prelude.{◌≡◌, ℕ, ℤ, ◌+◌, ◌^◌, ◌==◌, List, [], ◌∷◌, ◌++◌, cond, nat_lt, Option, Some, None, map}
+use Rattle.std.specs.Prelude.{◌≡◌, ℕ, ◌+◌, ◌^◌, ◌==◌, List, [], ◌∷◌, ◌++◌, cond, nat_lt, Option, Some, None, map}
 use Rattle.prop_lattice.specs.Ends.{span_from, elements_from}
 use Rattle.prop_lattice.specs.declared.info.Info.{Info}
 use Rattle.prop_lattice.specs.declared.info.Info.TheVariants.{Sym}

@@ -1,5 +1,5 @@
 -- What a step makes of points.
-use Rattle.std.specs.Prelude.{ℕ, ℤ, pos, neg_ℤ, ◌+ℤ◌, ◌-ℤ◌, ◌*ℤ◌, int_le, int_lt}
+use Rattle.std.specs.Prelude.{ℕ, pos, neg_ℤ, ◌+ℤ◌, ◌-ℤ◌, ◌*ℤ◌, int_le, int_lt}
 use Rattle.std.specs.Prelude.{Bool, false, cond, not, ◌&&◌, ◌||◌, ◌==◌, ◌<◌, ⊤}
 use Rattle.std.specs.Int.{int_max, int_min}
 use Rattle.prop_lattice.specs.Points.{Point, Element, Symbol}

@@ -1,7 +1,6 @@
-use Rattle.std.proofs.Common.{◌≡◌, ◌∙◌, ◌<◌, ℕ, Some, ap, sym, subst, ◌+◌, length}
+use Rattle.std.proofs.Common.{◌≡◌, ◌∙◌, ◌<◌, Some, ap, sym, subst, ◌+◌, length}
 use Rattle.std.proofs.lemmas.Result.{IfOk-weaker}
 use Rattle.prop_lattice.specs.Points.{Element}
-use Rattle.prop_procedures.specs.declared.shape.Kinded.{Kinded}
 use Rattle.prop_meaning.specs.inner.Drafts.{Makes}
 use Rattle.prop_meaning.proofs.Naming.{good_element, names_element}
 use Rattle.prop_meaning.proofs.constants.element.Goals as goal

@@ -1,6 +1,4 @@
-use Rattle.std.proofs.Common.{subst}
 use Rattle.prop_terms.specs.Terms.{term_of}
-use Rattle.prop_meaning.specs.inner.Expanding.{ArePosted}
 use Rattle.prop_meaning.proofs.PostingLemmas.{is_value}
 use Rattle.prop_meaning.proofs.posting.compute.Goals as goal
 

@@ -1,6 +1,6 @@
-use Rattle.std.proofs.Common.{◌*ℤ◌, ◌^◌, pos, refl}
+use Rattle.std.proofs.Common.{◌*ℤ◌}
 use Rattle.std.specs.Int.{int_max}
-use Rattle.prop_intervals.proofs.WideLemmas.{product_of_ends, greatest_of_back, greatest_under, back_128, lo_fits}
+use Rattle.prop_intervals.proofs.WideLemmas.{product_of_ends, greatest_of_back, back_128, lo_fits}
 use Rattle.prop_intervals.proofs.WideLemmas.{hi_fits}
 use Rattle.prop_meaning.proofs.spans.largest_product.Goals as goal
 

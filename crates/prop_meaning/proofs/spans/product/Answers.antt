@@ -1,5 +1,3 @@
-use Rattle.std.proofs.Common.{arith}
-use Rattle.std.proofs.lemmas.Int.{ints}
 use Rattle.prop_intervals.proofs.WideLemmas.{back_128}
 use Rattle.prop_meaning.proofs.Products.{holds_product}
 use Rattle.prop_meaning.proofs.spans.product.Goals as goal
