@@ -1,4 +1,14 @@
-//! What a constraint becomes in a network: fresh cells, constants, and instances of rules.
+//! What a term becomes in a network: fresh cells, constants, and instances of rules.
+//!
+//! `post` is proved to say the same as the term (`SaysSame`): whatever fitting points the given
+//! cells have, there are points of the fresh ones that solve it, and wherever it is solved the cell
+//! of the result is `yes` just where the term holds. `compute` is the same of a value of any kind.
+//! `flat` makes the instances those of a program's procedures.
+//!
+//! Each fresh cell is made of cells before it, and what is made of the same is one cell. Numbers,
+//! names, `+`, `-`, `*`, `abs`, comparisons, truths and `if` are posted so far; what isn't is
+//! refused (`Why::NotYet`), and so is a part whose value may lie beyond 10^18. No program uses this
+//! crate yet.
 #![tactic(auto)]
 
 pub mod acts;
