@@ -139,7 +139,7 @@ pub untold : (b : Bool) → not (cond b 0 1 == 0) ≡ not b
 untold true = refl
 untold false = refl
 
-le_not_lt : (x y : ℤ) → int_le y x ≡ not (int_lt x y)
+pub le_not_lt : (x y : ℤ) → int_le y x ≡ not (int_lt x y)
 le_not_lt x y = grind (arith, ints)
 
 pub formula_means : (lexicon : Lexicon) → IsLexicon lexicon → (op : Infix) (kinded : Kinded) (p q : Point)

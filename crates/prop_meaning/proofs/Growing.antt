@@ -26,6 +26,10 @@ pub both_ok : {X E : Type 0} (r : Result X E) (P : Type 0) (Q R : X → Type 0) 
 both_ok (Ok x) P Q R p q f = f x p q
 both_ok (Err e) P Q R p q f = tt
 
+pub on_ok : {X E : Type 0} (r : Result X E) (P Q : Type 0) → OnOk r P → (P → Q) → OnOk r Q
+on_ok (Ok x) P Q p f = f p
+on_ok (Err e) P Q p f = tt
+
 -- ---- lists
 
 pub at_front : {X : Type 0} (xs ys : List X) (k : ℕ) (x : X) → slice_get xs k ≡ Some x → slice_get (xs ++ ys) k ≡ Some x

@@ -1,6 +1,6 @@
 -- Cells show what terms are worth.
 use Rattle.std.proofs.Common.{◌≡◌, ◌∙◌, ℕ, ℤ, pos, neg_ℤ, ◌-ℤ◌, List, Bool, true, false, cond, not, ◌==◌, Some, refl, ap, sym, Option}
-use Rattle.std.proofs.Common.{arith}
+use Rattle.std.proofs.Common.{arith, int_le, int_lt, ◌&&◌, [], ◌∷◌}
 use Rattle.std.proofs.lemmas.Int.{ints}
 use Rattle.prop_lattice.specs.Points.{Point, Number, IsPointOf}
 use Rattle.prop_procedures.specs.declared.shape.Kinded.{Kinded}
@@ -8,15 +8,15 @@ use Rattle.prop_terms.specs.declared.operators.Infix.{Infix}
 use Rattle.prop_terms.specs.declared.operators.Infix.TheVariants as between
 use Rattle.prop_terms.specs.declared.operators.Prefix.{Prefix}
 use Rattle.prop_terms.specs.declared.operators.Prefix.TheVariants as before
-use Rattle.prop_terms.specs.Meaning.{Value, Names, holds, combined, applied, worth, each}
+use Rattle.prop_terms.specs.Meaning.{Value, Names, holds, combined, applied, worth, each, truth, comparison, is_in}
 use Rattle.prop_terms.specs.Terms.{Term, One, Two}
 use Rattle.prop_meaning.specs.Words.{Lexicon, IsLexicon, names_at, value_as}
 use Rattle.prop_meaning.specs.declared.draft.Made.{Made}
 use Rattle.prop_meaning.specs.declared.steps.Single.TheVariants.{Abs, Not}
 use Rattle.prop_meaning.specs.inner.Drafts.{Grown, Makes, Shows, number_kind, truth_kind}
-use Rattle.prop_meaning.specs.inner.Formulas.{Takes, kind_of, formula, is_taken, kind_before, formula_before}
+use Rattle.prop_meaning.specs.inner.Formulas.{Takes, kind_of, formula, is_taken, kind_before, formula_before, is_list, within}
 use Rattle.prop_meaning.specs.inner.Steps.{truth_point, negative, of_one, chosen}
-use Rattle.prop_meaning.proofs.Formulas.{formula_means, on_number, on_truth, told, holds_told}
+use Rattle.prop_meaning.proofs.Formulas.{formula_means, on_number, on_numbers, on_truth, told, holds_told, untold, le_not_lt}
 use Rattle.prop_meaning.proofs.Growing.{is_proper, shows_grows}
 
 -- ---- an operator between two terms
@@ -167,4 +167,64 @@ shows_choice lexicon kinded test left right t x y place first second third fourt
       ∙ (choice_means lexicon r.words kinded (a t) (a x) (a y)
       (is_proper lexicon fourth t truth_kind a i.sound r st.has).of_kind
       ∙ ap (λ p. Some (value p)) (sym (m.is a r)))));
+}
+
+-- ---- a range
+
+each_single : (names : Names) (t : Term) (v : Option Value) → is_list t ≡ false → each names t v ≡ v ∷ []
+each_single names (Two between.Comma t u) v e = absurd (cc)
+each_single names t v e = refl
+
+range_means : (lexicon : Lexicon) → IsLexicon lexicon → (x low high : ℤ)
+    → truth (int_le low x && int_le x high)
+    ≡ Some (value_as lexicon truth_kind (within (Number x) (Number low) (Number high)))
+range_means lexicon law x low high = told lexicon law _ _
+    (ap (λ b. b && int_le x high) (one x low) ∙ ap (λ b. ((cond (not (cond (int_lt x low) 0 1 == 0)) 0 1) == 0) && b) (one high x))
+  where
+    same : (b : Bool) → b ≡ (cond b 0 1 == 0)
+    same true = refl
+    same false = refl
+
+    one : (x y : ℤ) → int_le y x ≡ ((cond (not (cond (int_lt x y) 0 1 == 0)) 0 1) == 0)
+    one x y = le_not_lt x y ∙ (sym (untold (int_lt x y)) ∙ same (not (cond (int_lt x y) 0 1 == 0)))
+
+three_numbers : (lexicon : Lexicon) → IsLexicon lexicon → (p low high : Point) → IsPointOf number_kind.kind 0 p
+    → IsPointOf number_kind.kind 0 low → IsPointOf number_kind.kind 0 high
+    → truth (comparison between.AtMost (Some (value_as lexicon number_kind low)) (Some (value_as lexicon number_kind p))
+    && comparison between.AtMost (Some (value_as lexicon number_kind p)) (Some (value_as lexicon number_kind high)))
+    ≡ Some (value_as lexicon truth_kind (within p low high))
+three_numbers lexicon law p low high h i j = on_numbers 0
+    (λ p low. truth (comparison between.AtMost (Some (value_as lexicon number_kind low)) (Some (value_as lexicon number_kind p))
+    && comparison between.AtMost (Some (value_as lexicon number_kind p)) (Some (value_as lexicon number_kind high)))
+    ≡ Some (value_as lexicon truth_kind (within p low high)))
+    (λ x l. on_number 0 (λ high. truth (comparison between.AtMost (Some (value_as lexicon number_kind (Number l)))
+    (Some (value_as lexicon number_kind (Number x)))
+    && comparison between.AtMost (Some (value_as lexicon number_kind (Number x))) (Some (value_as lexicon number_kind high)))
+    ≡ Some (value_as lexicon truth_kind (within (Number x) (Number l) high)))
+    (λ z. range_means lexicon law x l z) high j) p low h i
+
+pub shows_range : (lexicon : Lexicon) (item low high : Term) (x from end place : ℕ)
+    (first second third fourth : List Made) → is_list item ≡ false → Shows lexicon first number_kind item x
+    → Grown lexicon first second → Shows lexicon second number_kind low from → Grown lexicon second third
+    → Shows lexicon third number_kind high end → Grown lexicon third fourth
+    → Makes lexicon fourth truth_kind (λ a. within (a x) (a from) (a end)) place
+    → Shows lexicon fourth truth_kind (Two between.In item (Two between.UpTo low high)) place
+shows_range lexicon item low high x from end place first second third fourth single ft g fx h fy i m = record {
+  has = m.has;
+  worth_is = λ a related r.
+      let st = shows_grows lexicon third fourth number_kind item x i
+      (shows_grows lexicon second third number_kind item x h (shows_grows lexicon first second number_kind item x g ft)) in
+      let sx = shows_grows lexicon third fourth number_kind low from i (shows_grows lexicon second third number_kind low from h fx) in
+      let sy = shows_grows lexicon third fourth number_kind high end i fy in
+      let names = names_at lexicon related a in
+      let v : Point → Option Value = λ p. Some (value_as lexicon number_kind p) in
+      ap (λ vs. truth (is_in names (Two between.UpTo low high) vs)) (each_single names item (worth names item) single)
+      ∙ (ap (λ w. truth (comparison between.AtMost (worth names low) w && comparison between.AtMost w (worth names high))) (st.worth_is a related r)
+      ∙ (ap (λ w. truth (comparison between.AtMost w (v (a x)) && comparison between.AtMost (v (a x)) (worth names high))) (sx.worth_is a related r)
+      ∙ (ap (λ w. truth (comparison between.AtMost (v (a from)) (v (a x)) && comparison between.AtMost (v (a x)) w)) (sy.worth_is a related r)
+      ∙ (three_numbers lexicon r.words (a x) (a from) (a end)
+      (is_proper lexicon fourth x number_kind a i.sound r st.has).of_kind
+      (is_proper lexicon fourth from number_kind a i.sound r sx.has).of_kind
+      (is_proper lexicon fourth end number_kind a i.sound r sy.has).of_kind
+      ∙ ap (λ p. Some (value_as lexicon truth_kind p)) (sym (m.is a r))))));
 }

@@ -6,7 +6,9 @@ ghost use Rattle.prop_meaning.specs.inner.Formulas.{AreFitting, kind_of, formula
 ghost use Rattle.prop_meaning.specs.inner.Formulas.{kind_before, is_taken, formula_before};
 ghost use Rattle.prop_meaning.specs.inner.Steps.{of_one, of_two, negative};
 ghost use Rattle.prop_terms.specs.declared.operators.Prefix.TheVariants.{If};
-ghost use Rattle.prop_terms.specs.declared.operators.Infix.TheVariants.{Then, Else};
+ghost use Rattle.prop_terms.specs.declared.operators.Infix.TheVariants.{Then, Else, In, UpTo};
+ghost use Rattle.prop_terms.specs.Terms.{term_of};
+ghost use Rattle.prop_meaning.specs.inner.Formulas.{is_list, within};
 ghost use Rattle.prop_meaning.specs.declared.steps.Single.TheVariants.{Not};
 ghost use Rattle.prop_meaning.specs.declared.steps.Pair.TheVariants.{Or};
 
@@ -17,7 +19,7 @@ use crate::making::{NUMBER, TRUTH, one, two};
 use crate::steps::{Pair, Single};
 use crate::words::Words;
 use prop_procedures::Kinded;
-use prop_terms::{Infix, Prefix};
+use prop_terms::{Infix, Prefix, Term};
 
 /// The kind of what an operator makes.
 pub(crate) fn kind_of(op: Infix) -> Kinded
@@ -148,4 +150,39 @@ pub(crate) fn combined<W: Words>(
         Infix::Implies => implied(words, made, x, y),
         _ => unreachable!(),
     }
+}
+
+/// Whether the operators are those of a range in which something lies.
+pub(crate) fn is_range(op: Infix, to: Infix) -> bool
+    ensures { IsTrue result → (op ≡ In) × (to ≡ UpTo) }
+{
+    matches!((op, to), (Infix::In, Infix::UpTo))
+}
+
+/// Whether the term is several between commas.
+pub(crate) fn is_list(term: &Term<'_>) -> bool
+    ensures { result ≡ is_list (term_of term.now) }
+{
+    matches!(term, Term::Two(Infix::Comma, _, _))
+}
+
+/// The cell of whether a number lies between two.
+pub(crate) fn between<W: Words>(
+    words: &W,
+    made: &mut Vec<Made>,
+    x: usize,
+    from: usize,
+    end: usize,
+) -> Result<usize, Why>
+    requires sound { IsSound (W.lexicon words.now) made.old.items }
+    requires number { Has (W.lexicon words.now) made.old.items x number_kind }
+    requires low { Has (W.lexicon words.now) made.old.items from number_kind }
+    requires high { Has (W.lexicon words.now) made.old.items end number_kind }
+    ensures grown { OnOk result (Grown (W.lexicon words.now) made.old.items made.new.items) }
+    ensures makes { IfOk result (Makes (W.lexicon words.now) made.new.items truth_kind
+        (λ a. within (a x) (a from) (a end))) }
+{
+    let above = opposite(words, made, Pair::Less, x, from)?;
+    let below = opposite(words, made, Pair::Less, end, x)?;
+    two(words, made, Pair::And, above, below)
 }

@@ -2,7 +2,8 @@
 ghost use Rattle.std.specs.Prelude.{◌≡◌, ◌++◌, ◌+◌, ◌<◌, ◌^◌, cond, nat_lt, OnOk, length};
 ghost use Rattle.prop_meaning.specs.inner.Expanding.{act, all_ways, rules, rules_of, alike_acts};
 ghost use Rattle.prop_meaning.specs.inner.Expanding.{square_acts, pair_acts, single_acts};
-ghost use Rattle.prop_meaning.specs.inner.Expanding.{choice_acts, acts_of, constant_of, constants_of};
+ghost use Rattle.prop_meaning.specs.inner.Expanding.{choice_acts, acts_of};
+ghost use Rattle.prop_meaning.specs.inner.Expanding.{constant_of, constants_of};
 
 use crate::acts::{Act, Inputs, Rule};
 use crate::steps::{Pair, Single, Step};

@@ -7,7 +7,8 @@ ghost use Rattle.prop_meaning.specs.inner.Drafts.{Has, IsSound, Grown, Makes, Ta
 ghost use Rattle.prop_meaning.specs.inner.Drafts.{AreAlike};
 ghost use Rattle.prop_procedures.specs.declared.shape.Kinded.{Kinded as Kinds};
 ghost use Rattle.prop_meaning.specs.inner.Drafts.{known_at};
-ghost use Rattle.prop_meaning.specs.inner.Drafts.{number_kind, truth_kind, kind_before, kind_between};
+ghost use Rattle.prop_meaning.specs.inner.Drafts.{number_kind, truth_kind};
+ghost use Rattle.prop_meaning.specs.inner.Drafts.{kind_before, kind_between};
 ghost use Rattle.prop_meaning.specs.inner.Spans.{Tells};
 ghost use Rattle.prop_meaning.specs.inner.Steps.{of_one, of_two, chosen};
 

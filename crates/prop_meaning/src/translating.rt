@@ -4,7 +4,9 @@ ghost use Rattle.prop_terms.specs.Terms as terms;
 ghost use Rattle.prop_terms.specs.Terms.{term_of};
 ghost use Rattle.prop_meaning.specs.inner.Drafts.{IsSound, Grown, Shows};
 
-use crate::combining::{combined, is_choice, is_taken, kind_before, kind_of, prefixed};
+use crate::combining::{
+    between, combined, is_choice, is_list, is_range, is_taken, kind_before, kind_of, prefixed,
+};
 use crate::constants::{name, number};
 use crate::draft::Made;
 use crate::fault::{Fault, Why};
@@ -75,6 +77,9 @@ fn between_two<'t, 'a, W: Words>(
             part: term,
         });
     };
+    if matches!(*op, Infix::In) {
+        return in_range(words, made, term, kinded);
+    }
     let both = match sides(words, *op, left, right) {
         Ok(both) => both,
         Err(why) => return Err(Fault { why, part: term }),
@@ -167,6 +172,47 @@ fn chosen_way<'t, 'a, W: Words>(
     let x = translated(words, made, left, kinded)?;
     let y = translated(words, made, right, kinded)?;
     match choice(words, made, t, x, y) {
+        Ok(place) => Ok(place),
+        Err(why) => Err(Fault { why, part: term }),
+    }
+}
+
+/// The same of what lies in a range.
+#[cycle(translating)]
+fn in_range<'t, 'a, W: Words>(
+    words: &W,
+    made: &mut Vec<Made>,
+    term: &'t Term<'a>,
+    kinded: Kinded,
+) -> Result<usize, Fault<'t, 'a>>
+    requires sound { IsSound (W.lexicon words.now) made.old.items }
+    ensures grown { OnOk result (Grown (W.lexicon words.now) made.old.items made.new.items) }
+    ensures shows { IfOk result
+        (Shows (W.lexicon words.now) made.new.items kinded (term_of term.now)) }
+{
+    let later = Fault {
+        why: Why::NotYet,
+        part: term,
+    };
+    let Term::Two(op, item, range) = term else {
+        return Err(later);
+    };
+    let Term::Two(to, low, high) = &**range else {
+        return Err(later);
+    };
+    if !is_range(*op, *to) || is_list(item) {
+        return Err(later);
+    }
+    if !is_same_kind(TRUTH, kinded) {
+        return Err(Fault {
+            why: Why::WrongKind,
+            part: term,
+        });
+    }
+    let x = translated(words, made, item, NUMBER)?;
+    let from = translated(words, made, low, NUMBER)?;
+    let end = translated(words, made, high, NUMBER)?;
+    match between(words, made, x, from, end) {
         Ok(place) => Ok(place),
         Err(why) => Err(Fault { why, part: term }),
     }

@@ -1,5 +1,6 @@
 -- The instances that make a step's cell, in all directions.
-use Rattle.std.specs.Prelude.{◌≡◌, ℕ, ◌+◌, ◌^◌, ◌==◌, List, [], ◌∷◌, ◌++◌, cond, nat_lt, Option, Some, None, map}
+use Rattle.std.specs.Prelude.{◌≡◌, ℕ, ◌+◌, ◌^◌, ◌==◌, List, []}
+use Rattle.std.specs.Prelude.{◌∷◌, ◌++◌, cond, nat_lt, Option, Some, None, map}
 use Rattle.prop_lattice.specs.Ends.{span_from, elements_from}
 use Rattle.prop_lattice.specs.declared.info.Info.{Info}
 use Rattle.prop_lattice.specs.declared.info.Info.TheVariants.{Sym}
@@ -55,7 +56,8 @@ alike_acts x y t = act (OfKit kits.Alike) (inputs.Two x y) t
 
 -- a number that is multiplied by itself
 abbrev pub square_acts : ℕ → ℕ → List Act
-square_acts x z = act (OfKit kits.Square) (inputs.One x) z ∷ act (OfKit kits.Root) (inputs.Two z x) x
+square_acts x z =
+    act (OfKit kits.Square) (inputs.One x) z ∷ act (OfKit kits.Root) (inputs.Two z x) x
     ∷ []
 
 -- a difference and the second number make the first
@@ -66,7 +68,8 @@ pair_acts Product x y z = cond (x == y) (square_acts x z) (all_ways (rules_of Pr
 pair_acts op x y z = all_ways (rules_of op) x y z
 
 abbrev pub single_acts : singles.Single → ℕ → ℕ → List Act
-single_acts Not x y = act (OfKit kits.Not) (inputs.One x) y ∷ act (OfKit kits.Not) (inputs.One y) x ∷ []
+single_acts Not x y =
+    act (OfKit kits.Not) (inputs.One x) y ∷ act (OfKit kits.Not) (inputs.One y) x ∷ []
 single_acts Abs x y = act (OfWide wides.Abs) (inputs.One x) y
     ∷ act (OfWide wides.AbsBack) (inputs.Two y x) x ∷ []
 

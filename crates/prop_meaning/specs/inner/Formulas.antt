@@ -2,7 +2,9 @@
 use Rattle.std.specs.Prelude.{◌≡◌, ℕ, List, Bool, true, false, ⊤}
 use Rattle.prop_lattice.specs.Points.{Point}
 use Rattle.prop_procedures.specs.declared.shape.Kinded.{Kinded}
+use Rattle.prop_terms.specs.Terms.{Term, Two}
 use Rattle.prop_terms.specs.declared.operators.Infix.{Infix}
+use Rattle.prop_terms.specs.declared.operators.Infix.TheVariants.{Comma}
 use Rattle.prop_terms.specs.declared.operators.Infix.TheVariants.{Iff, Implies, Xor, Or, And, Equal}
 use Rattle.prop_terms.specs.declared.operators.Infix.TheVariants.{Unequal, Less, AtMost, Greater}
 use Rattle.prop_terms.specs.declared.operators.Infix.TheVariants.{AtLeast, Plus, Minus, Times}
@@ -78,3 +80,15 @@ formula_before before.Negated p = negative p
 formula_before before.Abs p = of_one Abs p
 formula_before before.Not p = of_one Not p
 formula_before op p = p
+
+-- ---- ranges
+
+-- several between commas
+abbrev pub is_list : Term → Bool
+is_list (Two Comma t u) = true
+is_list t = false
+
+-- whether the first point lies between the two
+abbrev pub within : Point → Point → Point → Point
+within p low high =
+    of_two pairs.And (of_one Not (of_two pairs.Less p low)) (of_one Not (of_two pairs.Less high p))

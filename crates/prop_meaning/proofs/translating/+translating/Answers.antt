@@ -1,11 +1,11 @@
-use Rattle.std.proofs.Common.{◌≡◌, ◌∙◌, true, ap, sym, subst}
+use Rattle.std.proofs.Common.{◌≡◌, ◌∙◌, true, false, ap, sym, subst}
 use Rattle.prop_terms.specs.Terms.{One, Two, term_of}
 use Rattle.prop_terms.specs.declared.operators.Prefix.TheVariants.{If}
-use Rattle.prop_terms.specs.declared.operators.Infix.TheVariants.{Then, Else}
-use Rattle.prop_meaning.specs.inner.Drafts.{Shows}
+use Rattle.prop_terms.specs.declared.operators.Infix.TheVariants.{Then, Else, In, UpTo}
+use Rattle.prop_meaning.specs.inner.Drafts.{Shows, number_kind, truth_kind}
 use Rattle.prop_meaning.specs.inner.Formulas as formulas
 use Rattle.prop_meaning.proofs.Growing.{grown_trans, has_grows}
-use Rattle.prop_meaning.proofs.Showing.{shows_one, shows_two, shows_choice}
+use Rattle.prop_meaning.proofs.Showing.{shows_one, shows_two, shows_choice, shows_range}
 use Rattle.prop_meaning.proofs.translating.+translating.Goals as goal
 
 pub before_one-returns-in-Ok-clause-shows : goal.before_one-returns-in-Ok-clause-shows
@@ -91,3 +91,54 @@ chosen_way-returns-in-Ok-clause-shows g t c =
     c.in_ok-y.ensures.grown c.in_ok-y.ensures.shows c.in-Ok.ensures.grown
     (c.in-Ok.ensures.makes c.args.kinded has) in
     subst (λ u. Shows lexicon fourth c.args.kinded u c.in-Ok.place) (sym whole) all
+
+pub in_range-returns-in-Ok-clause-grown : goal.in_range-returns-in-Ok-clause-grown
+in_range-returns-in-Ok-clause-grown g t c =
+    let lexicon = g.W.Words.lexicon c.args.words.now in
+    let first = c.translated.new.made.items in
+    let second = c.translated-2.new.made.items in
+    let third = c.translated-3.new.made.items in
+    let fourth = c.between.new.made.items in
+    grown_trans lexicon c.args.made.now.items first fourth c.in_ok-x.ensures.grown
+    (grown_trans lexicon first second fourth c.in_ok-from.ensures.grown
+    (grown_trans lexicon second third fourth c.in_ok-end.ensures.grown c.in-Ok.ensures.grown))
+
+pub in_range-between-requires-clause-number : goal.in_range-between-requires-clause-number
+in_range-between-requires-clause-number g t c =
+    let lexicon = g.W.Words.lexicon c.args.words.now in
+    let first = c.translated.new.made.items in
+    let second = c.translated-2.new.made.items in
+    let third = c.translated-3.new.made.items in
+    has_grows lexicon second third c.in_ok-x.x number_kind c.in_ok-end.ensures.grown.grows
+    (has_grows lexicon first second c.in_ok-x.x number_kind c.in_ok-from.ensures.grown.grows c.in_ok-x.ensures.shows.has)
+
+pub in_range-returns-in-Ok-clause-shows : goal.in_range-returns-in-Ok-clause-shows
+in_range-returns-in-Ok-clause-shows g t c =
+    let lexicon = g.W.Words.lexicon c.args.words.now in
+    let outer = c.in-Two in
+    let inner = c.in-Two-deref in
+    let item = term_of c.deref-2.result.now in
+    let low = term_of c.deref-3.result.now in
+    let high = term_of c.deref-4.result.now in
+    let first = c.translated.new.made.items in
+    let second = c.translated-2.new.made.items in
+    let third = c.translated-3.new.made.items in
+    let fourth = c.between.new.made.items in
+    let which = c.is_range.ensures c.if-not-is_range.false in
+    let range : term_of c.deref.result.now ≡ Two UpTo low high = ap term_of inner.is
+    ∙ (ap (λ o. Two o (term_of inner.low.value) (term_of inner.high.value)) which.1
+    ∙ (ap (λ u. Two UpTo (term_of u) (term_of inner.high.value)) (sym c.deref-3.ensures)
+    ∙ ap (λ u. Two UpTo low (term_of u)) (sym c.deref-4.ensures))) in
+    let whole : term_of c.args.term.now ≡ Two In item (Two UpTo low high) = ap term_of outer.is
+    ∙ (ap (λ o. Two o (term_of outer.item.value) (term_of outer.range.value)) which.0
+    ∙ (ap (λ u. Two In (term_of u) (term_of outer.range.value)) (sym c.deref-2.ensures)
+    ∙ (ap (λ u. Two In item (term_of u)) (sym c.deref.ensures) ∙ ap (Two In item) range))) in
+    let single : formulas.is_list item ≡ false =
+    ap (λ u. formulas.is_list (term_of u)) (c.deref-2.ensures ∙ sym c.deref-else-not-is_range.ensures)
+    ∙ (sym c.is_list.ensures ∙ c.if-is_list.false) in
+    let kind : truth_kind ≡ c.args.kinded = c.is_same_kind.ensures c.if-not-is_same_kind.false in
+    let all = shows_range lexicon item low high c.in_ok-x.x c.in_ok-from.from c.in_ok-end.end c.in-Ok.place
+    first second third fourth single c.in_ok-x.ensures.shows c.in_ok-from.ensures.grown c.in_ok-from.ensures.shows
+    c.in_ok-end.ensures.grown c.in_ok-end.ensures.shows c.in-Ok.ensures.grown c.in-Ok.ensures.makes in
+    subst (λ k. Shows lexicon fourth k (term_of c.args.term.now) c.in-Ok.place) kind
+    (subst (λ u. Shows lexicon fourth truth_kind u c.in-Ok.place) (sym whole) all)
