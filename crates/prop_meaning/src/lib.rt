@@ -6,9 +6,9 @@
 //! `flat` makes the instances those of a program's procedures.
 //!
 //! Each fresh cell is made of cells before it, and what is made of the same is one cell. Numbers,
-//! names, `+`, `-`, `*`, `abs`, comparisons, truths and `if` are posted so far; what isn't is
-//! refused (`Why::NotYet`), and so is a part whose value may lie beyond 10^18. No program uses this
-//! crate yet.
+//! names, `+`, `-`, `*`, `abs`, comparisons, truths, `if` and `in A..B` are posted so far; another
+//! term is refused (`Why::NotYet`), and so is a part whose value may lie beyond 10^18. No program
+//! uses this crate yet.
 #![tactic(auto)]
 
 pub mod acts;
