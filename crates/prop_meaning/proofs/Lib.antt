@@ -1,0 +1,11 @@
+pub mod Growing
+pub mod Products
+pub mod Formulas
+pub mod Ways
+pub mod StepLemmas
+pub mod ConstantLemmas
+pub mod Solving
+pub mod PostingLemmas
+pub mod Showing
+pub mod Goodness
+pub mod Naming

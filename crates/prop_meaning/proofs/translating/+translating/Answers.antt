@@ -1,0 +1,144 @@
+use Rattle.std.proofs.Common.{◌≡◌, ◌∙◌, true, false, ap, sym, subst}
+use Rattle.prop_terms.specs.Terms.{One, Two, term_of}
+use Rattle.prop_terms.specs.declared.operators.Prefix.TheVariants.{If}
+use Rattle.prop_terms.specs.declared.operators.Infix.TheVariants.{Then, Else, In, UpTo}
+use Rattle.prop_meaning.specs.inner.Drafts.{Shows, number_kind, truth_kind}
+use Rattle.prop_meaning.specs.inner.Formulas as formulas
+use Rattle.prop_meaning.proofs.Growing.{grown_trans, has_grows}
+use Rattle.prop_meaning.proofs.Showing.{shows_one, shows_two, shows_choice, shows_range}
+use Rattle.prop_meaning.proofs.translating.+translating.Goals as goal
+
+pub before_one-returns-in-Ok-clause-shows : goal.before_one-returns-in-Ok-clause-shows
+before_one-returns-in-Ok-clause-shows g t c =
+    let lexicon = g.W.Words.lexicon c.args.words.now in
+    let op = c.in-One.op in
+    let under = term_of c.deref.result.now in
+    let first = c.translated.new.made.items in
+    let second = c.prefixed.new.made.items in
+    let kind : formulas.kind_before op ≡ c.args.kinded =
+    sym c.kind_before.ensures ∙ c.is_same_kind.ensures c.if-not-is_same_kind.false in
+    let taken : formulas.is_taken op ≡ true = sym c.is_taken.ensures ∙ c.if-not-is_taken.false in
+    let whole : term_of c.args.term.now ≡ One op under =
+    ap term_of c.in-One.is ∙ ap (λ u. One op (term_of u)) (sym c.deref.ensures) in
+    let shown = subst (λ k. Shows lexicon first k under c.in_ok-x.x) (sym kind) c.in_ok-x.ensures.shows in
+    let all = shows_one lexicon op under c.in_ok-x.x c.in-Ok.place first second taken shown c.in-Ok.ensures.grown
+    c.in-Ok.ensures.makes in
+    subst (λ k. Shows lexicon second k (term_of c.args.term.now) c.in-Ok.place) kind
+    (subst (λ u. Shows lexicon second (formulas.kind_before op) u c.in-Ok.place) (sym whole) all)
+
+pub between_two-returns-in-Ok-combined-clause-shows : goal.between_two-returns-in-Ok-combined-clause-shows
+between_two-returns-in-Ok-combined-clause-shows g t c =
+    let lexicon = g.W.Words.lexicon c.args.words.now in
+    let op = c.in-Two.op in
+    let left = term_of c.deref-3.result.now in
+    let right = term_of c.deref-4.result.now in
+    let first = c.translated.new.made.items in
+    let second = c.translated-2.new.made.items in
+    let third = c.combined.new.made.items in
+    let place = c.in-Ok-combined.place in
+    let kind : formulas.kind_of op ≡ c.args.kinded =
+    sym c.kind_of.ensures ∙ c.is_same_kind.ensures c.if-not-is_same_kind.false in
+    let whole : term_of c.args.term.now ≡ Two op left right = ap term_of c.in-Two.is
+    ∙ (ap (λ u. Two op (term_of u) (term_of c.in-Two.right.value)) (sym c.deref-3.ensures)
+    ∙ ap (λ u. Two op left (term_of u)) (sym c.deref-4.ensures)) in
+    let all = shows_two lexicon op c.in-Ok.both left right c.in_ok-x.x c.in_ok-y.y place first second third c.in-Ok.ensures
+    c.in_ok-x.ensures.shows c.in_ok-y.ensures.grown c.in_ok-y.ensures.shows c.in-Ok-combined.ensures.grown
+    c.in-Ok-combined.ensures.makes in
+    subst (λ k. Shows lexicon third k (term_of c.args.term.now) place) kind
+    (subst (λ u. Shows lexicon third (formulas.kind_of op) u place) (sym whole) all)
+
+pub chosen_way-returns-in-Ok-clause-grown : goal.chosen_way-returns-in-Ok-clause-grown
+chosen_way-returns-in-Ok-clause-grown g t c =
+    let lexicon = g.W.Words.lexicon c.args.words.now in
+    let old = c.args.made.now.items in
+    let first = c.translated.new.made.items in
+    let second = c.translated-2.new.made.items in
+    let third = c.translated-3.new.made.items in
+    let fourth = c.choice.new.made.items in
+    grown_trans lexicon old first fourth c.in_ok-t.ensures.grown
+    (grown_trans lexicon first second fourth c.in_ok-x.ensures.grown
+    (grown_trans lexicon second third fourth c.in_ok-y.ensures.grown c.in-Ok.ensures.grown))
+
+pub chosen_way-returns-in-Ok-clause-shows : goal.chosen_way-returns-in-Ok-clause-shows
+chosen_way-returns-in-Ok-clause-shows g t c =
+    let lexicon = g.W.Words.lexicon c.args.words.now in
+    let outer = c.in-One in
+    let inner = c.in-Two in
+    let last = c.in-Two-deref in
+    let test = term_of c.deref-3.result.now in
+    let left = term_of c.deref-4.result.now in
+    let right = term_of c.deref-5.result.now in
+    let first = c.translated.new.made.items in
+    let second = c.translated-2.new.made.items in
+    let third = c.translated-3.new.made.items in
+    let fourth = c.choice.new.made.items in
+    let which = c.is_choice.ensures c.if-not-is_choice.false in
+    let ways : term_of c.deref-2.result.now ≡ Two Else left right = ap term_of last.is
+    ∙ (ap (λ o. Two o (term_of last.left.value) (term_of last.right.value)) which.2
+    ∙ (ap (λ u. Two Else (term_of u) (term_of last.right.value)) (sym c.deref-4.ensures)
+    ∙ ap (λ u. Two Else left (term_of u)) (sym c.deref-5.ensures))) in
+    let body : term_of c.deref.result.now ≡ Two Then test (Two Else left right) = ap term_of inner.is
+    ∙ (ap (λ o. Two o (term_of inner.test.value) (term_of inner.ways.value)) which.1
+    ∙ (ap (λ u. Two Then (term_of u) (term_of inner.ways.value)) (sym c.deref-3.ensures)
+    ∙ (ap (λ u. Two Then test (term_of u)) (sym c.deref-2.ensures) ∙ ap (Two Then test) ways))) in
+    let whole : term_of c.args.term.now ≡ One If (Two Then test (Two Else left right)) = ap term_of outer.is
+    ∙ (ap (λ o. One o (term_of outer.under.value)) which.0
+    ∙ (ap (λ u. One If (term_of u)) (sym c.deref.ensures) ∙ ap (One If) body)) in
+    let has = has_grows lexicon second third c.in_ok-x.x c.args.kinded c.in_ok-y.ensures.grown.grows
+    c.in_ok-x.ensures.shows.has in
+    let all = shows_choice lexicon c.args.kinded test left right c.in_ok-t.t c.in_ok-x.x c.in_ok-y.y c.in-Ok.place
+    first second third fourth c.in_ok-t.ensures.shows c.in_ok-x.ensures.grown c.in_ok-x.ensures.shows
+    c.in_ok-y.ensures.grown c.in_ok-y.ensures.shows c.in-Ok.ensures.grown
+    (c.in-Ok.ensures.makes c.args.kinded has) in
+    subst (λ u. Shows lexicon fourth c.args.kinded u c.in-Ok.place) (sym whole) all
+
+pub in_range-returns-in-Ok-clause-grown : goal.in_range-returns-in-Ok-clause-grown
+in_range-returns-in-Ok-clause-grown g t c =
+    let lexicon = g.W.Words.lexicon c.args.words.now in
+    let first = c.translated.new.made.items in
+    let second = c.translated-2.new.made.items in
+    let third = c.translated-3.new.made.items in
+    let fourth = c.between.new.made.items in
+    grown_trans lexicon c.args.made.now.items first fourth c.in_ok-x.ensures.grown
+    (grown_trans lexicon first second fourth c.in_ok-from.ensures.grown
+    (grown_trans lexicon second third fourth c.in_ok-end.ensures.grown c.in-Ok.ensures.grown))
+
+pub in_range-between-requires-clause-number : goal.in_range-between-requires-clause-number
+in_range-between-requires-clause-number g t c =
+    let lexicon = g.W.Words.lexicon c.args.words.now in
+    let first = c.translated.new.made.items in
+    let second = c.translated-2.new.made.items in
+    let third = c.translated-3.new.made.items in
+    has_grows lexicon second third c.in_ok-x.x number_kind c.in_ok-end.ensures.grown.grows
+    (has_grows lexicon first second c.in_ok-x.x number_kind c.in_ok-from.ensures.grown.grows c.in_ok-x.ensures.shows.has)
+
+pub in_range-returns-in-Ok-clause-shows : goal.in_range-returns-in-Ok-clause-shows
+in_range-returns-in-Ok-clause-shows g t c =
+    let lexicon = g.W.Words.lexicon c.args.words.now in
+    let outer = c.in-Two in
+    let inner = c.in-Two-deref in
+    let item = term_of c.deref-2.result.now in
+    let low = term_of c.deref-3.result.now in
+    let high = term_of c.deref-4.result.now in
+    let first = c.translated.new.made.items in
+    let second = c.translated-2.new.made.items in
+    let third = c.translated-3.new.made.items in
+    let fourth = c.between.new.made.items in
+    let which = c.is_range.ensures c.if-not-is_range.false in
+    let range : term_of c.deref.result.now ≡ Two UpTo low high = ap term_of inner.is
+    ∙ (ap (λ o. Two o (term_of inner.low.value) (term_of inner.high.value)) which.1
+    ∙ (ap (λ u. Two UpTo (term_of u) (term_of inner.high.value)) (sym c.deref-3.ensures)
+    ∙ ap (λ u. Two UpTo low (term_of u)) (sym c.deref-4.ensures))) in
+    let whole : term_of c.args.term.now ≡ Two In item (Two UpTo low high) = ap term_of outer.is
+    ∙ (ap (λ o. Two o (term_of outer.item.value) (term_of outer.range.value)) which.0
+    ∙ (ap (λ u. Two In (term_of u) (term_of outer.range.value)) (sym c.deref-2.ensures)
+    ∙ (ap (λ u. Two In item (term_of u)) (sym c.deref.ensures) ∙ ap (Two In item) range))) in
+    let single : formulas.is_list item ≡ false =
+    ap (λ u. formulas.is_list (term_of u)) (c.deref-2.ensures ∙ sym c.deref-else-not-is_range.ensures)
+    ∙ (sym c.is_list.ensures ∙ c.if-is_list.false) in
+    let kind : truth_kind ≡ c.args.kinded = c.is_same_kind.ensures c.if-not-is_same_kind.false in
+    let all = shows_range lexicon item low high c.in_ok-x.x c.in_ok-from.from c.in_ok-end.end c.in-Ok.place
+    first second third fourth single c.in_ok-x.ensures.shows c.in_ok-from.ensures.grown c.in_ok-from.ensures.shows
+    c.in_ok-end.ensures.grown c.in_ok-end.ensures.shows c.in-Ok.ensures.grown c.in-Ok.ensures.makes in
+    subst (λ k. Shows lexicon fourth k (term_of c.args.term.now) c.in-Ok.place) kind
+    (subst (λ u. Shows lexicon fourth truth_kind u c.in-Ok.place) (sym whole) all)

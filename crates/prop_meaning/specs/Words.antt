@@ -1,0 +1,74 @@
+-- What the words of a term are, and what names stand for at points of the given cells.
+use Rattle.std.specs.Prelude.{◌≡◌, ℕ, ◌<◌, ℤ, ◌≤ℤ◌, List, Bool, Option, Some, codes, ⊤}
+use Rattle.std.specs.Option.{option_map_or}
+use Rattle.prop_lattice.specs.Points.{Point, Number, IsPointOf}
+use Rattle.prop_lattice.specs.declared.info.Kind.{Kind}
+use Rattle.prop_lattice.specs.declared.info.Kind.TheVariants.{Set}
+use Rattle.prop_lattice.specs.declared.span.Span as spans
+use Rattle.prop_procedures.specs.declared.shape.Kinded.{Kinded}
+use Rattle.prop_terms.specs.Meaning.{Value, Text, Names, value_of}
+use Rattle.prop_meaning.specs.declared.known.Known.{Known}
+
+-- How many cells are given, and what is surely known of each; of a word, which of them it names,
+-- which element of a domain it is, and which symbol; how many elements a domain has, and what an
+-- element and a symbol is called.
+pub record Lexicon : Type 0 where
+  pub count : ℕ
+  pub known : ℕ → Known
+  pub cell : List ℕ → Option ℕ
+  pub element : ℕ → List ℕ → Option ℕ
+  pub symbol : List ℕ → Option ℕ
+  pub size : ℕ → ℕ
+  pub element_word : ℕ → ℕ → List ℕ
+  pub symbol_word : ℕ → List ℕ
+
+-- an element is found by what it is called, no two of a domain are called the same, and so are
+-- symbols; `yes` and `no` are the two of the domain 0
+pub record IsLexicon (lexicon : Lexicon) : Type 0 where
+  pub sizes : (i domain : ℕ) → i < lexicon.count → (lexicon.known i).kinded.kind ≡ Set domain
+      → (lexicon.known i).kinded.size ≡ lexicon.size domain
+  pub elements : (domain : ℕ) (word : List ℕ) (i : ℕ) → lexicon.element domain word ≡ Some i
+      → (i < lexicon.size domain) × (lexicon.element_word domain i ≡ word)
+  pub elements_differ : (domain i j : ℕ) → i < lexicon.size domain → j < lexicon.size domain
+      → lexicon.element_word domain i ≡ lexicon.element_word domain j → i ≡ j
+  pub symbols : (word : List ℕ) (n : ℕ) → lexicon.symbol word ≡ Some n
+      → lexicon.symbol_word n ≡ word
+  pub symbols_differ : (m n : ℕ) → lexicon.symbol_word m ≡ lexicon.symbol_word n → m ≡ n
+  pub truths : lexicon.size 0 ≡ 2
+  pub yes : lexicon.element_word 0 0 ≡ codes "yes"
+  pub no : lexicon.element_word 0 1 ≡ codes "no"
+
+-- the number lies in the span
+abbrev pub Lies : spans.Span → ℤ → Type 0
+Lies s z = (s.lo ≤ℤ z) × (z ≤ℤ s.hi)
+
+-- so does a point that is a number
+abbrev pub LiesIn : spans.Span → Point → Type 0
+LiesIn s (Number z) = Lies s z
+LiesIn s p = ⊤
+
+-- the point is what is known
+abbrev pub IsWithin : Known → Point → Type 0
+IsWithin known p = IsPointOf known.kinded.kind known.kinded.size p × LiesIn known.span p
+
+-- each given cell's point is what is known of it
+abbrev pub Fits : Lexicon → (ℕ → Point) → Type 0
+Fits lexicon points = (i : ℕ) → i < lexicon.count → IsWithin (lexicon.known i) (points i)
+
+abbrev pub domain_of : Kind → ℕ
+domain_of (Set domain) = domain
+domain_of kind = 0
+
+-- what a point of a kind is
+abbrev pub value_as : Lexicon → Kinded → Point → Value
+value_as lexicon kinded p =
+    value_of (lexicon.element_word (domain_of kinded.kind)) lexicon.symbol_word p
+
+-- a given cell's name stands for its point, and another word for itself; whatever belongs to
+-- relations
+abbrev pub names_at : Lexicon → (List ℕ → List Value → Bool) → (ℕ → Point) → Names
+names_at lexicon related points = record {
+  value = λ w. option_map_or (λ i. value_as lexicon (lexicon.known i).kinded (points i))
+      (lexicon.cell w) (Text w);
+  related = related;
+}

@@ -1,0 +1,5 @@
+pub mod Steps
+pub mod Drafts
+pub mod Spans
+pub mod Formulas
+pub mod Expanding

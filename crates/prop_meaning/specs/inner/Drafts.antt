@@ -1,0 +1,143 @@
+-- Fresh cells, each made of given ones and those before it.
+use Rattle.std.specs.Prelude.{◌≡◌, ℕ, ◌+◌, ◌-◌, ◌<◌, List, cond, nat_lt, Option, Some, ⊤, Bool}
+use Rattle.std.specs.Prelude.{slice_get}
+use Rattle.std.specs.Option.{option_map}
+use Rattle.prop_lattice.specs.Points.{Point, Element, IsPointOf}
+use Rattle.prop_lattice.specs.declared.info.Kind.TheVariants as kinds
+use Rattle.prop_procedures.specs.declared.shape.Kinded.{Kinded}
+use Rattle.prop_terms.specs.Meaning.{Value, Text, worth}
+use Rattle.prop_terms.specs.Terms.{Term}
+use Rattle.prop_meaning.specs.Words.{Lexicon, IsLexicon, Fits, IsWithin, names_at, value_as}
+use Rattle.prop_meaning.specs.Words.{domain_of}
+use Rattle.prop_meaning.specs.inner.Steps.{made_by, IsBehind}
+use Rattle.prop_meaning.specs.declared.draft.Made.{Made}
+use Rattle.prop_meaning.specs.declared.known.Known.{Known}
+use Rattle.prop_meaning.specs.declared.steps.Single as singles
+use Rattle.prop_meaning.specs.declared.steps.Single.TheVariants.{Abs, Not}
+use Rattle.prop_meaning.specs.declared.steps.Pair as pairs
+use Rattle.prop_meaning.specs.declared.steps.Pair.TheVariants.{Less, Same, And, Or}
+use Rattle.prop_meaning.specs.declared.steps.Step.{Step}
+use Rattle.prop_meaning.specs.declared.steps.Step.TheVariants as steps
+
+abbrev pub number_kind : Kinded
+number_kind = record { kind = kinds.Span; size = 0 }
+
+abbrev pub truth_kind : Kinded
+truth_kind = record { kind = kinds.Set 0; size = 2 }
+
+-- the kind of the points of a function, and of its value
+abbrev pub kind_before : singles.Single → Kinded
+kind_before Abs = number_kind
+kind_before Not = truth_kind
+
+-- the kind that two points may both be of
+abbrev pub TakesTwo : pairs.Pair → Kinded → Type 0
+TakesTwo Same kinded = ⊤
+TakesTwo And kinded = kinded ≡ truth_kind
+TakesTwo Or kinded = kinded ≡ truth_kind
+TakesTwo op kinded = kinded ≡ number_kind
+
+abbrev pub kind_between : pairs.Pair → Kinded
+kind_between Less = truth_kind
+kind_between Same = truth_kind
+kind_between And = truth_kind
+kind_between Or = truth_kind
+kind_between op = number_kind
+
+-- ---- cells
+
+-- what is known of the cell at a place
+abbrev pub known_at : Lexicon → List Made → ℕ → Option Known
+known_at lexicon made place = cond (nat_lt place lexicon.count) (Some (lexicon.known place))
+    (option_map (λ m. m.known) (slice_get made (place - lexicon.count)))
+
+-- the cell at the place is of the kind
+abbrev pub Has : Lexicon → List Made → ℕ → Kinded → Type 0
+Has lexicon made place kinded =
+    option_map (λ k. k.kinded) (known_at lexicon made place) ≡ Some kinded
+
+-- both cells are of a kind that two points may be of
+abbrev pub AreTaken : Lexicon → List Made → pairs.Pair → ℕ → ℕ → Type 0
+AreTaken lexicon made op x y =
+    (both : Kinded) × TakesTwo op both × Has lexicon made x both × Has lexicon made y both
+
+-- both cells are of one kind
+abbrev pub AreAlike : Lexicon → List Made → ℕ → ℕ → Type 0
+AreAlike lexicon made x y =
+    (both : Kinded) × Has lexicon made x both × Has lexicon made y both
+
+-- the cells of which a step is made are of the kinds that it takes, and it is of this one
+abbrev pub Suits : Lexicon → List Made → Kinded → Step → Type 0
+Suits lexicon made kinded (steps.Number z) = kinded ≡ number_kind
+Suits lexicon made kinded (steps.Element i) = i < 64
+Suits lexicon made kinded (steps.One op x) =
+    Has lexicon made x (kind_before op) × (kinded ≡ kind_before op)
+Suits lexicon made kinded (steps.Two op x y) = (both : Kinded) × TakesTwo op both
+    × Has lexicon made x both × Has lexicon made y both × (kinded ≡ kind_between op)
+Suits lexicon made kinded (steps.Choice t x y) =
+    Has lexicon made t truth_kind × Has lexicon made x kinded × Has lexicon made y kinded
+Suits lexicon made kinded s = ⊤
+
+-- each fresh cell's point is what its step makes
+abbrev pub Follows : ℕ → List Made → (ℕ → Point) → Type 0
+Follows count made a = (k : ℕ) (m : Made) → slice_get made k ≡ Some m
+    → a (count + k) ≡ made_by m.step a
+
+-- fitting points of given cells, and those that are made of them
+pub record Runs (lexicon : Lexicon) (made : List Made) (a : ℕ → Point) : Type 0 where
+  pub words : IsLexicon lexicon
+  pub given : Fits lexicon a
+  pub fresh : Follows lexicon.count made a
+
+-- what stood stands
+abbrev pub Grows : List Made → List Made → Type 0
+Grows olds news = (k : ℕ) (m : Made) → slice_get olds k ≡ Some m → slice_get news k ≡ Some m
+
+-- an element is one of those that have names
+abbrev pub IsNamed : Lexicon → Kinded → Point → Type 0
+IsNamed lexicon kinded (Element i) = i < lexicon.size (domain_of kinded.kind)
+IsNamed lexicon kinded p = ⊤
+
+-- the point is of the kind, and has a name
+pub record IsProper (lexicon : Lexicon) (kinded : Kinded) (p : Point) : Type 0 where
+  pub of_kind : IsPointOf kinded.kind kinded.size p
+  pub named : IsNamed lexicon kinded p
+
+-- the point is what is known, and has a name
+pub record IsPoint (lexicon : Lexicon) (known : Known) (p : Point) : Type 0 where
+  pub within : IsWithin known p
+  pub named : IsNamed lexicon known.kinded p
+
+-- a fresh cell at this place is made of cells before it, of kinds that suit, and is what is known
+pub record IsGood (lexicon : Lexicon) (made : List Made) (place : ℕ) (m : Made) : Type 0 where
+  pub behind : IsBehind place m.step
+  pub suits : Suits lexicon made m.known.kinded m.step
+  pub within : (a : ℕ → Point) → Runs lexicon made a → IsPoint lexicon m.known (made_by m.step a)
+
+abbrev pub IsSound : Lexicon → List Made → Type 0
+IsSound lexicon made = (k : ℕ) (m : Made) → slice_get made k ≡ Some m
+    → IsGood lexicon made (lexicon.count + k) m
+
+-- what was sound and has grown is sound
+pub record Grown (lexicon : Lexicon) (olds news : List Made) : Type 0 where
+  pub sound : IsSound lexicon news
+  pub grows : Grows olds news
+
+-- the cell at the place is of the kind, and its point is this one
+pub record Makes (lexicon : Lexicon) (made : List Made) (kinded : Kinded)
+    (f : (ℕ → Point) → Point) (place : ℕ) : Type 0 where
+  pub has : Has lexicon made place kinded
+  pub is : (a : ℕ → Point) → Runs lexicon made a → a place ≡ f a
+
+-- the cell at the place is of the kind, and is called so
+pub record Names (lexicon : Lexicon) (made : List Made) (kinded : Kinded) (word : List ℕ)
+    (place : ℕ) : Type 0 where
+  pub has : Has lexicon made place kinded
+  pub is : (a : ℕ → Point) → Runs lexicon made a → Text word ≡ value_as lexicon kinded (a place)
+
+-- the cell at the place is of the kind, and what the term is worth
+pub record Shows (lexicon : Lexicon) (made : List Made) (kinded : Kinded) (t : Term)
+    (place : ℕ) : Type 0 where
+  pub has : Has lexicon made place kinded
+  pub worth_is : (a : ℕ → Point) (related : List ℕ → List Value → Bool) → Runs lexicon made a
+      → worth (names_at lexicon related a) t ≡ Some (value_as lexicon kinded (a place))

@@ -1,0 +1,112 @@
+-- The instances that make a step's cell, in all directions.
+use Rattle.std.specs.Prelude.{◌≡◌, ℕ, ◌+◌, ◌^◌, ◌==◌, List, []}
+use Rattle.std.specs.Prelude.{◌∷◌, ◌++◌, cond, nat_lt, Option, Some, None, map}
+use Rattle.prop_lattice.specs.Ends.{span_from, elements_from}
+use Rattle.prop_lattice.specs.declared.info.Info.{Info}
+use Rattle.prop_lattice.specs.declared.info.Info.TheVariants.{Sym}
+use Rattle.prop_arith.specs.declared.kit.Kit.TheVariants as kits
+use Rattle.prop_wide.specs.declared.wide.Wide.TheVariants as wides
+use Rattle.prop_meaning.specs.declared.acts.Rule.{Rule}
+use Rattle.prop_meaning.specs.declared.acts.Rule.TheVariants.{OfKit, OfWide}
+use Rattle.prop_meaning.specs.declared.acts.Inputs.{Inputs}
+use Rattle.prop_meaning.specs.declared.acts.Inputs.TheVariants as inputs
+use Rattle.prop_meaning.specs.declared.acts.Act.{Act}
+use Rattle.prop_meaning.specs.declared.draft.Made.{Made}
+use Rattle.prop_meaning.specs.declared.posting.Posted.{Posted}
+use Rattle.prop_meaning.specs.declared.steps.Single as singles
+use Rattle.prop_meaning.specs.declared.steps.Single.TheVariants.{Abs, Not}
+use Rattle.prop_meaning.specs.declared.steps.Pair as pairs
+use Rattle.prop_meaning.specs.declared.steps.Pair.TheVariants.{Sum, Difference, Product, Max, Min}
+use Rattle.prop_meaning.specs.declared.steps.Pair.TheVariants.{Less, Same, And, Or}
+use Rattle.prop_meaning.specs.declared.steps.Step.{Step}
+use Rattle.prop_meaning.specs.declared.steps.Step.TheVariants as steps
+
+abbrev pub act : Rule → Inputs → ℕ → Act
+act rule ins out = record { rule = rule; inputs = ins; output = out }
+
+-- from two cells to a third, and back to the first and to the second
+pub record Rules : Type 0 where
+  pub forth : Rule
+  pub first : Rule
+  pub second : Rule
+
+abbrev pub rules : Rule → Rule → Rule → Rules
+rules forth first second = record { forth = forth; first = first; second = second }
+
+abbrev pub rules_of : pairs.Pair → Rules
+rules_of Product = rules (OfKit kits.Mul) (OfKit kits.Div) (OfKit kits.Div)
+rules_of Max = rules (OfWide wides.Max) (OfWide wides.MaxBack) (OfWide wides.MaxBack)
+rules_of Min = rules (OfWide wides.Min) (OfWide wides.MinBack) (OfWide wides.MinBack)
+rules_of Less = rules (OfKit kits.Less) (OfKit kits.Below) (OfKit kits.Above)
+rules_of And = rules (OfKit kits.And) (OfKit kits.AndBack) (OfKit kits.AndBack)
+rules_of Or = rules (OfKit kits.Or) (OfKit kits.OrBack) (OfKit kits.OrBack)
+rules_of op = rules (OfKit kits.Add) (OfKit kits.Sub) (OfKit kits.Sub)
+
+-- the instances of such rules
+abbrev pub all_ways : Rules → ℕ → ℕ → ℕ → List Act
+all_ways r x y z = act r.forth (inputs.Two x y) z ∷ act r.first (inputs.Two z y) x
+    ∷ act r.second (inputs.Two z x) y ∷ []
+
+-- whether two cells are the same
+abbrev pub alike_acts : ℕ → ℕ → ℕ → List Act
+alike_acts x y t = act (OfKit kits.Alike) (inputs.Two x y) t
+    ∷ act (OfKit kits.Switch) (inputs.Two t x) y ∷ act (OfKit kits.Switch) (inputs.Two t y) x
+    ∷ act (OfKit kits.Apart) (inputs.Three t x y) y ∷ act (OfKit kits.Apart) (inputs.Three t y x) x
+    ∷ []
+
+-- a number that is multiplied by itself
+abbrev pub square_acts : ℕ → ℕ → List Act
+square_acts x z =
+    act (OfKit kits.Square) (inputs.One x) z ∷ act (OfKit kits.Root) (inputs.Two z x) x
+    ∷ []
+
+-- a difference and the second number make the first
+abbrev pub pair_acts : pairs.Pair → ℕ → ℕ → ℕ → List Act
+pair_acts Same x y z = alike_acts x y z
+pair_acts Difference x y z = all_ways (rules_of Sum) y z x
+pair_acts Product x y z = cond (x == y) (square_acts x z) (all_ways (rules_of Product) x y z)
+pair_acts op x y z = all_ways (rules_of op) x y z
+
+abbrev pub single_acts : singles.Single → ℕ → ℕ → List Act
+single_acts Not x y =
+    act (OfKit kits.Not) (inputs.One x) y ∷ act (OfKit kits.Not) (inputs.One y) x ∷ []
+single_acts Abs x y = act (OfWide wides.Abs) (inputs.One x) y
+    ∷ act (OfWide wides.AbsBack) (inputs.Two y x) x ∷ []
+
+-- the one that is not chosen stays as it is
+abbrev pub choice_acts : ℕ → ℕ → ℕ → ℕ → List Act
+choice_acts t x y z = act (OfWide wides.Choose) (inputs.Three t x y) z
+    ∷ act (OfWide wides.Decide) (inputs.Three x y z) t ∷ act (OfKit kits.Switch) (inputs.Two t z) x
+    ∷ act (OfWide wides.Choose) (inputs.Three t y z) y ∷ []
+
+abbrev pub acts_of : Step → ℕ → List Act
+acts_of (steps.One op x) place = single_acts op x place
+acts_of (steps.Two op x y) place = pair_acts op x y place
+acts_of (steps.Choice t x y) place = choice_acts t x y place
+acts_of s place = []
+
+-- what a constant's cell is
+abbrev pub constant_of : Step → Option Info
+constant_of (steps.Number z) = Some (span_from z z)
+constant_of (steps.Element i) = Some (elements_from (cond (nat_lt i 64) (2 ^ i) 0))
+constant_of (steps.Symbol n) = Some (Sym n)
+constant_of s = None
+
+abbrev pub constants_of : Step → ℕ → List (ℕ × Info)
+constants_of s place = elim (constant_of s) [ None ↦ [] | Some info ↦ (place, info) ∷ [] ]
+
+-- the instances and the constants of fresh cells, of which the first is at this place
+abbrev pub all_acts : ℕ → List Made → List Act
+all_acts place [] = []
+all_acts place (m ∷ made) = acts_of m.step place ++ all_acts (place + 1) made
+
+abbrev pub all_constants : ℕ → List Made → List (ℕ × Info)
+all_constants place [] = []
+all_constants place (m ∷ made) = constants_of m.step place ++ all_constants (place + 1) made
+
+-- what fresh cells behind so many become
+pub record ArePosted (count : ℕ) (made : List Made) (posted : Posted) (place : ℕ) : Type 0 where
+  pub fresh : posted.fresh.items ≡ map (λ m. m.known.kinded) made
+  pub acts : posted.acts.items ≡ all_acts count made
+  pub constants : posted.constants.items ≡ all_constants count made
+  pub result : posted.result ≡ place

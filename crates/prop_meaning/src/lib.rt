@@ -1,0 +1,36 @@
+//! What a term becomes in a network: fresh cells, constants, and instances of rules.
+//!
+//! `post` is proved to say the same as the term (`SaysSame`): whatever fitting points the given
+//! cells have, there are points of the fresh ones that solve it, and wherever it is solved the cell
+//! of the result is `yes` just where the term holds. `compute` is the same of a value of any kind.
+//! `flat` makes the instances those of a program's procedures.
+//!
+//! Each fresh cell is made of cells before it, and what is made of the same is one cell. Numbers,
+//! names, `+`, `-`, `*`, `abs`, comparisons, truths, `if` and `in A..B` are posted so far; another
+//! term is refused (`Why::NotYet`), and so is a part whose value may lie beyond 10^18. No program
+//! uses this crate yet.
+#![tactic(auto)]
+
+pub mod acts;
+mod combining;
+mod constants;
+mod draft;
+mod expanding;
+pub mod fault;
+pub mod kinds;
+pub mod known;
+mod making;
+pub mod palette;
+pub mod posting;
+mod spans;
+mod steps;
+mod translating;
+pub mod words;
+
+pub use acts::{Act, Inputs, Rule};
+pub use fault::{Fault, Why};
+pub use kinds::kind_of_term;
+pub use known::Known;
+pub use palette::{Palette, flat};
+pub use posting::{Posted, compute, post};
+pub use words::Words;

@@ -1,0 +1,219 @@
+//! The cell that shows what a term is worth.
+ghost use Rattle.std.specs.Prelude.{◌≡◌, IfOk, OnOk};
+ghost use Rattle.prop_terms.specs.Terms as terms;
+ghost use Rattle.prop_terms.specs.Terms.{term_of};
+ghost use Rattle.prop_meaning.specs.inner.Drafts.{IsSound, Grown, Shows};
+
+use crate::combining::{
+    between, combined, is_choice, is_list, is_range, is_taken, kind_before, kind_of, prefixed,
+};
+use crate::constants::{name, number};
+use crate::draft::Made;
+use crate::fault::{Fault, Why};
+use crate::kinds::sides;
+use crate::making::{NUMBER, TRUTH, choice, is_same_kind};
+use crate::words::Words;
+use prop_procedures::Kinded;
+use prop_terms::{Infix, Prefix, Term};
+
+/// The cell of a number of a term.
+fn numeral<W: Words>(words: &W, made: &mut Vec<Made>, n: u64, kinded: Kinded) -> Result<usize, Why>
+    requires sound { IsSound (W.lexicon words.now) made.old.items }
+    ensures grown { OnOk result (Grown (W.lexicon words.now) made.old.items made.new.items) }
+    ensures shows { IfOk result
+        (Shows (W.lexicon words.now) made.new.items kinded (terms.Number n)) }
+{
+    if !is_same_kind(NUMBER, kinded) {
+        return Err(Why::WrongKind);
+    }
+    if n > 1_000_000_000_000_000_000 {
+        return Err(Why::OutOfRange);
+    }
+    number(words, made, n as i64)
+}
+
+/// The cell that shows what a term is worth, which is to be of this kind.
+#[cycle(translating)]
+pub(crate) fn translated<'t, 'a, W: Words>(
+    words: &W,
+    made: &mut Vec<Made>,
+    term: &'t Term<'a>,
+    kinded: Kinded,
+) -> Result<usize, Fault<'t, 'a>>
+    requires sound { IsSound (W.lexicon words.now) made.old.items }
+    ensures grown { OnOk result (Grown (W.lexicon words.now) made.old.items made.new.items) }
+    ensures shows { IfOk result
+        (Shows (W.lexicon words.now) made.new.items kinded (term_of term.now)) }
+{
+    let result = match term {
+        Term::Number(n) => numeral(words, made, *n, kinded),
+        Term::Name(word) => name(words, made, kinded, word),
+        Term::One(_, _) => return before_one(words, made, term, kinded),
+        Term::Two(_, _, _) => return between_two(words, made, term, kinded),
+        Term::Braces(_) => Err(Why::WrongForm),
+    };
+    match result {
+        Ok(place) => Ok(place),
+        Err(why) => Err(Fault { why, part: term }),
+    }
+}
+
+/// The same of an operator between two terms.
+#[cycle(translating)]
+fn between_two<'t, 'a, W: Words>(
+    words: &W,
+    made: &mut Vec<Made>,
+    term: &'t Term<'a>,
+    kinded: Kinded,
+) -> Result<usize, Fault<'t, 'a>>
+    requires sound { IsSound (W.lexicon words.now) made.old.items }
+    ensures grown { OnOk result (Grown (W.lexicon words.now) made.old.items made.new.items) }
+    ensures shows { IfOk result
+        (Shows (W.lexicon words.now) made.new.items kinded (term_of term.now)) }
+{
+    let Term::Two(op, left, right) = term else {
+        return Err(Fault {
+            why: Why::WrongForm,
+            part: term,
+        });
+    };
+    if matches!(*op, Infix::In) {
+        return in_range(words, made, term, kinded);
+    }
+    let both = match sides(words, *op, left, right) {
+        Ok(both) => both,
+        Err(why) => return Err(Fault { why, part: term }),
+    };
+    if !is_same_kind(kind_of(*op), kinded) {
+        return Err(Fault {
+            why: Why::WrongKind,
+            part: term,
+        });
+    }
+    let x = translated(words, made, left, both)?;
+    let y = translated(words, made, right, both)?;
+    match combined(words, made, *op, x, y) {
+        Ok(place) => Ok(place),
+        Err(why) => Err(Fault { why, part: term }),
+    }
+}
+
+/// The same of an operator before a term.
+#[cycle(translating)]
+fn before_one<'t, 'a, W: Words>(
+    words: &W,
+    made: &mut Vec<Made>,
+    term: &'t Term<'a>,
+    kinded: Kinded,
+) -> Result<usize, Fault<'t, 'a>>
+    requires sound { IsSound (W.lexicon words.now) made.old.items }
+    ensures grown { OnOk result (Grown (W.lexicon words.now) made.old.items made.new.items) }
+    ensures shows { IfOk result
+        (Shows (W.lexicon words.now) made.new.items kinded (term_of term.now)) }
+{
+    let Term::One(op, under) = term else {
+        return Err(Fault {
+            why: Why::WrongForm,
+            part: term,
+        });
+    };
+    if matches!(*op, Prefix::If) {
+        return chosen_way(words, made, term, kinded);
+    }
+    if !is_taken(*op) {
+        return Err(Fault {
+            why: Why::NotYet,
+            part: term,
+        });
+    }
+    if !is_same_kind(kind_before(*op), kinded) {
+        return Err(Fault {
+            why: Why::WrongKind,
+            part: term,
+        });
+    }
+    let x = translated(words, made, under, kinded)?;
+    match prefixed(words, made, *op, x) {
+        Ok(place) => Ok(place),
+        Err(why) => Err(Fault { why, part: term }),
+    }
+}
+
+/// The same of a choice.
+#[cycle(translating)]
+fn chosen_way<'t, 'a, W: Words>(
+    words: &W,
+    made: &mut Vec<Made>,
+    term: &'t Term<'a>,
+    kinded: Kinded,
+) -> Result<usize, Fault<'t, 'a>>
+    requires sound { IsSound (W.lexicon words.now) made.old.items }
+    ensures grown { OnOk result (Grown (W.lexicon words.now) made.old.items made.new.items) }
+    ensures shows { IfOk result
+        (Shows (W.lexicon words.now) made.new.items kinded (term_of term.now)) }
+{
+    let wrong = Fault {
+        why: Why::WrongForm,
+        part: term,
+    };
+    let Term::One(op, under) = term else {
+        return Err(wrong);
+    };
+    let Term::Two(then, test, ways) = &**under else {
+        return Err(wrong);
+    };
+    let Term::Two(other, left, right) = &**ways else {
+        return Err(wrong);
+    };
+    if !is_choice(*op, *then, *other) {
+        return Err(wrong);
+    }
+    let t = translated(words, made, test, TRUTH)?;
+    let x = translated(words, made, left, kinded)?;
+    let y = translated(words, made, right, kinded)?;
+    match choice(words, made, t, x, y) {
+        Ok(place) => Ok(place),
+        Err(why) => Err(Fault { why, part: term }),
+    }
+}
+
+/// The same of what lies in a range.
+#[cycle(translating)]
+fn in_range<'t, 'a, W: Words>(
+    words: &W,
+    made: &mut Vec<Made>,
+    term: &'t Term<'a>,
+    kinded: Kinded,
+) -> Result<usize, Fault<'t, 'a>>
+    requires sound { IsSound (W.lexicon words.now) made.old.items }
+    ensures grown { OnOk result (Grown (W.lexicon words.now) made.old.items made.new.items) }
+    ensures shows { IfOk result
+        (Shows (W.lexicon words.now) made.new.items kinded (term_of term.now)) }
+{
+    let later = Fault {
+        why: Why::NotYet,
+        part: term,
+    };
+    let Term::Two(op, item, range) = term else {
+        return Err(later);
+    };
+    let Term::Two(to, low, high) = &**range else {
+        return Err(later);
+    };
+    if !is_range(*op, *to) || is_list(item) {
+        return Err(later);
+    }
+    if !is_same_kind(TRUTH, kinded) {
+        return Err(Fault {
+            why: Why::WrongKind,
+            part: term,
+        });
+    }
+    let x = translated(words, made, item, NUMBER)?;
+    let from = translated(words, made, low, NUMBER)?;
+    let end = translated(words, made, high, NUMBER)?;
+    match between(words, made, x, from, end) {
+        Ok(place) => Ok(place),
+        Err(why) => Err(Fault { why, part: term }),
+    }
+}
