@@ -1,0 +1,3 @@
+pub mod FitLemmas
+pub mod TrialLemmas
+pub mod ExploringLemmas

@@ -1,0 +1,2 @@
+pub mod HittingLemmas
+pub mod NodeLemmas

@@ -1,0 +1,3 @@
+pub mod Hitting
+pub mod Frontiers
+pub mod inner
