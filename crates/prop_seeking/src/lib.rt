@@ -15,6 +15,7 @@ mod asking;
 mod bound;
 mod inquiry;
 mod interpreting;
+mod posting;
 mod question;
 mod running;
 mod seeker;

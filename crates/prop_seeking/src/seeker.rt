@@ -43,7 +43,7 @@ fn is_refused(reply: &Reply) -> bool
 }
 
 /// Ends a question, where there is one. What it learned is left, where there is memory for it.
-fn put_by(alloc: Global, inquiry: &mut Option<Inquiry>, earlier: &mut Option<Earlier>)
+pub(crate) fn put_by(alloc: Global, inquiry: &mut Option<Inquiry>, earlier: &mut Option<Earlier>)
     ensures ended { inquiry.new ≡ None }
     ensures left { (library : List Stored)
         → IfSome inquiry.old (λ i. (g : Ground) × (g.library ≡ library) × IsInquiry g i)
