@@ -309,12 +309,12 @@ joined a b c d e f g p q r s t u k l m n o v ea eb ec ed ee ef eg ep eq er es et
         ≡ words p ++ (words q ++ (words r ++ (words s ++ (words t ++ words u))))
     flat p q r s t u = ap words (append_assoc (((p ++ q) ++ r) ++ s) t u ∙ append_assoc ((p ++ q) ++ r) s (t ++ u)
         ∙ append_assoc (p ++ q) r (s ++ (t ++ u)) ∙ append_assoc p q (r ++ (s ++ (t ++ u)))) ∙ rw (
-      map-append (λ (w : Bor (List ℕ)). w.now) p (q ++ (r ++ (s ++ (t ++ u)))),
-      map-append (λ (w : Bor (List ℕ)). w.now) q (r ++ (s ++ (t ++ u))),
-      map-append (λ (w : Bor (List ℕ)). w.now) r (s ++ (t ++ u)),
-      map-append (λ (w : Bor (List ℕ)). w.now) s (t ++ u),
-      map-append (λ (w : Bor (List ℕ)). w.now) t u,
-    ) refl
+          map-append (λ (w : Bor (List ℕ)). w.now) p (q ++ (r ++ (s ++ (t ++ u)))),
+          map-append (λ (w : Bor (List ℕ)). w.now) q (r ++ (s ++ (t ++ u))),
+          map-append (λ (w : Bor (List ℕ)). w.now) r (s ++ (t ++ u)),
+          map-append (λ (w : Bor (List ℕ)). w.now) s (t ++ u),
+          map-append (λ (w : Bor (List ℕ)). w.now) t u,
+        ) refl
 
 -- where each row had its turn, what the specification lists is made
 pub from_rows : (items : List Entry) (front : List Made) (i : ℕ)
