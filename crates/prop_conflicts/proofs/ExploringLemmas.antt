@@ -1,6 +1,7 @@
 -- What follows of conflicts and repairs.
 use Rattle.std.proofs.Common.{◌≡◌, ◌∙◌, ◌⊎◌, ◌==◌, ◌||◌, ◌<◌, ℕ, zero, suc, Bool, true, false, not, IsTrue, List, []}
-use Rattle.std.proofs.Common.{◌∷◌, ◌++◌, All, Contains, length, get_or, refl, sym, ap, subst, inl, inr, arith, None, Some}
+use Rattle.std.proofs.Common.{◌∷◌, ◌++◌, All, Contains, length, get_or, refl, sym, ap, subst, inl}
+use Rattle.std.proofs.Common.{inr, arith, None, Some}
 use Rattle.std.specs.Prelude.{IfSome, Option}
 use Rattle.std.specs.List.{list_any}
 use Rattle.std.proofs.lemmas.Bool.Decides.{eqb_tells}

@@ -46,7 +46,8 @@ impl Trial {
         requires means { AllMean R.value_of network.now.library.procedures.items }
         requires kept { IsKept (stored_of R.value_of network.now.library) network.now.cells }
         ensures trial { IfOk result (λ o. IfSome o (IsTrial
-            (ground_at (stored_of R.value_of network.now.library) network.now.cells premises.now))) }
+            (ground_at (stored_of R.value_of network.now.library) network.now.cells
+            premises.now))) }
         ensures same { IfOk result (λ o. IfSome o (λ t. t.kept ≡ kept)) }
     {
         let Some(believed) = believing(alloc, premises, &kept)? else {

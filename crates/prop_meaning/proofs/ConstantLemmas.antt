@@ -62,7 +62,8 @@ guarded i false e j h = absurd (omega (arith, h, bit_at-zero j))
 abbrev Constants : (ℕ → Point) → Step → ℕ → Type 0
 Constants a s place = AllByRecursion (λ c. Holds c.1 (a c.0)) (constants_of s place)
 
-in_range : (kinded : Kinded) (z : ℤ) (p : Point) → kinded ≡ number_kind → IsPointOf kinded.kind kinded.size p → p ≡ Number z
+in_range : (kinded : Kinded) (z : ℤ) (p : Point) → kinded ≡ number_kind → IsPointOf kinded.kind
+    kinded.size p → p ≡ Number z
     → (neg_ℤ B ≤ℤ z) × (z ≤ℤ B)
 in_range kinded z p k h e =
     let P : Kinded → Type 0 = λ n. IsPointOf n.kind n.size p in
@@ -79,7 +80,8 @@ constant_forth lexicon made kinded (steps.Number z) a place suits h e =
 constant_forth lexicon made kinded (steps.Element i) a place suits h e =
     let P : Point → Type 0 = λ p. Holds (elements_from (cond (nat_lt i 64) (2 ^ i) 0)) p in
     let Q : Bool → Type 0 = λ b. Holds (elements_from (cond b (2 ^ i) 0)) (Element i) in
-    (subst P (sym e) (subst Q (sym (lt-ltb i 64 suits)) (elements_hold (2 ^ i) (pow-lt suits) i (bit_at-pow_same i))), tt)
+    (subst P (sym e) (subst Q (sym (lt-ltb i 64 suits))
+        (elements_hold (2 ^ i) (pow-lt suits) i (bit_at-pow_same i))), tt)
 constant_forth lexicon made kinded (steps.Symbol n) a place suits h e =
     let P : Point → Type 0 = λ p. Holds (Sym n) p in
     (subst P (sym e) refl, tt)

@@ -48,7 +48,8 @@ on_numbers size P f (Number x) (Symbol n) h g = absurd g
 on_numbers size P f (Element i) q h g = absurd h
 on_numbers size P f (Symbol m) q h g = absurd h
 
-pub on_number : (size : ℕ) (P : Point → Type 0) → ((x : ℤ) → P (Number x)) → (p : Point) → IsPointOf SpanKind size p → P p
+pub on_number : (size : ℕ) (P : Point → Type 0) → ((x : ℤ) → P (Number x)) → (p : Point) → IsPointOf
+    SpanKind size p → P p
 on_number size P f (Number x) h = f x
 on_number size P f (Element i) h = absurd h
 on_number size P f (Symbol m) h = absurd h
@@ -75,18 +76,21 @@ elements_same : (lexicon : Lexicon) → IsLexicon lexicon → (domain i j : ℕ)
     → bytes_eq (lexicon.element_word domain i) (lexicon.element_word domain j) ≡ (i == j)
 elements_same lexicon law domain i j h g =
     let P : Type 0 = i ≡ j in
-    same_from_decides {P = P} _ _ (Decides-like _ (law.elements_differ domain i j h g) (ap (lexicon.element_word domain))
+    same_from_decides {P = P} _ _
+        (Decides-like _ (law.elements_differ domain i j h g) (ap (lexicon.element_word domain))
     (bytes_eq-Decides _ _)) (Decides-eqb i j)
 
 symbols_same : (lexicon : Lexicon) → IsLexicon lexicon → (m n : ℕ)
     → bytes_eq (lexicon.symbol_word m) (lexicon.symbol_word n) ≡ (m == n)
 symbols_same lexicon law m n =
     let P : Type 0 = m ≡ n in
-    same_from_decides {P = P} _ _ (Decides-like _ (law.symbols_differ m n) (ap lexicon.symbol_word) (bytes_eq-Decides _ _))
+    same_from_decides {P = P} _ _
+        (Decides-like _ (law.symbols_differ m n) (ap lexicon.symbol_word) (bytes_eq-Decides _ _))
     (Decides-eqb m n)
 
 by_kind : (lexicon : Lexicon) → IsLexicon lexicon → (kind : Kind) (size : ℕ) (p q : Point)
-    → IsProper lexicon (record { kind = kind; size = size }) p → IsProper lexicon (record { kind = kind; size = size }) q
+    → IsProper lexicon (record { kind = kind; size = size }) p → IsProper lexicon
+        (record { kind = kind; size = size }) q
     → is_same (value_as lexicon (record { kind = kind; size = size }) p)
     (value_as lexicon (record { kind = kind; size = size }) q) ≡ same_point p q
 by_kind lexicon law SpanKind size p q h g = on_numbers size
@@ -119,7 +123,8 @@ Means lexicon op kinded p q = combined op (Some (value_as lexicon kinded p)) (So
 truths_mean : (lexicon : Lexicon) → IsLexicon lexicon → (op : Infix) (f : Bool → Bool → Bool)
     → ((v w : Value) → combined op (Some v) (Some w) ≡ truth (f (holds (Some v)) (holds (Some w))))
     → ((b c : Bool) → Some (value_as lexicon (kind_of op) (formula op (truth_point b) (truth_point c)))
-    ≡ Some (value_as lexicon truth_kind (truth_point (f b c)))) → (kinded : Kinded) → kinded ≡ truth_kind → (p q : Point)
+    ≡ Some (value_as lexicon truth_kind (truth_point (f b c)))) → (kinded : Kinded) → kinded ≡
+        truth_kind → (p q : Point)
     → IsProper lexicon kinded p → IsProper lexicon kinded q → Means lexicon op kinded p q
 truths_mean lexicon law op f e g kinded k p q h i =
     let P : Kinded → Type 0 = λ n. IsProper lexicon n p → IsProper lexicon n q → Means lexicon op n p q in

@@ -1,5 +1,6 @@
 -- What is made of cells is good where their kinds suit.
-use Rattle.std.proofs.Common.{◌≡◌, ◌∙◌, ℕ, ◌+◌, ◌<◌, ◌==◌, Bool, true, false, cond, List, length, Option, Some, None, ap, sym, subst}
+use Rattle.std.proofs.Common.{◌≡◌, ◌∙◌, ℕ, ◌+◌, ◌<◌, ◌==◌, Bool, true, false, cond, List, length}
+use Rattle.std.proofs.Common.{Option, Some, None, ap, sym, subst}
 use Rattle.std.specs.Option.{option_map}
 use Rattle.prop_lattice.specs.Points.{Point, Number, Element, Symbol, IsPointOf}
 use Rattle.prop_lattice.specs.declared.info.Kind.TheVariants.{Span as SpanKind, Set}
@@ -24,7 +25,8 @@ use Rattle.prop_meaning.proofs.Growing.{is_point, stands_before}
 named_number : (lexicon : Lexicon) (p : Point) → IsPointOf SpanKind 0 p → IsNamed lexicon number_kind p
 named_number lexicon p h = on_number 0 (λ p. IsNamed lexicon number_kind p) (λ x. tt) p h
 
-named_truth : (lexicon : Lexicon) → IsLexicon lexicon → (p : Point) → IsPointOf (Set 0) 2 p → IsNamed lexicon truth_kind p
+named_truth : (lexicon : Lexicon) → IsLexicon lexicon → (p : Point) → IsPointOf (Set 0) 2 p →
+    IsNamed lexicon truth_kind p
 named_truth lexicon law (Element i) h = let P : ℕ → Type 0 = λ n. i < n in subst P (sym law.truths) h
 named_truth lexicon law (Number z) h = tt
 named_truth lexicon law (Symbol n) h = tt
@@ -74,7 +76,8 @@ alike_known lexicon made x y k l e f t =
 
 -- ---- what is made
 
-pub good_two : (lexicon : Lexicon) (made : List Made) (op : pairs.Pair) (x y : ℕ) (left right k : Known) → IsSound lexicon made
+pub good_two : (lexicon : Lexicon) (made : List Made) (op : pairs.Pair) (x y : ℕ)
+    (left right k : Known) → IsSound lexicon made
     → AreTaken lexicon made op x y → known_at lexicon made x ≡ Some left → known_at lexicon made y ≡ Some right
     → k.kinded ≡ kind_between op → Tells (of_two op) left right k
     → IsGood lexicon made (lexicon.count + length made) (record { step = steps.Two op x y; known = k })
@@ -85,11 +88,13 @@ good_two lexicon made op x y left right k sound t e f kind tells = record {
       let p = is_point lexicon made x left a sound r e in
       let q = is_point lexicon made y right a sound r f in
       let w = tells (a x) (a y) p.within q.within in
-      let P : Kinded → Type 0 = λ n. IsPointOf n.kind n.size (of_two op (a x) (a y)) → IsNamed lexicon n (of_two op (a x) (a y)) in
+      let P : Kinded → Type 0 = λ n. IsPointOf n.kind n.size (of_two op (a x) (a y)) → IsNamed
+          lexicon n (of_two op (a x) (a y)) in
       record { within = w; named = subst P (sym kind) (named_between lexicon r.words op _) w.0 };
 }
 
-pub good_one : (lexicon : Lexicon) (made : List Made) (op : singles.Single) (x : ℕ) (under k : Known) → IsSound lexicon made
+pub good_one : (lexicon : Lexicon) (made : List Made) (op : singles.Single) (x : ℕ)
+    (under k : Known) → IsSound lexicon made
     → Has lexicon made x (kind_before op) → known_at lexicon made x ≡ Some under → k.kinded ≡ kind_before op
     → ((p : Point) → IsWithin under p → IsWithin k (of_one op p))
     → IsGood lexicon made (lexicon.count + length made) (record { step = steps.One op x; known = k })
@@ -107,7 +112,8 @@ has_known : (o : Option Known) (k : Known) (kinded : Kinded) → o ≡ Some k �
     → option_map (λ k. k.kinded) o ≡ Some kinded
 has_known o k kinded e f = ap (option_map (λ k. k.kinded)) e ∙ ap Some f
 
-named_chosen : (lexicon : Lexicon) (kinded : Kinded) (t p q : Point) → IsNamed lexicon kinded p → IsNamed lexicon kinded q
+named_chosen : (lexicon : Lexicon) (kinded : Kinded) (t p q : Point) → IsNamed lexicon kinded p →
+    IsNamed lexicon kinded q
     → IsNamed lexicon kinded (chosen t p q)
 named_chosen lexicon kinded (Element t) p q h g = by (t == 0)
   where

@@ -1,6 +1,8 @@
 -- Fresh cells stay as more are made.
-use Rattle.std.proofs.Common.{◌≡◌, ◌⊎◌, ◌∙◌, ℕ, zero, suc, ◌+◌, ◌-◌, ◌<◌, ◌≤◌, List, [], ◌∷◌, ◌++◌, length, Bool, true, false}
-use Rattle.std.proofs.Common.{Option, Some, None, IsSomeAnd, cond, nat_lt, slice_get, inl, inr, refl, ap, sym, subst, arith}
+use Rattle.std.proofs.Common.{◌≡◌, ◌⊎◌, ◌∙◌, ℕ, zero, suc, ◌+◌, ◌-◌, ◌<◌, ◌≤◌, List, [], ◌∷◌, ◌++◌}
+use Rattle.std.proofs.Common.{length, Bool, true, false}
+use Rattle.std.proofs.Common.{Option, Some, None, IsSomeAnd, cond, nat_lt, slice_get, inl, inr}
+use Rattle.std.proofs.Common.{refl, ap, sym, subst, arith}
 use Rattle.std.specs.Prelude.{Result, Ok, Err, OnOk, IfOk}
 use Rattle.std.specs.Option.{option_map}
 use Rattle.std.proofs.lemmas.Option.{slice_get_within}
@@ -74,7 +76,8 @@ suits_grows lexicon olds news kinded (steps.One op x) g h = (has_grows lexicon o
 suits_grows lexicon olds news kinded (steps.Two op x y) g h =
     (h.0, h.1, has_grows lexicon olds news x _ g h.2, has_grows lexicon olds news y _ g h.3, h.4)
 suits_grows lexicon olds news kinded (steps.Choice t x y) g h =
-    (has_grows lexicon olds news t _ g h.0, has_grows lexicon olds news x _ g h.1, has_grows lexicon olds news y _ g h.2)
+    (has_grows lexicon olds news t _ g h.0, has_grows lexicon olds news x _ g h.1, has_grows lexicon
+        olds news y _ g h.2)
 suits_grows lexicon olds news kinded s g h = tt
 
 -- ---- growing
@@ -135,7 +138,9 @@ grown_push lexicon made new s good = record {
     last k m e f =
         let P : ℕ → Type 0 = λ n. IsGood lexicon (made ++ new ∷ []) (lexicon.count + n) m in
         let Q : Made → Type 0 = λ n. IsGood lexicon (made ++ new ∷ []) (lexicon.count + length made) n in
-        subst P (sym e) (subst Q f (good_grows lexicon made (made ++ new ∷ []) (lexicon.count + length made) new grows good))
+        subst P (sym e) (subst Q f
+            (good_grows lexicon made (made ++ new ∷ []) (lexicon.count + length made) new grows
+            good))
 
 -- ---- points of cells
 
@@ -229,17 +234,20 @@ stands_before lexicon made place kinded h =
 
 has_at : (b : Bool) (c p n k : ℕ) (given : Known) (made : List Made) (m : Made) → nat_lt p c ≡ b → p ≡ c + k → n ≡ p - c
     → slice_get made k ≡ Some m
-    → option_map (λ k. k.kinded) (cond b (Some given) (option_map (λ m. m.known) (slice_get made n))) ≡ Some m.known.kinded
+    → option_map (λ k. k.kinded)
+        (cond b (Some given) (option_map (λ m. m.known) (slice_get made n))) ≡ Some m.known.kinded
 has_at true c p n k given made m e f g h = absurd (omega (arith, ltb-true p c e))
 has_at false c p n k given made m e f g h =
-    let P : ℕ → Type 0 = λ i. option_map (λ k. k.kinded) (option_map (λ m. m.known) (slice_get made i)) ≡ Some m.known.kinded in
+    let P : ℕ → Type 0 = λ i. option_map (λ k. k.kinded)
+        (option_map (λ m. m.known) (slice_get made i)) ≡ Some m.known.kinded in
     let same : k ≡ n = omega arith in
     subst P same (ap (λ o. option_map (λ k. k.kinded) (option_map (λ m. m.known) o)) h)
 
 pub makes_at : (lexicon : Lexicon) (made : List Made) (m : Made) (k : ℕ) → slice_get made k ≡ Some m
     → Makes lexicon made m.known.kinded (made_by m.step) (lexicon.count + k)
 makes_at lexicon made m k e = record {
-  has = has_at (nat_lt (lexicon.count + k) lexicon.count) lexicon.count (lexicon.count + k) ((lexicon.count + k) - lexicon.count) k
+  has = has_at (nat_lt (lexicon.count + k) lexicon.count) lexicon.count (lexicon.count + k)
+      ((lexicon.count + k) - lexicon.count) k
       (lexicon.known (lexicon.count + k)) made m refl refl refl e;
   is = λ a r. r.fresh k m e;
 }

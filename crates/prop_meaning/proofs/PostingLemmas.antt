@@ -1,5 +1,6 @@
 -- What is posted shows what the term is worth.
-use Rattle.std.proofs.Common.{◌≡◌, ◌↔◌, ◌∙◌, ℕ, zero, suc, ◌+◌, ◌<◌, List, [], ◌∷◌, map, Bool, true, false, Some, slice_get}
+use Rattle.std.proofs.Common.{◌≡◌, ◌↔◌, ◌∙◌, ℕ, zero, suc, ◌+◌, ◌<◌, List, [], ◌∷◌, map, Bool, true}
+use Rattle.std.proofs.Common.{false, Some, slice_get}
 use Rattle.std.proofs.Common.{refl, ap, sym, subst, arith, ◌++◌, length, drop, get_or, append_assoc}
 use Rattle.std.proofs.lemmas.List.{drop_more}
 use Rattle.prop_meaning.specs.declared.steps.Step.{Step}
@@ -78,7 +79,8 @@ loses_none : (lexicon : Lexicon) (made : List Made) (posted : Posted) (place : �
 loses_none lexicon made posted place sound are law points fits = (
   made_from lexicon.count made points,
   λ i l. made_before lexicon.count made points i l,
-  solved lexicon made posted place (made_from lexicon.count made points) sound are (runs lexicon made points sound law fits),
+  solved lexicon made posted place (made_from lexicon.count made points) sound are
+      (runs lexicon made points sound law fits),
 )
 
 -- ---- no point is wrong
@@ -88,7 +90,8 @@ kinds_solved : (lexicon : Lexicon) (made : List Made) (posted : Posted) (place :
 kinds_solved lexicon made posted place a are s k m e =
     s.kinds k m.known.kinded (ap (λ xs. slice_get xs k) are.fresh ∙ mapped made k m e)
 
-runs_solved : (lexicon : Lexicon) (made : List Made) (posted : Posted) (place : ℕ) (a : ℕ → Point) → IsSound lexicon made
+runs_solved : (lexicon : Lexicon) (made : List Made) (posted : Posted) (place : ℕ) (a : ℕ → Point) →
+    IsSound lexicon made
     → ArePosted lexicon.count made posted place → IsLexicon lexicon → Fits lexicon a
     → Solves TellsBy lexicon.count posted a → Runs lexicon made a
 runs_solved lexicon made posted place a sound are law fits s = record {

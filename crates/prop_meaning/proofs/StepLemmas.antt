@@ -43,7 +43,8 @@ points_decide (Number x) (Number y) = (λ e. ap Number (forth e), λ e. back x y
 
     back : (x y : ℤ) → x ≡ y → (int_le x y && int_le y x) ≡ true
     back x y e = grind (arith, ints)
-points_decide (Element i) (Element j) = (λ e. ap Element ((Decides-eqb i j).0 e), λ e. (Decides-eqb i j).1 (element_in e))
+points_decide (Element i) (Element j) =
+    (λ e. ap Element ((Decides-eqb i j).0 e), λ e. (Decides-eqb i j).1 (element_in e))
   where
     element_in : Element i ≡ Element j → i ≡ j
     element_in e = cc
@@ -118,8 +119,10 @@ difference_back a x y z kinded k h i j t = on_three_numbers
 
 same_forth : (a : ℕ → Point) (x y z : ℕ) → a z ≡ of_two Same (a x) (a y) → All RelatedBy a (alike_acts x y z)
 same_forth a x y z e =
-    let Q : Point → Type 0 = λ s. (RelatedBy (OfKit kits.Alike) Plain (a x ∷ a y ∷ []) s) × ((RelatedBy (OfKit kits.Switch) Plain (s ∷ a x ∷ []) (a y))
-    × ((RelatedBy (OfKit kits.Switch) Plain (s ∷ a y ∷ []) (a x)) × ((RelatedBy (OfKit kits.Apart) Plain (s ∷ a x ∷ a y ∷ []) (a y))
+    let Q : Point → Type 0 = λ s. (RelatedBy (OfKit kits.Alike) Plain (a x ∷ a y ∷ []) s) ×
+        ((RelatedBy (OfKit kits.Switch) Plain (s ∷ a x ∷ []) (a y))
+    × ((RelatedBy (OfKit kits.Switch) Plain (s ∷ a y ∷ []) (a x)) ×
+        ((RelatedBy (OfKit kits.Apart) Plain (s ∷ a x ∷ a y ∷ []) (a y))
     × ((RelatedBy (OfKit kits.Apart) Plain (s ∷ a y ∷ a x ∷ []) (a x)) × Unit {0})))) in
     subst Q (sym e) (alike_forth (a x) (a y) (same_point (a x) (a y)) refl)
 
@@ -138,9 +141,11 @@ square_of a x y z kinded same k h e =
     subst P (sym k) (λ h e. by (a x) (a z) h e) h (subst Q (sym same) e)
   where
     by : (p s : Point) → IsPointOf SpanKind 0 p → s ≡ of_two Product p p
-        → (RelatedBy (OfKit kits.Square) Plain (p ∷ []) s) × ((RelatedBy (OfKit kits.Root) Plain (s ∷ p ∷ []) p) × Unit {0})
+        → (RelatedBy (OfKit kits.Square) Plain (p ∷ []) s) ×
+            ((RelatedBy (OfKit kits.Root) Plain (s ∷ p ∷ []) p) × Unit {0})
     by p s h e = on_number 0 (λ p. s ≡ of_two Product p p
-        → (RelatedBy (OfKit kits.Square) Plain (p ∷ []) s) × ((RelatedBy (OfKit kits.Root) Plain (s ∷ p ∷ []) p) × Unit {0}))
+        → (RelatedBy (OfKit kits.Square) Plain (p ∷ []) s) ×
+            ((RelatedBy (OfKit kits.Root) Plain (s ∷ p ∷ []) p) × Unit {0}))
         (λ u e. let R : Point → Type 0 = λ s. (RelatedBy (OfKit kits.Square) Plain (Number u ∷ []) s)
         × ((RelatedBy (OfKit kits.Root) Plain (s ∷ Number u ∷ []) (Number u)) × Unit {0}) in
         subst R (sym e) (refl, ((refl, refl), tt))) p h e
@@ -151,7 +156,9 @@ square_back : (a : ℕ → Point) (x y z : ℕ) (kinded : Kinded) → x ≡ y �
 square_back a x y z kinded same k h j t =
     let P : Kinded → Type 0 = λ n. IsPointOf n.kind n.size (a x) → a z ≡ of_two Product (a x) (a x) in
     let Q : ℕ → Type 0 = λ n. a z ≡ of_two Product (a x) (a n) in
-    subst Q same (subst P (sym k) (λ h. on_numbers 0 (λ p s. TellsBy (OfKit kits.Square) Plain (p ∷ []) s → s ≡ of_two Product p p)
+    subst Q same (subst P (sym k)
+        (λ h. on_numbers 0 (λ p s. TellsBy (OfKit kits.Square) Plain (p ∷ []) s → s ≡ of_two Product
+        p p)
     (λ u v e. ap Number e) (a x) (a z) h j t.0) h)
 
 product_forth : (a : ℕ → Point) (x y z : ℕ) (kinded : Kinded) → kinded ≡ number_kind
@@ -217,8 +224,11 @@ pub single_forth : (a : ℕ → Point) (op : singles.Single) (x y : ℕ)
     → IsPointOf (kind_before op).kind (kind_before op).size (a x) → a y ≡ of_one op (a x)
     → All RelatedBy a (single_acts op x y)
 single_forth a Not x y h e =
-    let Q : Point → Type 0 = λ s. (RelatedBy (OfKit kits.Not) Plain (a x ∷ []) s) × ((RelatedBy (OfKit kits.Not) Plain (s ∷ []) (a x)) × Unit {0}) in
-    subst Q (sym e) (on_truth (λ p. (RelatedBy (OfKit kits.Not) Plain (p ∷ []) (of_one Not p)) × ((RelatedBy (OfKit kits.Not) Plain (of_one Not p ∷ []) p) × Unit {0}))
+    let Q : Point → Type 0 = λ s. (RelatedBy (OfKit kits.Not) Plain (a x ∷ []) s) ×
+        ((RelatedBy (OfKit kits.Not) Plain (s ∷ []) (a x)) × Unit {0}) in
+    subst Q (sym e) (on_truth
+        (λ p. (RelatedBy (OfKit kits.Not) Plain (p ∷ []) (of_one Not p)) ×
+        ((RelatedBy (OfKit kits.Not) Plain (of_one Not p ∷ []) p) × Unit {0}))
     by (a x) h)
   where
     by : (b : Bool) → (RelatedBy (OfKit kits.Not) Plain (truth_point b ∷ []) (of_one Not (truth_point b)))
@@ -226,34 +236,43 @@ single_forth a Not x y h e =
     by true = (refl, (refl, tt))
     by false = (refl, (refl, tt))
 single_forth a Abs x y h e =
-    let Q : Point → Type 0 = λ s. (RelatedBy (OfWide wides.Abs) Plain (a x ∷ []) s) × ((RelatedBy (OfWide wides.AbsBack) Plain (s ∷ a x ∷ []) (a x)) × Unit {0}) in
+    let Q : Point → Type 0 = λ s. (RelatedBy (OfWide wides.Abs) Plain (a x ∷ []) s) ×
+        ((RelatedBy (OfWide wides.AbsBack) Plain (s ∷ a x ∷ []) (a x)) × Unit {0}) in
     subst Q (sym e) (on_number 0 (λ p. (RelatedBy (OfWide wides.Abs) Plain (p ∷ []) (of_one Abs p))
-    × ((RelatedBy (OfWide wides.AbsBack) Plain (of_one Abs p ∷ p ∷ []) p) × Unit {0})) (λ u. (refl, ((refl, refl), tt))) (a x) h)
+    × ((RelatedBy (OfWide wides.AbsBack) Plain (of_one Abs p ∷ p ∷ []) p) × Unit {0}))
+        (λ u. (refl, ((refl, refl), tt))) (a x) h)
 
 pub single_back : (a : ℕ → Point) (op : singles.Single) (x y : ℕ)
     → IsPointOf (kind_before op).kind (kind_before op).size (a x)
     → IsPointOf (kind_before op).kind (kind_before op).size (a y) → All TellsBy a (single_acts op x y)
     → a y ≡ of_one op (a x)
-single_back a Not x y h j t = on_truths (λ p s. TellsBy (OfKit kits.Not) Plain (p ∷ []) s → s ≡ of_one Not p) by (a x) (a y) h j t.0
+single_back a Not x y h j t = on_truths
+    (λ p s. TellsBy (OfKit kits.Not) Plain (p ∷ []) s → s ≡ of_one Not p) by (a x) (a y) h j t.0
   where
-    by : (b c : Bool) → TellsBy (OfKit kits.Not) Plain (truth_point b ∷ []) (truth_point c) → truth_point c ≡ of_one Not (truth_point b)
+    by : (b c : Bool) → TellsBy (OfKit kits.Not) Plain (truth_point b ∷ []) (truth_point c) →
+        truth_point c ≡ of_one Not (truth_point b)
     by true true e = absurd (cc)
     by true false e = refl
     by false true e = refl
     by false false e = absurd (cc)
 single_back a Abs x y h j t =
-    on_numbers 0 (λ p s. TellsBy (OfWide wides.Abs) Plain (p ∷ []) s → s ≡ of_one Abs p) (λ u v e. ap Number e) (a x) (a y) h j t.0
+    on_numbers 0 (λ p s. TellsBy (OfWide wides.Abs) Plain (p ∷ []) s → s ≡ of_one Abs p)
+        (λ u v e. ap Number e) (a x) (a y) h j t.0
 
 -- ---- a choice
 
 pub choice_forth : (a : ℕ → Point) (t x y z : ℕ) → IsPointOf (Set 0) 2 (a t) → a z ≡ chosen (a t) (a x) (a y)
     → All RelatedBy a (choice_acts t x y z)
 choice_forth a t x y z h e = on_truth (λ p. (s : Point) → s ≡ chosen p (a x) (a y)
-    → (RelatedBy (OfWide wides.Choose) Plain (p ∷ a x ∷ a y ∷ []) s) × ((RelatedBy (OfWide wides.Decide) Plain (a x ∷ a y ∷ s ∷ []) p)
-    × ((RelatedBy (OfKit kits.Switch) Plain (p ∷ s ∷ []) (a x)) × ((RelatedBy (OfWide wides.Choose) Plain (p ∷ a y ∷ s ∷ []) (a y)) × Unit {0})))) by (a t) h (a z) e
+    → (RelatedBy (OfWide wides.Choose) Plain (p ∷ a x ∷ a y ∷ []) s) ×
+        ((RelatedBy (OfWide wides.Decide) Plain (a x ∷ a y ∷ s ∷ []) p)
+    × ((RelatedBy (OfKit kits.Switch) Plain (p ∷ s ∷ []) (a x)) ×
+        ((RelatedBy (OfWide wides.Choose) Plain (p ∷ a y ∷ s ∷ []) (a y)) × Unit {0})))) by (a t) h
+        (a z) e
   where
     by : (b : Bool) (s : Point) → s ≡ chosen (truth_point b) (a x) (a y)
-        → (RelatedBy (OfWide wides.Choose) Plain (truth_point b ∷ a x ∷ a y ∷ []) s) × ((RelatedBy (OfWide wides.Decide) Plain (a x ∷ a y ∷ s ∷ []) (truth_point b))
+        → (RelatedBy (OfWide wides.Choose) Plain (truth_point b ∷ a x ∷ a y ∷ []) s) ×
+            ((RelatedBy (OfWide wides.Decide) Plain (a x ∷ a y ∷ s ∷ []) (truth_point b))
         × ((RelatedBy (OfKit kits.Switch) Plain (truth_point b ∷ s ∷ []) (a x))
         × ((RelatedBy (OfWide wides.Choose) Plain (truth_point b ∷ a y ∷ s ∷ []) (a y)) × Unit {0})))
     by true s e = (
@@ -276,6 +295,7 @@ pub choice_back : (a : ℕ → Point) (t x y z : ℕ) → IsPointOf (Set 0) 2 (a
 choice_back a t x y z h all = on_truth
     (λ p. TellsBy (OfWide wides.Choose) Plain (p ∷ a x ∷ a y ∷ []) (a z) → a z ≡ chosen p (a x) (a y)) by (a t) h all.0
   where
-    by : (b : Bool) → TellsBy (OfWide wides.Choose) Plain (truth_point b ∷ a x ∷ a y ∷ []) (a z) → a z ≡ chosen (truth_point b) (a x) (a y)
+    by : (b : Bool) → TellsBy (OfWide wides.Choose) Plain (truth_point b ∷ a x ∷ a y ∷ []) (a z) → a
+        z ≡ chosen (truth_point b) (a x) (a y)
     by true e = e.first refl
     by false e = e.second refl

@@ -21,7 +21,8 @@ use Rattle.prop_meaning.proofs.Formulas.{on_number, on_numbers, on_truth, on_tru
 -- three points at the rules of three instances
 abbrev pub Three : (Rule → Param → List Point → Point → Type 0) → Rules → Point → Point → Point → Type 0
 Three related r p q s = related r.forth (param_of r.forth) (p ∷ q ∷ []) s
-    × (related r.first (param_of r.first) (s ∷ q ∷ []) p × (related r.second (param_of r.second) (s ∷ p ∷ []) q × Unit {0}))
+    × (related r.first (param_of r.first) (s ∷ q ∷ []) p ×
+        (related r.second (param_of r.second) (s ∷ p ∷ []) q × Unit {0}))
 
 -- ---- numbers
 
@@ -71,27 +72,35 @@ says_less x y = by (int_lt x y) refl
 
 -- ---- forth
 
-forth_numbers : (op : pairs.Pair) → ((x y : ℤ) → Three RelatedBy (rules_of op) (Number x) (Number y) (of_two op (Number x) (Number y)))
+forth_numbers : (op : pairs.Pair) →
+    ((x y : ℤ) → Three RelatedBy (rules_of op) (Number x) (Number y)
+    (of_two op (Number x) (Number y)))
     → (kinded : Kinded) → kinded ≡ number_kind → (p q : Point) → IsPointOf kinded.kind kinded.size p
     → IsPointOf kinded.kind kinded.size q → Three RelatedBy (rules_of op) p q (of_two op p q)
 forth_numbers op f kinded k p q h i =
-    let P : Kinded → Type 0 = λ n. IsPointOf n.kind n.size p → IsPointOf n.kind n.size q → Three RelatedBy (rules_of op) p q (of_two op p q) in
+    let P : Kinded → Type 0 = λ n. IsPointOf n.kind n.size p → IsPointOf n.kind n.size q → Three
+        RelatedBy (rules_of op) p q (of_two op p q) in
     subst P (sym k) (λ h i. on_numbers 0 (λ p q. Three RelatedBy (rules_of op) p q (of_two op p q)) f p q h i) h i
 
-forth_truths : (op : pairs.Pair) → ((b c : Bool) → Three RelatedBy (rules_of op) (truth_point b) (truth_point c) (of_two op (truth_point b) (truth_point c)))
+forth_truths : (op : pairs.Pair) →
+    ((b c : Bool) → Three RelatedBy (rules_of op) (truth_point b) (truth_point c)
+    (of_two op (truth_point b) (truth_point c)))
     → (kinded : Kinded) → kinded ≡ truth_kind → (p q : Point) → IsPointOf kinded.kind kinded.size p
     → IsPointOf kinded.kind kinded.size q → Three RelatedBy (rules_of op) p q (of_two op p q)
 forth_truths op f kinded k p q h i =
-    let P : Kinded → Type 0 = λ n. IsPointOf n.kind n.size p → IsPointOf n.kind n.size q → Three RelatedBy (rules_of op) p q (of_two op p q) in
+    let P : Kinded → Type 0 = λ n. IsPointOf n.kind n.size p → IsPointOf n.kind n.size q → Three
+        RelatedBy (rules_of op) p q (of_two op p q) in
     subst P (sym k) (λ h i. on_truths (λ p q. Three RelatedBy (rules_of op) p q (of_two op p q)) f p q h i) h i
 
-and_forth : (b c : Bool) → Three RelatedBy (rules_of And) (truth_point b) (truth_point c) (of_two And (truth_point b) (truth_point c))
+and_forth : (b c : Bool) → Three RelatedBy (rules_of And) (truth_point b) (truth_point c)
+    (of_two And (truth_point b) (truth_point c))
 and_forth true true = (refl, (refl, (refl, tt)))
 and_forth true false = (refl, (refl, (refl, tt)))
 and_forth false true = (refl, (refl, (refl, tt)))
 and_forth false false = (refl, (refl, (refl, tt)))
 
-or_forth : (b c : Bool) → Three RelatedBy (rules_of Or) (truth_point b) (truth_point c) (of_two Or (truth_point b) (truth_point c))
+or_forth : (b c : Bool) → Three RelatedBy (rules_of Or) (truth_point b) (truth_point c)
+    (of_two Or (truth_point b) (truth_point c))
 or_forth true true = (refl, (refl, (refl, tt)))
 or_forth true false = (refl, (refl, (refl, tt)))
 or_forth false true = (refl, (refl, (refl, tt)))
@@ -131,7 +140,8 @@ on_two_numbers P f kinded k p q s h i j =
     subst Q (sym k) (λ h i. on_numbers 0 (λ p q. P p q s)
     (λ x y. on_truth (λ s. P (Number x) (Number y) s) (λ b. f x y b) s j) p q h i) h i
 
-on_three_truths : (P : Point → Point → Point → Type 0) → ((b c d : Bool) → P (truth_point b) (truth_point c) (truth_point d))
+on_three_truths : (P : Point → Point → Point → Type 0) →
+    ((b c d : Bool) → P (truth_point b) (truth_point c) (truth_point d))
     → (kinded : Kinded) → kinded ≡ truth_kind → (p q s : Point) → IsPointOf kinded.kind kinded.size p
     → IsPointOf kinded.kind kinded.size q → IsPointOf (Set 0) 2 s → P p q s
 on_three_truths P f kinded k p q s h i j =

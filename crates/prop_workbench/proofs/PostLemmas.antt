@@ -205,7 +205,8 @@ pub unplaced : (library : List Stored) (s t : State) (cells : List ℕ) (p : Pos
     (e : Refusal) → is_choice_given s.premises premise ≡ false → posting_limit s premise (length p.fixed.items) ≡ None
     → (room_refusal (length s.kinds + length p.flat.fresh.items) (length s.instances + length p.flat.instances.items)
     ≡ Some e) ⊎ (e ≡ Memory) → t ≡ s → IsPosted library s cells p premise (Err e) t
-unplaced library s t cells p premise e free limit (inl room) same = inl (room_refused s p premise free limit ∙ room, same)
+unplaced library s t cells p premise e free limit (inl room) same = inl
+    (room_refused s p premise free limit ∙ room, same)
 unplaced library s t cells p premise e free limit (inr memory) same = inr (memory, inl same)
 
 -- there was no memory for what is stated under no premise
@@ -224,7 +225,8 @@ pub told_or_left : (library : List Stored) (s t u v : State) (cells : List ℕ) 
     ≡ None → t ≡ with_placed library s cells p.flat → next ≡ length s.kinds → u ≡ with_fixed t cells next p.fixed.items
     → cell ≡ cell_placed cells next p.told.place → OnOk r (v ≡ stated u premise cell u.words p.told.info) →
     IfErr r (λ e. e ≡ Memory) → OnErr r (v ≡ u) → IsPosted library s cells p premise r v
-told_or_left library s t u v cells next cell p premise (Ok done) free limit room t_is next_is u_is cell_is ok err same = (
+told_or_left library s t u v cells next cell p premise (Ok done) free limit room t_is next_is u_is
+    cell_is ok err same = (
   room_refused s p premise free limit ∙ room,
   posted_is library s t u v cells next cell p premise t_is next_is u_is cell_is ok,
 )

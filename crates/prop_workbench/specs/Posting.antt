@@ -1,7 +1,8 @@
 -- What a session takes beside its lines: cells and instances between given cells, and what is
 -- stated of them.
 use Rattle.std.specs.Prelude.{◌≡◌, ◌<◌, ◌≤◌, ◌+◌, ◌++◌, ◌∷◌, [], ◌&&◌, ◌⊎◌, ℕ, List, All, IsTrue}
-use Rattle.std.specs.Prelude.{Bool, false, Option, Some, None, Result, Ok, Err, ⊤, length, map, take}
+use Rattle.std.specs.Prelude.{Bool, false, Option, Some, None, Result, Ok, Err, ⊤, length, map}
+use Rattle.std.specs.Prelude.{take}
 use Rattle.std.specs.Prelude.{nat_le, is_none}
 use Rattle.std.specs.Option.{option_map, option_map_or}
 use Rattle.prop_refusals.specs.Refusals.{first_of, most, when}

@@ -37,7 +37,8 @@ use Rattle.prop_hall.specs.declared.excluder.Excluder.TheVariants.{One, Two, Thr
 use Rattle.prop_hall.specs.laws.ExcluderLaws.{excluder_sound}
 use Rattle.prop_many.specs.declared.many.Many.{Many}
 use Rattle.prop_many.specs.Many.{FormOf as ManyForm, Related as ManyRelated, value_of as many_value}
-use Rattle.prop_many.specs.Procedures.{IsFormed as IsManyFormed, Named as ManyNamed, circuits_in_order as circuits_named, in_order as many_named}
+use Rattle.prop_many.specs.Procedures.{IsFormed as IsManyFormed, Named as ManyNamed}
+use Rattle.prop_many.specs.Procedures.{circuits_in_order as circuits_named, in_order as many_named}
 use Rattle.prop_many.specs.laws.ManyLaws.{many_sound}
 use Rattle.prop_many.proofs.Tables.{each_circuit_formed, each_formed}
 use Rattle.prop_rows.proofs.ExactLaws.{rows_are_exact}
@@ -206,14 +207,29 @@ manys_formed named h = All-map IsFormed of_many named (λ k d l. many_made (get_
 rows_formed : (named : List RowNamed) → All IsRowFormed named → All IsFormed (map of_rows named)
 rows_formed named h = All-map IsFormed of_rows named (λ k d l. rows_made (get_or named k d) (h k d l))
 
-last_formed : All IsFormed (map of_many many_named ++ (map of_many circuits_named ++ (map of_rows row_named ++ (map of_rows counts_named
-    ++ (map of_rows greatest_named ++ map of_rows least_named)))))
-last_formed = All-append IsFormed (map of_many many_named) _ (manys_formed many_named each_formed)
-    (All-append IsFormed (map of_many circuits_named) _ (manys_formed circuits_named each_circuit_formed)
-    (All-append IsFormed (map of_rows row_named) _ (rows_formed row_named all_rows_formed)
-    (All-append IsFormed (map of_rows counts_named) _ (rows_formed counts_named others_formed.0)
-    (All-append IsFormed (map of_rows greatest_named) _ (rows_formed greatest_named others_formed.1)
-    (rows_formed least_named others_formed.2)))))
+abbrev ends_made : List Made
+ends_made = map of_rows greatest_named ++ map of_rows least_named
+
+abbrev counts_made : List Made
+counts_made = map of_rows counts_named ++ ends_made
+
+abbrev rows_made_on : List Made
+rows_made_on = map of_rows row_named ++ counts_made
+
+abbrev circuits_made : List Made
+circuits_made = map of_many circuits_named ++ rows_made_on
+
+last_formed : All IsFormed (map of_many many_named ++ circuits_made)
+last_formed =
+    All-append IsFormed (map of_many many_named) circuits_made
+    (manys_formed many_named each_formed)
+    (All-append IsFormed (map of_many circuits_named) rows_made_on
+    (manys_formed circuits_named each_circuit_formed)
+    (All-append IsFormed (map of_rows row_named) counts_made (rows_formed row_named all_rows_formed)
+    (All-append IsFormed (map of_rows counts_named) ends_made
+    (rows_formed counts_named others_formed.0)
+    (All-append IsFormed (map of_rows greatest_named) (map of_rows least_named)
+    (rows_formed greatest_named others_formed.1) (rows_formed least_named others_formed.2)))))
 
 pub all_formed : All IsFormed in_order
 all_formed = All-append IsFormed (map of_kit kits) _

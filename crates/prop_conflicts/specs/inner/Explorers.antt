@@ -10,7 +10,8 @@ use Rattle.prop_conflicts.specs.Conflicts.{Fits, Ground, IsConflict, IsRefuted, 
 use Rattle.prop_conflicts.specs.inner.Trials.{IsTrial}
 use Rattle.prop_conflicts.specs.declared.explorer.Explorer.{Explorer}
 use Rattle.prop_conflicts.specs.declared.explorer.Stage.{Stage}
-use Rattle.prop_conflicts.specs.declared.explorer.Stage.TheVariants.{Seeking, Giving, Shrinking, Trying, Idle}
+use Rattle.prop_conflicts.specs.declared.explorer.Stage.TheVariants.{Seeking, Giving, Shrinking}
+use Rattle.prop_conflicts.specs.declared.explorer.Stage.TheVariants.{Trying, Idle}
 use Rattle.prop_conflicts.specs.declared.shrinking.Shrinking.{Shrinking as ShrinkingOf}
 use Rattle.prop_conflicts.specs.declared.trial.Trial.{Trial}
 

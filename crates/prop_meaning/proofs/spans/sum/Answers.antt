@@ -4,4 +4,5 @@ use Rattle.prop_meaning.proofs.Products.{holds_sum}
 use Rattle.prop_meaning.proofs.spans.sum.Goals as goal
 
 pub returns : goal.returns
-returns c = holds_sum c.args.x c.args.y _ _ _ (omega (arith, ints, clamps)) (omega (arith, ints, clamps)) c.new.ensures.ends
+returns c = holds_sum c.args.x c.args.y _ _ _ (omega (arith, ints, clamps))
+    (omega (arith, ints, clamps)) c.new.ensures.ends
