@@ -231,13 +231,23 @@ last_formed =
     (All-append IsFormed (map of_rows greatest_named) (map of_rows least_named)
     (rows_formed greatest_named others_formed.1) (rows_formed least_named others_formed.2)))))
 
+abbrev lasts_made : List Made
+lasts_made = map of_many many_named ++ circuits_made
+
+abbrev excluders_made : List Made
+excluders_made = map of_excluder excluders ++ lasts_made
+
+abbrev wides_made : List Made
+wides_made = map of_wide named ++ excluders_made
+
 pub all_formed : All IsFormed in_order
-all_formed = All-append IsFormed (map of_kit kits) _
+all_formed = All-append IsFormed (map of_kit kits) wides_made
     (All-map IsFormed of_kit kits (λ k d l. kit_made (get_or kits k d)))
-    (All-append IsFormed (map of_wide named) _
+    (All-append IsFormed (map of_wide named) excluders_made
     (All-map IsFormed of_wide named (λ k d l. wide_made (get_or named k d) (wides_formed k d l)))
-    (All-append IsFormed (map of_excluder excluders) _
-    (All-map IsFormed of_excluder excluders (λ k d l. excluder_made (get_or excluders k d))) last_formed))
+    (All-append IsFormed (map of_excluder excluders) lasts_made
+    (All-map IsFormed of_excluder excluders (λ k d l. excluder_made (get_or excluders k d)))
+    last_formed))
 
 -- what the program makes a procedure of is formed
 pub entry_formed : (items : List Entry) (i : ℕ) (d : Entry) → map shown items ≡ in_order → i < length items
