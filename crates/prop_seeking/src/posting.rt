@@ -5,7 +5,7 @@ use prop_guards::Guarded;
 use prop_refusals::Refusal;
 use prop_scheduler::Order;
 use prop_telling::is_without_trace;
-use prop_workbench::{Posting, Session};
+use prop_workbench::Posting;
 
 impl<R: Guarded + Drop, O: Order + Drop> Seeker<R, O> {
     ghost use Rattle.std.specs.Prelude.{◌≡◌, cond, None};
@@ -16,13 +16,6 @@ impl<R: Guarded + Drop, O: Order + Drop> Seeker<R, O> {
     ghost use Rattle.prop_telling.specs.inner.Notes.{is_without_trace};
     ghost use Rattle.prop_telling.specs.inner.Telling.{told_of};
     ghost use Rattle.prop_seeking.specs.inner.Seekers.{IsReady};
-
-    /// The session.
-    pub fn session(&self) -> &Session<R, O>
-        ensures { result.now ≡ self.now.teller.session }
-    {
-        self.teller.session()
-    }
 
     /// Posts this in the session, as `Session::post`. A question ends, unless nothing has changed.
     pub fn post(
