@@ -492,7 +492,7 @@ BUGS = [
         _PROJECTS,
     ),
     Bug(
-        "planning/project.py",
+        "planning/pausing.py",
         "(task.start >= away.last)",
         "(task.start > away.last)",
         f"planning::facts_are_premises {_PROJECTS}",

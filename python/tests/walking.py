@@ -196,10 +196,10 @@ class Walk:
         before: list[Any] = [p.tasks.get(it) or self._gone_tasks.get(it) or it for it in after]
         if len(ways) > 1:
             options = {f"way {n}": dict(days=d, cost=c) for n, (d, c) in enumerate(ways)}
-            p.task(name, who=who, after=before, options=options, under=under)
+            p.task(name, who=who, after=before, options=options, under=under, pauses=False)
         else:
             [(days, cost)] = ways
-            p.task(name, days, cost=cost, who=who, after=before, under=under)
+            p.task(name, days, cost=cost, who=who, after=before, under=under, pauses=False)
 
     def away(self, person: str, first: int, last: int, under: str | None) -> None:
         self._project().away(person, first, last, under)
