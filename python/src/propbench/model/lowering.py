@@ -63,6 +63,7 @@ class Shape:
 # What is not known yet.
 _UNKNOWN = Shape()
 _known: "WeakKeyDictionary[Node, Shape | None]" = WeakKeyDictionary()
+_choosing: "WeakKeyDictionary[Node, bool]" = WeakKeyDictionary()
 
 
 def lowered(
@@ -132,9 +133,10 @@ def _cells_of(event: Event) -> list[Declared]:
 
 def _taken(constraint: Node, points: Plan, at: dict[Declared, int]) -> Sequence[Bound] | None:
     """The bounds of a constraint in the first way that points take, None where it has others."""
-    shape = _known.get(constraint, _UNKNOWN)
+    said = _decided(constraint, points)
+    shape = _known.get(said, _UNKNOWN)
     if shape is _UNKNOWN:
-        shape = _known[constraint] = _shape(constraint, True)
+        shape = _known[said] = _shape(said, True)
     if shape is None:
         return None
     if not shape.ways:
@@ -143,6 +145,24 @@ def _taken(constraint: Node, points: Plan, at: dict[Declared, int]) -> Sequence[
         if way.is_taken(points, at):
             return (*shape.bounds, *way.bounds)
     return None
+
+
+def _decided(each: Node, points: Plan) -> Node:
+    """The same with the side that points take of each choice between two, where it is by truths."""
+    if not _chooses(each):
+        return each
+    if each.op is Op.IF and not any(it.kind is Plain.NUMBER for it in cells_in(each.args[0])):
+        return _decided(each.args[1 if holds(each.args[0], points) else 2], points)
+    args = [_decided(arg, points) for arg in each.args]
+    return node(each.op, args, each.payload, each.kind)
+
+
+def _chooses(each: Node) -> bool:
+    """Whether there is a choice between two within."""
+    found = _choosing.get(each)
+    if found is None:
+        found = _choosing[each] = each.op is Op.IF or any(map(_chooses, each.args))
+    return found
 
 
 def _shape(truth: Node, is_held: bool) -> Shape | None:
