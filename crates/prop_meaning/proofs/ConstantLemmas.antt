@@ -79,9 +79,11 @@ constant_forth lexicon made kinded (steps.Number z) a place suits h e =
     (subst P (sym e) (span_from_holds z z z (omega (arith, ints)) (omega (arith, ints)) range.0 range.1), tt)
 constant_forth lexicon made kinded (steps.Element i) a place suits h e =
     let P : Point → Type 0 = λ p. Holds (elements_from (cond (nat_lt i 64) (2 ^ i) 0)) p in
-    let Q : Bool → Type 0 = λ b. Holds (elements_from (cond b (2 ^ i) 0)) (Element i) in
-    (subst P (sym e) (subst Q (sym (lt-ltb i 64 suits))
-        (elements_hold (2 ^ i) (pow-lt suits) i (bit_at-pow_same i))), tt)
+    let Q : Bool → Type 0 = λ b. Holds (elements_from (cond b (2 ^ i) 0)) (Element i) in (
+      subst P (sym e) (subst Q (sym (lt-ltb i 64 suits))
+          (elements_hold (2 ^ i) (pow-lt suits) i (bit_at-pow_same i))),
+      tt,
+    )
 constant_forth lexicon made kinded (steps.Symbol n) a place suits h e =
     let P : Point → Type 0 = λ p. Holds (Sym n) p in
     (subst P (sym e) refl, tt)

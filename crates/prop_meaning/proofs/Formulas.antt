@@ -77,7 +77,7 @@ elements_same : (lexicon : Lexicon) → IsLexicon lexicon → (domain i j : ℕ)
 elements_same lexicon law domain i j h g =
     let P : Type 0 = i ≡ j in
     same_from_decides {P = P} _ _
-        (Decides-like _ (law.elements_differ domain i j h g) (ap (lexicon.element_word domain))
+    (Decides-like _ (law.elements_differ domain i j h g) (ap (lexicon.element_word domain))
     (bytes_eq-Decides _ _)) (Decides-eqb i j)
 
 symbols_same : (lexicon : Lexicon) → IsLexicon lexicon → (m n : ℕ)
@@ -85,12 +85,12 @@ symbols_same : (lexicon : Lexicon) → IsLexicon lexicon → (m n : ℕ)
 symbols_same lexicon law m n =
     let P : Type 0 = m ≡ n in
     same_from_decides {P = P} _ _
-        (Decides-like _ (law.symbols_differ m n) (ap lexicon.symbol_word) (bytes_eq-Decides _ _))
+    (Decides-like _ (law.symbols_differ m n) (ap lexicon.symbol_word) (bytes_eq-Decides _ _))
     (Decides-eqb m n)
 
 by_kind : (lexicon : Lexicon) → IsLexicon lexicon → (kind : Kind) (size : ℕ) (p q : Point)
     → IsProper lexicon (record { kind = kind; size = size }) p → IsProper lexicon
-        (record { kind = kind; size = size }) q
+    (record { kind = kind; size = size }) q
     → is_same (value_as lexicon (record { kind = kind; size = size }) p)
     (value_as lexicon (record { kind = kind; size = size }) q) ≡ same_point p q
 by_kind lexicon law SpanKind size p q h g = on_numbers size
@@ -124,7 +124,7 @@ truths_mean : (lexicon : Lexicon) → IsLexicon lexicon → (op : Infix) (f : Bo
     → ((v w : Value) → combined op (Some v) (Some w) ≡ truth (f (holds (Some v)) (holds (Some w))))
     → ((b c : Bool) → Some (value_as lexicon (kind_of op) (formula op (truth_point b) (truth_point c)))
     ≡ Some (value_as lexicon truth_kind (truth_point (f b c)))) → (kinded : Kinded) → kinded ≡
-        truth_kind → (p q : Point)
+    truth_kind → (p q : Point)
     → IsProper lexicon kinded p → IsProper lexicon kinded q → Means lexicon op kinded p q
 truths_mean lexicon law op f e g kinded k p q h i =
     let P : Kinded → Type 0 = λ n. IsProper lexicon n p → IsProper lexicon n q → Means lexicon op n p q in

@@ -89,7 +89,7 @@ good_two lexicon made op x y left right k sound t e f kind tells = record {
       let q = is_point lexicon made y right a sound r f in
       let w = tells (a x) (a y) p.within q.within in
       let P : Kinded → Type 0 = λ n. IsPointOf n.kind n.size (of_two op (a x) (a y)) → IsNamed
-          lexicon n (of_two op (a x) (a y)) in
+      lexicon n (of_two op (a x) (a y)) in
       record { within = w; named = subst P (sym kind) (named_between lexicon r.words op _) w.0 };
 }
 

@@ -75,9 +75,12 @@ suits_grows lexicon olds news kinded (steps.Element i) g h = h
 suits_grows lexicon olds news kinded (steps.One op x) g h = (has_grows lexicon olds news x _ g h.0, h.1)
 suits_grows lexicon olds news kinded (steps.Two op x y) g h =
     (h.0, h.1, has_grows lexicon olds news x _ g h.2, has_grows lexicon olds news y _ g h.3, h.4)
-suits_grows lexicon olds news kinded (steps.Choice t x y) g h =
-    (has_grows lexicon olds news t _ g h.0, has_grows lexicon olds news x _ g h.1, has_grows lexicon
-        olds news y _ g h.2)
+suits_grows lexicon olds news kinded (steps.Choice t x y) g h = (
+  has_grows lexicon olds news t _ g h.0,
+  has_grows lexicon olds news x _ g h.1,
+  has_grows lexicon
+      olds news y _ g h.2,
+)
 suits_grows lexicon olds news kinded s g h = tt
 
 -- ---- growing
@@ -139,8 +142,8 @@ grown_push lexicon made new s good = record {
         let P : ℕ → Type 0 = λ n. IsGood lexicon (made ++ new ∷ []) (lexicon.count + n) m in
         let Q : Made → Type 0 = λ n. IsGood lexicon (made ++ new ∷ []) (lexicon.count + length made) n in
         subst P (sym e) (subst Q f
-            (good_grows lexicon made (made ++ new ∷ []) (lexicon.count + length made) new grows
-            good))
+        (good_grows lexicon made (made ++ new ∷ []) (lexicon.count + length made) new grows
+        good))
 
 -- ---- points of cells
 
@@ -235,11 +238,11 @@ stands_before lexicon made place kinded h =
 has_at : (b : Bool) (c p n k : ℕ) (given : Known) (made : List Made) (m : Made) → nat_lt p c ≡ b → p ≡ c + k → n ≡ p - c
     → slice_get made k ≡ Some m
     → option_map (λ k. k.kinded)
-        (cond b (Some given) (option_map (λ m. m.known) (slice_get made n))) ≡ Some m.known.kinded
+    (cond b (Some given) (option_map (λ m. m.known) (slice_get made n))) ≡ Some m.known.kinded
 has_at true c p n k given made m e f g h = absurd (omega (arith, ltb-true p c e))
 has_at false c p n k given made m e f g h =
     let P : ℕ → Type 0 = λ i. option_map (λ k. k.kinded)
-        (option_map (λ m. m.known) (slice_get made i)) ≡ Some m.known.kinded in
+    (option_map (λ m. m.known) (slice_get made i)) ≡ Some m.known.kinded in
     let same : k ≡ n = omega arith in
     subst P same (ap (λ o. option_map (λ k. k.kinded) (option_map (λ m. m.known) o)) h)
 

@@ -83,7 +83,7 @@ good_symbol lexicon made place n k kind = record {
 
 pub names_symbol : (lexicon : Lexicon) (made : List Made) (place n : ℕ) (word : List ℕ) (kinded : Kinded)
     → lexicon.symbol word ≡ Some n → Makes lexicon made kinded (λ a. Symbol n) place → Names lexicon
-        made kinded word place
+    made kinded word place
 names_symbol lexicon made place n word kinded e m = record {
   has = m.has;
   is = λ a r. ap Text (sym (r.words.symbols word n e)) ∙ ap (value_as lexicon kinded) (sym (m.is a r));
@@ -114,7 +114,7 @@ shows_cell lexicon made place word kinded e l k = record {
 -- and one that stands for itself
 pub shows_label : (lexicon : Lexicon) (made : List Made) (place : ℕ) (word : List ℕ) (kinded : Kinded)
     → lexicon.cell word ≡ None → Names lexicon made kinded word place → Shows lexicon made kinded
-        (terms.Name word) place
+    (terms.Name word) place
 shows_label lexicon made place word kinded e names = record {
   has = names.has;
   worth_is = λ a related r.

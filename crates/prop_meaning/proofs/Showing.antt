@@ -66,10 +66,10 @@ shows_two lexicon op both t u x y place first second third k ft g fu h m = recor
 
 negative_means : (lexicon : Lexicon) (vs : List (Option Value)) (p : Point) → IsPointOf number_kind.kind 0 p
     → applied before.Negated (Some (value_as lexicon number_kind p)) vs ≡ Some
-        (value_as lexicon number_kind (negative p))
+    (value_as lexicon number_kind (negative p))
 negative_means lexicon vs p h = on_number 0
     (λ p. applied before.Negated (Some (value_as lexicon number_kind p)) vs ≡ Some
-        (value_as lexicon number_kind (negative p)))
+    (value_as lexicon number_kind (negative p)))
     (λ x. ap (λ z. Some (value_as lexicon number_kind (Number z))) (below x)) p h
   where
     below : (x : ℤ) → neg_ℤ x ≡ pos 0 -ℤ x
@@ -78,7 +78,7 @@ negative_means lexicon vs p h = on_number 0
 pub shows_negative : (lexicon : Lexicon) (t : Term) (x place : ℕ) (first second : List Made)
     → Shows lexicon first number_kind t x → Grown lexicon first second
     → Makes lexicon second number_kind (λ a. negative (a x)) place → Shows lexicon second
-        number_kind (One before.Negated t) place
+    number_kind (One before.Negated t) place
 shows_negative lexicon t x place first second ft g m = record {
   has = m.has;
   worth_is = λ a related r.
@@ -86,7 +86,7 @@ shows_negative lexicon t x place first second ft g m = record {
       let names = names_at lexicon related a in
       ap (λ v. applied before.Negated v (each names t (worth names t))) (under.worth_is a related r)
       ∙ (negative_means lexicon (each names t (worth names t)) (a x)
-          (is_proper lexicon second x number_kind a g.sound r under.has).of_kind
+      (is_proper lexicon second x number_kind a g.sound r under.has).of_kind
       ∙ ap (λ p. Some (value_as lexicon number_kind p)) (sym (m.is a r)));
 }
 
@@ -94,13 +94,13 @@ abs_means : (lexicon : Lexicon) (vs : List (Option Value)) (p : Point) → IsPoi
     → applied before.Abs (Some (value_as lexicon number_kind p)) vs ≡ Some (value_as lexicon number_kind (of_one Abs p))
 abs_means lexicon vs p h = on_number 0
     (λ p. applied before.Abs (Some (value_as lexicon number_kind p)) vs ≡ Some
-        (value_as lexicon number_kind (of_one Abs p)))
+    (value_as lexicon number_kind (of_one Abs p)))
     (λ x. refl) p h
 
 pub shows_abs : (lexicon : Lexicon) (t : Term) (x place : ℕ) (first second : List Made)
     → Shows lexicon first number_kind t x → Grown lexicon first second
     → Makes lexicon second number_kind (λ a. of_one Abs (a x)) place → Shows lexicon second
-        number_kind (One before.Abs t) place
+    number_kind (One before.Abs t) place
 shows_abs lexicon t x place first second ft g m = record {
   has = m.has;
   worth_is = λ a related r.
@@ -108,7 +108,7 @@ shows_abs lexicon t x place first second ft g m = record {
       let names = names_at lexicon related a in
       ap (λ v. applied before.Abs v (each names t (worth names t))) (under.worth_is a related r)
       ∙ (abs_means lexicon (each names t (worth names t)) (a x)
-          (is_proper lexicon second x number_kind a g.sound r under.has).of_kind
+      (is_proper lexicon second x number_kind a g.sound r under.has).of_kind
       ∙ ap (λ p. Some (value_as lexicon number_kind p)) (sym (m.is a r)));
 }
 
@@ -117,7 +117,7 @@ not_means : (lexicon : Lexicon) → IsLexicon lexicon → (vs : List (Option Val
     → applied before.Not (Some (value_as lexicon truth_kind p)) vs ≡ Some (value_as lexicon truth_kind (of_one Not p))
 not_means lexicon law vs p h = on_truth
     (λ p. applied before.Not (Some (value_as lexicon truth_kind p)) vs ≡ Some
-        (value_as lexicon truth_kind (of_one Not p)))
+    (value_as lexicon truth_kind (of_one Not p)))
     (λ b. told lexicon law _ _ (ap not (holds_told lexicon law b) ∙ ap not (same b))) p h
   where
     same : (b : Bool) → b ≡ (cond b 0 1 == 0)
@@ -127,7 +127,7 @@ not_means lexicon law vs p h = on_truth
 pub shows_not : (lexicon : Lexicon) (t : Term) (x place : ℕ) (first second : List Made)
     → Shows lexicon first truth_kind t x → Grown lexicon first second
     → Makes lexicon second truth_kind (λ a. of_one Not (a x)) place → Shows lexicon second
-        truth_kind (One before.Not t) place
+    truth_kind (One before.Not t) place
 shows_not lexicon t x place first second ft g m = record {
   has = m.has;
   worth_is = λ a related r.
@@ -135,7 +135,7 @@ shows_not lexicon t x place first second ft g m = record {
       let names = names_at lexicon related a in
       ap (λ v. applied before.Not v (each names t (worth names t))) (under.worth_is a related r)
       ∙ (not_means lexicon r.words (each names t (worth names t)) (a x)
-          (is_proper lexicon second x truth_kind a g.sound r under.has).of_kind
+      (is_proper lexicon second x truth_kind a g.sound r under.has).of_kind
       ∙ ap (λ p. Some (value_as lexicon truth_kind p)) (sym (m.is a r)));
 }
 
@@ -154,11 +154,11 @@ shows_one lexicon op t x place first second k ft g m = absurd (cc)
 choice_means : (lexicon : Lexicon) → IsLexicon lexicon → (kinded : Kinded) (t p q : Point) →
     IsPointOf truth_kind.kind 2 t
     → cond (holds (Some (value_as lexicon truth_kind t))) (Some (value_as lexicon kinded p))
-        (Some (value_as lexicon kinded q))
+    (Some (value_as lexicon kinded q))
     ≡ Some (value_as lexicon kinded (chosen t p q))
 choice_means lexicon law kinded t p q h = on_truth
     (λ t. cond (holds (Some (value_as lexicon truth_kind t))) (Some (value_as lexicon kinded p))
-        (Some (value_as lexicon kinded q))
+    (Some (value_as lexicon kinded q))
     ≡ Some (value_as lexicon kinded (chosen t p q))) by t h
   where
     by : (b : Bool) → cond (holds (Some (value_as lexicon truth_kind (truth_point b))))
@@ -179,16 +179,16 @@ shows_choice lexicon kinded test left right t x y place first second third fourt
   worth_is = λ a related r.
       let st = shows_grows lexicon third fourth truth_kind test t i
       (shows_grows lexicon second third truth_kind test t h
-          (shows_grows lexicon first second truth_kind test t g ft)) in
+      (shows_grows lexicon first second truth_kind test t g ft)) in
       let sx = shows_grows lexicon third fourth kinded left x i (shows_grows lexicon second third kinded left x h fx) in
       let sy = shows_grows lexicon third fourth kinded right y i fy in
       let names = names_at lexicon related a in
       let value : Point → Value = value_as lexicon kinded in
       ap (λ v. cond (holds v) (worth names left) (worth names right)) (st.worth_is a related r)
       ∙ (ap (λ v. cond (holds (Some (value_as lexicon truth_kind (a t)))) v (worth names right))
-          (sx.worth_is a related r)
+      (sx.worth_is a related r)
       ∙ (ap (λ v. cond (holds (Some (value_as lexicon truth_kind (a t)))) (Some (value (a x))) v)
-          (sy.worth_is a related r)
+      (sy.worth_is a related r)
       ∙ (choice_means lexicon r.words kinded (a t) (a x) (a y)
       (is_proper lexicon fourth t truth_kind a i.sound r st.has).of_kind
       ∙ ap (λ p. Some (value p)) (sym (m.is a r)))));
@@ -205,7 +205,7 @@ range_means : (lexicon : Lexicon) → IsLexicon lexicon → (x low high : ℤ)
     ≡ Some (value_as lexicon truth_kind (within (Number x) (Number low) (Number high)))
 range_means lexicon law x low high = told lexicon law _ _
     (ap (λ b. b && int_le x high) (one x low) ∙ ap
-        (λ b. ((cond (not (cond (int_lt x low) 0 1 == 0)) 0 1) == 0) && b) (one high x))
+    (λ b. ((cond (not (cond (int_lt x low) 0 1 == 0)) 0 1) == 0) && b) (one high x))
   where
     same : (b : Bool) → b ≡ (cond b 0 1 == 0)
     same true = refl
@@ -221,13 +221,13 @@ three_numbers : (lexicon : Lexicon) → IsLexicon lexicon → (p low high : Poin
     ≡ Some (value_as lexicon truth_kind (within p low high))
 three_numbers lexicon law p low high h i j = on_numbers 0
     (λ p low. truth (comparison between.AtMost (Some (value_as lexicon number_kind low))
-        (Some (value_as lexicon number_kind p))
+    (Some (value_as lexicon number_kind p))
     && comparison between.AtMost (Some (value_as lexicon number_kind p)) (Some (value_as lexicon number_kind high)))
     ≡ Some (value_as lexicon truth_kind (within p low high)))
     (λ x l. on_number 0 (λ high. truth (comparison between.AtMost (Some (value_as lexicon number_kind (Number l)))
     (Some (value_as lexicon number_kind (Number x)))
     && comparison between.AtMost (Some (value_as lexicon number_kind (Number x)))
-        (Some (value_as lexicon number_kind high)))
+    (Some (value_as lexicon number_kind high)))
     ≡ Some (value_as lexicon truth_kind (within (Number x) (Number l) high)))
     (λ z. range_means lexicon law x l z) high j) p low h i
 
@@ -242,19 +242,19 @@ shows_range lexicon item low high x from end place first second third fourth sin
   worth_is = λ a related r.
       let st = shows_grows lexicon third fourth number_kind item x i
       (shows_grows lexicon second third number_kind item x h
-          (shows_grows lexicon first second number_kind item x g ft)) in
+      (shows_grows lexicon first second number_kind item x g ft)) in
       let sx = shows_grows lexicon third fourth number_kind low from i
-          (shows_grows lexicon second third number_kind low from h fx) in
+      (shows_grows lexicon second third number_kind low from h fx) in
       let sy = shows_grows lexicon third fourth number_kind high end i fy in
       let names = names_at lexicon related a in
       let v : Point → Option Value = λ p. Some (value_as lexicon number_kind p) in
       ap (λ vs. truth (is_in names (Two between.UpTo low high) vs)) (each_single names item (worth names item) single)
       ∙ (ap (λ w. truth (comparison between.AtMost (worth names low) w && comparison between.AtMost
-          w (worth names high))) (st.worth_is a related r)
+      w (worth names high))) (st.worth_is a related r)
       ∙ (ap (λ w. truth (comparison between.AtMost w (v (a x)) && comparison between.AtMost
-          (v (a x)) (worth names high))) (sx.worth_is a related r)
+      (v (a x)) (worth names high))) (sx.worth_is a related r)
       ∙ (ap (λ w. truth (comparison between.AtMost (v (a from)) (v (a x)) && comparison
-          between.AtMost (v (a x)) w)) (sy.worth_is a related r)
+      between.AtMost (v (a x)) w)) (sy.worth_is a related r)
       ∙ (three_numbers lexicon r.words (a x) (a from) (a end)
       (is_proper lexicon fourth x number_kind a i.sound r st.has).of_kind
       (is_proper lexicon fourth from number_kind a i.sound r sx.has).of_kind

@@ -126,7 +126,7 @@ made_follows n (m ∷ made) a h zero o e =
     let first : made_from (n + 1) made b n ≡ made_by m.step a =
     made_before (n + 1) made b n (omega arith) ∙ put_there a n (made_by m.step a) in
     let behind : IsBehind n m.step = let Q : ℕ → Type 0 = λ i. IsBehind i m.step in subst Q
-        (omega arith) (h 0 m refl) in
+    (omega arith) (h 0 m refl) in
     let later : made_by m.step a ≡ made_by m.step (made_from (n + 1) made b) =
     made_alike m.step n a (made_from (n + 1) made b) behind
     (λ i l. sym (made_before (n + 1) made b i (omega arith) ∙ put_else a n (made_by m.step a) i l)) in
@@ -215,7 +215,7 @@ pub all_acts_forth : (lexicon : Lexicon) (made : List Made) (a : ℕ → Point) 
 all_acts_forth lexicon made a sound fits kinds follows =
     gather (HoldsAt RelatedBy a) acts_of all_acts (λ n. refl) (λ n m made. refl) lexicon.count made
     (λ k m e. step_forth lexicon made a fits kinds m.step m.known.kinded (lexicon.count + k)
-        (sound k m e).suits (follows k m e))
+    (sound k m e).suits (follows k m e))
 
 pub all_constants_forth : (lexicon : Lexicon) (made : List Made) (a : ℕ → Point) → IsSound lexicon made
     → AreOfKinds lexicon made a → Follows lexicon.count made a
@@ -223,7 +223,7 @@ pub all_constants_forth : (lexicon : Lexicon) (made : List Made) (a : ℕ → Po
 all_constants_forth lexicon made a sound kinds follows =
     gather (λ c. Holds c.1 (a c.0)) constants_of all_constants (λ n. refl) (λ n m made. refl) lexicon.count made
     (λ k m e. constant_forth lexicon made m.known.kinded m.step a (lexicon.count + k)
-        (sound k m e).suits (kinds k m e) (follows k m e))
+    (sound k m e).suits (kinds k m e) (follows k m e))
 
 -- where all is solved each fresh cell is what it is made of
 pub solved_follows : (lexicon : Lexicon) (made : List Made) (a : ℕ → Point) → IsSound lexicon made → Fits lexicon a
@@ -233,4 +233,4 @@ solved_follows lexicon made a sound fits kinds acts constants k m e =
     step_back lexicon made a fits kinds m.step m.known.kinded (lexicon.count + k) (sound k m e).suits (kinds k m e)
     (part (HoldsAt TellsBy a) acts_of all_acts (λ n. refl) (λ n m made. refl) lexicon.count made acts k m e)
     (part (λ c. Holds c.1 (a c.0)) constants_of all_constants (λ n. refl) (λ n m made. refl)
-        lexicon.count made constants k m e)
+    lexicon.count made constants k m e)

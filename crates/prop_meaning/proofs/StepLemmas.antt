@@ -120,9 +120,9 @@ difference_back a x y z kinded k h i j t = on_three_numbers
 same_forth : (a : ℕ → Point) (x y z : ℕ) → a z ≡ of_two Same (a x) (a y) → All RelatedBy a (alike_acts x y z)
 same_forth a x y z e =
     let Q : Point → Type 0 = λ s. (RelatedBy (OfKit kits.Alike) Plain (a x ∷ a y ∷ []) s) ×
-        ((RelatedBy (OfKit kits.Switch) Plain (s ∷ a x ∷ []) (a y))
+    ((RelatedBy (OfKit kits.Switch) Plain (s ∷ a x ∷ []) (a y))
     × ((RelatedBy (OfKit kits.Switch) Plain (s ∷ a y ∷ []) (a x)) ×
-        ((RelatedBy (OfKit kits.Apart) Plain (s ∷ a x ∷ a y ∷ []) (a y))
+    ((RelatedBy (OfKit kits.Apart) Plain (s ∷ a x ∷ a y ∷ []) (a y))
     × ((RelatedBy (OfKit kits.Apart) Plain (s ∷ a y ∷ a x ∷ []) (a x)) × Unit {0})))) in
     subst Q (sym e) (alike_forth (a x) (a y) (same_point (a x) (a y)) refl)
 
@@ -142,10 +142,10 @@ square_of a x y z kinded same k h e =
   where
     by : (p s : Point) → IsPointOf SpanKind 0 p → s ≡ of_two Product p p
         → (RelatedBy (OfKit kits.Square) Plain (p ∷ []) s) ×
-            ((RelatedBy (OfKit kits.Root) Plain (s ∷ p ∷ []) p) × Unit {0})
+        ((RelatedBy (OfKit kits.Root) Plain (s ∷ p ∷ []) p) × Unit {0})
     by p s h e = on_number 0 (λ p. s ≡ of_two Product p p
         → (RelatedBy (OfKit kits.Square) Plain (p ∷ []) s) ×
-            ((RelatedBy (OfKit kits.Root) Plain (s ∷ p ∷ []) p) × Unit {0}))
+        ((RelatedBy (OfKit kits.Root) Plain (s ∷ p ∷ []) p) × Unit {0}))
         (λ u e. let R : Point → Type 0 = λ s. (RelatedBy (OfKit kits.Square) Plain (Number u ∷ []) s)
         × ((RelatedBy (OfKit kits.Root) Plain (s ∷ Number u ∷ []) (Number u)) × Unit {0}) in
         subst R (sym e) (refl, ((refl, refl), tt))) p h e
@@ -157,8 +157,8 @@ square_back a x y z kinded same k h j t =
     let P : Kinded → Type 0 = λ n. IsPointOf n.kind n.size (a x) → a z ≡ of_two Product (a x) (a x) in
     let Q : ℕ → Type 0 = λ n. a z ≡ of_two Product (a x) (a n) in
     subst Q same (subst P (sym k)
-        (λ h. on_numbers 0 (λ p s. TellsBy (OfKit kits.Square) Plain (p ∷ []) s → s ≡ of_two Product
-        p p)
+    (λ h. on_numbers 0 (λ p s. TellsBy (OfKit kits.Square) Plain (p ∷ []) s → s ≡ of_two Product
+    p p)
     (λ u v e. ap Number e) (a x) (a z) h j t.0) h)
 
 product_forth : (a : ℕ → Point) (x y z : ℕ) (kinded : Kinded) → kinded ≡ number_kind
@@ -225,10 +225,10 @@ pub single_forth : (a : ℕ → Point) (op : singles.Single) (x y : ℕ)
     → All RelatedBy a (single_acts op x y)
 single_forth a Not x y h e =
     let Q : Point → Type 0 = λ s. (RelatedBy (OfKit kits.Not) Plain (a x ∷ []) s) ×
-        ((RelatedBy (OfKit kits.Not) Plain (s ∷ []) (a x)) × Unit {0}) in
+    ((RelatedBy (OfKit kits.Not) Plain (s ∷ []) (a x)) × Unit {0}) in
     subst Q (sym e) (on_truth
-        (λ p. (RelatedBy (OfKit kits.Not) Plain (p ∷ []) (of_one Not p)) ×
-        ((RelatedBy (OfKit kits.Not) Plain (of_one Not p ∷ []) p) × Unit {0}))
+    (λ p. (RelatedBy (OfKit kits.Not) Plain (p ∷ []) (of_one Not p)) ×
+    ((RelatedBy (OfKit kits.Not) Plain (of_one Not p ∷ []) p) × Unit {0}))
     by (a x) h)
   where
     by : (b : Bool) → (RelatedBy (OfKit kits.Not) Plain (truth_point b ∷ []) (of_one Not (truth_point b)))
@@ -237,10 +237,10 @@ single_forth a Not x y h e =
     by false = (refl, (refl, tt))
 single_forth a Abs x y h e =
     let Q : Point → Type 0 = λ s. (RelatedBy (OfWide wides.Abs) Plain (a x ∷ []) s) ×
-        ((RelatedBy (OfWide wides.AbsBack) Plain (s ∷ a x ∷ []) (a x)) × Unit {0}) in
+    ((RelatedBy (OfWide wides.AbsBack) Plain (s ∷ a x ∷ []) (a x)) × Unit {0}) in
     subst Q (sym e) (on_number 0 (λ p. (RelatedBy (OfWide wides.Abs) Plain (p ∷ []) (of_one Abs p))
     × ((RelatedBy (OfWide wides.AbsBack) Plain (of_one Abs p ∷ p ∷ []) p) × Unit {0}))
-        (λ u. (refl, ((refl, refl), tt))) (a x) h)
+    (λ u. (refl, ((refl, refl), tt))) (a x) h)
 
 pub single_back : (a : ℕ → Point) (op : singles.Single) (x y : ℕ)
     → IsPointOf (kind_before op).kind (kind_before op).size (a x)
@@ -257,7 +257,7 @@ single_back a Not x y h j t = on_truths
     by false false e = absurd (cc)
 single_back a Abs x y h j t =
     on_numbers 0 (λ p s. TellsBy (OfWide wides.Abs) Plain (p ∷ []) s → s ≡ of_one Abs p)
-        (λ u v e. ap Number e) (a x) (a y) h j t.0
+    (λ u v e. ap Number e) (a x) (a y) h j t.0
 
 -- ---- a choice
 
@@ -265,14 +265,14 @@ pub choice_forth : (a : ℕ → Point) (t x y z : ℕ) → IsPointOf (Set 0) 2 (
     → All RelatedBy a (choice_acts t x y z)
 choice_forth a t x y z h e = on_truth (λ p. (s : Point) → s ≡ chosen p (a x) (a y)
     → (RelatedBy (OfWide wides.Choose) Plain (p ∷ a x ∷ a y ∷ []) s) ×
-        ((RelatedBy (OfWide wides.Decide) Plain (a x ∷ a y ∷ s ∷ []) p)
+    ((RelatedBy (OfWide wides.Decide) Plain (a x ∷ a y ∷ s ∷ []) p)
     × ((RelatedBy (OfKit kits.Switch) Plain (p ∷ s ∷ []) (a x)) ×
-        ((RelatedBy (OfWide wides.Choose) Plain (p ∷ a y ∷ s ∷ []) (a y)) × Unit {0})))) by (a t) h
-        (a z) e
+    ((RelatedBy (OfWide wides.Choose) Plain (p ∷ a y ∷ s ∷ []) (a y)) × Unit {0})))) by (a t) h
+    (a z) e
   where
     by : (b : Bool) (s : Point) → s ≡ chosen (truth_point b) (a x) (a y)
         → (RelatedBy (OfWide wides.Choose) Plain (truth_point b ∷ a x ∷ a y ∷ []) s) ×
-            ((RelatedBy (OfWide wides.Decide) Plain (a x ∷ a y ∷ s ∷ []) (truth_point b))
+        ((RelatedBy (OfWide wides.Decide) Plain (a x ∷ a y ∷ s ∷ []) (truth_point b))
         × ((RelatedBy (OfKit kits.Switch) Plain (truth_point b ∷ s ∷ []) (a x))
         × ((RelatedBy (OfWide wides.Choose) Plain (truth_point b ∷ a y ∷ s ∷ []) (a y)) × Unit {0})))
     by true s e = (

@@ -22,7 +22,7 @@ use Rattle.prop_meaning.proofs.Formulas.{on_number, on_numbers, on_truth, on_tru
 abbrev pub Three : (Rule → Param → List Point → Point → Type 0) → Rules → Point → Point → Point → Type 0
 Three related r p q s = related r.forth (param_of r.forth) (p ∷ q ∷ []) s
     × (related r.first (param_of r.first) (s ∷ q ∷ []) p ×
-        (related r.second (param_of r.second) (s ∷ p ∷ []) q × Unit {0}))
+    (related r.second (param_of r.second) (s ∷ p ∷ []) q × Unit {0}))
 
 -- ---- numbers
 
@@ -79,7 +79,7 @@ forth_numbers : (op : pairs.Pair) →
     → IsPointOf kinded.kind kinded.size q → Three RelatedBy (rules_of op) p q (of_two op p q)
 forth_numbers op f kinded k p q h i =
     let P : Kinded → Type 0 = λ n. IsPointOf n.kind n.size p → IsPointOf n.kind n.size q → Three
-        RelatedBy (rules_of op) p q (of_two op p q) in
+    RelatedBy (rules_of op) p q (of_two op p q) in
     subst P (sym k) (λ h i. on_numbers 0 (λ p q. Three RelatedBy (rules_of op) p q (of_two op p q)) f p q h i) h i
 
 forth_truths : (op : pairs.Pair) →
@@ -89,7 +89,7 @@ forth_truths : (op : pairs.Pair) →
     → IsPointOf kinded.kind kinded.size q → Three RelatedBy (rules_of op) p q (of_two op p q)
 forth_truths op f kinded k p q h i =
     let P : Kinded → Type 0 = λ n. IsPointOf n.kind n.size p → IsPointOf n.kind n.size q → Three
-        RelatedBy (rules_of op) p q (of_two op p q) in
+    RelatedBy (rules_of op) p q (of_two op p q) in
     subst P (sym k) (λ h i. on_truths (λ p q. Three RelatedBy (rules_of op) p q (of_two op p q)) f p q h i) h i
 
 and_forth : (b c : Bool) → Three RelatedBy (rules_of And) (truth_point b) (truth_point c)

@@ -227,9 +227,9 @@ pub told_or_left : (library : List Stored) (s t u v : State) (cells : List ℕ) 
     IfErr r (λ e. e ≡ Memory) → OnErr r (v ≡ u) → IsPosted library s cells p premise r v
 told_or_left library s t u v cells next cell p premise (Ok done) free limit room t_is next_is u_is
     cell_is ok err same = (
-  room_refused s p premise free limit ∙ room,
-  posted_is library s t u v cells next cell p premise t_is next_is u_is cell_is ok,
-)
+      room_refused s p premise free limit ∙ room,
+      posted_is library s t u v cells next cell p premise t_is next_is u_is cell_is ok,
+    )
 told_or_left library s t u v cells next cell p premise (Err e) free limit room t_is next_is u_is cell_is ok err same =
     let left = left_is library s t v cells next p.flat p.fixed.items t_is next_is (same ∙ u_is) in
     inr (

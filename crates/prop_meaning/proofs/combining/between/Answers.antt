@@ -17,7 +17,7 @@ returns-clause-makes g c = both_ok c.two.result _ _ _ c.two.ensures.grown c.two.
     let above : (ℕ → Point) → Point = λ a. of_one Not (of_two Less (a c.args.x) (a c.args.from)) in
     let below : (ℕ → Point) → Point = λ a. of_one Not (of_two Less (a c.args.end) (a c.args.x)) in
     then_makes lexicon second third truth_kind truth_kind below (λ p a. of_two And (above a) p)
-        c.in_ok-below.below place
+    c.in_ok-below.below place
     c.in_ok-below.ensures.makes grown
     (then_makes lexicon first third truth_kind truth_kind above (λ p a. of_two And p (a c.in_ok-below.below))
     c.in_ok-above.above place c.in_ok-above.ensures.makes

@@ -9,6 +9,6 @@ pub returns-clause-makes : goal.returns-clause-makes
 returns-clause-makes g c =
     let same : to_z w64 (of_z w64 c.args.z) ≡ c.args.z = omega (arith, ints) in
     subst (λ z. IfOk c.placed.result
-        (Makes (g.W.Words.lexicon c.args.words.now) c.placed.new.made.items number_kind
-        (λ a. Number z)))
+    (Makes (g.W.Words.lexicon c.args.words.now) c.placed.new.made.items number_kind
+    (λ a. Number z)))
     same c.placed.ensures.makes

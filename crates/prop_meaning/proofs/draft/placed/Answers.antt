@@ -9,5 +9,5 @@ returns-in-Ok-clause-grown g c = rw c.in-Ok.ensures.items
 pub returns-in-Ok-clause-makes : goal.returns-in-Ok-clause-makes
 returns-in-Ok-clause-makes g c = rw c.in-Ok.ensures.items
     (pushed (g.W.Words.lexicon c.args.words.now) c.args.made.now.items c.args.new
-        (c.count-count.result + c.len-k.result)
+    (c.count-count.result + c.len-k.result)
     (omega (arith, c.count-count.ensures.value, c.len-k.ensures)))

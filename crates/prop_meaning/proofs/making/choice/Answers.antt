@@ -25,5 +25,5 @@ returns-clause-makes g c kinded has =
     let kind = c.in_ok-known.ensures.kind ∙ only_kind lexicon made c.args.x c.in-Some-Some.left kinded left has in
     IfOk-weaker c.placed.result _ _ (λ place m.
     subst (λ k. Makes lexicon c.placed.new.made.items k
-        (λ a. chosen (a c.args.t) (a c.args.x) (a c.args.y)) place) kind m)
+    (λ a. chosen (a c.args.t) (a c.args.x) (a c.args.y)) place) kind m)
     c.placed.ensures.makes

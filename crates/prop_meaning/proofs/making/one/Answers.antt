@@ -9,5 +9,5 @@ placed-requires-clause-good g c =
     let under : known_at (g.W.Words.lexicon c.args.words.now) made c.args.x ≡ Some c.in-Some.under =
     cc (c.deref.ensures.value, c.known_at.ensures, c.in-Some.is) in
     good_one (g.W.Words.lexicon c.args.words.now) made c.args.op c.args.x c.in-Some.under
-        c.in_ok-known.known c.requires.sound
+    c.in_ok-known.known c.requires.sound
     c.requires.suits under c.in_ok-known.ensures.kind c.in_ok-known.ensures.tells

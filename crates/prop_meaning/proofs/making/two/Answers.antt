@@ -11,6 +11,6 @@ placed-requires-clause-good g c =
     let right : known_at (g.W.Words.lexicon c.args.words.now) made c.args.y ≡ Some c.in-Some-Some.right =
     cc (c.deref-2.ensures.value, c.known_at-2.ensures, c.in-Some-Some.is-1) in
     good_two (g.W.Words.lexicon c.args.words.now) made c.args.op c.args.x c.args.y
-        c.in-Some-Some.left c.in-Some-Some.right
+    c.in-Some-Some.left c.in-Some-Some.right
     c.in_ok-known.known c.requires.sound c.requires.suits left right c.in_ok-known.ensures.kind
-        c.in_ok-known.ensures.tells
+    c.in_ok-known.ensures.tells

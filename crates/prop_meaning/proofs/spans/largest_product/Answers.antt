@@ -19,7 +19,7 @@ returns c =
     let low = greatest_of_back c.multiplied.result c.multiplied-2.result (x.lo *ℤ y.lo) (x.lo *ℤ y.hi) c.max-low.result
     c.multiplied.type_inv c.multiplied-2.type_inv c.max-low.ensures.value a b in
     let high = greatest_of_back c.multiplied-3.result c.multiplied-4.result (x.hi *ℤ y.lo)
-        (x.hi *ℤ y.hi) c.max-high.result
+    (x.hi *ℤ y.hi) c.max-high.result
     c.multiplied-3.type_inv c.multiplied-4.type_inv c.max-high.ensures.value d e in
     let all = greatest_of_back c.max-low.result c.max-high.result (int_max (x.lo *ℤ y.lo) (x.lo *ℤ y.hi))
     (int_max (x.hi *ℤ y.lo) (x.hi *ℤ y.hi)) c.max.result c.max-low.type_inv c.max-high.type_inv c.max.ensures.value

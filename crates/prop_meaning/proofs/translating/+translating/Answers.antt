@@ -42,7 +42,7 @@ between_two-returns-in-Ok-combined-clause-shows g t c =
     ∙ (ap (λ u. Two op (term_of u) (term_of c.in-Two.right.value)) (sym c.deref-3.ensures)
     ∙ ap (λ u. Two op left (term_of u)) (sym c.deref-4.ensures)) in
     let all = shows_two lexicon op c.in-Ok.both left right c.in_ok-x.x c.in_ok-y.y place first
-        second third c.in-Ok.ensures
+    second third c.in-Ok.ensures
     c.in_ok-x.ensures.shows c.in_ok-y.ensures.grown c.in_ok-y.ensures.shows c.in-Ok-combined.ensures.grown
     c.in-Ok-combined.ensures.makes in
     subst (λ k. Shows lexicon third k (term_of c.args.term.now) place) kind
@@ -112,7 +112,7 @@ in_range-between-requires-clause-number g t c =
     let third = c.translated-3.new.made.items in
     has_grows lexicon second third c.in_ok-x.x number_kind c.in_ok-end.ensures.grown.grows
     (has_grows lexicon first second c.in_ok-x.x number_kind c.in_ok-from.ensures.grown.grows
-        c.in_ok-x.ensures.shows.has)
+    c.in_ok-x.ensures.shows.has)
 
 pub in_range-returns-in-Ok-clause-shows : goal.in_range-returns-in-Ok-clause-shows
 in_range-returns-in-Ok-clause-shows g t c =

@@ -18,7 +18,7 @@ returns-in-Ok-clause-posted g c =
     let s = c.args.self.now in
     let cells = c.args.cells.now in
     let next : c.cells-next.result ≡ length s.live.network.cells.kinds = rw c.network.ensures at
-        c.cells-next.ensures.count in
+    c.cells-next.ensures.count in
     told_or_left (stored_of g.R.Rule.value_of s.live.network.library) (state_of s) (state_of c.place.new.self)
     (state_of c.fix_all-made.new.self) (state_of c.state_said.new.self) cells c.cells-next.result c.cell_at.result
     c.args.posting (name_under c.args.under) c.state_said.result c.requires.free c.requires.room
