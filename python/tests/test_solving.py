@@ -82,6 +82,21 @@ def test_what_cannot_hold_denies_nothing_where_it_is_not_said(
         assert len(w.plans(["n"])) == 1
 
 
+def test_what_was_saved_without_switched_forms_is_answered_rightly(
+    wide: str, tmp_path: Path
+) -> None:
+    file = tmp_path / "saved.prop"
+    with Workbench(program=PROGRAMS["propbench"]) as w:
+        w.require(three_of_two(w), under="p")
+        w.kick("p")
+        w.save(str(file))
+    with Workbench.load(str(file), program=wide) as w:
+        assert set(w.solve()) == {"x0", "x1", "x2"}
+        w.bring("p")
+        with pytest.raises(NothingFits):
+            w.solve()
+
+
 @settings(max_examples=30 * TIMES)
 @given(model_lines())
 def test_a_plan_is_one_of_all(lines: list[str]) -> None:

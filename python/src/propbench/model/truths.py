@@ -60,7 +60,7 @@ class Truths:
         """States that all differ, where the program can tell more from all at once than from any
         two; of more than there are values, that this can't be."""
         count = len(each.args)
-        if count > most_different(each.args[0].kind):
+        if self._writer.switches and count > most_different(each.args[0].kind):
             self._all.state(FALSE, context)
         elif 2 < count <= _MOST_DIFFERENT and self._writer.offers(f"different{count}"):
             cells = [self._all.cell_of(arg, context) for arg in each.args]

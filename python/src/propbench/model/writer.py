@@ -56,6 +56,12 @@ class Writer:
         return False
 
     @property
+    def switches(self) -> bool:
+        """Whether the program has forms that are switched. (A file that was saved where it had none
+        means the lines that it has.)"""
+        return self._offers(SWITCHED)
+
+    @property
     def position(self) -> int:
         """How many lines were written so far."""
         return len(self._log)
@@ -145,7 +151,7 @@ class Writer:
         """Puts a procedure or compound between cells of a context. While its gate is closed it says
         nothing of them, where the program has a form that is switched: who searches for points has
         to find one for each cell, also where no gate to it is open."""
-        if context.is_gated and self._offers(SWITCHED):
+        if context.is_gated and self.switches:
             self.attach(f"soft_{procedure}", context.gate, *cells, by=by)
         else:
             self.attach(procedure, *cells, by=by)
