@@ -82,16 +82,56 @@ def test_what_cannot_hold_denies_nothing_where_it_is_not_said(
         assert len(w.plans(["n"])) == 1
 
 
+# Three elements of a domain of two that are to differ, as they were saved before there were switched
+# forms among what a workbench uses.
+SAVED = """#: {"workbench": 1, "kit": ["different3"]}
+cell _yes truth
+fix _yes yes
+#: {"domain": "d", "elements": ["a", "b"]}
+domain d a b
+#: {"element": "c0", "domain_of": "d"}
+cell c0 d
+fix c0 {a b}
+#: {"element": "c1", "domain_of": "d"}
+cell c1 d
+fix c1 {a b}
+#: {"element": "c2", "domain_of": "d"}
+cell c2 d
+fix c2 {a b}
+#: {"require": ["ALL_DIFFERENT", [["CELL", "c0"], ["CELL", "c1"], ["CELL", "c2"]]], "under": "p"}
+cell _1 truth
+tell p _1 yes
+cell _2 d
+attach passer _1 c0 _2
+attach passer _1 _2 c0
+cell _3 d
+attach passer _1 c1 _3
+attach passer _1 _3 c1
+cell _4 d
+attach passer _1 c2 _4
+attach passer _1 _4 c2
+attach different3 _2 _3 _4
+cell _5 truth
+attach alike c0 c1 _5
+tell p _5 no
+cell _6 truth
+attach alike c0 c2 _6
+tell p _6 no
+cell _7 truth
+attach alike c1 c2 _7
+tell p _7 no
+#: {"kicked": ["p"]}
+kick p
+"""
+
+
 def test_what_was_saved_without_switched_forms_is_answered_rightly(
     wide: str, tmp_path: Path
 ) -> None:
     file = tmp_path / "saved.prop"
-    with Workbench(program=PROGRAMS["propbench"]) as w:
-        w.require(three_of_two(w), under="p")
-        w.kick("p")
-        w.save(str(file))
+    file.write_text(SAVED, encoding="utf-8")
     with Workbench.load(str(file), program=wide) as w:
-        assert set(w.solve()) == {"x0", "x1", "x2"}
+        assert set(w.solve()) == {"c0", "c1", "c2"}
         w.bring("p")
         with pytest.raises(NothingFits):
             w.solve()
