@@ -1,4 +1,4 @@
-use Rattle.std.proofs.Common.{[], ◌≡◌, ◌∷◌, ◌<◌, ℕ, List, Option, IfSome, Some, arith}
+use Rattle.std.proofs.Common.{[], ◌≡◌, ◌∷◌, ◌<◌, ℕ, Option, IfSome, Some, arith}
 use Rattle.std.proofs.Common.{length, refl, slice_get, subst, sym}
 use Rattle.prop_procedures.specs.Kept.{stored_of}
 use Rattle.prop_plans.specs.Held.{attached_of}
@@ -16,7 +16,7 @@ literal_there old same at x e h =
     let P : Nogood → Type 0 = λ g. slice_get g.literals at ≡ Some x in subst P (sym e) (sym h)
 
 -- the nogood of two facts about a place
-both : ℕ → Fact → Fact → Nogood
+abbrev both : ℕ → Fact → Fact → Nogood
 both place one other = record {
   literals = record { place = place; fact = one } ∷ record { place = place; fact = other } ∷ [];
   premises = [];
@@ -28,7 +28,8 @@ second_there : (o : Option Nogood) (g : Nogood) (place : ℕ) (one other : Fact)
 second_there o g place one other e h =
     let F : Option Nogood → Type 0 = λ p. IfSome p (λ k. k ≡ both place one other) in
     let P : Nogood → Type 0 = λ k. 1 < length k.literals in
-    let two : 1 < length (both place one other).literals = omega arith in
+    let count : length (both place one other).literals ≡ 2 = refl in
+    let two : 1 < length (both place one other).literals = omega (arith, count) in
     subst P (sym (subst F e h)) two
 
 pub by_nogood-requires-clause-at : goal.by_nogood-requires-clause-at
@@ -38,8 +39,8 @@ by_nogood-requires-clause-at g c =
 
 pub by_nogood-requires-clause-which : goal.by_nogood-requires-clause-which
 by_nogood-requires-clause-which g c =
-    second_there c.in_ok-other.field-0 c.in-Some-other.other c.in-Some.literal.place c.in-Some-pair.pair.one
-    c.in-Some-pair.pair.other c.in-Some-other.is c.in_ok-other.ensures.facts
+    second_there c.in_ok-other.field-0 c.in-Some-2.other c.in-Some.literal.place c.in-Some-decided_against.pair.one
+    c.in-Some-decided_against.pair.other c.in-Some-2.is c.in_ok-other.ensures.facts
 
 pub returns : goal.returns
 returns g c =
@@ -53,11 +54,11 @@ returns g c =
     let new = c.by_nogood.new.self in
     let step = c.by_nogood.ensures in
     let x = c.in-Some.literal in
-    let pair = c.in-Some-pair.pair in
-    let other = c.in-Some-other.other in
+    let pair = c.in-Some-decided_against.pair in
+    let other = c.in-Some-2.other in
     let e = literal_there c.args.self.now old c.args.at x c.self.view_is c.in-Some.ensures.literal in
     let f = follows_clashing library n choices root slots c.in_ok-other.field-0 other other
-    (both x.place pair.one pair.other).literals c.in-Some-other.is refl c.in_ok-other.ensures.facts
+    (both x.place pair.one pair.other).literals c.in-Some-2.is refl c.in_ok-other.ensures.facts
     c.in_ok-other.ensures.never in
     stays_from library n choices root slots c.args.self.now old new c.self.view_is
     (stays_by_followed library n choices root slots c.by_nogood.result old other new f step.err step.still
