@@ -17,7 +17,7 @@ import subprocess
 import sys
 import tempfile
 import time
-from itertools import chain, islice, starmap
+from itertools import chain, combinations, islice, pairwise, product, starmap
 from random import Random
 from typing import Callable, Iterable, Iterator, Optional
 
@@ -254,6 +254,7 @@ def cases() -> Iterator[Case]:
     yield from small()
     yield from sudokus()
     yield ruler()
+    yield tour()
     yield from one_ways()
 
 
@@ -294,6 +295,79 @@ def ruler() -> Case:
     return Case("a ruler's last mark", as_bytes(*lines, "settle", "least m6"), wrong)
 
 
+# ---- a tour
+
+# How many ends a tour has, and the seed of how far they are apart. A search over these learned a
+# nogood with two numbers that aren't so of one cell, both of them by a decision.
+ENDS, TOUR = 11, 28
+
+
+def distances() -> list[list[int]]:
+    """How far it is from each end to each other one."""
+    chance, far = Random(TOUR), [[200] * ENDS for _ in range(ENDS)]
+    for one in range(ENDS):
+        for other in range(one):
+            far[one][other] = far[other][one] = chance.randint(2, 44)
+    return far
+
+
+def shortest(far: list[list[int]]) -> int:
+    """The length of the shortest tour: what is shortest from the first end to each other one,
+    through each set of them."""
+    best = {(1, 0): 0}
+    for ends, last in product(range(1, 1 << ENDS, 2), range(ENDS)):
+        for to in range(1, ENDS) if (ends, last) in best else ():
+            if not ends >> to & 1:
+                length = best[ends, last] + far[last][to]
+                longer = (ends | 1 << to, to)
+                best[longer] = min(best.get(longer, length), length)
+    return min(best[(1 << ENDS) - 1, last] + far[last][0] for last in range(1, ENDS))
+
+
+def steps(far: list[list[int]]) -> Iterator[str]:
+    """Which end follows each, s1 and so on, and how far it is to there, c1 and so on."""
+    names = [str(end) for end in range(1, ENDS + 1)]
+    yield from (f"cell k{it} span; fix k{it} {it}" for it in sorted(set(chain(*far))))
+    for it in names:
+        yield f"cell n{it} span; fix n{it} {it}; cell s{it} span; fix s{it} 1..{ENDS}"
+        yield f"cell c{it} span"
+    for it, row in zip(names, far):
+        others = " ".join(f"s{other}" for other in names if other != it)
+        yield f"attach element{ENDS} s{it} {' '.join(f'k{far}' for far in row)} c{it}"
+        yield f"attach differ{ENDS - 1} s{it} {others} s{it}; cell t{it} truth"
+        yield f"attach alike s{it} n{it} t{it}; fix t{it} no"
+    yield from (f"attach different2 s{one} s{other}" for one, other in combinations(names, 2))
+
+
+def turns() -> Iterator[str]:
+    """As the how manieth each end stands, u1 and so on, and the length of all steps."""
+    ends = range(1, ENDS + 1)
+    yield "cell one span; fix one 1"
+    for it in ends:
+        yield f"cell u{it} span; fix u{it} {'1' if it == 1 else f'2..{ENDS}'}"
+        yield f"cell w{it} span; attach sum u{it} one w{it}"
+    yield f"cell last span; fix last {ENDS + 1}"
+    for it in ends:
+        yield f"attach element{ENDS} s{it} last {' '.join(f'u{to}' for to in ends[1:])} w{it}"
+        yield from (f"attach element_entry s{it} n{to} w{it} u{to}" for to in ends[1:])
+    lengths = ["c1", *(f"q{it}" for it in ends[1:-1]), "total"]
+    for it, (before, since) in enumerate(pairwise(lengths), 2):
+        yield f"cell {since} span; attach sum {before} c{it} {since}"
+
+
+def tour() -> Case:
+    """The length of the shortest tour, which is found and shown to be that."""
+    far = distances()
+    lines = "; ".join(chain(steps(far), turns())).split("; ")
+    wanted = f"least {shortest(far)}"
+
+    def wrong(output: bytes) -> Optional[str]:
+        told = output.decode().splitlines()[len(lines) + 1]
+        return None if told == wanted else f"{told}, not {wanted}"
+
+    return Case("a tour's length", as_bytes("limit 1000000000", *lines, "least total"), wrong)
+
+
 # ---- procedures in one direction
 
 
@@ -322,11 +396,11 @@ def one_ways() -> Iterator[Case]:
 
 
 def built() -> Iterator[Check]:
-    """The Sudokus, a ruler and procedures in one direction over propwide, where it is built, and one
-    of each STEP small ones."""
+    """The Sudokus, a ruler, a tour and procedures in one direction over propwide where it is built,
+    and one of each STEP small ones."""
     if os.path.exists(PROGRAM):
         few = islice(small(), 0, None, STEP)
-        yield from map(over_propwide, chain(sudokus(), [ruler()], one_ways(), few))
+        yield from map(over_propwide, chain(sudokus(), [ruler(), tour()], one_ways(), few))
 
 
 def instructions(program: str, sent: bytes) -> str:

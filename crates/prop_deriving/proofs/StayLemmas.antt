@@ -135,6 +135,20 @@ module _ (library : List Stored) (n : Attached) (choices : List Choice) (root : 
         b.known s excuses part slots_known (a.known s excuses part slots_known);
   }
 
+module _ (library : List Stored) (n : Attached) (choices : List Choice) (root : List ℕ)
+    (slots : List (Option Nogood)) where
+  -- a step with a nogood that follows
+  pub stays_by_followed : {E : Type 0} (r : Result Bool E) (old other new : Nogood)
+      → Follows library n choices root slots other → OnErr r (new ≡ old) → (r ≡ Ok false → new ≡ old)
+      → (r ≡ Ok true → IsSame (set_of new.premises) (union (set_of old.premises) (set_of other.premises)))
+      → Resolves library n choices old other new → Stays library n choices root slots old new
+  stays_by_followed r old other new f err still same h =
+      stays_by library n choices root slots r old new err still (λ t. record {
+        known = λ s excuses part slots_known k. let l = f.known s excuses part slots_known in
+            known_resolved library n choices s excuses old other new h
+            (both_within s new.premises old.premises other.premises (same t) k.within l.within) k l;
+      })
+
 -- over the same cells
 pub stays_over : (library : List Stored) (d e : Data) (choices : List Choice) (root : List ℕ)
     (slots : List (Option Nogood)) (old new : Nogood) → d ≡ e

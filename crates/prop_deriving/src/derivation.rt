@@ -255,11 +255,37 @@ impl Derivation {
             before: reason.before,
         };
         match reason.by {
-            Source::Decision => Ok(false),
+            Source::Decision => self.by_decision(basis, at, reason),
             Source::Call(instance) => self.by_call(basis, at, instance, asked),
             Source::Nogood(number) => self.by_nogood(basis, at, number, reason),
             Source::Side(number) => self.by_side(basis, at, number, asked),
         }
+    }
+
+    /// What a decision said, by the fact that was decided. False where that is the literal's own.
+    fn by_decision<R: Rule + Drop>(
+        &mut self,
+        basis: &Ground<'_, R>,
+        at: usize,
+        reason: Reason,
+    ) -> Result<bool, AllocError>
+        ensures { Stays (stored_of R.value_of basis.now.network.now.library)
+            (attached_of basis.now.network.now.cells) basis.now.choices.now basis.now.root.now
+            basis.now.store.now self.old self.new }
+    {
+        let Some(literal) = self.literal(at) else {
+            return Ok(false);
+        };
+        let Some(kind) = basis.kind(literal.place) else {
+            return Ok(false);
+        };
+        let Some(pair) = reason.decided_against(literal.fact, kind.size) else {
+            return Ok(false);
+        };
+        let Some(other) = clashing(basis.alloc, literal.place, pair.one, pair.other)? else {
+            return Ok(false);
+        };
+        self.nogood.by_nogood(at, &other, 1, None, kind)
     }
 
     /// What has to be known of a literal's place besides, so that what was said of it says its

@@ -2,6 +2,7 @@
 ghost use Rattle.std.specs.Prelude.{◌<◌, length, IfSome};
 
 use crate::bits::{among, mask};
+use crate::clash::Pair;
 use prop_facts::{Fact, Literal};
 use prop_lattice::{Info, Partial};
 use prop_trail::{Source, Trail};
@@ -60,6 +61,20 @@ impl Reason {
         }
     }
 
+    /// The fact that was decided, which is another one, and that a fact which it says isn't so.
+    pub(crate) fn decided_against(&self, fact: Fact, size: u8) -> Option<Pair> {
+        let parts = Fact::parts(self.said);
+        let decided = parts.first.or(parts.second)?;
+        if decided == fact {
+            return None;
+        }
+        let other = fact.negation(size)?;
+        Some(Pair {
+            one: decided,
+            other,
+        })
+    }
+
     /// Which of these literals is one about the place that isn't so by what was said.
     pub(crate) fn denied_in(&self, literals: &[Literal], place: usize, size: u8) -> Option<usize>
         ensures { IfSome result (λ which. which < length literals.now) }
@@ -74,10 +89,11 @@ impl Reason {
     }
 
     /// Before which entry all is so on which a fact rests that this reason explains. Of a number,
-    /// and of an end that moved past numbers that are out, it is the entry after this one: what was
-    /// said itself is explained next.
+    /// of what was decided, and of an end that moved past numbers that are out, it is the entry
+    /// after this one: what was said itself is explained next.
     pub(crate) fn rests_before(&self, fact: Fact) -> usize {
         let is_again = match (fact, self.out) {
+            _ if self.by == Source::Decision => true,
             (Fact::Is(_), _) => true,
             (Fact::Other(_), Some(_)) => false,
             (_, Some(_)) => true,

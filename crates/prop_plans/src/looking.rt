@@ -18,6 +18,9 @@ use prop_procedures::{Kinded, Rule};
 /// How many inputs a procedure may have.
 const MOST_INPUTS: usize = 128;
 
+/// As many inputs as most instances have at the most: room for more is filled for the others alone.
+const FEW: usize = 8;
+
 /// Whether an information leaves one point alone: one number, one element or a symbol.
 fn is_single(info: Info) -> bool
     ensures { result ≡ is_single info }
@@ -95,6 +98,30 @@ fn gather(values: &[Info], cells: &[usize], args: &mut [Info])
     }
 }
 
+/// Whether what an instance answers on its inputs' values is implied by its output's value. There
+/// are as many places for these values as it has inputs.
+fn is_met_in<R: Rule + Drop>(
+    network: &Network<R>,
+    values: &[Info],
+    number: usize,
+    args: &mut [Info],
+) -> bool
+    requires means { AllMean R.value_of network.now.library.procedures.items }
+    requires kept { IsKept (stored_of R.value_of network.now.library) network.now.cells }
+    requires values { AreValues network.now.cells.kinds values.now }
+    requires number { number < length network.now.cells.instances }
+    requires places { (x : InstanceOf) → slice_get network.now.cells.instances number ≡ Some x
+        → length args.old ≡ length x.inputs }
+    ensures { (x : InstanceOf) → slice_get network.now.cells.instances number ≡ Some x
+        → (IsTrue result ↔ Meets (value_in values.now)
+        (constraint_of (stored_of R.value_of network.now.library) x)) }
+{
+    let x = network.data().instance(number);
+    gather(values, x.inputs(), args);
+    let answer = network.library().call(x.procedure(), x.param(), args);
+    values[x.output()].implies(answer)
+}
+
 /// Whether what an instance answers on its inputs' values is implied by its output's value.
 fn is_met<R: Rule + Drop>(network: &Network<R>, values: &[Info], number: usize) -> bool
     requires means { AllMean R.value_of network.now.library.procedures.items }
@@ -106,11 +133,13 @@ fn is_met<R: Rule + Drop>(network: &Network<R>, values: &[Info], number: usize) 
         (constraint_of (stored_of R.value_of network.now.library) x)) }
 {
     let x = network.data().instance(number);
+    let count = x.inputs().len();
+    if count <= FEW {
+        let mut room = [Info::Nothing; FEW];
+        return is_met_in(network, values, number, &mut room[..count]);
+    }
     let mut room = [Info::Nothing; MOST_INPUTS];
-    let args = &mut room[..x.inputs().len()];
-    gather(values, x.inputs(), args);
-    let answer = network.library().call(x.procedure(), x.param(), args);
-    values[x.output()].implies(answer)
+    is_met_in(network, values, number, &mut room[..count])
 }
 
 /// The first instance from one on, before another, that is not met, or that other one.
