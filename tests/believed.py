@@ -78,7 +78,9 @@ def figure():
         if f"{most:,}" not in trust:
             return f"docs/TRUST.md does not tell the bound, {most:,} lines"
     told, owed = tool().FIGURE.findall(trust), [it.total() for it in (held(), worked(), wide())]
-    return None if told == owed else f"docs/TRUST.md tells {told} for {owed}: tools/believed --write"
+    return (
+        None if told == owed else f"docs/TRUST.md tells {told} for {owed}: tools/believed --write"
+    )
 
 
 def first():

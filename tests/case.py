@@ -66,7 +66,13 @@ class Case:
     def wrong(self, program):
         """What is wrong with the program's run, or None."""
         try:
-            ran = subprocess.run([program, *self.options], input=self.input(), capture_output=True, timeout=SECONDS, check=False)
+            ran = subprocess.run(
+                [program, *self.options],
+                input=self.input(),
+                capture_output=True,
+                timeout=SECONDS,
+                check=False,
+            )
         except subprocess.TimeoutExpired:
             return NO_END
         return self.wrong_with(ran.returncode, ran.stdout, ran.stderr)
@@ -76,7 +82,9 @@ class Case:
             return f"the status is {status}, wanted {self.status}; it said {told!r}"
         if self.told not in told or bool(told) != bool(self.told):
             return f"it said {told!r}, wanted {self.told!r}"
-        return self.wanted(output) if callable(self.wanted) else first_difference(output, self.wanted)
+        return (
+            self.wanted(output) if callable(self.wanted) else first_difference(output, self.wanted)
+        )
 
 
 class OnDevices(Case):
@@ -89,7 +97,14 @@ class OnDevices(Case):
     def wrong(self, program):
         reads = os.open(self.reads, os.O_RDONLY)
         writes = os.open(self.writes, os.O_WRONLY)
-        ran = subprocess.run([program], stdin=reads, stdout=writes, stderr=subprocess.PIPE, timeout=SECONDS, check=False)
+        ran = subprocess.run(
+            [program],
+            stdin=reads,
+            stdout=writes,
+            stderr=subprocess.PIPE,
+            timeout=SECONDS,
+            check=False,
+        )
         os.close(reads)
         os.close(writes)
         return self.wrong_with(ran.returncode, b"", ran.stderr)
@@ -112,7 +127,9 @@ class OnAFullFile(Case):
                 timeout=SECONDS,
                 check=False,
                 restore_signals=False,
-                preexec_fn=lambda: resource.setrlimit(resource.RLIMIT_FSIZE, (FILE_LIMIT, FILE_LIMIT)),
+                preexec_fn=lambda: resource.setrlimit(
+                    resource.RLIMIT_FSIZE, (FILE_LIMIT, FILE_LIMIT)
+                ),
             )
             file.seek(0)
             return self.wrong_with(ran.returncode, file.read(), ran.stderr)
@@ -122,7 +139,13 @@ class ByteByByte(Case):
     """A run over a pipe that brings one byte at a time."""
 
     def wrong(self, program):
-        with subprocess.Popen([program], stdin=subprocess.PIPE, stdout=subprocess.PIPE, stderr=subprocess.PIPE, bufsize=0) as ran:
+        with subprocess.Popen(
+            [program],
+            stdin=subprocess.PIPE,
+            stdout=subprocess.PIPE,
+            stderr=subprocess.PIPE,
+            bufsize=0,
+        ) as ran:
             for byte in self.input():
                 ran.stdin.write(bytes([byte]))
                 time.sleep(0.001)
@@ -136,7 +159,14 @@ class Unheard(Case):
     def wrong(self, program):
         read, write = os.pipe()
         os.close(read)
-        ran = subprocess.run([program], input=self.input(), stdout=write, stderr=subprocess.PIPE, timeout=SECONDS, check=False)
+        ran = subprocess.run(
+            [program],
+            input=self.input(),
+            stdout=write,
+            stderr=subprocess.PIPE,
+            timeout=SECONDS,
+            check=False,
+        )
         os.close(write)
         return self.wrong_with(ran.returncode, b"", ran.stderr)
 

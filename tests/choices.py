@@ -30,20 +30,35 @@ class Listing:
         if head != f"nogoods {len(lines)}" or None in found:
             return False
         nogoods = [plain.premises_in(it[1]) for it in found]
-        return self.are_least(nogoods) and all(map(self.is_nogood, nogoods)) and all(self.is_covered(it, nogoods) for it in seen.named)
+        return (
+            self.are_least(nogoods)
+            and all(map(self.is_nogood, nogoods))
+            and all(self.is_covered(it, nogoods) for it in seen.named)
+        )
 
     def are_least(self, nogoods):
-        return not any(one <= other for i, one in enumerate(nogoods) for j, other in enumerate(nogoods) if i != j)
+        return not any(
+            one <= other
+            for i, one in enumerate(nogoods)
+            for j, other in enumerate(nogoods)
+            if i != j
+        )
 
     def is_nogood(self, premises):
         """Whether the premises bear on one cell, and clash."""
-        return any(premises <= it for it in self.plain.reaching().values()) and self.plain.refutes(premises)
+        return any(premises <= it for it in self.plain.reaching().values()) and self.plain.refutes(
+            premises
+        )
 
     def is_covered(self, premises, nogoods):
         return all(any(it <= premises | sides for it in nogoods) for sides in self.plain.lists())
 
     def wanted(self, seen):
-        named = ", and with every list covering " + "; ".join(" ".join(sorted(it)) for it in seen.named) if seen.named else ""
+        named = (
+            ", and with every list covering " + "; ".join(" ".join(sorted(it)) for it in seen.named)
+            if seen.named
+            else ""
+        )
         return f"sets that clash with every list, each of premises that bear on one cell and none with another in it{named}"
 
 
@@ -122,7 +137,15 @@ class Draw(plain.Draw):
     def refused(self):
         """A line that takes a choice's name for a premise's, or that takes a name twice."""
         premise, choice = self.chance.choice(plain.PREMISES), self.chance.choice(self.NAMES)
-        act = self.chance.choice([("kick", choice), ("bring", choice), ("forget", choice), ("tell", choice, "t0", YES), ("choose", choice, "t0", [YES, NO])])
+        act = self.chance.choice(
+            [
+                ("kick", choice),
+                ("bring", choice),
+                ("forget", choice),
+                ("tell", choice, "t0", YES),
+                ("choose", choice, "t0", [YES, NO]),
+            ]
+        )
         if self.told.is_choice(choice):
             self.act(*act)
         elif premise in self.told.plain.known:
@@ -135,7 +158,16 @@ class Draw(plain.Draw):
 class Limited(Draw):
     """Draws lines of which many ask, with limits that most runs use up."""
 
-    COMMANDS = [*["tell"] * 3, "kick", "bring", "bring", *["attach"] * 4, *["choose"] * 3, *["limit"] * 4, *["ask"] * 6]
+    COMMANDS = [
+        *["tell"] * 3,
+        "kick",
+        "bring",
+        "bring",
+        *["attach"] * 4,
+        *["choose"] * 3,
+        *["limit"] * 4,
+        *["ask"] * 6,
+    ]
     QUESTIONS, LIMITS = ["ask", "ask", "why", "core", "settle", "worldview"], plain.Limited.LIMITS
 
 
@@ -143,7 +175,16 @@ class Stepped(Draw):
     """Draws lines over more choices of which every second asks, with hardly a step for each: a run ends below each choice, and goes on after what
     takes a belief away or adds one."""
 
-    COMMANDS = [*["tell"] * 2, *["kick", "bring"] * 2, "forget", *["attach"] * 4, *["choose"] * 5, *["limit"] * 2, "nogoods", *["ask"] * 17]
+    COMMANDS = [
+        *["tell"] * 2,
+        *["kick", "bring"] * 2,
+        "forget",
+        *["attach"] * 4,
+        *["choose"] * 5,
+        *["limit"] * 2,
+        "nogoods",
+        *["ask"] * 17,
+    ]
     QUESTIONS, LIMITS = Limited.QUESTIONS, [0, 1, 1, 1, 2, 3]
     NAMES, SIDES, LINES = [f"k{i}" for i in range(6)], [2, 2, 2, 3], 80
 

@@ -80,19 +80,39 @@ class Told:
                 return Wrong(at, "no reply", reply.wanted(seen))
             if not is_right(reply, came[at], seen):
                 return Wrong(at, came[at], reply.wanted(seen))
-        return Wrong(len(self.lines) - 1, "\n".join(came[len(self.lines) - 1 :]), "one reply") if len(came) > len(self.lines) else None
+        return (
+            Wrong(len(self.lines) - 1, "\n".join(came[len(self.lines) - 1 :]), "one reply")
+            if len(came) > len(self.lines)
+            else None
+        )
 
     def wrong_by(self, program) -> Optional[Wrong]:
         """The first line that the program answers wrongly."""
-        ran = subprocess.run([program, *self.options], input=self.sent(), capture_output=True, timeout=SECONDS, check=False)
+        ran = subprocess.run(
+            [program, *self.options],
+            input=self.sent(),
+            capture_output=True,
+            timeout=SECONDS,
+            check=False,
+        )
         wrong = self.wrong_in(ran.stdout)
         if ran.returncode == 0 and not ran.stderr:
             return wrong
-        return Wrong(wrong.line if wrong else len(self.lines) - 1, f"status {ran.returncode}, and on standard error {ran.stderr!r}", "status 0")
+        return Wrong(
+            wrong.line if wrong else len(self.lines) - 1,
+            f"status {ran.returncode}, and on standard error {ran.stderr!r}",
+            "status 0",
+        )
 
     def text_of(self, wrong):
         """The lines up to the wrong one, what came and what is wanted."""
-        return "\n".join([*(f"> {line}" for line in self.lines[: wrong.line + 1]), f"came:   {wrong.came}", f"wanted: {wrong.wanted}"])
+        return "\n".join(
+            [
+                *(f"> {line}" for line in self.lines[: wrong.line + 1]),
+                f"came:   {wrong.came}",
+                f"wanted: {wrong.wanted}",
+            ]
+        )
 
 
 def is_right(reply, came, seen):
@@ -185,7 +205,10 @@ class Drawn(Case):
                 return False
 
         acts = self.draw(self.number, self.options).acts
-        declared, others = ([act for act in acts if (act[0] == "declare") == is_declared] for is_declared in (True, False))
+        declared, others = (
+            [act for act in acts if (act[0] == "declare") == is_declared]
+            for is_declared in (True, False)
+        )
         acts = declared + shrunk(others, lambda fewer: is_wrong(declared + fewer))
         fewer = undeclared(acts, self.session(acts).lines)
         told = self.session(fewer if is_wrong(fewer) else acts)
@@ -195,4 +218,7 @@ class Drawn(Case):
 
 def drawn(draw, name, count):
     """So many cases of this kind, each drawn when it is run."""
-    return (Drawn(f"{name}: random session {number}", b"", b"", draw=draw, number=number) for number in range(count))
+    return (
+        Drawn(f"{name}: random session {number}", b"", b"", draw=draw, number=number)
+        for number in range(count)
+    )

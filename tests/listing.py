@@ -15,9 +15,31 @@ from formulas import text_of
 KINDS = {"s": "span", "t": "truth", "d": "d"}
 # How the compounds of the kit that are used here are made.
 KIT = {
-    "sum": (["x", "y", "z"], [("adder", ["x", "y", "z"], ""), ("subtracter", ["z", "x", "y"], ""), ("subtracter", ["z", "y", "x"], "")]),
-    "scaled": (["x", "y", "z"], [("local", "h", "span"), ("multiplier", ["x", "y", "h"], "*"), ("sum", ["h", "h", "z"], "")]),
-    "deeper": (["x", "z"], [("scaled", ["x", "x", "z"], "10"), ("local", "m", "like x"), ("scaled", ["m", "x", "z"], "*"), ("multiplier", ["m", "m", "z"], "7")]),
+    "sum": (
+        ["x", "y", "z"],
+        [
+            ("adder", ["x", "y", "z"], ""),
+            ("subtracter", ["z", "x", "y"], ""),
+            ("subtracter", ["z", "y", "x"], ""),
+        ],
+    ),
+    "scaled": (
+        ["x", "y", "z"],
+        [
+            ("local", "h", "span"),
+            ("multiplier", ["x", "y", "h"], "*"),
+            ("sum", ["h", "h", "z"], ""),
+        ],
+    ),
+    "deeper": (
+        ["x", "z"],
+        [
+            ("scaled", ["x", "x", "z"], "10"),
+            ("local", "m", "like x"),
+            ("scaled", ["m", "x", "z"], "*"),
+            ("multiplier", ["m", "m", "z"], "7"),
+        ],
+    ),
     "lone": (["x"], [("local", "a", "like x"), ("local", "b", "d")]),
 }
 DEFINED = [
@@ -25,7 +47,14 @@ DEFINED = [
     "define deeper x z = scaled x x z by 10 ; local m like x ; scaled m x z by * ; multiplier m m z by 7",
     " define\tlone x = local a like x ; local b d",
 ]
-USES = [("sum", "sss", ""), ("scaled", "sss", "by 3"), ("scaled", "sss", ""), ("deeper", "ss", "by 5"), ("lone", "t", ""), ("imager", "dd", "by differ")]
+USES = [
+    ("sum", "sss", ""),
+    ("scaled", "sss", "by 3"),
+    ("scaled", "sss", ""),
+    ("deeper", "ss", "by 5"),
+    ("lone", "t", ""),
+    ("imager", "dd", "by differ"),
+]
 
 
 @dataclass
@@ -54,7 +83,9 @@ class Made:
                 self.cells.append((there[str(on)], kind))
             else:
                 part += 1
-                self.use(f"{path}.{part}", word, [there[it] for it in on], given if how == "*" else how)
+                self.use(
+                    f"{path}.{part}", word, [there[it] for it in on], given if how == "*" else how
+                )
 
 
 @dataclass
@@ -67,19 +98,32 @@ class Listed:
 
     def lines(self) -> list[str]:
         session = self.session
-        statements = [f"{'tell ' + premise if premise else 'fix'} {cell} {text_of(info)}" for premise, cell, info in session.stated]
+        statements = [
+            f"{'tell ' + premise if premise else 'fix'} {cell} {text_of(info)}"
+            for premise, cell, info in session.stated
+        ]
         return [
             *[f"cell {name} {kind}" for name, kind in self.made.cells],
             *[f"instance {number} {text}" for number, text in enumerate(self.made.instances)],
             *statements,
-            *[f"premise {name} {'in' if name in session.believed else 'out'}" for name in session.known if "=" not in name],
+            *[
+                f"premise {name} {'in' if name in session.believed else 'out'}"
+                for name in session.known
+                if "=" not in name
+            ],
         ]
 
     def choice(self, sides: list[str], line: str, worldview: Optional[set[str]]) -> bool:
         word, name, side, _, count, belief = line.split()
         stands = f"{name}={side}"
-        return (word, name, int(count)) == ("choice", sides[0].partition("=")[0], len(sides)) and stands in sides and (
-            belief == "in" and stands in worldview if worldview is not None else belief in ("in", "out")
+        return (
+            (word, name, int(count)) == ("choice", sides[0].partition("=")[0], len(sides))
+            and stands in sides
+            and (
+                belief == "in" and stands in worldview
+                if worldview is not None
+                else belief in ("in", "out")
+            )
         )
 
     def refuted(self, side: str, line: str, taken: set[str]) -> bool:
@@ -117,7 +161,12 @@ class Listed:
         )
 
     def wanted(self, _seen: Any) -> str:
-        return "\n".join([*self.lines(), *(f"choice {sides[0].partition('=')[0]} .." for sides in self.session.choices)])
+        return "\n".join(
+            [
+                *self.lines(),
+                *(f"choice {sides[0].partition('=')[0]} .." for sides in self.session.choices),
+            ]
+        )
 
 
 class Told(choices.Told):
@@ -159,7 +208,16 @@ class Draw(choices.Draw):
     """Draws lines with compounds and procedures among them, and lists between them before anything runs."""
 
     TOLD = Told
-    COMMANDS = [*["compound", "tell"] * 3, "attach", "fix", "kick", "bring", "forget", *["choose"] * 3, *["list"] * 3]
+    COMMANDS = [
+        *["compound", "tell"] * 3,
+        "attach",
+        "fix",
+        "kick",
+        "bring",
+        "forget",
+        *["choose"] * 3,
+        *["list"] * 3,
+    ]
     SETTLED = False
 
     def draw(self) -> None:

@@ -37,12 +37,21 @@ from formulas import (
 )
 
 SESSIONS, ROUNDS = 1000, 500
-SPANS, TRUTHS, SETS, PREMISES = [f"c{i}" for i in range(5)], ["t0", "t1"], ["d0", "d1", "d2"], [f"p{i}" for i in range(4)]
+SPANS, TRUTHS, SETS, PREMISES = (
+    [f"c{i}" for i in range(5)],
+    ["t0", "t1"],
+    ["d0", "d1", "d2"],
+    [f"p{i}" for i in range(4)],
+)
 CELLS = {"s": SPANS, "t": TRUTHS, "d": SETS}
 DECLARED = [
     f"domain d {' '.join(ELEMENTS)}",
     f"relation differ d d = {' ; '.join(f'{x} {y}' for x in ELEMENTS for y in ELEMENTS if x != y)}",
-    *[f"cell {cell} {kind}" for cells, kind in [(SPANS, "span"), (TRUTHS, "truth"), (SETS, "d")] for cell in cells],
+    *[
+        f"cell {cell} {kind}"
+        for cells, kind in [(SPANS, "span"), (TRUTHS, "truth"), (SETS, "d")]
+        for cell in cells
+    ],
 ]
 
 # Each procedure with the kinds of its places, the output last, and what it answers to arguments none of which is Nothing.
@@ -70,7 +79,9 @@ ENOUGH = 10**9
 ENOUGH_FOR_IT = " because believed premises that bear on it and are enough"
 REASONS = {"ask": "", "why": ENOUGH_FOR_IT, "core": ENOUGH_FOR_IT}
 
-IS_A_CHOICE, NO_SUCH_PREMISE = Exactly("error 17: is a choice"), Exactly("error 10: no such premise")
+IS_A_CHOICE, NO_SUCH_PREMISE = Exactly("error 17: is a choice"), Exactly(
+    "error 10: no such premise"
+)
 
 
 @dataclass
@@ -90,7 +101,15 @@ class Plain:
 
     def copy(self):
         """The same, which stays as it is when the session goes on."""
-        return replace(self, stated=[*self.stated], attached=[*self.attached], choices=[*self.choices], known=[*self.known], believed={*self.believed}, found={})
+        return replace(
+            self,
+            stated=[*self.stated],
+            attached=[*self.attached],
+            choices=[*self.choices],
+            known=[*self.known],
+            believed={*self.believed},
+            found={},
+        )
 
     def values(self, believed):
         """What follows for each cell where these premises are believed."""
@@ -107,7 +126,9 @@ class Plain:
         for _ in range(ROUNDS):
             before = dict(values)
             for name, inputs, output in self.attached:
-                values[output] = merged(values[output], answered(name, [values[it] for it in inputs]))
+                values[output] = merged(
+                    values[output], answered(name, [values[it] for it in inputs])
+                )
             if values == before:
                 return values
         raise Unending
@@ -135,7 +156,11 @@ class Plain:
 
     def refutes(self, premises):
         """Whether these clash with every choice list that takes the sides among them; where none does, they are refuted by nothing."""
-        lists = [sides for sides in self.lists() if all(premises & set(choice) <= sides for choice in self.choices)]
+        lists = [
+            sides
+            for sides in self.lists()
+            if all(premises & set(choice) <= sides for choice in self.choices)
+        ]
         return bool(lists) and all(self.clashes(premises | sides) for sides in lists)
 
     def reaching(self):
@@ -151,7 +176,11 @@ class Plain:
     def are_at_odds(self, premises):
         """Whether each of the premises takes part in a clash at some cell with others of them and sides, that all reach that cell."""
         reaching = self.reaching().values()
-        parts = {frozenset((premises | sides) & reached) for reached in reaching for sides in self.lists()}
+        parts = {
+            frozenset((premises | sides) & reached)
+            for reached in reaching
+            for sides in self.lists()
+        }
         return premises <= set().union(*[it for it in parts if self.refutes(it)])
 
 
@@ -221,7 +250,11 @@ class Question:
         said, _, reason = reply.partition(" because ")
         if self.word == "core" and said == f"{self.settled(worldview)} not reduced":
             return self.plain.limit < ENOUGH and self.is_behind(reason, worldview, value)
-        return said == self.settled(worldview) and self.is_behind(reason, worldview, value) and (self.word != "core" or self.is_least(reason, value))
+        return (
+            said == self.settled(worldview)
+            and self.is_behind(reason, worldview, value)
+            and (self.word != "core" or self.is_least(reason, value))
+        )
 
     def settled(self, worldview):
         """What is answered in this worldview, without a reason."""
@@ -236,13 +269,20 @@ class Question:
     def is_least(self, reason, value):
         """Whether none of the premises can be left out."""
         premises = premises_in(reason)
-        return not any(is_below(value, self.plain.values(premises - {it})[self.cell]) for it in premises)
+        return not any(
+            is_below(value, self.plain.values(premises - {it})[self.cell]) for it in premises
+        )
 
     def is_contradiction(self, reply, seen):
         head, _, reason = reply.partition(": ")
         reason = premises_in(reason)
         seen.named.append(reason)
-        return head == "contradiction" and reason <= self.plain.believed and self.plain.refutes(reason) and self.plain.are_at_odds(reason)
+        return (
+            head == "contradiction"
+            and reason <= self.plain.believed
+            and self.plain.refutes(reason)
+            and self.plain.are_at_odds(reason)
+        )
 
     def is_unsettled(self, reply, seen):
         """Whether all that the reply says is entailed by one choice list, before which every other is refuted, and is no less than what was said before."""
@@ -251,7 +291,9 @@ class Question:
         said, _, reason = reply.partition(" because ")
         found = re.fullmatch(rf"{self.cell} = (.+) unsettled", said)
         tried = self.plain.tried()
-        if not found or not any(self.follows(info_of(found[1]), reason, seen, worldview) for worldview in tried):
+        if not found or not any(
+            self.follows(info_of(found[1]), reason, seen, worldview) for worldview in tried
+        ):
             return False
         if len(tried) == 1:
             seen.settle(tried[0], {**seen.least, self.cell: info_of(found[1])})
@@ -259,7 +301,11 @@ class Question:
 
     def follows(self, value, reason, seen, worldview):
         least, most = self.least(seen, worldview), self.plain.values(worldview)[self.cell]
-        return is_below(least, value) and is_below(value, most) and self.is_behind(reason, worldview, value)
+        return (
+            is_below(least, value)
+            and is_below(value, most)
+            and self.is_behind(reason, worldview, value)
+        )
 
     def least(self, seen, worldview):
         """What an answer says at least of the cell: what is stated of it, and what was said before while no belief was taken away."""
@@ -274,24 +320,40 @@ class Question:
         if self.word == "ask" or not reason:
             return self.word == "ask" and not reason
         premises = premises_in(reason)
-        return premises <= worldview & self.plain.reaching()[self.cell] and is_below(value, self.plain.values(premises)[self.cell])
+        return premises <= worldview & self.plain.reaching()[self.cell] and is_below(
+            value, self.plain.values(premises)[self.cell]
+        )
 
     def wanted(self, seen):
-        return self.whole() if self.plain.limit == ENOUGH else " or ".join([self.whole(), *self.unsettled(seen)])
+        return (
+            self.whole()
+            if self.plain.limit == ENOUGH
+            else " or ".join([self.whole(), *self.unsettled(seen)])
+        )
 
     def whole(self):
         """What is wanted where the limit is enough."""
         worldview = self.plain.worldview()
         if worldview is None:
             return "contradiction: believed premises that clash with every choice list, each with others of them"
-        return self.settled(worldview) + REASONS.get(self.word, "") + (", none of which can be left out" if self.word == "core" else "")
+        return (
+            self.settled(worldview)
+            + REASONS.get(self.word, "")
+            + (", none of which can be left out" if self.word == "core" else "")
+        )
 
     def unsettled(self, seen):
         """What may be answered where the limit is used up, for each choice list up to the first that doesn't clash."""
         if self.word in ("settle", "worldview"):
             return ["unsettled"]
-        ends = [(self.least(seen, worldview), self.plain.values(worldview)[self.cell]) for worldview in self.plain.tried()]
-        return [f"{self.cell} = V unsettled{REASONS[self.word]}, V from {text_of(least)} to {text_of(most)}" for least, most in ends]
+        ends = [
+            (self.least(seen, worldview), self.plain.values(worldview)[self.cell])
+            for worldview in self.plain.tried()
+        ]
+        return [
+            f"{self.cell} = V unsettled{REASONS[self.word]}, V from {text_of(least)} to {text_of(most)}"
+            for least, most in ends
+        ]
 
 
 class Told(drawn.Told):
@@ -322,7 +384,13 @@ class Told(drawn.Told):
 
     def of_premise(self, word, premise, reply):
         """Says a line of the premise alone, and whether it isn't refused."""
-        refusal = IS_A_CHOICE if self.is_choice(premise) else None if premise in self.plain.known else NO_SUCH_PREMISE
+        refusal = (
+            IS_A_CHOICE
+            if self.is_choice(premise)
+            else None
+            if premise in self.plain.known
+            else NO_SUCH_PREMISE
+        )
         self.say(f"{word} {premise}", refusal or reply)
         return not refusal
 
@@ -357,7 +425,24 @@ class Draw(drawn.Draw):
     """Draws lines of every kind but of choices."""
 
     TOLD = Told
-    COMMANDS = ["tell", "tell", "tell", "tell", "fix", "fix", "kick", "kick", "bring", "bring", "forget", "attach", "attach", "ask", "ask", "limit"]
+    COMMANDS = [
+        "tell",
+        "tell",
+        "tell",
+        "tell",
+        "fix",
+        "fix",
+        "kick",
+        "kick",
+        "bring",
+        "bring",
+        "forget",
+        "attach",
+        "attach",
+        "ask",
+        "ask",
+        "limit",
+    ]
     QUESTIONS = ["ask", "why", "core", "core", "settle"]
     PROCEDURES, PLACES = sorted(PROCEDURES), CELLS
     LIMITS, LINES = [0, 1, 2, 3, 5, 8, ENOUGH, ENOUGH], 40
@@ -376,7 +461,9 @@ class Draw(drawn.Draw):
         if chance.randrange(3) == 0:
             return chance.choice(places["t"]), chance.choice([YES, NO])
         if chance.randrange(3) == 0:
-            return chance.choice(places["d"]), frozenset(chance.sample(ELEMENTS, chance.choice([1, 2, 3])))
+            return chance.choice(places["d"]), frozenset(
+                chance.sample(ELEMENTS, chance.choice([1, 2, 3]))
+            )
         low = chance.randrange(-6, 7)
         return chance.choice(places["s"]), (low, low + chance.choice([0, 1, 5, 20]))
 
@@ -401,7 +488,9 @@ class Draw(drawn.Draw):
 
     def attach(self):
         name = self.chance.choice(self.PROCEDURES)
-        self.act("attach", name, [self.chance.choice(self.PLACES[kind]) for kind in PROCEDURES[name][0]])
+        self.act(
+            "attach", name, [self.chance.choice(self.PLACES[kind]) for kind in PROCEDURES[name][0]]
+        )
 
     def limit(self):
         self.act("limit", self.chance.choice(self.LIMITS))
@@ -414,7 +503,15 @@ class Draw(drawn.Draw):
 class Limited(Draw):
     """Draws lines of which many ask, with limits that most runs use up, and statements on few cells of which many hold at once."""
 
-    COMMANDS = [*["tell"] * 6, *["kick", "bring"] * 2, "forget", *["attach"] * 6, *["limit"] * 3, "rest", *["ask"] * 7]
+    COMMANDS = [
+        *["tell"] * 6,
+        *["kick", "bring"] * 2,
+        "forget",
+        *["attach"] * 6,
+        *["limit"] * 3,
+        "rest",
+        *["ask"] * 7,
+    ]
     QUESTIONS = ["ask", "ask", "ask", "why", "core", "settle"]
     PROCEDURES = [*Draw.PROCEDURES, *["adder", "subtracter", "multiplier"] * 5]
     PLACES = {"s": SPANS[:4], "t": TRUTHS, "d": SETS[:2]}

@@ -13,13 +13,25 @@ KINDS = {"t": "truth", "n": "truth"}
 # A compound: its cells, the kind of those that are no truth by name, and its steps.
 COMPOUNDS = {
     "sum": ("x y z", "span", ["adder x y z", "subtracter z x y", "subtracter z y x"]),
-    "product": ("x y z", "span", ["multiplier x y z by *", "divider z y x by *", "divider z x y by *"]),
+    "product": (
+        "x y z",
+        "span",
+        ["multiplier x y z by *", "divider z y x by *", "divider z x y by *"],
+    ),
     "square": ("x y", "span", ["squarer x y", "rooter y x x"]),
     "less": ("x y t", "span", ["lesser x y t", "below t y x", "above t x y"]),
     "same": ("x y", "span", ["copier x y", "copier y x"]),
-    "alike": ("x y t", "span", ["comparer x y t", "passer t x y", "passer t y x", "parter t x y y", "parter t y x x"]),
+    "alike": (
+        "x y t",
+        "span",
+        ["comparer x y t", "passer t x y", "passer t y x", "parter t x y y", "parter t y x x"],
+    ),
     "switch": ("t x y", "span", ["passer t x y"]),
-    "conditional": ("t a b o", "span", ["local n truth", "inverter t n", "passer t a o", "passer n b o"]),
+    "conditional": (
+        "t a b o",
+        "span",
+        ["local n truth", "inverter t n", "passer t a o", "passer n b o"],
+    ),
     "not": ("x y", "truth", ["inverter x y", "inverter y x"]),
     "and": ("x y z", "truth", ["conjoiner x y z", "conjoin_back z y x", "conjoin_back z x y"]),
     "or": ("x y z", "truth", ["disjoiner x y z", "disjoin_back z y x", "disjoin_back z x y"]),
@@ -93,13 +105,27 @@ def without(steps, use):
 
 def cases() -> Iterator[Case]:
     seen = {(compound.split()[0], use) for compound, use, _, _ in EXAMPLES}
-    missing = [(name, use) for name, (_, _, steps) in COMPOUNDS.items() for use in steps if (name, use) not in seen and not use.startswith("local")]
+    missing = [
+        (name, use)
+        for name, (_, _, steps) in COMPOUNDS.items()
+        for use in steps
+        if (name, use) not in seen and not use.startswith("local")
+    ]
     assert not missing, missing
     for compound, use, stated, answer in EXAMPLES:
         name, _, behind = compound.partition(" ")
         behind = " " + behind if behind else ""
         cells, _, steps = COMPOUNDS[name]
         lines = session(name, name, behind, stated, answer.split()[0])
-        yield Case(f"prelude: {compound} needs {use}", as_bytes(*lines), answered(len(lines) - 1, answer))
-        less = session(name, "other", behind, stated, answer.split()[0], [f"define other {cells} = {' ; '.join(without(steps, use))}"])
+        yield Case(
+            f"prelude: {compound} needs {use}", as_bytes(*lines), answered(len(lines) - 1, answer)
+        )
+        less = session(
+            name,
+            "other",
+            behind,
+            stated,
+            answer.split()[0],
+            [f"define other {cells} = {' ; '.join(without(steps, use))}"],
+        )
         yield Case(f"prelude: {compound} without {use}", as_bytes(*less), lacks(less, answer))

@@ -93,7 +93,22 @@ def library():
         file.write(STANDING_BEFORE)
     for compiler in COMPILERS:
         if shutil.which(compiler):
-            made = subprocess.run([compiler, "-shared", "-fPIC", "-O1", "-nostdlib", "-fno-builtin", "-w", "-o", built, source], capture_output=True, check=False)
+            made = subprocess.run(
+                [
+                    compiler,
+                    "-shared",
+                    "-fPIC",
+                    "-O1",
+                    "-nostdlib",
+                    "-fno-builtin",
+                    "-w",
+                    "-o",
+                    built,
+                    source,
+                ],
+                capture_output=True,
+                check=False,
+            )
             if made.returncode == 0:
                 return built
     raise SystemExit("no C compiler: the sessions whose memory is refused can't be run")
@@ -142,12 +157,23 @@ class EachAllocation(Refusals):
         lines, replies = self.session.lines(), self.session.replies()
         status, output, told = run(program, lines, f"m{number}")
         if status == 4:
-            return None if (output, told) == (b"", b"propbench: out of memory\n") and number <= self.before else f"it wrote {output!r} and said {told!r}"
+            return (
+                None
+                if (output, told) == (b"", b"propbench: out of memory\n") and number <= self.before
+                else f"it wrote {output!r} and said {told!r}"
+            )
         refused = self.refused(output)
         if refused is not None:
-            lines, replies = lines[:refused] + lines[refused : refused + 1] + lines[refused:], replies[:refused] + [OUT_OF_MEMORY] + replies[refused:]
+            lines, replies = (
+                lines[:refused] + lines[refused : refused + 1] + lines[refused:],
+                replies[:refused] + [OUT_OF_MEMORY] + replies[refused:],
+            )
             status, output, told = run(program, lines, f"m{number}")
-        return first_difference(output, b"".join(replies)) if (status, told) == (0, b"") else f"the status is {status}, it said {told!r}"
+        return (
+            first_difference(output, b"".join(replies))
+            if (status, told) == (0, b"")
+            else f"the status is {status}, it said {told!r}"
+        )
 
     def refused(self, output):
         """Which line was refused, where those before it have their replies; none where no line was."""
@@ -176,7 +202,11 @@ class EachRead(Refusals):
         came = b"".join(self.session.lines())[: number - 1]
         wanted = b"".join(self.session.replies()[: came.count(b"\n")])
         status, output, told = run(program, self.session.lines(), f"{self.kind}{number}")
-        return first_difference(output, wanted) if (status, told) == (2, b"propbench: read fault\n") else f"the status is {status}, it said {told!r}"
+        return (
+            first_difference(output, wanted)
+            if (status, told) == (2, b"propbench: read fault\n")
+            else f"the status is {status}, it said {told!r}"
+        )
 
 
 class EachReadThatWouldWait(EachRead):
@@ -201,7 +231,11 @@ class EachWrite(Refusals):
         spoken = self.spoken()
         ended = (2, b"propbench: write fault\n") if number <= len(spoken) else (0, b"")
         status, output, told = run(program, self.session.lines(), f"{self.kind}{number}")
-        return first_difference(output, b"".join(spoken[: number - 1])) if (status, told) == ended else f"the status is {status}, it said {told!r}"
+        return (
+            first_difference(output, b"".join(spoken[: number - 1]))
+            if (status, told) == ended
+            else f"the status is {status}, it said {told!r}"
+        )
 
 
 class EachWriteThatWouldWait(EachWrite):
@@ -220,7 +254,11 @@ class HalfWrites(Refusals):
 
     def wrong_at(self, program, number):
         status, output, told = run(program, self.session.lines(), "s1")
-        return first_difference(output, b"".join(self.session.replies())) if (status, told) == (0, b"") else f"the status is {status}, it said {told!r}"
+        return (
+            first_difference(output, b"".join(self.session.replies()))
+            if (status, told) == (0, b"")
+            else f"the status is {status}, it said {told!r}"
+        )
 
 
 class Interrupted(Refusals):
@@ -233,7 +271,9 @@ class Interrupted(Refusals):
         lines, replies = self.session.lines()[:2], self.session.replies()[:2]
         if number == 1:
             lines, replies = self.session.lines(), self.session.replies()
-        wanted = (0, b"".join(replies), b"") if number < 65_536 else (2, b"", b"propbench: read fault\n")
+        wanted = (
+            (0, b"".join(replies), b"") if number < 65_536 else (2, b"", b"propbench: read fault\n")
+        )
         ended = run(program, lines, f"i{number}")
         return None if ended == wanted else f"it ended with {ended}, wanted {wanted}"
 
@@ -250,9 +290,15 @@ class EachCut(Refusals):
         status, output, told = run(program, [came])
         ended = run(program, [came, b"" if came.endswith(b"\n") or not came else b"\n"])
         if (status, output, told) != ended or not output.startswith(whole):
-            return f"it wrote {output!r}, with a line feed {ended!r}, and whole lines want {whole!r}"
+            return (
+                f"it wrote {output!r}, with a line feed {ended!r}, and whole lines want {whole!r}"
+            )
         left = came.rpartition(b"\n")[2]
-        return None if (output == whole) == (not left.strip()) else f"what is left, {left!r}, was answered {output.removeprefix(whole)!r}"
+        return (
+            None
+            if (output == whole) == (not left.strip())
+            else f"what is left, {left!r}, was answered {output.removeprefix(whole)!r}"
+        )
 
 
 # The sessions whose requests for memory are refused.
@@ -274,7 +320,16 @@ CHOOSING = HUNGRY[1]
 def cases(transcripts: list[Transcript]) -> Iterator[Refusals]:
     by_name = {each.name: each for each in transcripts}
     yield from (EachAllocation(f"refusals: memory, {name}", by_name[name]) for name in HUNGRY)
-    for kind in [EachRead, EachReadThatWouldWait, EachWrite, EachWriteThatWouldWait, EachWriteOfNothing, HalfWrites, Interrupted, EachCut]:
+    for kind in [
+        EachRead,
+        EachReadThatWouldWait,
+        EachWrite,
+        EachWriteThatWouldWait,
+        EachWriteOfNothing,
+        HalfWrites,
+        Interrupted,
+        EachCut,
+    ]:
         yield kind(f"refusals: {kind.__name__}, {CHOOSING}", by_name[CHOOSING])
 
 

@@ -16,11 +16,17 @@ CLASH = frozenset()
 
 
 def subsets(points):
-    return [frozenset(it) for size in range(1, len(points) + 1) for it in combinations(points, size)]
+    return [
+        frozenset(it) for size in range(1, len(points) + 1) for it in combinations(points, size)
+    ]
 
 
 def spans(most):
-    return [frozenset(range(low, high + 1)) for low in range(-most, most + 1) for high in range(low, most + 1)]
+    return [
+        frozenset(range(low, high + 1))
+        for low in range(-most, most + 1)
+        for high in range(low, most + 1)
+    ]
 
 
 class Ends(tuple):
@@ -125,7 +131,10 @@ POSITIVE = [span for span in WIDE if min(span) > -3 and max(span) < 17]
 RULES = [
     ("adder", "span span span", "", [SPANS, SPANS], on_numbers(lambda x, y: [x + y])),
     ("subtracter", "span span span", "", [SPANS, SPANS], on_numbers(lambda z, x: [z - x])),
-    *[("multiplier", "span span span", f" by {k}", [SPANS, SPANS], products(k)) for k in (1, 2, 3, 4)],
+    *[
+        ("multiplier", "span span span", f" by {k}", [SPANS, SPANS], products(k))
+        for k in (1, 2, 3, 4)
+    ],
     ("squarer", "span span", "", [WIDE], on_numbers(lambda x: [x * x])),
     ("rooter", "span span span", "", [POSITIVE, SPANS], roots),
     ("lesser", "span span truth", "", [SPANS, SPANS], compared),
@@ -185,7 +194,10 @@ class Sheet:
         output = f"z{len(self.lines)}"
         self.say(f"cell {output} {out}")
         self.say(f"attach {name} {' '.join(cells)} {output}{parameter}")
-        self.say(f"ask {output}", "contradiction: no premise" if answer == CLASH else f"{output} = {text_of(answer)}")
+        self.say(
+            f"ask {output}",
+            "contradiction: no premise" if answer == CLASH else f"{output} = {text_of(answer)}",
+        )
 
     def case(self, name):
         return Case(f"rules: {name}", as_bytes(*self.lines), as_bytes(*self.wanted))
@@ -202,7 +214,9 @@ def enumerated():
             if found == CLASH:
                 alone = Sheet(DOMAIN)
                 alone.call(name, kinds, parameter, inputs, found)
-                yield alone.case(f"{name} {kinds}{parameter} clashes at {' '.join(map(text_of, inputs))}")
+                yield alone.case(
+                    f"{name} {kinds}{parameter} clashes at {' '.join(map(text_of, inputs))}"
+                )
             else:
                 sheet.call(name, kinds, parameter, inputs, found)
         yield sheet.case(f"{name} {kinds}{parameter}")
@@ -214,7 +228,10 @@ def images():
     sheet = Sheet("domain b u v", DOMAIN)
     for number, rows in enumerate(subsets(pairs)):
         sheet.say(f"relation r{number} b d = {' ; '.join(f'{u} {e}' for u, e in sorted(rows))}")
-        for name, kinds, sets, at in [("imager", "b d", subsets(PAIRED), 0), ("coimager", "d b", SET, 1)]:
+        for name, kinds, sets, at in [
+            ("imager", "b d", subsets(PAIRED), 0),
+            ("coimager", "d b", SET, 1),
+        ]:
             for x in sets:
                 found = frozenset(row[1 - at] for row in rows if row[at] in x)
                 if found:
@@ -233,7 +250,9 @@ def by_formula():
         sheet = Sheet()
         for t, x in product(values, SPANS):
             low_high = formula(t, ends_of(x))
-            sheet.call(name, kinds, "", [t, x], None if low_high == formulas.NOTHING else Ends(low_high))
+            sheet.call(
+                name, kinds, "", [t, x], None if low_high == formulas.NOTHING else Ends(low_high)
+            )
         yield sheet.case(name)
     for scale in (1, 2, 3, 4):
         sheet = Sheet()
@@ -244,7 +263,13 @@ def by_formula():
                 alone.call("divider", "span span span", f" by {scale}", [z, y], CLASH)
                 yield alone.case(f"divider by {scale} clashes at {text_of(z)} {text_of(y)}")
             else:
-                sheet.call("divider", "span span span", f" by {scale}", [z, y], None if info == formulas.NOTHING else Ends(info))
+                sheet.call(
+                    "divider",
+                    "span span span",
+                    f" by {scale}",
+                    [z, y],
+                    None if info == formulas.NOTHING else Ends(info),
+                )
         yield sheet.case(f"divider by {scale}")
 
 

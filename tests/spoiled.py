@@ -44,7 +44,9 @@ def alone(run, sent):
     replies = list(replies_of(run(sent)))
     for at, (line, reply) in enumerate(zip(lines, replies)):
         if line.startswith("ask ") and reply.endswith(" unsettled"):
-            replies[at] = f"{line.split()[1]} = {text_of(by_itself(run, lines[: at + 1]))} unsettled"
+            replies[
+                at
+            ] = f"{line.split()[1]} = {text_of(by_itself(run, lines[: at + 1]))} unsettled"
     return as_bytes(*replies)
 
 
@@ -52,7 +54,9 @@ def by_itself(run, lines):
     """What the last line is answered where one premise alone tells, merged over all that do."""
     found = NOTHING
     for premise in {line.split()[1] for line in lines if line.startswith("tell ")}:
-        kept = [line for line in lines if not line.startswith("tell ") or line.split()[1] == premise]
+        kept = [
+            line for line in lines if not line.startswith("tell ") or line.split()[1] == premise
+        ]
         answer = run(as_bytes(*kept)).decode().splitlines()[-1]
         # (a premise that clashes by itself says nothing here)
         value = answer.partition(" = ")[2].removesuffix(" unsettled") or NOTHING
@@ -80,7 +84,9 @@ class Spoiled:
         with tempfile.TemporaryDirectory() as room:
             spoiled = os.path.join(room, "spoiled")
             with open(spoiled, "w", encoding="utf-8") as script:
-                script.write(f'#!/bin/sh\nexec {sys.executable} {os.path.realpath(__file__)} {self.spoil.__name__} {program} "$@"\n')
+                script.write(
+                    f'#!/bin/sh\nexec {sys.executable} {os.path.realpath(__file__)} {self.spoil.__name__} {program} "$@"\n'
+                )
             os.chmod(spoiled, 0o700)
             for number in range(TRIED):
                 case = Drawn("", b"", b"", draw=self.draw, number=number)
@@ -91,7 +97,11 @@ class Spoiled:
     def wrong_text(self, text):
         found = re.fullmatch(r"((?:> .*\n)+)came:   (.+)\nwanted: (.+)", text)
         lines = found[1].splitlines() if found else []
-        return None if found and len(lines) <= self.most and lines[-1].split()[1] in self.asks.split() else f"it is told by\n{text}"
+        return (
+            None
+            if found and len(lines) <= self.most and lines[-1].split()[1] in self.asks.split()
+            else f"it is told by\n{text}"
+        )
 
 
 def cases():
@@ -103,7 +113,9 @@ def cases():
 
 def main(spoil, program, *options):
     def run(sent):
-        return subprocess.run([program, *options], input=sent, stdout=subprocess.PIPE, check=True).stdout
+        return subprocess.run(
+            [program, *options], input=sent, stdout=subprocess.PIPE, check=True
+        ).stdout
 
     sys.stdout.buffer.write(SPOILS[spoil](run, sys.stdin.buffer.read()))
 

@@ -18,33 +18,55 @@ class OnSmallStack(Case):
 
     def wrong(self, program):
         # (no core is left where it dies, and no words of an environment lie on the stack)
-        confined = ["/bin/sh", "-c", f'ulimit -c 0 && ulimit -s 64 && ulimit -v {self.memory} && exec "$0" "$@"']
+        confined = [
+            "/bin/sh",
+            "-c",
+            f'ulimit -c 0 && ulimit -s 64 && ulimit -v {self.memory} && exec "$0" "$@"',
+        ]
         try:
-            ran = subprocess.run([*confined, program, *self.options], input=self.input(), capture_output=True, timeout=SECONDS, env={}, check=False)
+            ran = subprocess.run(
+                [*confined, program, *self.options],
+                input=self.input(),
+                capture_output=True,
+                timeout=SECONDS,
+                env={},
+                check=False,
+            )
         except subprocess.TimeoutExpired:
             return f"no end in {SECONDS} seconds"
         return self.wrong_with(ran.returncode, ran.stdout, ran.stderr)
 
 
 def on_small_stack(case):
-    return OnSmallStack(f"stack of 64 kB: {case.name}", case.sent, case.wanted, case.options, case.status, case.told)
+    return OnSmallStack(
+        f"stack of 64 kB: {case.name}", case.sent, case.wanted, case.options, case.status, case.told
+    )
 
 
 def nested():
     """A definition for each level, which has a local of its own and uses the one before."""
     lines = ["define d0 x y = copier x y"]
-    lines += [f"define d{n + 1} x y = local m span ; d{n} x m ; copier m y" for n in range(LEVELS - 1)]
+    lines += [
+        f"define d{n + 1} x y = local m span ; d{n} x m ; copier m y" for n in range(LEVELS - 1)
+    ]
     return [*lines, "cell a span", "cell b span"]
 
 
 def deep():
     lines = [*nested(), f"attach d{LEVELS - 1} a b"]
     name = "stack of 64 kB: 1,000 definitions in one another"
-    yield OnSmallStack(name, as_bytes(*lines, "fix a 7", "ask b"), answered(len(lines) + 1, "b = 7"))
+    yield OnSmallStack(
+        name, as_bytes(*lines, "fix a 7", "ask b"), answered(len(lines) + 1, "b = 7")
+    )
     # (cells take what memory is left)
     lines[-1:-1] = [f"cell c{n} span" for n in range(CELLS)]
     for kilobytes in range(4_000, 5_000, 100):
-        yield OnSmallStack(f"{name}, and {kilobytes} kB in all", as_bytes(*lines), lambda output: wrong_where_refused(output, len(lines)), memory=kilobytes)
+        yield OnSmallStack(
+            f"{name}, and {kilobytes} kB in all",
+            as_bytes(*lines),
+            lambda output: wrong_where_refused(output, len(lines)),
+            memory=kilobytes,
+        )
 
 
 MEMORY = "error 90: out of memory"
@@ -58,11 +80,22 @@ def wrong_where_refused(output, count):
     first = replies.index(MEMORY) if MEMORY in replies else len(replies)
     other = [reply for reply in replies[:first] if reply != "ok"]
     other += [reply for reply in replies[first:] if reply not in ("ok", MEMORY, *MISSING)]
-    return f"{len(replies)} replies, wanted {count}, and among them {other[:1]}" if other or len(replies) != count else None
+    return (
+        f"{len(replies)} replies, wanted {count}, and among them {other[:1]}"
+        if other or len(replies) != count
+        else None
+    )
 
 
 def cases(worked: Iterable[Case]) -> Iterator[Case]:
     yield from map(on_small_stack, worked)
-    for large in (made.large_uses, made.long_ways, made.limits, made.sides_among_premises, made.sizes, made.steps):
+    for large in (
+        made.large_uses,
+        made.long_ways,
+        made.limits,
+        made.sides_among_premises,
+        made.sizes,
+        made.steps,
+    ):
         yield from map(on_small_stack, large())
     yield from deep()

@@ -47,14 +47,20 @@ class Machine:
     """What is believed of each cell, and which procedures wait."""
 
     def __init__(self, pick):
-        self.pick, self.values = pick, dict.fromkeys(plain.SPANS + plain.TRUTHS + plain.SETS, NOTHING)
+        self.pick, self.values = pick, dict.fromkeys(
+            plain.SPANS + plain.TRUTHS + plain.SETS, NOTHING
+        )
         self.attached, self.waiting = [], []
 
     def state(self, cell, info):
         value = merged(self.values[cell], info)
         if value != self.values[cell]:
             self.values[cell] = value
-            self.waiting += [at for at, (_, inputs, _) in enumerate(self.attached) if cell in inputs and at not in self.waiting]
+            self.waiting += [
+                at
+                for at, (_, inputs, _) in enumerate(self.attached)
+                if cell in inputs and at not in self.waiting
+            ]
 
     def attach(self, name, inputs, output):
         self.waiting.append(len(self.attached))
@@ -95,7 +101,9 @@ class Question(plain.Question):
         if ("unsettled" in reply) != (self.end == "unsettled"):
             return False
         said, _, reason = reply.partition(" because ")
-        return super().is_right(reply, seen) and (self.end != "unsettled" or self.word == "settle" or said == self.said())
+        return super().is_right(reply, seen) and (
+            self.end != "unsettled" or self.word == "settle" or said == self.said()
+        )
 
     def said(self):
         return f"{self.cell} = {text_of(self.value)} unsettled"
@@ -133,7 +141,10 @@ class Told(plain.Told):
         plainly = self.plain.copy()
         plainly.worldview()
         end = self.machine.run(self.plain.limit)
-        self.say(word if word == "settle" else f"{word} {cell}", Question(plainly, word, cell, end, self.machine.values[cell]))
+        self.say(
+            word if word == "settle" else f"{word} {cell}",
+            Question(plainly, word, cell, end, self.machine.values[cell]),
+        )
 
 
 class Draw(plain.Limited):
@@ -151,7 +162,9 @@ class Draw(plain.Limited):
             getattr(self, self.chance.choice(self.COMMANDS))()
         # (what is tried for a core leaves other procedures waiting, so it comes last)
         self.limit()
-        self.act("ask", self.chance.choice(["ask", "why", "core"]), self.chance.choice(self.PLACES["s"]))
+        self.act(
+            "ask", self.chance.choice(["ask", "why", "core"]), self.chance.choice(self.PLACES["s"])
+        )
 
     def attach(self):
         name = self.chance.choice(self.PROCEDURES)

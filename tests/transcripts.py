@@ -57,4 +57,6 @@ def transcripts(path: str) -> Iterator[Transcript]:
     for session in re.split(r"^== ", text, flags=re.M)[1:]:
         title, *lines = session.split("\n")
         options = re.search(r" \((--.*)\)$", title)
-        yield Transcript(f"{file}: {title}", options[1].split() if options else [], exchanges(lines))
+        yield Transcript(
+            f"{file}: {title}", options[1].split() if options else [], exchanges(lines)
+        )
