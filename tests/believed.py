@@ -2,9 +2,10 @@
 
 `tools/believed` finds what the headline's clauses reach: definitions, what sources declare, and
 functions that call the standard devices. docs/TRUST.md has to tell what to read first, and how many
-lines they have, those of the headline no more than MOST, how many with the clause on the work behind
-it, and how many in propwide, no more than MOST_WIDE: `tools/believed --write` puts them there. Over the definitions stands what they mean: no more than
-one in UNSAID lacks a comment. docs/HOSTING.md and docs/PRIMER.md have to show code that there is.
+lines they have, those of the headline no more than MOST, how many with the clause on the work
+behind it, and how many in propwide, no more than MOST_WIDE: `tools/believed --write` puts them
+there. Over the definitions stands what they mean: no more than one in UNSAID lacks a comment.
+docs/HOSTING.md and docs/PRIMER.md have to show code that there is.
 """
 import importlib.machinery
 import importlib.util

@@ -1,7 +1,10 @@
-"""Random sessions with choices, each answer of which is compared with plain enumeration of the choice lists (tests/plain.py).
+"""Random sessions with choices, each answer of which is compared with plain enumeration of the
+choice lists (tests/plain.py).
 
-A contradiction has to name believed premises that clash with every choice list, and each line of `nogoods` premises that clash with every list
-that takes its sides. The lines cover each contradiction that was named before: with every list, one of them lies in what was named and the list.
+A contradiction has to name believed premises that clash with every choice list, and each line of
+`nogoods` premises that clash with every list that takes its sides. The lines cover each
+contradiction that was named before: with every list, one of them lies in what was named and the
+list.
 """
 import re
 from dataclasses import dataclass
@@ -13,7 +16,8 @@ from formulas import ELEMENTS, NO, YES, text_of
 
 SESSIONS = 1000
 
-# Where choices and premises meet, and what leads from one of these to another: in every second session they are few, so that much is ruled out.
+# Where choices and premises meet, and what leads from one of these to another: in every second
+# session they are few, so that much is ruled out.
 CELLS = [*plain.SPANS[:2], *plain.TRUTHS, *plain.SETS, *plain.SETS]
 FEW_CELLS, FEW_PROCEDURES = plain.SETS, ["imager by differ"]
 
@@ -172,8 +176,8 @@ class Limited(Draw):
 
 
 class Stepped(Draw):
-    """Draws lines over more choices of which every second asks, with hardly a step for each: a run ends below each choice, and goes on after what
-    takes a belief away or adds one."""
+    """Draws lines over more choices of which every second asks, with hardly a step for each: a run
+    ends below each choice, and goes on after what takes a belief away or adds one."""
 
     COMMANDS = [
         *["tell"] * 2,

@@ -3,9 +3,10 @@
 
 usage: tests/cores.py PROGRAM
 
-prints of each core how many premises are believed, how many the core has, the steps of its command, the instructions of the command beyond those of `why`,
-and the seconds of the whole session. The steps are the least limit with which the core is reduced, found by halving; the instructions are those that
-valgrind's callgrind counts, - where there is no valgrind.
+prints of each core how many premises are believed, how many the core has, the steps of its command,
+the instructions of the command beyond those of `why`, and the seconds of the whole session. The
+steps are the least limit with which the core is reduced, found by halving; the instructions are
+those that valgrind's callgrind counts, - where there is no valgrind.
 """
 import os
 import re
@@ -49,7 +50,8 @@ def sums():
 
 
 def two_of_many():
-    """Of each `d` ten premises tell wide spans; what is asked of one of them rests on its least and its greatest number."""
+    """Of each `d` ten premises tell wide spans; what is asked of one of them rests on its least and
+    its greatest number."""
     lines = [*sums(), "tell first s0 0"]
     lines += [
         f"tell p{n}_{wide} d{n} {-wide}..{10 - wide}"
@@ -60,7 +62,8 @@ def two_of_many():
 
 
 def one_for_each():
-    """Of each `d` one premise tells the number and ten others tell wide spans, so that the last sum rests on one premise of each and on the first cell's."""
+    """Of each `d` one premise tells the number and ten others tell wide spans, so that the last sum
+    rests on one premise of each and on the first cell's."""
     lines = [*sums(), "tell first s0 0"]
     lines += [
         f"tell q{n}_{wide} d{n} {n - wide}..{n + wide}"

@@ -1,7 +1,9 @@
-"""Sessions that are drawn: lines that look random, with what the reply to each has to be, and the smallest such session that is still answered wrongly.
+"""Sessions that are drawn: lines that look random, with what the reply to each has to be, and the
+smallest such session that is still answered wrongly.
 
-A session is a list of acts, each of which says one line. What its reply has to be follows from the acts before it, so that any of them can be left
-out: where a reply is wrong, as many are left out as leave one wrong.
+A session is a list of acts, each of which says one line. What its reply has to be follows from the
+acts before it, so that any of them can be left out: where a reply is wrong, as many are left out as
+leave one wrong.
 """
 import random
 import re
@@ -145,7 +147,8 @@ class Draw:
 
 
 def shrunk(acts, is_wrong):
-    """What is left of the acts where as many are left out as leave something wrong: none of those left can be left out by itself."""
+    """What is left of the acts where as many are left out as leave something wrong: none of those
+    left can be left out by itself."""
     size = len(acts)
     while size:
         before, at = len(acts), 0
@@ -160,7 +163,8 @@ def shrunk(acts, is_wrong):
 
 
 def undeclared(acts, lines):
-    """The acts without declarations of what no later line names. The lines are those of the acts."""
+    """The acts without declarations of what no later line names. The lines are those of the
+    acts."""
     kept, words = [], set()
     for act, line in zip(reversed(acts), reversed(lines)):
         if act[0] != "declare" or line.split()[1] in words:
@@ -195,7 +199,8 @@ class Drawn(Case):
         return told
 
     def smallest(self, program: str) -> Optional[str]:
-        """The smallest session found that the program answers wrongly too, with what is wrong, or None where it is right the next time."""
+        """The smallest session found that the program answers wrongly too, with what is wrong, or
+        None where it is right the next time."""
 
         def is_wrong(acts):
             told = self.session(acts)

@@ -1,8 +1,10 @@
-"""What `list` has to tell, from the lines of a session alone, and random sessions of which each line of it is looked at.
+"""What `list` has to tell, from the lines of a session alone, and random sessions of which each
+line of it is looked at.
 
-A compound is taken apart here by its definition as its line says it: cells and instances are numbered in the order of that walk, a local has the name of
-the use that made it in front, and an instance is named by the use that it is. What a choice stands on is known where all is settled: it is the first
-list that the plain evaluation doesn't find refuted.
+A compound is taken apart here by its definition as its line says it: cells and instances are
+numbered in the order of that walk, a local has the name of the use that made it in front, and an
+instance is named by the use that it is. What a choice stands on is known where all is settled: it
+is the first list that the plain evaluation doesn't find refuted.
 """
 from dataclasses import dataclass, field, replace
 from typing import Any, Iterator, Optional
@@ -127,7 +129,8 @@ class Listed:
         )
 
     def refuted(self, side: str, line: str, taken: set[str]) -> bool:
-        """Whether a line tells why a side was left, beside these sides of earlier choices and what is believed."""
+        """Whether a line tells why a side was left, beside these sides of earlier choices and what
+        is believed."""
         word, left, because, *reason = line.split()
         premises = set(reason)
         return (
@@ -137,7 +140,8 @@ class Listed:
         )
 
     def are_choices(self, lines: list[str], worldview: Optional[set[str]]) -> bool:
-        """Whether the lines tell of each choice where it stands, and why it left each side before."""
+        """Whether the lines tell of each choice where it stands, and why it left each side
+        before."""
         taken: set[str] = set()
         for sides in self.session.choices:
             head, *lines = lines
@@ -205,7 +209,8 @@ class Told(choices.Told):
 
 
 class Draw(choices.Draw):
-    """Draws lines with compounds and procedures among them, and lists between them before anything runs."""
+    """Draws lines with compounds and procedures among them, and lists between them before anything
+    runs."""
 
     TOLD = Told
     COMMANDS = [
@@ -237,7 +242,8 @@ class Draw(choices.Draw):
 
 
 class Settled(Draw):
-    """Draws lines with procedures alone, so that the plain evaluation knows where the choices stand, and lists between them where all is settled."""
+    """Draws lines with procedures alone, so that the plain evaluation knows where the choices
+    stand, and lists between them where all is settled."""
 
     COMMANDS = [*["tell", "attach"] * 3, "kick", "bring", "forget", *["choose"] * 4, *["list"] * 3]
     SETTLED = True

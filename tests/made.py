@@ -84,8 +84,8 @@ def large_uses():
 
 
 def linked(name, params, first, links, passed=""):
-    """A definition that does this first, and so many more, each of which does nothing but use the one before on its parameters from the
-    last to the first, and passes this."""
+    """A definition that does this first, and so many more, each of which does nothing but use the
+    one before on its parameters from the last to the first, and passes this."""
     lines = [f"define {name}0 {' '.join(params)} = {first}"]
     return lines + [
         f"define {name}{n + 1} {' '.join(params)} = {name}{n} {' '.join(params[::-1])}{passed}"
@@ -144,7 +144,8 @@ def long_ways():
 
 
 def limits():
-    """Each limit: what stands before, a line for each number below the limit, and one too many, which is refused and changes nothing."""
+    """Each limit: what stands before, a line for each number below the limit, and one too many,
+    which is refused and changes nothing."""
     elements = [f"e{n}" for n in range(65)]
     for word, most, before, line in [
         ("cells", 100_000, [], lambda n: f"cell c{n} span"),
@@ -171,12 +172,14 @@ def limits():
 
 
 def up_to(most, before, line):
-    """What stands before, so many lines and one too many, twice, a cell, and the first line again."""
+    """What stands before, so many lines and one too many, twice, a cell, and the first line
+    again."""
     return as_bytes(*before, *map(line, range(most + 1)), line(most), "cell last span", line(0))
 
 
 def wrong_at_limit(word, taken, output):
-    """What is wrong with the replies, of which so many are to be `ok` and the two behind them refusals."""
+    """What is wrong with the replies, of which so many are to be `ok` and the two behind them
+    refusals."""
     replies, refusal = output.decode().splitlines(), f"error 16: limit reached: {word}"
     if replies[:taken] != ["ok"] * taken:
         return f"not all of the first {taken} replies are ok"
@@ -186,7 +189,8 @@ def wrong_at_limit(word, taken, output):
 
 
 def sides_among_premises():
-    """Each side of a choice takes one of the numbers of premises; a choice that finds too few of them is refused before the limit of choices is looked at."""
+    """Each side of a choice takes one of the numbers of premises; a choice that finds too few of
+    them is refused before the limit of choices is looked at."""
     limit = "error 16: limit reached: premises"
     eight = " or ".join(map(str, range(1, 9)))
     lines = [
@@ -213,7 +217,8 @@ LINE = 4_096
 
 
 def sizes():
-    """Each size of what a line lists, as far as a line holds it: with ample memory none is refused."""
+    """Each size of what a line lists, as far as a line holds it: with ample memory none is
+    refused."""
     letters = [chr(ord("a") + n) for n in range(26)]
     pairs = [f"{x} {y}" for x in letters for y in letters]
     lines = [f"relation r{n} d d = {' ; '.join(pairs[:n])}" for n in range(1, len(pairs) + 1)]
@@ -351,7 +356,8 @@ def command_lines():
 
 
 def steps():
-    """A sum that feeds itself, cut short in each order: whatever was called, the ends have moved by no more than one a step."""
+    """A sum that feeds itself, cut short in each order: whatever was called, the ends have moved by
+    no more than one a step."""
     looping = [
         "cell x span",
         "cell one span",

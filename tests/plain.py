@@ -1,11 +1,14 @@
-"""Random sessions, each answer of which is compared with a plain and slow evaluation from nothing, in each order of calls.
+"""Random sessions, each answer of which is compared with a plain and slow evaluation from nothing,
+in each order of calls.
 
-The evaluation knows no entries, supports or agenda: it merges the believed statements and calls each procedure in turn until nothing changes.
-Nor does it learn anything of choices: it evaluates their lists one after the other, the first sides first.
-What a procedure answers is written in tests/formulas.py anew, over Python's whole numbers.
+The evaluation knows no entries, supports or agenda: it merges the believed statements and calls
+each procedure in turn until nothing changes. Nor does it learn anything of choices: it evaluates
+their lists one after the other, the first sides first. What a procedure answers is written in
+tests/formulas.py anew, over Python's whole numbers.
 
-An unsettled answer has to follow, and to say all that is stated of its cell. And what was answered before is still said: while no belief is taken
-away, no answer says less of a cell than an earlier one, or than what followed when the session was last settled.
+An unsettled answer has to follow, and to say all that is stated of its cell. And what was answered
+before is still said: while no belief is taken away, no answer says less of a cell than an earlier
+one, or than what followed when the session was last settled.
 """
 import re
 from dataclasses import dataclass, field, replace
@@ -54,7 +57,8 @@ DECLARED = [
     ],
 ]
 
-# Each procedure with the kinds of its places, the output last, and what it answers to arguments none of which is Nothing.
+# Each procedure with the kinds of its places, the output last, and what it answers to arguments
+# none of which is Nothing.
 PROCEDURES = {
     "adder": ("sss", lambda x, y: clipped(x[0] + y[0], x[1] + y[1])),
     "subtracter": ("sss", lambda z, x: clipped(z[0] - x[1], z[1] - x[0])),
@@ -141,7 +145,8 @@ class Plain:
         return [set(sides) for sides in product(*self.choices)]
 
     def tried(self):
-        """The believed premises with each choice list up to the first that doesn't clash with them."""
+        """The believed premises with each choice list up to the first that doesn't clash with
+        them."""
         tried = []
         for sides in self.lists():
             tried.append(self.believed | sides)
@@ -150,12 +155,14 @@ class Plain:
         return tried
 
     def worldview(self):
-        """The believed premises with the first choice list that doesn't clash with them, or None."""
+        """The believed premises with the first choice list that doesn't clash with them, or
+        None."""
         last = self.tried()[-1]
         return None if self.clashes(last) else last
 
     def refutes(self, premises):
-        """Whether these clash with every choice list that takes the sides among them; where none does, they are refuted by nothing."""
+        """Whether these clash with every choice list that takes the sides among them; where none
+        does, they are refuted by nothing."""
         lists = [
             sides
             for sides in self.lists()
@@ -164,7 +171,8 @@ class Plain:
         return bool(lists) and all(self.clashes(premises | sides) for sides in lists)
 
     def reaching(self):
-        """For each cell the premises that something stated of it, or of a cell from which a way of procedures leads to it."""
+        """For each cell the premises that something stated of it, or of a cell from which a way of
+        procedures leads to it."""
         reaching = {cell: set() for cell in SPANS + TRUTHS + SETS}
         for premise, cell, _ in self.stated:
             reaching[cell] |= {premise} - {None}
@@ -174,7 +182,8 @@ class Plain:
         return reaching
 
     def are_at_odds(self, premises):
-        """Whether each of the premises takes part in a clash at some cell with others of them and sides, that all reach that cell."""
+        """Whether each of the premises takes part in a clash at some cell with others of them and
+        sides, that all reach that cell."""
         reaching = self.reaching().values()
         parts = {
             frozenset((premises | sides) & reached)
@@ -196,7 +205,8 @@ class Seen:
 
     # The sets that they named as contradictions.
     named: list = field(default_factory=list)
-    # What is said at least of each cell where these are believed, since a belief was taken away last.
+    # What is said at least of each cell where these are believed, since a belief was taken away
+    # last.
     least: dict = field(default_factory=dict)
     under: set = field(default_factory=set)
 
@@ -205,7 +215,8 @@ class Seen:
         self.under, self.least = worldview, values
 
     def forget(self, premise=""):
-        """A belief was taken away, or what stood under a premise: no contradiction that was named with that one has to be covered from now on."""
+        """A belief was taken away, or what stood under a premise: no contradiction that was named
+        with that one has to be covered from now on."""
         self.settle(set(), {})
         self.named = [it for it in self.named if premise not in it]
 
@@ -237,7 +248,8 @@ class Question:
     cell: str
 
     def is_right(self, reply, seen):
-        """Whether the reply says what follows, and names premises that are believed and enough for it."""
+        """Whether the reply says what follows, and names premises that are believed and enough for
+        it."""
         if "unsettled" in reply:
             return self.plain.limit < ENOUGH and self.is_unsettled(reply, seen)
         worldview = self.plain.worldview()
@@ -285,7 +297,8 @@ class Question:
         )
 
     def is_unsettled(self, reply, seen):
-        """Whether all that the reply says is entailed by one choice list, before which every other is refuted, and is no less than what was said before."""
+        """Whether all that the reply says is entailed by one choice list, before which every other
+        is refuted, and is no less than what was said before."""
         if self.word in ("settle", "worldview"):
             return reply == "unsettled"
         said, _, reason = reply.partition(" because ")
@@ -308,7 +321,8 @@ class Question:
         )
 
     def least(self, seen, worldview):
-        """What an answer says at least of the cell: what is stated of it, and what was said before while no belief was taken away."""
+        """What an answer says at least of the cell: what is stated of it, and what was said before
+        while no belief was taken away."""
         least = seen.of(self.cell, worldview)
         for premise, cell, info in self.plain.stated:
             if cell == self.cell and premise in worldview | {None}:
@@ -316,7 +330,8 @@ class Question:
         return least
 
     def is_behind(self, reason, worldview, value):
-        """Whether the reason is one where one is asked for: it is believed, bears on the cell, and is enough for the value."""
+        """Whether the reason is one where one is asked for: it is believed, bears on the cell, and
+        is enough for the value."""
         if self.word == "ask" or not reason:
             return self.word == "ask" and not reason
         premises = premises_in(reason)
@@ -343,7 +358,8 @@ class Question:
         )
 
     def unsettled(self, seen):
-        """What may be answered where the limit is used up, for each choice list up to the first that doesn't clash."""
+        """What may be answered where the limit is used up, for each choice list up to the first
+        that doesn't clash."""
         if self.word in ("settle", "worldview"):
             return ["unsettled"]
         ends = [
@@ -501,7 +517,8 @@ class Draw(drawn.Draw):
 
 
 class Limited(Draw):
-    """Draws lines of which many ask, with limits that most runs use up, and statements on few cells of which many hold at once."""
+    """Draws lines of which many ask, with limits that most runs use up, and statements on few cells
+    of which many hold at once."""
 
     COMMANDS = [
         *["tell"] * 6,

@@ -1,9 +1,10 @@
 """The prelude: for each use of a procedure in each compound an example that needs it.
 
-The compounds stand here as the language's page tells them, and not as the program has them. Each example is asked of the program's own compound;
-and of the compound as it stands here without that one use, where the answer has to be another: so no use can be lost unseen.
+The compounds stand here as the language's page tells them, and not as the program has them. Each
+example is asked of the program's own compound; and of the compound as it stands here without that
+one use, where the answer has to be another: so no use can be lost unseen.
 """
-from typing import Iterator
+from typing import Callable, Iterator, Optional
 
 from case import Case, answered, as_bytes
 
@@ -78,18 +79,22 @@ EXAMPLES = [
 ]
 
 
-def session(compound, attached, behind, stated, asked, first=()):
-    """The lines of an example, of which the last one asks."""
-    cells, kind, _ = COMPOUNDS[compound]
-    lines = [*DECLARED, *first, *(f"cell {cell} {KINDS.get(cell, kind)}" for cell in cells.split())]
-    lines.append(f"attach {attached} {cells}{behind}")
+def session(compound: str, stated: str, asked: str, defined: str = "") -> list[str]:
+    """The lines of an example, of which the last one asks. It attaches the compound that is there,
+    or `other` where that one's definition is given."""
+    name, by, parameter = compound.partition(" ")
+    cells, kind, _ = COMPOUNDS[name]
+    lines = [*DECLARED, *([defined] if defined else [])]
+    lines += [f"cell {cell} {KINDS.get(cell, kind)}" for cell in cells.split()]
+    lines.append(f"attach {'other' if defined else name} {cells}{by}{parameter}")
     return [*lines, *(f"fix {it}" for it in stated.split(", ")), f"ask {asked}"]
 
 
-def lacks(lines, answer):
-    """Says what is wrong where the output is not `ok` to each line but the last, and something else than the answer to it."""
+def lacks(lines: list[str], answer: str) -> Callable[[bytes], Optional[str]]:
+    """Says what is wrong where the output is not `ok` to each line but the last, and something else
+    than the answer to it."""
 
-    def wrong(output):
+    def wrong(output: bytes) -> Optional[str]:
         replies = output.decode().splitlines()
         if replies[:-1] != ["ok"] * (len(lines) - 1):
             return f"it wrote {replies}"
@@ -98,7 +103,7 @@ def lacks(lines, answer):
     return wrong
 
 
-def without(steps, use):
+def without(steps: list[str], use: str) -> list[str]:
     """The steps without this one; where none is left, a step that says nothing."""
     return [it for it in steps if it != use] or ["local nothing_said span"]
 
@@ -113,19 +118,11 @@ def cases() -> Iterator[Case]:
     ]
     assert not missing, missing
     for compound, use, stated, answer in EXAMPLES:
-        name, _, behind = compound.partition(" ")
-        behind = " " + behind if behind else ""
-        cells, _, steps = COMPOUNDS[name]
-        lines = session(name, name, behind, stated, answer.split()[0])
+        cells, _, steps = COMPOUNDS[compound.split()[0]]
+        lines = session(compound, stated, answer.split()[0])
         yield Case(
             f"prelude: {compound} needs {use}", as_bytes(*lines), answered(len(lines) - 1, answer)
         )
-        less = session(
-            name,
-            "other",
-            behind,
-            stated,
-            answer.split()[0],
-            [f"define other {cells} = {' ; '.join(without(steps, use))}"],
-        )
+        defined = f"define other {cells} = {' ; '.join(without(steps, use))}"
+        less = session(compound, stated, answer.split()[0], defined)
         yield Case(f"prelude: {compound} without {use}", as_bytes(*less), lacks(less, answer))

@@ -1,4 +1,5 @@
-"""Random statements of one cell, and `why`: that no premise that is named can be left out beside what rests on none."""
+"""Random statements of one cell, and `why`: that no premise that is named can be left out beside
+what rests on none."""
 import random
 from typing import Iterator
 

@@ -1,9 +1,11 @@
 #!/usr/bin/python3
-"""Worked sessions in which what they ask the machine for is refused: memory, a read, a write; or whose input is cut.
+"""Worked sessions in which what they ask the machine for is refused: memory, a read, a write; or
+whose input is cut.
 
 usage: tests/refusals.py PROGRAM SESSION
 
-refuses each request for memory of the lines of the file SESSION in turn, once each. The gate runs worked sessions so.
+refuses each request for memory of the lines of the file SESSION in turn, once each. The gate runs
+worked sessions so.
 """
 import atexit
 import os
@@ -18,10 +20,12 @@ from typing import Iterator
 from case import SECONDS, first_difference
 from transcripts import Transcript
 
-# Stands before the C library: the Nth request for memory, the Nth read of standard input or the Nth write to standard output is refused where
-# REFUSED is mN, rN or wN; with rN a read brings one byte, with nN the Nth write takes nothing, with s1 each write takes a half. With aN the Nth read would have to wait, with bN the Nth
-# write; with iN a signal interrupts each read and each write N times before it is carried out. With cN the requests for memory are counted, and told on standard error at the end. All else
-# goes to the C library. It needs no header.
+# Stands before the C library: the Nth request for memory, the Nth read of standard input or the Nth
+# write to standard output is refused where REFUSED is mN, rN or wN; with rN a read brings one byte,
+# with nN the Nth write takes nothing, with s1 each write takes a half. With aN the Nth read would
+# have to wait, with bN the Nth write; with iN a signal interrupts each read and each write N times
+# before it is carried out. With cN the requests for memory are counted, and told on standard error
+# at the end. All else goes to the C library. It needs no header.
 STANDING_BEFORE = r"""
 typedef unsigned long size;
 void *__libc_malloc(size); void *__libc_realloc(void *, size);
@@ -115,7 +119,8 @@ def library():
 
 
 def run(program, lines, refused=""):
-    """What the program writes for the lines where one call is refused: its status, its output and what it says on standard error."""
+    """What the program writes for the lines where one call is refused: its status, its output and
+    what it says on standard error."""
     ran = subprocess.run(
         [program],
         input=b"".join(lines),
@@ -144,8 +149,9 @@ class Refusals:
 
 
 class EachAllocation(Refusals):
-    """Each request for memory is refused in turn. Before the first line the program goes on without it, or ends with status 4. Behind it either the
-    line for which memory was refused says so, and all is as if it had not been given: given once more, it and all others have their replies. Or no
+    """Each request for memory is refused in turn. Before the first line the program goes on without
+    it, or ends with status 4. Behind it either the line for which memory was refused says so, and
+    all is as if it had not been given: given once more, it and all others have their replies. Or no
     line does, and all have their replies: what is kept to save time is done without."""
 
     def numbers(self, program):
@@ -176,7 +182,8 @@ class EachAllocation(Refusals):
         )
 
     def refused(self, output):
-        """Which line was refused, where those before it have their replies; none where no line was."""
+        """Which line was refused, where those before it have their replies; none where no line
+        was."""
         before = b""
         for number, reply in enumerate(self.session.replies()):
             if reply and output.startswith(before + OUT_OF_MEMORY):
@@ -191,7 +198,8 @@ def requests(program, lines):
 
 
 class EachRead(Refusals):
-    """The input comes byte by byte, and each read fails in turn: the lines that came whole have their replies, and no other is carried out."""
+    """The input comes byte by byte, and each read fails in turn: the lines that came whole have
+    their replies, and no other is carried out."""
 
     kind = "r"
 
@@ -210,13 +218,15 @@ class EachRead(Refusals):
 
 
 class EachReadThatWouldWait(EachRead):
-    """The same where each read in turn would have to wait: it is a fault as any other, and is not tried again."""
+    """The same where each read in turn would have to wait: it is a fault as any other, and is not
+    tried again."""
 
     kind = "a"
 
 
 class EachWrite(Refusals):
-    """Each write fails in turn, or takes nothing: each reply before it was written, by one write with its line feed, and nothing else. One write more is none."""
+    """Each write fails in turn, or takes nothing: each reply before it was written, by one write
+    with its line feed, and nothing else. One write more is none."""
 
     kind = "w"
 
@@ -262,7 +272,8 @@ class HalfWrites(Refusals):
 
 
 class Interrupted(Refusals):
-    """A signal interrupts each read and each write, once or often, before it is carried out: all goes its way. One that is interrupted each time is a fault in the end."""
+    """A signal interrupts each read and each write, once or often, before it is carried out: all
+    goes its way. One that is interrupted each time is a fault in the end."""
 
     def numbers(self, program):
         return [1, 1_000, 65_535, 65_536]
@@ -279,7 +290,8 @@ class Interrupted(Refusals):
 
 
 class EachCut(Refusals):
-    """The input ends after each byte in turn: the whole lines have their replies, and what is left is carried out as a last line."""
+    """The input ends after each byte in turn: the whole lines have their replies, and what is left
+    is carried out as a last line."""
 
     def numbers(self, program):
         return range(len(b"".join(self.session.lines())) + 1)

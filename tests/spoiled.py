@@ -3,7 +3,8 @@
 
 usage: tests/spoiled.py SPOIL PROGRAM [OPTION ..]
 
-runs PROGRAM on standard input as SPOIL changes what it is given or what it answers: bring, reason, nothing or alone.
+runs PROGRAM on standard input as SPOIL changes what it is given or what it answers: bring, reason,
+nothing or alone.
 """
 import os
 import re
@@ -39,7 +40,8 @@ def nothing(run, sent):
 
 
 def alone(run, sent):
-    """Where the limit is used up, a cell holds what each premise says by itself, and nothing that follows from two of them."""
+    """Where the limit is used up, a cell holds what each premise says by itself, and nothing that
+    follows from two of them."""
     lines = sent.decode().splitlines()
     replies = list(replies_of(run(sent)))
     for at, (line, reply) in enumerate(zip(lines, replies)):
@@ -69,7 +71,8 @@ SPOILS = {it.__name__: it for it in [bring, reason, nothing, alone]}
 
 @dataclass
 class Spoiled:
-    """A program spoiled so, which random sessions of a kind have to find out: the smallest has no more than so many lines, of which the last asks so."""
+    """A program spoiled so, which random sessions of a kind have to find out: the smallest has no
+    more than so many lines, of which the last asks so."""
 
     spoil: Callable
     draw: Callable

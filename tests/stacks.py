@@ -1,4 +1,5 @@
-"""Sessions over a stack of 64 kB: none of them takes more, however large or deep what it holds is."""
+"""Sessions over a stack of 64 kB: none of them takes more, however large or deep what it holds
+is."""
 import subprocess
 from dataclasses import dataclass
 from typing import Iterable, Iterator
@@ -75,7 +76,8 @@ MISSING = ("error 9: no such cell", "error 11: no such procedure")
 
 
 def wrong_where_refused(output, count):
-    """What is wrong with the replies to so many lines, each of which is carried out, refused memory, or lacks what a line before it was refused memory for."""
+    """What is wrong with the replies to so many lines, each of which is carried out, refused
+    memory, or lacks what a line before it was refused memory for."""
     replies = output.decode().splitlines()
     first = replies.index(MEMORY) if MEMORY in replies else len(replies)
     other = [reply for reply in replies[:first] if reply != "ok"]

@@ -1,9 +1,11 @@
-"""Random sessions under small limits, each answer of which is compared with what is believed after just the steps that were taken, in each order of calls.
+"""Random sessions under small limits, each answer of which is compared with what is believed after
+just the steps that were taken, in each order of calls.
 
-Here every premise stays believed and there are no choices, so what is believed of a cell is the merge of all that was stated of it and of all that
-procedures answered, whatever supports it. A step is a call of a waiting procedure; where it changes what is believed of its output, those that read
-that wait too, in order of number and behind those that wait already. An answer that leaves out what was found, as what follows from two premises
-together, is another.
+Here every premise stays believed and there are no choices, so what is believed of a cell is the
+merge of all that was stated of it and of all that procedures answered, whatever supports it. A step
+is a call of a waiting procedure; where it changes what is believed of its output, those that read
+that wait too, in order of number and behind those that wait already. An answer that leaves out what
+was found, as what follows from two premises together, is another.
 """
 from dataclasses import dataclass
 
@@ -67,7 +69,8 @@ class Machine:
         self.attached.append((name, inputs, output))
 
     def next(self):
-        """Which is called next, and waits no longer: in its place comes the last, unless it is the first."""
+        """Which is called next, and waits no longer: in its place comes the last, unless it is the
+        first."""
         place = self.pick(len(self.waiting))
         if place == 0:
             return self.waiting.pop(0)

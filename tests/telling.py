@@ -4,9 +4,9 @@ calls.
 
 The model (tests/steps.py) knows which instances wait and what is believed of each cell, and calls
 one at the place that the order picks: its number, cells and output are what `step` has to name. The
-premises that are said to be why are looked at by the plain evaluation (tests/plain.py): they have to
-be enough. With choices the model is that evaluation alone: a move goes to the next side, for a set
-that is refuted and holds the side that was left, and the end is the one that `settle` tells.
+premises that are said to be why are looked at by the plain evaluation (tests/plain.py): they have
+to be enough. With choices the model is that evaluation alone: a move goes to the next side, for a
+set that is refuted and holds the side that was left, and the end is the one that `settle` tells.
 
 Of `how` each part has to be a statement that was made under one of the premises of the value, or
 what its procedure answers on what the parts behind it say; it says more of its cell than they do,

@@ -37,7 +37,8 @@ WISHES, SEED = 20, 1
 
 @dataclass(frozen=True)
 class Question:
-    """What is asked, how this package is asked, how others are, and of how many answers one counts."""
+    """What is asked, how this package is asked, how others are, and of how many answers one
+    counts."""
 
     asked: str
     here: Callable[[], Any]

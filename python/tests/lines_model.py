@@ -37,7 +37,8 @@ RULES: dict[str, Callable[..., object]] = {
 
 @dataclass
 class LineModel(Questions):
-    """A network of lines: `cell`, `domain`, `relation`, `attach`, `fix`, `tell`, `choose`, `kick`."""
+    """A network of lines: `cell`, `domain`, `relation`, `attach`, `fix`, `tell`, `choose`,
+    `kick`."""
 
     session: Session
     lines: list[str] = field(default_factory=list)

@@ -1,5 +1,5 @@
-"""Devices in random cases, whose errors are drawn: what is measured is what a device shows, times one
-more than its scale error, and its offset error beside.
+"""Devices in random cases, whose errors are drawn: what is measured is what a device shows, times
+one more than its scale error, and its offset error beside.
 """
 
 import random

@@ -167,7 +167,8 @@ def _logarithm(case: Case, depth: int) -> Term:
 
 
 def _angle(case: Case, depth: int, low: float, high: float) -> Term:
-    """An angle between so many degrees: in degrees, in gons or in radians, or the one as another."""
+    """An angle between so many degrees: in degrees, in gons or in radians, or the one as
+    another."""
     shape = case.draw.random()
     if shape < 0.4:
         return case.within(low, high, depth) * "1 deg"
@@ -265,8 +266,8 @@ def stated_case(w: Workbench, draw: random.Random, count: int | None = None) -> 
 
 
 def redraw(case: Case, *, is_good: bool = True) -> None:
-    """Other reals that fit the laws, and other errors of devices: where devices are good, as small as
-    is said of them. Raises Unfit."""
+    """Other reals that fit the laws, and other errors of devices: where devices are good, as small
+    as is said of them. Raises Unfit."""
     given = dict(case.given)
     case.reals = {}
     case.off.clear()

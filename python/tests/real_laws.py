@@ -235,8 +235,8 @@ def shared_law(case: Case) -> Law:
 
 
 def redraw(case: Case, *, is_good: bool = True) -> None:
-    """Other reals that fit the law, and other errors of devices: where devices are good, as small as
-    is said of them. Raises Unfit where what was drawn doesn't fit."""
+    """Other reals that fit the law, and other errors of devices: where devices are good, as small
+    as is said of them. Raises Unfit where what was drawn doesn't fit."""
     reals = {name: _within(case, name) for name in case.reals}
     for name, real in case.given:
         reals[name] = value_of(real, reals)

@@ -186,7 +186,8 @@ def test_another_optimum(found: dict[str, Certificate]) -> None:
 
 
 def another_best(certificate: Certificate, claims: list[Any]) -> None:
-    """What a program that searches has found, with another value or fewer premises, doesn't hold."""
+    """What a program that searches has found, with another value or fewer premises, doesn't
+    hold."""
     for by in (-1, 1):
         changed = copy.deepcopy(claims)
         changed[0][1]["value"] += by

@@ -627,7 +627,8 @@ def test_what_hides_is_shown_and_what_turns_is_apart(program: str, browser: Any)
                 " + [...document.querySelectorAll('#drawing text')].map(it => it.textContent)"
             )
             assert not any(each in text for each in "\x1b\u202e\u200b\u3164")
-            # wherever letters that turn stand in a text, that is in a <bdi> or a text of the drawing
+            # wherever letters that turn stand in a text, that is in a <bdi> or a text of the
+            # drawing
             apart = page.js(
                 """
                 const found = [];

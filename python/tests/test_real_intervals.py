@@ -1,4 +1,5 @@
-"""What random laws are held to: intervals beside 80 digits, and columns beside one point at a time."""
+"""What random laws are held to: intervals beside 80 digits, and columns beside one point at a
+time."""
 
 import random
 from fractions import Fraction

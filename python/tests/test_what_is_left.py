@@ -1,5 +1,5 @@
-"""What is left behind a what-if, and of a premise that was forgotten: nothing, in the workbench, its
-projects and quantities, its names, and its files.
+"""What is left behind a what-if, and of a premise that was forgotten: nothing, in the workbench,
+its projects and quantities, its names, and its files.
 """
 
 from collections.abc import Callable, Iterator

@@ -84,7 +84,8 @@ def _find(given: str | os.PathLike[str] | None, names: Sequence[str]) -> Found:
 
 
 def _runnable(named: str) -> str | None:
-    """Where a program is that is named by its path, or lies on $PATH; None where it can't be run."""
+    """Where a program is that is named by its path, or lies on $PATH; None where it can't be
+    run."""
     if os.path.dirname(named):
         return named if os.access(named, os.X_OK) and os.path.isfile(named) else None
     import shutil

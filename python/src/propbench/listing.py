@@ -24,8 +24,8 @@ class Statement:
 
 @dataclass
 class Told:
-    """What lines have told. `premises` has the statements of each premise, "" for what is fixed, and
-    `choices` those of each side, in order; `stands` has where a choice stands, where that is
+    """What lines have told. `premises` has the statements of each premise, "" for what is fixed,
+    and `choices` those of each side, in order; `stands` has where a choice stands, where that is
     listed."""
 
     premises: dict[str, list[Statement]] = field(default_factory=dict)

@@ -1,7 +1,7 @@
 """A workbench of whole numbers, truths, elements and symbols: cells, what is stated, what follows.
 
-`propbench.workbench` has the same with measured quantities and projects, which take longer to import
-than all of this.
+`propbench.workbench` has the same with measured quantities and projects, which take longer to
+import than all of this.
 """
 
 from __future__ import annotations
@@ -419,12 +419,14 @@ class PlainWorkbench(Questions, Closing):
         given = cell if isinstance(cell, Mapping) else alternatives
         if not isinstance(given, Collection):
             raise TypeError(
-                f"{name!r} is a choice between a list of values of a cell, as `w.choose(name, price, "
+                f"{name!r} is a choice between a list of values of a cell, as `w.choose(name,"
+                " price, "
                 "[1400, 2000])`, or between constraints by name, as in a dict"
             )
         if not 2 <= len(given) <= MOST_ALTERNATIVES:
             raise ValueError(
-                f"a choice has two to {MOST_ALTERNATIVES} alternatives, and {name!r} has {len(given)}"
+                f"a choice has two to {MOST_ALTERNATIVES} alternatives, and {name!r} has"
+                f" {len(given)}"
             )
         event: Choice
         if isinstance(cell, Mapping):

@@ -67,7 +67,8 @@ class Workbench(PlainWorkbench, Laboratory):
       `adjust`, `report`.
     - to look at: `picture`, `film`, `serve`.
     - files and lines: `save`, `load`, `lines`, `close`; `proved` and `lacks` tell of the program.
-    - within: `session`, `network`, `model`, `answer`, `constraint_of`; and `plan`, an older name of `project`.
+    - within: `session`, `network`, `model`, `answer`, `constraint_of`; and `plan`, an older name of
+    `project`.
 
     Several names may be given as a list, or in one text with spaces between.
 

@@ -1,4 +1,5 @@
-"""What a workbench does for a laboratory: it has these methods beside those of measured quantities."""
+"""What a workbench does for a laboratory: it has these methods beside those of measured
+quantities."""
 
 import os
 from collections.abc import Iterable, Sequence
@@ -32,9 +33,9 @@ class Laboratory(Measuring):
         under: str | None = None,
         coverage: Exact = COVERAGE,
     ) -> int:
-        """States the readings of a file of comma-separated values (or semicolons, or tabs), or of the
-        first table of a spreadsheet (.ods, .xlsx), whose columns are those of `read_table`. Its head
-        is row 1. How many there were is given back.
+        """States the readings of a file of comma-separated values (or semicolons, or tabs), or of
+        the first table of a spreadsheet (.ods, .xlsx), whose columns are those of `read_table`. Its
+        head is row 1. How many there were is given back.
 
         Raises BadTable, which tells row, column and what would do, of all that is wrong; nothing
         of the file is stated then. Raises OSError too, and NoSheetReader where what reads a
@@ -78,9 +79,9 @@ class Laboratory(Measuring):
         return self._read_rows(rows_of(table, _decimal(decimal)), under, coverage)
 
     def read_laws(self, path: str | os.PathLike[str], *, curves: Iterable[Calibration] = ()) -> int:
-        """States the laws of a file, one a line, as one writes them; what stands behind a `#` is for
-        people. How many there were is given back. Raises OSError, and NotALaw with the line; nothing
-        of the file is stated then.
+        """States the laws of a file, one a line, as one writes them; what stands behind a `#` is
+        for people. How many there were is given back. Raises OSError, and NotALaw with the line;
+        nothing of the file is stated then.
 
         >>> w = Workbench()
         >>> height = w.measured("height", "m", 0, 100, step="0.1")

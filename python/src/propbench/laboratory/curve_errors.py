@@ -1,7 +1,8 @@
 """What curves of calibration may be off by, as quantities of their own in an adjustment.
 
-A curve is off by an error that nobody reads: around 0, and no larger than is said of the curve. What
-is looked up twice for one argument is off by the same, and for another argument by another error.
+A curve is off by an error that nobody reads: around 0, and no larger than is said of the curve.
+What is looked up twice for one argument is off by the same, and for another argument by another
+error.
 """
 
 from dataclasses import replace
@@ -15,7 +16,8 @@ from propbench.model.nodes import Declared
 
 
 class CurveErrors:
-    """The errors of the curves in laws: `sizes` has how large each is at the most, in base units."""
+    """The errors of the curves in laws: `sizes` has how large each is at the most, in base
+    units."""
 
     def __init__(self) -> None:
         self.sizes: dict[Declared, Fraction] = {}

@@ -1,4 +1,5 @@
-"""The points of a curve of calibration from a file: two columns below a head, as a sheet saves them."""
+"""The points of a curve of calibration from a file: two columns below a head, as a sheet saves
+them."""
 
 import os
 from fractions import Fraction

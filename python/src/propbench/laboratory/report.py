@@ -25,7 +25,8 @@ if TYPE_CHECKING:
     from propbench.workbench import Workbench
 
 _BOUNDS = (
-    "Each quantity lies between its bounds, if the readings named with it are right: the half width "
+    "Each quantity lies between its bounds, if the readings named with it are right: the half"
+    " width "
     "is a bound, and no coverage factor belongs to it. It is rounded up, so that value and half "
     "width hold all that is between the bounds."
 )
@@ -42,7 +43,8 @@ _WIDE = 100
 
 @dataclass(frozen=True)
 class Report:
-    """A report of a bench: `html` is one page, which needs nothing else, `text` the same as text."""
+    """A report of a bench: `html` is one page, which needs nothing else, `text` the same as
+    text."""
 
     title: str
     day: date
@@ -243,7 +245,8 @@ def _certificate(name: str, certificate: Certificate) -> str:
     link = f'<a download="{name}.txt" href="data:text/plain;base64,{data}">{name}.txt</a>'
     checksum = html.said(certificate.lines[-1])
     return (
-        f"<p>What shows the {name} is in this page, to be saved: {link}. A fresh program checks it by "
+        f"<p>What shows the {name} is in this page, to be saved: {link}. A fresh program checks"
+        " it by "
         f"<code>propdesk check {name}.txt</code>.</p>"
         f'<p class="small">Its last line is <code>{checksum}</code>.</p>'
     )

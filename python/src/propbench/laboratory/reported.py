@@ -1,4 +1,5 @@
-"""What a report tells, as data: laws, devices, readings, results, bars, conflicts, a certificate."""
+"""What a report tells, as data: laws, devices, readings, results, bars, conflicts, a
+certificate."""
 
 from collections.abc import Collection, Mapping, Sequence
 from dataclasses import dataclass
@@ -69,7 +70,8 @@ class TakenReading:
 
 @dataclass(frozen=True)
 class Stated:
-    """What was stated: laws with the premise that each is under, devices with their errors, readings."""
+    """What was stated: laws with the premise that each is under, devices with their errors,
+    readings."""
 
     laws: Sequence[tuple[str, str]]
     devices: Sequence[tuple[str, str]]

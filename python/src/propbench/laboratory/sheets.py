@@ -1,5 +1,5 @@
-"""Tables of readings as they come: a file of comma-separated values, a sheet of LibreOffice or Excel,
-rows, or a frame of pandas.
+"""Tables of readings as they come: a file of comma-separated values, a sheet of LibreOffice or
+Excel, rows, or a frame of pandas.
 
 Each becomes rows of cells under the columns that are known, with the number that a person finds the
 row by. What is wrong with a table is told by row and column, all of it at once.
@@ -58,8 +58,8 @@ class Problem:
 
 
 class BadTable(ValueError):
-    """A table of readings can't be read: `problems` has what is wrong, row by row. Nothing of it was
-    stated."""
+    """A table of readings can't be read: `problems` has what is wrong, row by row. Nothing of it
+    was stated."""
 
     def __init__(self, problems: Sequence[Problem]) -> None:
         self.problems = tuple(problems)
@@ -143,9 +143,9 @@ def _known() -> str:
 
 
 def rows_of_file(path: str | os.PathLike[str], decimal: str = ".") -> Sheet:
-    """The rows of a file of values with commas, semicolons or tabs between, or of the first table of
-    a spreadsheet; the head is row 1. Raises BadTable, OSError, NoSheetReader, and ValueError where
-    it is no such file."""
+    """The rows of a file of values with commas, semicolons or tabs between, or of the first table
+    of a spreadsheet; the head is row 1. Raises BadTable, OSError, NoSheetReader, and ValueError
+    where it is no such file."""
     lines: Sequence[Sequence[object]]
     if ending_of(os.fspath(path)) in ENDINGS:
         lines = _lines_of_sheet(os.fspath(path))

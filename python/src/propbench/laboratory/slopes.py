@@ -1,4 +1,5 @@
-"""Values of laws at a point in floating numbers, with their slopes: what an adjustment is made of."""
+"""Values of laws at a point in floating numbers, with their slopes: what an adjustment is made
+of."""
 
 from collections.abc import Callable, Mapping
 from dataclasses import dataclass

@@ -165,7 +165,8 @@ def _has_two_units(row: Row, quantity: Quantity) -> bool:
 
 
 def _told(row: Row, quantity: Quantity, error: ValueError) -> str:
-    """An error as a table tells it: what would do where a comma is meant, or a unit stands twice."""
+    """An error as a table tells it: what would do where a comma is meant, or a unit stands
+    twice."""
     if _has_two_units(row, quantity):
         return "the value has its unit with it: leave this cell empty"
     column = _at_fault(row, quantity)

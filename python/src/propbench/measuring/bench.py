@@ -92,7 +92,8 @@ class Measuring(Questions):
         """
         if low is None or high is None:
             raise ValueError(
-                f"{name!r} needs low= and high=: between these it lies for sure, however wide they are"
+                f"{name!r} needs low= and high=: between these it lies for sure, however wide"
+                " they are"
             )
         measure = measure_of(name, unit_of(unit), low, high, step)
         self._check_name(name)
@@ -364,8 +365,8 @@ class Measuring(Questions):
     # --- within ---
 
     def _sharpen(self, cells: Iterable[Declared], clock: Clock, parts: int = 0) -> None:
-        """Tells curves of functions by finer pieces where what is believed leaves the quantities that
-        these cells hang on, in so many parts too, as long as that narrows answers and there is
+        """Tells curves of functions by finer pieces where what is believed leaves the quantities
+        that these cells hang on, in so many parts too, as long as that narrows answers and there is
         time."""
         if not self._has_bends:
             return
@@ -572,7 +573,8 @@ class Measuring(Questions):
 
 
 class _Roots:
-    """Gives the quantities that stand for roots within terms: those that are known, and new ones."""
+    """Gives the quantities that stand for roots within terms: those that are known, and new
+    ones."""
 
     def __init__(self, bench: Measuring) -> None:
         made = (each for each in bench._network.events if isinstance(each, RootMade))

@@ -134,8 +134,8 @@ class Bend:
 
 @dataclass(frozen=True)
 class Lines:
-    """So many times what a value is above the least of a piece, less so many times what its argument
-    is above the first, lies between these."""
+    """So many times what a value is above the least of a piece, less so many times what its
+    argument is above the first, lies between these."""
 
     of_value: int
     of_argument: int

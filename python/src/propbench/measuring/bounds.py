@@ -69,7 +69,8 @@ class BoundsOf:
 
 
 def _without_value(real: Real, argument: Bounds, said: str) -> str:
-    """That a function has no value where its argument may be, with the names and numbers of both."""
+    """That a function has no value where its argument may be, with the names and numbers of
+    both."""
     [inner], table = real.args, real.applied.table
     points = "" if table is None else _between(inner, (table.points[0][0], table.points[-1][0]))
     between = _between(inner, argument)

@@ -31,7 +31,8 @@ _MOST_SCALE = Fraction(1, 2)
 
 
 class Role(Enum):
-    """What a cell is to a device. Its shift is the offset before the scale: offset / (1 + scale)."""
+    """What a cell is to a device. Its shift is the offset before the scale: offset / (1 +
+    scale)."""
 
     OFFSET = "offset"
     SCALE = "scale"

@@ -151,8 +151,9 @@ def curve(
     within: Exact | str = 0,
 ) -> Calibration:
     """A function by its points, as a curve of calibration: straight lines between them, from which
-    it is off by no more than `within`. An argument is in the unit `of`, a value in `unit`. A law that
-    is a text knows it by its name, where it is given: `w.law("t == probe(u)", curves=[probe])`.
+    it is off by no more than `within`. An argument is in the unit `of`, a value in `unit`. A law
+    that is a text knows it by its name, where it is given: `w.law("t == probe(u)",
+    curves=[probe])`.
 
     Raises ValueError where the points are too few, out of order, or two have one argument.
     """

@@ -60,8 +60,8 @@ def total(*numbers: Real | Iterable[Term]) -> Term:
 
 
 def total(*numbers: object) -> Number | Term:
-    """The sum of these numbers, or of these quantities and what is made of them, given one by one or
-    as one list."""
+    """The sum of these numbers, or of these quantities and what is made of them, given one by one
+    or as one list."""
     return _over(numbers, sum_of, expressions.total)
 
 

@@ -1,5 +1,5 @@
-"""How answers are made narrower than by one run: an end of a quantity is told, and where the program
-contradicts that, in cases that cover it, the end is taken off.
+"""How answers are made narrower than by one run: an end of a quantity is told, and where the
+program contradicts that, in cases that cover it, the end is taken off.
 """
 
 from collections.abc import Collection, Sequence

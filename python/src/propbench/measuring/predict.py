@@ -17,8 +17,8 @@ from propbench.showing import printable
 
 @dataclass(frozen=True)
 class Prediction:
-    """A further reading of a quantity has to show what lies in `shows`: what is left for the quantity
-    and the reading's tolerance around it. Any other is in conflict with `because`."""
+    """A further reading of a quantity has to show what lies in `shows`: what is left for the
+    quantity and the reading's tolerance around it. Any other is in conflict with `because`."""
 
     name: str
     tolerance: str

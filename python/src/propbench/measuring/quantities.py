@@ -104,7 +104,8 @@ def measure_between(
     if most > _MOST * counted:
         wanted = _usual_step(most / unit.factor)
         raise ValueError(
-            f"{name!r} has more steps than a cell can count: step={rounded(wanted, True):f} would do"
+            f"{name!r} has more steps than a cell can count: step={rounded(wanted, True):f} would"
+            " do"
         )
     while most * 10 <= (_FINEST if step is None else _FINE) * counted:
         counted /= 10
@@ -112,8 +113,8 @@ def measure_between(
 
 
 def countable(step: Fraction, unit: Unit, between: tuple[Fraction, Fraction]) -> Fraction:
-    """A step, or ten times as much so often that a cell can count what lies between two numbers in a
-    unit."""
+    """A step, or ten times as much so often that a cell can count what lies between two numbers in
+    a unit."""
     most = max(abs(end * unit.factor + unit.offset) for end in between)
     while most > _MOST * step * unit.factor:
         step *= 10

@@ -1,10 +1,11 @@
 """Readings as laboratories write them, as bounds in base units.
 
 `468.0 +- 1.2 ohm`, `470 ohm +- 5%` and `330..345 ohm` are bounds; what may stand behind `+-` is in
-`tolerances`. `468.0(47) ohm`, `468.0 ohm u=4.7`, `468.0 ohm U=9.4 k=2` and `468.0 ohm s=9.4 n=4` tell a standard
-uncertainty, which as a bound would convict a third of innocent readings: it is taken so many times
-as its coverage says. `12.5 kohm` holds half a unit of its last digit, and a number that is no text
-is exact. Behind a bound may stand how its reading is distributed: `468.0 +- 1.2 ohm triangular`.
+`tolerances`. `468.0(47) ohm`, `468.0 ohm u=4.7`, `468.0 ohm U=9.4 k=2` and `468.0 ohm s=9.4 n=4`
+tell a standard uncertainty, which as a bound would convict a third of innocent readings: it is
+taken so many times as its coverage says. `12.5 kohm` holds half a unit of its last digit, and a
+number that is no text is exact. Behind a bound may stand how its reading is distributed: `468.0 +-
+1.2 ohm triangular`.
 """
 
 import re
@@ -179,7 +180,8 @@ def _with_tolerance(text: str, sign: str, unit: Unit, coverage: Fraction | None)
 
 
 def _in_unit(amount: Amount, parts: Sequence[Part], outer: str, text: str) -> Amount:
-    """A value whose unit, which is that of its tolerance too, stands behind the brackets of both."""
+    """A value whose unit, which is that of its tolerance too, stands behind the brackets of
+    both."""
     inner = [name for part in parts for name in part.units]
     if amount.unit or inner:
         raise NoReading(f"{short(text)!r} has a unit within the brackets and one behind them")

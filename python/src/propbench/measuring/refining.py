@@ -31,8 +31,8 @@ Told = dict[Place, Piece | None]
 
 @dataclass(frozen=True)
 class Sharp:
-    """That no finer pieces are needed of curves among some cells, for so many parts, as long as what
-    is stated and believed is this."""
+    """That no finer pieces are needed of curves among some cells, for so many parts, as long as
+    what is stated and believed is this."""
 
     record: object
     cells: frozenset[Declared]
@@ -102,8 +102,9 @@ def _ends(bend: Bend, argument: Numbers, value: Numbers) -> list[int]:
 
 
 def _at_ends(bend: Bend, ends: Iterable[int], told: Told, near: int) -> Iterator[Place]:
-    """Finer pieces at some numbers of the argument's cell, where lines aren't near yet: each with the
-    one beside it that is nearer, since a piece tells nothing of what lies just within its end."""
+    """Finer pieces at some numbers of the argument's cell, where lines aren't near yet: each with
+    the one beside it that is nearer, since a piece tells nothing of what lies just within its
+    end."""
     if isinstance(bend.curve, Segments):
         return
     low, high = bend.whole

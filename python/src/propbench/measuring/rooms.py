@@ -18,8 +18,8 @@ from propbench.questions.trial import Seen, Trial
 @dataclass(frozen=True)
 class Room:
     """How far the two sides of a law may be apart before that is seen: by a `share` of the largest
-    that its terms may be. `widths` has how wide each quantity's answer is where the others are known
-    exactly; without the room it would be a single number."""
+    that its terms may be. `widths` has how wide each quantity's answer is where the others are
+    known exactly; without the room it would be a single number."""
 
     law: str
     share: Fraction

@@ -1,5 +1,5 @@
-"""Which reading to improve: how wide a quantity's answer is where each tolerance is halved, and where
-the reading is left out.
+"""Which reading to improve: how wide a quantity's answer is where each tolerance is halved, and
+where the reading is left out.
 """
 
 from collections.abc import Mapping, Sequence
@@ -32,8 +32,8 @@ class Improvement:
 
 
 class Improvements(Shown, list[Improvement]):
-    """What each reading is worth to a quantity, whose answer now is `now`: that in front whose better
-    tolerance makes the answer narrowest."""
+    """What each reading is worth to a quantity, whose answer now is `now`: that in front whose
+    better tolerance makes the answer narrowest."""
 
     _certificate: Certificate | None = None
 

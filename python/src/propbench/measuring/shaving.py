@@ -29,7 +29,8 @@ class Shaved(MeasuredAnswer):
 
     @property
     def certificate(self) -> Certificate:
-        """What anyone can ask the program again. Raises ValueError where there is nothing to show."""
+        """What anyone can ask the program again. Raises ValueError where there is nothing to
+        show."""
         if self._certificate is None:
             raise ValueError("there is nothing that a certificate could show")
         return self._certificate.finished()

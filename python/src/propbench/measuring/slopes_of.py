@@ -1,4 +1,5 @@
-"""Functions at a point in floating numbers, with their slopes: for estimates, which prove nothing."""
+"""Functions at a point in floating numbers, with their slopes: for estimates, which prove
+nothing."""
 
 import math
 from collections.abc import Callable

@@ -64,8 +64,8 @@ class RootMade(CellMade):
 
 @dataclass(frozen=True)
 class Defined:
-    """What a law needs beside it: the laws and the curves that say what the roots and functions in it
-    are."""
+    """What a law needs beside it: the laws and the curves that say what the roots and functions in
+    it are."""
 
     laws: list[Stated]
     bends: list[Bend]

@@ -1,7 +1,7 @@
 """Laws over real numbers as constraints over whole ones, so that no real solution is lost.
 
-Each operation makes parts of parts (`parts`), and a law asks that the sum of its parts is no farther
-from zero than all radii together. python/REALS.md has the proof of each rule.
+Each operation makes parts of parts (`parts`), and a law asks that the sum of its parts is no
+farther from zero than all radii together. python/REALS.md has the proof of each rule.
 """
 
 from collections.abc import Callable
@@ -32,7 +32,8 @@ from propbench.model.nodes import Node, cell, number
 # A part that has more steps than this may be made coarser in a sum; a quotient has as many as make
 # its radius this.
 _FINE, _SMALL = 10**9, 30
-# A part of a sum may be made coarser by ten whose steps are so small a part of how far another is off.
+# A part of a sum may be made coarser by ten whose steps are so small a part of how far another is
+# off.
 _FINER = 50
 # A radius grows with a number that may be so many times as large as it is at least.
 _WIDE = 16

@@ -1,9 +1,9 @@
-"""Temperatures in units with a zero of their own, as degC, and levels, as dBm: what is one, and what
-is a difference.
+"""Temperatures in units with a zero of their own, as degC, and levels, as dBm: what is one, and
+what is a difference.
 
-In a law all temperatures are in kelvin, and levels above 1 W or 1 V. So `inside - outside` is a difference in kelvin, and to
-compare it with `5 degC`, which is 278.15 K, or to add `5 degC` to a temperature, is no law that
-anyone means. A temperature in K may be either.
+In a law all temperatures are in kelvin, and levels above 1 W or 1 V. So `inside - outside` is a
+difference in kelvin, and to compare it with `5 degC`, which is 278.15 K, or to add `5 degC` to a
+temperature, is no law that anyone means. A temperature in K may be either.
 """
 
 from collections.abc import Sequence
@@ -17,8 +17,8 @@ Zeros = int | None
 
 
 def check_zeros(law: Law) -> None:
-    """Raises MixedUnits where temperatures, or levels, are compared with differences of them, or with
-    sums."""
+    """Raises MixedUnits where temperatures, or levels, are compared with differences of them, or
+    with sums."""
     sides = [law.left, law.right]
     _alike(sides, [_zeros(side) for side in sides])
 

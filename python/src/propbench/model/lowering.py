@@ -2,8 +2,8 @@
 
 What is stated by sums, differences and the greatest of some gives bounds: a number is no less than
 others and a number more. They are raised from the lowest until all hold. What is stated otherwise
-keeps the numbers in it as they are. Whether all holds at the numbers that come of it has to be looked
-at once more.
+keeps the numbers in it as they are. Whether all holds at the numbers that come of it has to be
+looked at once more.
 """
 
 from collections.abc import Iterable, Sequence
@@ -54,7 +54,8 @@ class Way:
 
 @dataclass(frozen=True)
 class Shape:
-    """Bounds that a constraint gives, and ways of which one has to be taken, where there are some."""
+    """Bounds that a constraint gives, and ways of which one has to be taken, where there are
+    some."""
 
     bounds: tuple[Bound, ...] = ()
     ways: tuple[Way, ...] = ()

@@ -141,8 +141,8 @@ class BenchModel:
     def lowered(
         self, plan: Mapping[str, Point], believed: Sequence[str], kept: Sequence[str]
     ) -> dict[str, Point]:
-        """The plan with numbers as low as they can be in the alternatives that it takes, but for the
-        cells that are kept; it is to be looked at whether all holds there."""
+        """The plan with numbers as low as they can be in the alternatives that it takes, but for
+        the cells that are kept; it is to be looked at whether all holds there."""
         cells, holding = self._network.cells, {None, *believed}
         events = [each for each in self._network.events if each.premise in holding]
         found = lowered(events, self._points(plan), [cells[name] for name in kept])

@@ -113,7 +113,8 @@ def _named(line: str) -> tuple[bool, str]:
     name = " ".join(words[1:] if is_new else words) or "session"
     if not name.isidentifier():
         raise ValueError(
-            f"behind %%propbench stands the name of a variable, before it maybe {_NEW}, not {name!r}"
+            f"behind %%propbench stands the name of a variable, before it maybe {_NEW}, not"
+            f" {name!r}"
         )
     return is_new, name
 

@@ -37,9 +37,9 @@ _HEAD = (
 
 @dataclass(frozen=True)
 class Look:
-    """How a picture is drawn: what is `lit` (what bears on a cell), which cells are `changed`, which
-    use is `called`, whether all that isn't lit is left out, and how wide cells are at least, in
-    letters."""
+    """How a picture is drawn: what is `lit` (what bears on a cell), which cells are `changed`,
+    which use is `called`, whether all that isn't lit is left out, and how wide cells are at least,
+    in letters."""
 
     lit: Bearing | None = None
     changed: frozenset[str] = frozenset()
@@ -127,7 +127,8 @@ class _Drawn:
             sides = [
                 f"{'* ' if at == stands else ''}{side}" for at, side in enumerate(choice.sides)
             ]
-            yield f'h{place} [{_label(choice.text, *sides)}, shape=note, style=filled, fillcolor="#e8f3e8"]'
+            label = _label(choice.text, *sides)
+            yield f'h{place} [{label}, shape=note, style=filled, fillcolor="#e8f3e8"]'
             yield from self._dashes(f"h{place}", choice.cells, False)
 
     def _cell(self, name: str, text: str) -> str:
@@ -156,7 +157,8 @@ class _Drawn:
             return
         edges: list[str] = []
         yield f"subgraph cluster_{own} {{"
-        yield f'  {_label(_told(use))}; labeljust=l; color="#b8c4d0"; style="rounded,filled"; fillcolor="#f8fafc"'
+        look = 'color="#b8c4d0"; style="rounded,filled"; fillcolor="#f8fafc"'
+        yield f"  {_label(_told(use))}; labeljust=l; {look}"
         for cell in use.locals:
             yield f"  {self._cell(cell.name, cell.text)}"
         for part in use.parts:

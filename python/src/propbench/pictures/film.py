@@ -1,4 +1,5 @@
-"""A film: the steps of a run as a strip of small pictures, or as a table where there are many cells."""
+"""A film: the steps of a run as a strip of small pictures, or as a table where there are many
+cells."""
 
 from collections.abc import Sequence
 from html import escape

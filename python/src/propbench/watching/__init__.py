@@ -123,7 +123,8 @@ class Watched(Protocol):
 
 
 def bears(watched: Watched, seen: Seen, shown: Shown) -> Bearing:
-    """What bears on what is seen of a cell: as the program tells it, or else as it is worked out."""
+    """What bears on what is seen of a cell: as the program tells it, or else as it is worked
+    out."""
     try:
         claim = watched.how(shown.cell)
     except UnknownCommand:

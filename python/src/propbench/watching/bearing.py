@@ -73,8 +73,8 @@ def _counts(use: Use, premises: frozenset[str]) -> bool:
 
 
 def _barred(seen: Seen, shown: Shown) -> set[str]:
-    """The cells of which nothing is known, or whose value has reasons beyond these. What the program
-    says nothing of, as the cells within a compound, is not barred."""
+    """The cells of which nothing is known, or whose value has reasons beyond these. What the
+    program says nothing of, as the cells within a compound, is not barred."""
     reasons = set(shown.because)
     return {
         name

@@ -33,7 +33,8 @@ _MOST_MENDS = 30
 
 
 class SessionWatched:
-    """A session of the language. Its lines may be sent by others too, between what is asked here."""
+    """A session of the language. Its lines may be sent by others too, between what is asked
+    here."""
 
     is_workbench = False
 

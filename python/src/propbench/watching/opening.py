@@ -17,8 +17,9 @@ from propbench.workbench import Workbench
 def opened(
     path: str, way: Way, program: str | None = None, instead: Sequence[str] | None = None
 ) -> Iterator[Watched]:
-    """What a file states, or what these lines state instead. Raises OSError, as a Session does, and the refusal of its first line that
-    is refused; for a workbench's file ValueError where its lines were changed."""
+    """What a file states, or what these lines state instead. Raises OSError, as a Session does, and
+    the refusal of its first line that is refused; for a workbench's file ValueError where its lines
+    were changed."""
     lines = lines_of(path) if instead is None else list(instead)
     if lines[:1] == [SAVED]:
         with _loaded(path if instead is None else "-", lines, program) as workbench:
