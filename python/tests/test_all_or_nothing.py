@@ -32,7 +32,7 @@ class Front:
         w.tell("out", self.x, 3, 8)
         w.kick("out")
         self.q, self.r = (w.measured(name, "m", 1, 100, 1) for name in "qr")
-        self.p = w.plan(days=20, people="ana ben")
+        self.p = w.project(days=20, people="ana ben")
         self.a = self.p.task("a", 2, who="ana", cost=3)
         self.p.task("b", 3, who="ben", after=[self.a])
         self.p.away("ana", 1, 4, under="ill")

@@ -12,6 +12,7 @@
 
 from __future__ import annotations
 
+import warnings
 from collections.abc import Iterable, Iterator, Mapping, Sequence
 from datetime import date
 from typing import TYPE_CHECKING
@@ -26,7 +27,7 @@ from propbench.measuring.terms import Law
 from propbench.model.answers import Answer
 from propbench.model.cells import Cell
 from propbench.model.expressions import Truth
-from propbench.model.given import Given, given_of
+from propbench.model.given import GivenValue, given_of
 from propbench.model.nodes import Declared, Node
 from propbench.model.seam import BenchModel
 from propbench.plain import PlainWorkbench
@@ -217,18 +218,21 @@ class Workbench(PlainWorkbench, Laboratory):
         off: str | date | Iterable[str | date] = (),
         skills: Mapping[str, str | Sequence[str]] | None = None,
     ) -> Project:
-        """The same as `project`, by its older name, which stays until 2.0. (`plans` are others.)
+        """The same as `project`, by its older name, which stays until 2.0 and warns. (`plans` are
+        others.)
 
         >>> w = Workbench()
         >>> p = w.plan(days=30)
         >>> p.task("venue", 3).days.ask().value
         3
         """
+        said = "`w.plan` is called `w.project`: the older name goes with 2.0"
+        warnings.warn(said, DeprecationWarning, stacklevel=2)
         return self.project(days=days, people=people, start=start, off=off, skills=skills)
 
     # --- within ---
 
-    def _tell(self, premise: str | None, cell: Cell, value: Given, high: object) -> None:
+    def _tell(self, premise: str | None, cell: Cell, value: GivenValue, high: object) -> None:
         if not isinstance(cell, Quantity):
             return super()._tell(premise, cell, value, high)
         own = self._own(cell)

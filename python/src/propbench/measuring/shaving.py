@@ -1,10 +1,10 @@
 """What follows for a quantity, as narrow as telling and forgetting makes it."""
 
-from collections.abc import Sequence
+from collections.abc import Mapping, Sequence
 from dataclasses import dataclass
 from typing import Protocol
 
-from propbench.measuring.narrowing import Impossible, Narrowing
+from propbench.measuring.narrowing import CantAllHold, Narrowing
 from propbench.measuring.quantities import MeasuredAnswer, Quantity, measured
 from propbench.model.answers import Answer
 from propbench.model.nodes import Declared
@@ -36,7 +36,7 @@ class Shaved(MeasuredAnswer):
         return self._certificate.finished()
 
 
-class Bench(Protocol):
+class ShavedBench(Protocol):
     """What is asked of a workbench."""
 
     @property
@@ -62,7 +62,7 @@ class Bench(Protocol):
 
 
 def find_shaved(
-    bench: Bench, quantity: Quantity, seconds: float | None, progress: Progress | None
+    bench: ShavedBench, quantity: Quantity, seconds: float | None, progress: Progress | None
 ) -> Shaved:
     """The narrowest that is found for a quantity."""
     model, name = bench.model, quantity.name
@@ -90,21 +90,31 @@ def find_shaved(
         room, begun = state["room"], state["begun"]
         because = [each for each in believed if trial.line[each] in narrowing.names]
         told = bench._told(quantity, room, because)
-        claims, evidence = [], Evidence.of(trial)
         line = trial.cell_line[name]
-        for outside in (Numbers(-MOST, room.low - 1), Numbers(room.high + 1, MOST)):
-            cases = _cases(outside, begun, slices)
-            evidence.add_tree(believed, [[line, str(outside)]], Fork(line, tuple(cases)))
-            given = evidence.lines_of(believed)
-            claims.append(("fails", {"given": given, "told": [[line, str(outside)]]}))
-        certificate = evidence.certificate(claims)
+        sides = {
+            str(outside): Fork(line, tuple(_cases(outside, begun, slices)))
+            for outside in (Numbers(-MOST, room.low - 1), Numbers(room.high + 1, MOST))
+        }
+        certificate = _shown_to_fail(trial, believed, line, sides)
         return Shaved(**vars(told), complete=not clock.is_over(), _certificate=certificate)
 
     try:
         return tried(trial, run, result)
-    except Impossible as impossible:
+    except CantAllHold as impossible:
         names = [each for each in believed if trial.line[each] in impossible.names]
         raise bench._conflict_of(names, clock.seconds_left()) from None
+
+
+def _shown_to_fail(
+    trial: Trial, believed: Sequence[str], line: str, sides: Mapping[str, Fork]
+) -> Certificate:
+    """What shows that the cell of a line has none of these values, each in its cases."""
+    claims, evidence = [], Evidence.of(trial)
+    for text, fork in sides.items():
+        evidence.add_tree(believed, [[line, text]], fork)
+        given = evidence.lines_of(believed)
+        claims.append(("fails", {"given": given, "told": [[line, text]]}))
+    return evidence.certificate(claims)
 
 
 def _cases(
