@@ -23,7 +23,7 @@ from propbench.files import OpenedFile
 from propbench.journal import Journal, left
 from propbench.page.asking import Asking
 from propbench.shell import Shell
-from propbench.watching import Seen, Watched
+from propbench.watching import SeenNow, Watched
 
 # So many seconds something is waited for, far longer than it takes on a busy machine.
 PATIENCE = 300
@@ -370,10 +370,10 @@ def test_a_change_is_kept_before_it_is_looked_what_follows(
     def change(asking: Asking) -> None:
         kept: list[bool] = []
 
-        def look() -> Seen:
+        def look() -> SeenNow:
             [path] = state.iterdir()
             kept.append(path.read_text().endswith("kick ana\n"))
-            return Seen()
+            return SeenNow()
 
         asking.do({"what": "look"})
         if not asking.state()["workbench"]:

@@ -19,7 +19,7 @@ from conftest import ENDLESS, REPOSITORY, Bare
 
 from propbench import Session, Workbench, find_program
 from propbench.page import Page
-from propbench.running import Way
+from propbench.running import RunAs
 from propbench.watching.of_session import SessionWatched
 from propbench.watching.of_workbench import WorkbenchWatched
 from propbench.watching.opening import opened
@@ -43,7 +43,7 @@ def browser() -> Iterator[Any]:
 def example(program: str, tmp_path: Path, browser: Any) -> Iterator[Shown]:
     """The example of the building's height, opened from a file."""
     path = shutil.copy(EXAMPLES / "measuring/premises.prop", tmp_path)
-    with opened(path, Way(), program) as watched:
+    with opened(path, RunAs(), program) as watched:
         with shown(browser, Page(watched, "premises.prop", path=path)) as page:
             yield page
 
@@ -221,7 +221,7 @@ def test_reload_save_replay(program: str, bare: Bare, tmp_path: Path, browser: A
     path = tmp_path / "premises.prop"
     shutil.copy(EXAMPLES / "measuring/premises.prop", path)
     before = path.read_text()
-    with opened(str(path), Way(), program) as watched:
+    with opened(str(path), RunAs(), program) as watched:
         with shown(browser, Page(watched, path.name, path=str(path))) as page:
             page.switch("fall")
             page.until(lambda: page.values["height"] == "44514..48977")
@@ -543,7 +543,7 @@ def test_save_where_another_has_changed_it(program: str, tmp_path: Path, browser
     path = tmp_path / "premises.prop"
     shutil.copy(EXAMPLES / "measuring/premises.prop", path)
     mine, others = path.read_text() + "kick fall\n", "# of somebody else\n"
-    with opened(str(path), Way(), program) as watched:
+    with opened(str(path), RunAs(), program) as watched:
         with shown(browser, Page(watched, path.name, path=str(path))) as page:
             page.switch("fall")
             page.one("#plain summary").click()
@@ -560,7 +560,7 @@ def test_save_where_another_has_changed_it(program: str, tmp_path: Path, browser
             page.until(lambda: page.text("status") == f"Saved to {tmp_path / 'mine.prop'}.")
             assert (tmp_path / "mine.prop").read_text() == mine and path.read_text() == others
             assert not page.one("#save-form").is_displayed()
-    with opened(str(path), Way(), program) as watched:
+    with opened(str(path), RunAs(), program) as watched:
         with shown(browser, Page(watched, path.name, path=str(path))) as page:
             page.one("#plain summary").click()
             path.write_text(mine)

@@ -16,7 +16,7 @@ if TYPE_CHECKING:
     from decimal import Decimal
 
     from propbench.journal import Journal
-    from propbench.running import Way
+    from propbench.running import RunAs
     from propbench.watching import Watched
 
 # What a schedule is written as, by the endings of files.
@@ -398,10 +398,10 @@ def _planned(options: argparse.Namespace) -> int:
 def _measured(options: argparse.Namespace) -> int:
     from pathlib import Path
 
-    from propbench.laboratory.command import Asked, Tables, measure_files
+    from propbench.laboratory.command import MeasureAsked, Tables, measure_files
     from propbench.spreadsheets import NoSheetReader
 
-    asked = Asked(
+    asked = MeasureAsked(
         Path(options.file),
         list(map(Path, options.readings)),
         Tables(options.decimal, options.under, options.coverage),
@@ -436,7 +436,7 @@ def _told_minizinc(options: argparse.Namespace) -> int:
 
 
 def _done(options: argparse.Namespace) -> int:
-    from propbench.running import Way, run_as_json, run_file
+    from propbench.running import RunAs, run_as_json, run_file
 
     if options.command == "minizinc":
         return _told_minizinc(options)
@@ -451,17 +451,17 @@ def _done(options: argparse.Namespace) -> int:
     begin = {"order": options.order, "seed": options.seed, "limit": options.limit}
     if options.command in ("page", "draw"):
         if options.command == "page":
-            return _page(options, Way(**begin))
+            return _page(options, RunAs(**begin))
         from propbench.watching.opening import opened
 
-        with opened(options.file, Way(**begin), options.program) as watched:
+        with opened(options.file, RunAs(**begin), options.program) as watched:
             return _draw(watched, options.file, options.cell, options.out)
     if options.command == "shell":
         from propbench.shell import run_shell
 
-        with Way(**begin).session(options.program, _lines(options.file)) as session:
+        with RunAs(**begin).session(options.program, _lines(options.file)) as session:
             return run_shell(session, options.file, _journal(options, options.file or ""))
-    way = Way(options.keep_going, options.seconds, **begin)
+    way = RunAs(options.keep_going, options.seconds, **begin)
     run = run_as_json if options.json else run_file
     return run(options.file, options.program, way)
 
@@ -487,7 +487,7 @@ def _journal(
     return None if options.no_journal else Journal(options.command, file, checksum)
 
 
-def _page(options: argparse.Namespace, way: "Way") -> int:
+def _page(options: argparse.Namespace, way: "RunAs") -> int:
     from propbench.files import OpenedFile
     from propbench.journal import left
     from propbench.page import serve

@@ -7,7 +7,7 @@ says (`venue: days = 2`), and not as `venue=1`.
 from collections.abc import Sequence
 from dataclasses import dataclass
 
-from propbench.listing import Told, told_by
+from propbench.listing import ToldLines, told_by
 from propbench.refusals import Refused
 from propbench.replies import Contradiction, Reply, Value, Worldview
 from propbench.runs import RunProgress, is_settled
@@ -31,7 +31,7 @@ class Overview:
     conflict: tuple[str, ...] | None
     values: tuple[Value, ...]
     plan: tuple[str, ...]
-    told: Told
+    told: ToldLines
     proved: bool
     steps: int | None = None
 

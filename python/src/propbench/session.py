@@ -36,7 +36,7 @@ from propbench.words import MOST_STEPS, as_line, is_silent
 _GRACE = 3.0
 # (within the class `list` is what it does)
 Texts = list[str]
-Replies = list[Reply]
+ReplyList = list[Reply]
 Outcomes = list[Reply | Refused]
 # With what most questions begin, and with what those for points do.
 _QUESTIONS = frozenset(("ask ", "why "))
@@ -283,7 +283,7 @@ class Session(Closing):
             turn.lock.release()
 
     @overload
-    def send_all(self, lines: Iterable[str | bytes], *, until: float | None = None) -> Replies:
+    def send_all(self, lines: Iterable[str | bytes], *, until: float | None = None) -> ReplyList:
         ...
 
     @overload
@@ -302,7 +302,7 @@ class Session(Closing):
         *,
         keep_refused: bool = False,
         until: float | None = None,
-    ) -> Replies | Outcomes:
+    ) -> ReplyList | Outcomes:
         """Sends lines without waiting for the replies in between, and gives the reply to each.
 
         All lines are carried out but those that are refused. The first of these is raised in the

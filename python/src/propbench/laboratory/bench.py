@@ -6,8 +6,8 @@ from collections.abc import Iterable, Sequence
 
 from propbench.given import path_given
 from propbench.laboratory.results import Results, results_of
-from propbench.laboratory.sheets import Sheet, rows_of, rows_of_file
-from propbench.laboratory.tabled import Known, readings_in, together_of
+from propbench.laboratory.sheets import ReadingSheet, rows_of, rows_of_file
+from propbench.laboratory.tabled import KnownNames, readings_in, together_of
 from propbench.measuring.bench import Measuring
 from propbench.measuring.devices import DevicePart, ShownMade
 from propbench.measuring.elementary import Calibration
@@ -159,7 +159,7 @@ class Laboratory(Measuring):
         self._network.whole(state)
         return len(laws)
 
-    def _read_rows(self, sheet: Sheet, under: str | None, coverage: Exact) -> int:
+    def _read_rows(self, sheet: ReadingSheet, under: str | None, coverage: Exact) -> int:
         premises = self._network.premises
         of = {each.cell: each.of for each in self._network.events if isinstance(each, ShownMade)}
         stated = {
@@ -167,7 +167,7 @@ class Laboratory(Measuring):
             for name in premises.believed
         }
         made = {each.name: each for each in self.quantities}
-        known = Known(made, dict(self.devices), stated, premises.choices)
+        known = KnownNames(made, dict(self.devices), stated, premises.choices)
         readings = readings_in(sheet, known, together_of(under), coverage)
 
         def state() -> None:

@@ -22,16 +22,16 @@ from propbench.measuring.outliers import Outliers, find_outliers
 from propbench.measuring.polynomials import Polynomial
 from propbench.measuring.predict import Prediction, expected, predicted
 from propbench.measuring.quantities import MeasuredAnswer, Quantity, measure_of, measured
-from propbench.measuring.readings import COVERAGE, Given, reading_of
+from propbench.measuring.readings import COVERAGE, GivenReading, reading_of
 from propbench.measuring.refining import SHAVED, Sharp, Sharpening
-from propbench.measuring.rooms import Room, find_room
+from propbench.measuring.rooms import GapSeen, find_room
 from propbench.measuring.sensitivity import Improvements, find_improvements
 from propbench.measuring.shaving import Shaved, find_shaved
 from propbench.measuring.stating import (
     BendTold,
     LawTold,
     RootMade,
-    Stated,
+    StatedLaw,
     declared,
     quantities_in,
     read,
@@ -198,7 +198,7 @@ class Measuring(Questions):
         self,
         premise: str,
         quantity: Quantity,
-        reading: Given | list[Given],
+        reading: GivenReading | list[GivenReading],
         *,
         coverage: Exact = COVERAGE,
         by: Device | None = None,
@@ -345,7 +345,7 @@ class Measuring(Questions):
         left = self.shave(quantity, seconds=seconds, progress=progress)
         return predicted(quantity, left, by)
 
-    def room(self, law: Law) -> Room:
+    def room(self, law: Law) -> GapSeen:
         """What a law that was stated costs in width, since whole numbers stand for the reals.
 
         Raises ValueError for a law that was not stated.
@@ -556,7 +556,9 @@ class Measuring(Questions):
             self._network.do(*roots.events, *corrections)
         return known[cell]
 
-    def _corrections(self, device: Device, laws: Iterable[Stated], roots: "_Roots") -> list[Event]:
+    def _corrections(
+        self, device: Device, laws: Iterable[StatedLaw], roots: "_Roots"
+    ) -> list[Event]:
         """What follows from laws that always hold for what a device shows."""
         shows = shown_in(self._network.events).get(device.name, {})
         found: list[Event] = []
@@ -567,7 +569,7 @@ class Measuring(Questions):
                     found += told_if_possible(law, roots)
         return found
 
-    def _laws(self) -> list[Stated]:
+    def _laws(self) -> list[StatedLaw]:
         """The laws, as they are told, in the order in which they were stated."""
         return [each.stated for each in self._network.events if isinstance(each, LawTold)]
 

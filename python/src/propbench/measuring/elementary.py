@@ -6,11 +6,11 @@ from fractions import Fraction
 
 from propbench.measuring.bounds import BoundsOf
 from propbench.measuring.exact import Exact, exact_of, number_in
-from propbench.measuring.shapes import DEGREES, Function, Name, Table, Undefined
+from propbench.measuring.shapes import DEGREES, Function, FunctionName, CurveTable, Undefined
 from propbench.measuring.terms import (
     Made,
     Real,
-    Sort,
+    RealSort,
     Term,
     constant,
     function_of,
@@ -22,58 +22,58 @@ from propbench.measuring.units import BARE, MixedUnits, UnknownUnit, dimension_t
 # A term, or a constant as a text or a number.
 Given = Term | Exact | str
 
-pi = Made(Real(Sort.PI, (), BARE))
+pi = Made(Real(RealSort.PI, (), BARE))
 
 
 def exp(term: Given) -> Term:
     """e to the power of a bare number."""
-    return _of(Name.EXP, term)
+    return _of(FunctionName.EXP, term)
 
 
 def ln(term: Given) -> Term:
     """The natural logarithm of a bare number, which is more than 0."""
-    return _of(Name.LN, term)
+    return _of(FunctionName.LN, term)
 
 
 def exp10(term: Given) -> Term:
     """10 to the power of a bare number."""
-    return _of(Name.EXP10, term)
+    return _of(FunctionName.EXP10, term)
 
 
 def log10(term: Given) -> Term:
     """The logarithm to the base of 10 of a bare number, which is more than 0."""
-    return _of(Name.LOG10, term)
+    return _of(FunctionName.LOG10, term)
 
 
 def sin(angle: Given) -> Term:
     """The sine of an angle, in degrees or in radians."""
-    return _of_angle(Name.SIN, angle)
+    return _of_angle(FunctionName.SIN, angle)
 
 
 def cos(angle: Given) -> Term:
     """The cosine of an angle, in degrees or in radians."""
-    return _of_angle(Name.COS, angle)
+    return _of_angle(FunctionName.COS, angle)
 
 
 def tan(angle: Given) -> Term:
     """The tangent of an angle, in degrees or in radians, between two of its poles."""
-    return _of_angle(Name.TAN, angle)
+    return _of_angle(FunctionName.TAN, angle)
 
 
 def asin(term: Given) -> Term:
     """The angle from -pi/2 to pi/2, in radians, whose sine this is; `degrees(asin(..))` has it in
     degrees."""
-    return _of(Name.ASIN, term)
+    return _of(FunctionName.ASIN, term)
 
 
 def acos(term: Given) -> Term:
     """The angle from 0 to pi, in radians, whose cosine this is."""
-    return _of(Name.ACOS, term)
+    return _of(FunctionName.ACOS, term)
 
 
 def atan(term: Given) -> Term:
     """The angle between -pi/2 and pi/2, in radians, whose tangent this is."""
-    return _of(Name.ATAN, term)
+    return _of(FunctionName.ATAN, term)
 
 
 def degrees(angle: Given) -> Term:
@@ -131,7 +131,7 @@ def atan2(above: Given, beside: Given) -> Term:
 class Calibration:
     """A curve of calibration, which gives a term for a term."""
 
-    table: Table
+    table: CurveTable
 
     @property
     def name(self) -> str:
@@ -139,7 +139,7 @@ class Calibration:
         return self.table.name
 
     def __call__(self, term: Given) -> Term:
-        return Made(function_of(Function(Name.TABLE, table=self.table), real_of(term)))
+        return Made(function_of(Function(FunctionName.TABLE, table=self.table), real_of(term)))
 
 
 def curve(
@@ -170,7 +170,7 @@ def curve(
     off = _exact(within) * value.factor
     if off < 0:
         raise ValueError(f"the curve {name!r} is off by 0 or more, and not by {within}")
-    return Calibration(Table(name, tuple(made), off, argument.dimension, value.dimension))
+    return Calibration(CurveTable(name, tuple(made), off, argument.dimension, value.dimension))
 
 
 def level(term: Given) -> Term:
@@ -227,16 +227,16 @@ def _exact(given: Exact | str) -> Fraction:
 
 def _is_of_angles(real: Real, in_degrees: bool) -> bool:
     """Whether a term is an arcsine or the like that gives an angle in this."""
-    names = (Name.ASIN, Name.ACOS, Name.ATAN)
-    is_function = real.sort is Sort.FUNCTION and real.applied.name in names
+    names = (FunctionName.ASIN, FunctionName.ACOS, FunctionName.ATAN)
+    is_function = real.sort is RealSort.FUNCTION and real.applied.name in names
     return is_function and real.applied.in_degrees is in_degrees
 
 
-def _of(name: Name, term: Given) -> Term:
+def _of(name: FunctionName, term: Given) -> Term:
     return Made(function_of(Function(name), real_of(term)))
 
 
-def _of_angle(name: Name, angle: Given) -> Term:
+def _of_angle(name: FunctionName, angle: Given) -> Term:
     real = real_of(angle)
     return Made(function_of(Function(name, in_degrees=real.dimension == DEGREES), real))
 

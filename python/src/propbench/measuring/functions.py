@@ -5,7 +5,7 @@ from functools import partial
 from typing import overload
 
 from propbench.measuring.exact import Exact
-from propbench.measuring.terms import Sort, Term, extreme, mean, sum_of
+from propbench.measuring.terms import RealSort, Term, extreme, mean, sum_of
 from propbench.model import expressions
 from propbench.model.expressions import Number
 
@@ -28,7 +28,7 @@ def maximum(*numbers: Real | Iterable[Term]) -> Term:
 def maximum(*numbers: object) -> Number | Term:
     """The greatest of these numbers, or of these quantities and what is made of them, given one by
     one or as one list."""
-    return _over(numbers, partial(extreme, Sort.GREATEST), expressions.maximum)
+    return _over(numbers, partial(extreme, RealSort.GREATEST), expressions.maximum)
 
 
 # (of nothing but numbers both fit: the first is meant)
@@ -45,7 +45,7 @@ def minimum(*numbers: Real | Iterable[Term]) -> Term:
 def minimum(*numbers: object) -> Number | Term:
     """The least of these numbers, or of these quantities and what is made of them, given one by one
     or as one list."""
-    return _over(numbers, partial(extreme, Sort.LEAST), expressions.minimum)
+    return _over(numbers, partial(extreme, RealSort.LEAST), expressions.minimum)
 
 
 # (of nothing but numbers both fit: the first is meant)

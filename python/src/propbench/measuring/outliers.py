@@ -5,7 +5,7 @@ from dataclasses import dataclass
 from decimal import Decimal
 from fractions import Fraction
 
-from propbench.measuring.narrowing import Impossible, Narrowing
+from propbench.measuring.narrowing import CantAllHold, Narrowing
 from propbench.model.events import Read
 from propbench.model.measures import Interval, Measure, rounded
 from propbench.questions.asking import tried
@@ -132,7 +132,7 @@ class Weeding:
             if not is_out:
                 return None
             named = narrowing.names
-        except Impossible as impossible:
+        except CantAllHold as impossible:
             named = set(impossible.names)
         lines = [self.trial.line[name] in named for name in self.names]
         return sum(1 << place for place, is_in in enumerate(lines) if is_in) & mask, tree

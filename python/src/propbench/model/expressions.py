@@ -337,16 +337,16 @@ def implies(condition: "Truth | bool", consequence: "Truth | bool") -> Truth:
     return Truth(_folded(Op.IMPLIES, (first, second)))
 
 
-Some = TypeVar("Some", Number, Truth, Element, Symbol)
+_Kind = TypeVar("_Kind", Number, Truth, Element, Symbol)
 
 
 @overload
-def if_else(test: "Truth | bool", first: Some, second: "Some | Point") -> Some:
+def if_else(test: "Truth | bool", first: _Kind, second: "_Kind | Point") -> _Kind:
     ...
 
 
 @overload
-def if_else(test: "Truth | bool", first: Point, second: Some) -> Some:
+def if_else(test: "Truth | bool", first: Point, second: _Kind) -> _Kind:
     ...
 
 

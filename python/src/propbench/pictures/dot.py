@@ -9,7 +9,7 @@ from dataclasses import dataclass, field, replace
 
 from propbench.pictures.folding import MOST_CELLS, MOST_INSTANCES, folded
 from propbench.showing import printable
-from propbench.watching import NOTHING_SEEN, Bearing, Network, Premise, Seen, Use
+from propbench.watching import NOTHING_SEEN, Bearing, NetworkSeen, Premise, SeenNow, Use
 
 # A text in a picture has so many letters at the most.
 _LONGEST = 44
@@ -49,7 +49,7 @@ class Look:
     is_open: bool | None = None
 
 
-def dot_of(network: Network, seen: Seen = NOTHING_SEEN, look: Look = Look()) -> str:
+def dot_of(network: NetworkSeen, seen: SeenNow = NOTHING_SEEN, look: Look = Look()) -> str:
     """The picture of a network as it is seen."""
     shown = restricted(network, look.lit) if look.only_lit and look.lit else network
     inner = sum(1 for use in shown.uses for _ in use.inner_cells())
@@ -64,11 +64,11 @@ def dot_of(network: Network, seen: Seen = NOTHING_SEEN, look: Look = Look()) -> 
     return "\n".join(["digraph {", *(f"  {line}" for line in drawn.lines()), "}", ""])
 
 
-def restricted(network: Network, lit: Bearing) -> Network:
+def restricted(network: NetworkSeen, lit: Bearing) -> NetworkSeen:
     """What is lit of a network, with the premises and choices that speak of it."""
     uses = [use for use in network.uses if use.name in lit.uses]
     drawn = lit.cells.union(cell.name for use in uses for cell in use.inner_cells())
-    return Network(
+    return NetworkSeen(
         tuple(cell for cell in network.cells if cell.name in lit.cells),
         tuple(_among(use, drawn) for use in uses),
         tuple(premise for premise in network.premises if premise.name in lit.premises),
@@ -98,8 +98,8 @@ class _Drawn:
 
     def __init__(
         self,
-        network: Network,
-        seen: Seen,
+        network: NetworkSeen,
+        seen: SeenNow,
         look: Look,
         is_open: bool,
         counts: Mapping[str, int],
