@@ -11,8 +11,9 @@ from dataclasses import dataclass
 
 import drawn
 import plain
+from typing import Any, Iterator
 from drawn import Exactly
-from formulas import ELEMENTS, NO, YES, text_of
+from formulas import ELEMENTS, NO, YES, Info, text_of
 
 SESSIONS = 1000
 
@@ -28,19 +29,19 @@ class Listing:
 
     plain: plain.Plain
 
-    def is_right(self, reply, seen):
+    def is_right(self, reply: str, seen: Any) -> bool:
         head, *lines = reply.split("\n")
         found = [re.fullmatch(r"nogood: (.+)", line) for line in lines]
         if head != f"nogoods {len(lines)}" or None in found:
             return False
-        nogoods = [plain.premises_in(it[1]) for it in found]
+        nogoods = [plain.premises_in(it[1]) for it in found if it]
         return (
             self.are_least(nogoods)
             and all(map(self.is_nogood, nogoods))
             and all(self.is_covered(it, nogoods) for it in seen.named)
         )
 
-    def are_least(self, nogoods):
+    def are_least(self, nogoods: list[set[str]]) -> bool:
         return not any(
             one <= other
             for i, one in enumerate(nogoods)
@@ -48,28 +49,31 @@ class Listing:
             if i != j
         )
 
-    def is_nogood(self, premises):
+    def is_nogood(self, premises: set[str]) -> bool:
         """Whether the premises bear on one cell, and clash."""
         return any(premises <= it for it in self.plain.reaching().values()) and self.plain.refutes(
             premises
         )
 
-    def is_covered(self, premises, nogoods):
+    def is_covered(self, premises: set[str], nogoods: list[set[str]]) -> bool:
         return all(any(it <= premises | sides for it in nogoods) for sides in self.plain.lists())
 
-    def wanted(self, seen):
+    def wanted(self, seen: Any) -> str:
         named = (
             ", and with every list covering " + "; ".join(" ".join(sorted(it)) for it in seen.named)
             if seen.named
             else ""
         )
-        return f"sets that clash with every list, each of premises that bear on one cell and none with another in it{named}"
+        return (
+            "sets that clash with every list, each of premises that bear on one cell and none with"
+            f" another in it{named}"
+        )
 
 
 class Told(plain.Told):
     """A session with choices."""
 
-    def choose(self, name, cell, infos):
+    def choose(self, name: str, cell: str, infos: list[Info]) -> None:
         line = f"choose {name} {cell} {' or '.join(map(text_of, infos))}"
         if self.is_choice(name) or name in self.plain.known:
             return self.say(line, Exactly("error 7: name taken"))
@@ -79,7 +83,7 @@ class Told(plain.Told):
         self.plain.stated += [(side, cell, info) for side, info in zip(sides, infos)]
         self.say(line)
 
-    def nogoods(self):
+    def nogoods(self) -> None:
         self.say("nogoods", Listing(self.plain.copy()))
 
 
@@ -103,33 +107,33 @@ class Draw(plain.Draw):
     CELLS, LINES = CELLS, 50
     NAMES, SIDES = [f"k{i}" for i in range(4)], [2, 2, 3, 3, 4]
 
-    def __init__(self, number, options):
+    def __init__(self, number: int, options: list[str]) -> None:
         if number % 2:
             self.CELLS, self.PROCEDURES = FEW_CELLS, FEW_PROCEDURES
         super().__init__(number, options)
 
-    def draw(self):
+    def draw(self) -> None:
         super().draw()
         self.nogoods()
 
-    def stated(self):
+    def stated(self) -> tuple[str, Info]:
         if self.chance.randrange(5) == 0:
             return super().stated()
         cell = self.chance.choice(self.CELLS)
         return cell, self.info(cell, [1, 2, 2, 2])
 
-    def fix(self):
+    def fix(self) -> None:
         if self.chance.randrange(3) == 0:
             super().fix()
 
-    def choose(self):
+    def choose(self) -> None:
         """A new choice while there are names for one."""
         name, cell = self.chance.choice(self.NAMES), self.chance.choice(self.CELLS)
         if not self.told.is_choice(name):
             infos = [self.info(cell, [1, 1, 1, 2]) for _ in range(self.chance.choice(self.SIDES))]
             self.act("choose", name, cell, infos)
 
-    def info(self, cell, sizes):
+    def info(self, cell: str, sizes: list[int]) -> Info:
         """An information for the cell; for an element so many of which it is one."""
         if cell in plain.TRUTHS:
             return self.chance.choice([YES, NO])
@@ -138,7 +142,7 @@ class Draw(plain.Draw):
         low = self.chance.randrange(-6, 7)
         return (low, low + self.chance.choice([0, 0, 1, 5]))
 
-    def refused(self):
+    def refused(self) -> None:
         """A line that takes a choice's name for a premise's, or that takes a name twice."""
         premise, choice = self.chance.choice(plain.PREMISES), self.chance.choice(self.NAMES)
         act = self.chance.choice(
@@ -155,7 +159,7 @@ class Draw(plain.Draw):
         elif premise in self.told.plain.known:
             self.act("choose", premise, "t0", [YES, NO])
 
-    def nogoods(self):
+    def nogoods(self) -> None:
         self.act("nogoods")
 
 
@@ -193,7 +197,7 @@ class Stepped(Draw):
     NAMES, SIDES, LINES = [f"k{i}" for i in range(6)], [2, 2, 2, 3], 80
 
 
-def cases():
+def cases() -> Iterator[drawn.Drawn]:
     yield from drawn.drawn(Draw, "choices", SESSIONS)
     yield from drawn.drawn(Limited, "choices and limited", SESSIONS)
     yield from drawn.drawn(Stepped, "choices and stepped", SESSIONS // 4)

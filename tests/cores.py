@@ -16,6 +16,7 @@ import sys
 import tempfile
 import time
 from dataclasses import dataclass
+from typing import Iterator, Optional
 
 from case import Case, answered, as_bytes, in_each_order
 
@@ -27,14 +28,14 @@ class Core:
     """A session without its last line, and what `core` then answers of a cell."""
 
     name: str
-    lines: list
+    lines: list[str]
     cell: str
     answer: str
 
-    def sent(self, *last):
+    def sent(self, *last: str) -> bytes:
         return as_bytes(*self.lines, *last)
 
-    def case(self):
+    def case(self) -> Case:
         return Case(
             f"cores: {self.name}",
             self.sent(f"core {self.cell}"),
@@ -42,14 +43,14 @@ class Core:
         )
 
 
-def sums():
+def sums() -> Iterator[str]:
     """A chain of sums: each cell `s` is the one before and its `d` together."""
     yield from (f"cell s{n} span" for n in range(SUMS + 1))
     yield from (f"cell d{n} span" for n in range(1, SUMS + 1))
     yield from (f"attach sum s{n} d{n + 1} s{n + 1}" for n in range(SUMS))
 
 
-def two_of_many():
+def two_of_many() -> Core:
     """Of each `d` ten premises tell wide spans; what is asked of one of them rests on its least and
     its greatest number."""
     lines = [*sums(), "tell first s0 0"]
@@ -61,7 +62,7 @@ def two_of_many():
     return Core("2 of 201 premises over 20 sums", lines, "d7", "d7 = 0..1 because p7_0 p7_9")
 
 
-def one_for_each():
+def one_for_each() -> Core:
     """Of each `d` one premise tells the number and ten others tell wide spans, so that the last sum
     rests on one premise of each and on the first cell's."""
     lines = [*sums(), "tell first s0 0"]
@@ -80,12 +81,12 @@ def one_for_each():
     )
 
 
-def cores():
+def cores() -> Iterator[Core]:
     yield two_of_many()
     yield one_for_each()
 
 
-def not_reduced(output):
+def not_reduced(output: bytes) -> Optional[str]:
     """What is wrong with the replies where the limit ends a reduction and a larger one doesn't."""
     *_, short, ok, whole = output.decode().splitlines()
     if short not in [f"y = 0..10 not reduced because {reason}" for reason in ["a", "b", "a b"]]:
@@ -97,7 +98,7 @@ def not_reduced(output):
     )
 
 
-def either(output):
+def either(output: bytes) -> Optional[str]:
     """What is wrong with a core of two premises or of one that says as much."""
     *_, last = output.decode().splitlines()
     return (
@@ -107,7 +108,7 @@ def either(output):
     )
 
 
-def few():
+def few() -> Iterator[Case]:
     lines = [
         "limit 1",
         "cell x span",
@@ -131,18 +132,18 @@ def few():
     yield Case("cores: one of two", as_bytes(*lines), either)
 
 
-def cases():
+def cases() -> Iterator[Case]:
     yield from in_each_order([*few(), *(core.case() for core in cores())])
 
 
-def last_line(program, core, *options):
+def last_line(program: str, core: Core, *options: str) -> str:
     ran = subprocess.run(
         [program, *options], input=core.sent(f"core {core.cell}"), capture_output=True, check=True
     )
     return ran.stdout.decode().splitlines()[-1]
 
 
-def steps(program, core):
+def steps(program: str, core: Core) -> int:
     """The least limit with which the core is reduced."""
     low, high = 0, 10**6
     while low < high:
@@ -154,7 +155,7 @@ def steps(program, core):
     return low
 
 
-def counted(program, sent):
+def counted(program: str, sent: bytes) -> int:
     """The instructions of a session."""
     with tempfile.TemporaryDirectory() as folder:
         words = [
@@ -164,10 +165,11 @@ def counted(program, sent):
             os.path.abspath(program),
         ]
         said = subprocess.run(words, input=sent, capture_output=True, check=True).stderr.decode()
-    return int(re.search(r"Collected : (\d+)", said)[1])
+    [found] = re.findall(r"Collected : (\d+)", said)
+    return int(found)
 
 
-def beyond_why(program, core):
+def beyond_why(program: str, core: Core) -> str:
     """The instructions of `core` beyond those of `why`, where valgrind can tell."""
     if not shutil.which("valgrind"):
         return "-"
@@ -177,7 +179,7 @@ def beyond_why(program, core):
     return f"{tried - explained:,}"
 
 
-def main(program):
+def main(program: str) -> str | int:
     print("| Core | steps | instructions | seconds |\n|---|---|---|---|")
     for core in cores():
         start = time.monotonic()

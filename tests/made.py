@@ -2,6 +2,7 @@
 import os
 import re
 from functools import partial
+from typing import Callable, Iterator, Optional
 
 from case import (
     FILE_LIMIT,
@@ -34,14 +35,14 @@ PRELUDE = [
 ]
 
 
-def doubled(first):
+def doubled(first: str) -> list[str]:
     """A definition `d0`, and `d1` to `d199`, each of which uses the one before twice."""
     lines = [f"define d0 x y = {first}"]
     lines += [f"define d{n + 1} x y = d{n} x y ; d{n} x y" for n in range(199)]
     return lines + ["cell a span", "cell b span"]
 
 
-def large_uses():
+def large_uses() -> Iterator[Case]:
     limit = "error 16: limit reached: "
     uses = [
         "attach d199 a b",
@@ -83,7 +84,7 @@ def large_uses():
     )
 
 
-def linked(name, params, first, links, passed=""):
+def linked(name: str, params: list[str], first: str, links: int, passed: str = "") -> list[str]:
     """A definition that does this first, and so many more, each of which does nothing but use the
     one before on its parameters from the last to the first, and passes this."""
     lines = [f"define {name}0 {' '.join(params)} = {first}"]
@@ -93,7 +94,7 @@ def linked(name, params, first, links, passed=""):
     ]
 
 
-def long_ways():
+def long_ways() -> Iterator[Case]:
     """Uses that go down through 1,000 definitions cost no more than what they make."""
     params = " ".join(f"p{n}" for n in range(60))
     cells = [f"c{n}" for n in range(60)]
@@ -107,6 +108,11 @@ def long_ways():
         as_bytes(*lines, "ask c59", "ask c58"),
         answered(len(lines), "c59 = 7", "c58 = nothing"),
     )
+    yield from which_cell_is_which()
+
+
+def which_cell_is_which() -> Iterator[Case]:
+    """The parameters of long ways, and what is passed on them."""
     lines = linked("d", ["x", "y", "z"], "adder x y z", 999) + [
         f"cell {cell} span" for cell in "abce"
     ]
@@ -143,11 +149,11 @@ def long_ways():
     )
 
 
-def limits():
+def limits() -> Iterator[Case]:
     """Each limit: what stands before, a line for each number below the limit, and one too many,
     which is refused and changes nothing."""
     elements = [f"e{n}" for n in range(65)]
-    for word, most, before, line in [
+    kinds: list[tuple[str, int, list[str], Callable[[int], str]]] = [
         ("cells", 100_000, [], lambda n: f"cell c{n} span"),
         ("instances", 200_000, ["cell a span", "cell b span"], lambda n: "attach copier a b"),
         ("premises", 4_096, ["cell a span"], lambda n: f"tell p{n} a 1"),
@@ -163,7 +169,8 @@ def limits():
             lambda n: f"fix c{n // 1_000} s{n}",
         ),
         ("choices", 64, ["cell a span"], lambda n: f"choose k{n} a 1 or 2"),
-    ]:
+    ]
+    for word, most, before, line in kinds:
         yield Case(
             f"limits: {word}",
             partial(up_to, most, before, line),
@@ -171,13 +178,13 @@ def limits():
         )
 
 
-def up_to(most, before, line):
+def up_to(most: int, before: list[str], line: Callable[[int], str]) -> bytes:
     """What stands before, so many lines and one too many, twice, a cell, and the first line
     again."""
     return as_bytes(*before, *map(line, range(most + 1)), line(most), "cell last span", line(0))
 
 
-def wrong_at_limit(word, taken, output):
+def wrong_at_limit(word: str, taken: int, output: bytes) -> Optional[str]:
     """What is wrong with the replies, of which so many are to be `ok` and the two behind them
     refusals."""
     replies, refusal = output.decode().splitlines(), f"error 16: limit reached: {word}"
@@ -188,7 +195,7 @@ def wrong_at_limit(word, taken, output):
     return None if len(replies) == taken + 4 else f"{len(replies)} replies, wanted {taken + 4}"
 
 
-def sides_among_premises():
+def sides_among_premises() -> Iterator[Case]:
     """Each side of a choice takes one of the numbers of premises; a choice that finds too few of
     them is refused before the limit of choices is looked at."""
     limit = "error 16: limit reached: premises"
@@ -216,9 +223,17 @@ def sides_among_premises():
 LINE = 4_096
 
 
-def sizes():
+def sizes() -> Iterator[Case]:
     """Each size of what a line lists, as far as a line holds it: with ample memory none is
     refused."""
+    yield from relations()
+    yield from definitions()
+    yield from elements()
+    yield from explanations()
+
+
+def relations() -> Iterator[Case]:
+    """Pairs of a relation."""
     letters = [chr(ord("a") + n) for n in range(26)]
     pairs = [f"{x} {y}" for x in letters for y in letters]
     lines = [f"relation r{n} d d = {' ; '.join(pairs[:n])}" for n in range(1, len(pairs) + 1)]
@@ -237,6 +252,10 @@ def sizes():
         ),
         answered(4 + 2 * len(lines), "y = a"),
     )
+
+
+def definitions() -> Iterator[Case]:
+    """Parameters and steps of a definition."""
     cells = [f"c{n}" for n in range(64)]
     lines = [f"cell {cell} span" for cell in cells]
     lines += [f"define f{n} {' '.join(cells[:n])} = copier c0 {cells[n - 1]}" for n in range(2, 65)]
@@ -254,6 +273,10 @@ def sizes():
         as_bytes("cell a span", "cell b span", *lines, "fix a 7", "ask b"),
         answered(len(lines) + 3, "b = 7"),
     )
+
+
+def elements() -> Iterator[Case]:
+    """Elements of a domain, and sides of a choice."""
     lines = [f"domain d{n} {' '.join(f'e{m}' for m in range(n))}" for n in range(1, 65)] + [
         f"cell x{n} d{n}" for n in range(1, 65)
     ]
@@ -264,6 +287,10 @@ def sizes():
         as_bytes(*lines, "ask x64"),
         answered(len(lines), "x64 = e0"),
     )
+
+
+def explanations() -> Iterator[Case]:
+    """Premises of an explanation."""
     count = 200
     lines = [f"cell {name}{n} span" for n in range(count) for name in "xs"] + [
         "attach same x0 s0",
@@ -281,7 +308,7 @@ def sizes():
     )
 
 
-def line_lengths():
+def line_lengths() -> Iterator[Case]:
     for length, end, is_too_long in [
         (4096, b"", False),
         (4097, b"", True),
@@ -303,7 +330,7 @@ def line_lengths():
     )
 
 
-def command_lines():
+def command_lines() -> Iterator[Case]:
     stepping = as_bytes(
         "cell x span", "cell one span", "attach adder x one x", "fix one 1", "fix x 0..10", "ask x"
     )
@@ -315,6 +342,28 @@ def command_lines():
         (["--limit", "1000000000000000"], "contradiction: no premise"),
     ]:
         yield Case(f"command lines: {options}", stepping, answered(5, answer), options)
+    yield from refused_words()
+    for options in [
+        ["--order", "fifo"],
+        ["--order=lifo"],
+        ["--order", "mixed"],
+        ["--order", "mixed", "--seed", "18446744073709551615"],
+        ["--seed=0"],
+    ]:
+        yield Case(
+            f"command lines: {options}", stepping, answered(5, "contradiction: no premise"), options
+        )
+    yield Case("command lines: help", b"settle\n", wrong_help, ["--help"])
+
+
+def wrong_help(output: bytes) -> Optional[str]:
+    """What is wrong where help doesn't tell of each option."""
+    told = [b"--limit <N>", b"--order <ORDER>", b"--seed <N>"]
+    return None if all(it in output for it in told) else f"it wrote {output!r}"
+
+
+def refused_words() -> Iterator[Case]:
+    """Command lines that are refused: nothing is carried out."""
     for options, told in [
         (["--limit", "1000000000000001"], b"the limit is not a number from 0 to 1000000000000000"),
         (["--limit=-1"], b"the limit is not a number from 0 to 1000000000000000"),
@@ -335,27 +384,9 @@ def command_lines():
         (["--seed", "x"], b"the seed is not a number from 0 to 18446744073709551615"),
     ]:
         yield Case(f"command lines: {options}", b"settle\n", b"", options, status=1, told=told)
-    for options in [
-        ["--order", "fifo"],
-        ["--order=lifo"],
-        ["--order", "mixed"],
-        ["--order", "mixed", "--seed", "18446744073709551615"],
-        ["--seed=0"],
-    ]:
-        yield Case(
-            f"command lines: {options}", stepping, answered(5, "contradiction: no premise"), options
-        )
-    yield Case(
-        "command lines: help",
-        b"settle\n",
-        lambda output: None
-        if all(it in output for it in [b"--limit <N>", b"--order <ORDER>", b"--seed <N>"])
-        else f"it wrote {output!r}",
-        ["--help"],
-    )
 
 
-def steps():
+def steps() -> Iterator[Case]:
     """A sum that feeds itself, cut short in each order: whatever was called, the ends have moved by
     no more than one a step."""
     looping = [
@@ -378,7 +409,7 @@ def steps():
         )
 
 
-def wrong_in_loop(output):
+def wrong_in_loop(output: bytes) -> Optional[str]:
     *before, answer = output.decode().splitlines()
     found = re.fullmatch(r"x = (\d+)\.\.(\d+) unsettled", answer)
     if before != ["ok"] * 8 or not found:
@@ -387,7 +418,7 @@ def wrong_in_loop(output):
     return None if low <= 100 and 999_900 <= high <= 1_000_000 else f"it answered {answer!r}"
 
 
-def devices():
+def devices() -> Iterator[Case]:
     yield OnDevices("devices: a reader that fails", "/", "/dev/null", 2, b"propbench: read fault\n")
     yield OnDevices(
         "devices: a writer that is full", FIRST, "/dev/full", 2, b"propbench: write fault\n"
@@ -413,7 +444,7 @@ def devices():
     )
 
 
-def prelude():
+def prelude() -> Iterator[Case]:
     """Each compound of the prelude stands before the first line."""
     for name in PRELUDE:
         yield Case(
@@ -423,7 +454,7 @@ def prelude():
         )
 
 
-def cases():
+def cases() -> Iterator[Case]:
     yield from large_uses()
     yield from long_ways()
     yield from limits()

@@ -15,7 +15,7 @@ import sys
 import tempfile
 from dataclasses import dataclass
 from functools import cache
-from typing import Iterator
+from typing import Iterable, Iterator, Optional
 
 from case import SECONDS, first_difference
 from transcripts import Transcript
@@ -88,7 +88,7 @@ OUT_OF_MEMORY = b"error 90: out of memory\n"
 
 
 @cache
-def library():
+def library() -> str:
     """The library that stands before the C library, built once."""
     folder = tempfile.mkdtemp()
     atexit.register(shutil.rmtree, folder)
@@ -118,7 +118,7 @@ def library():
     raise SystemExit("no C compiler: the sessions whose memory is refused can't be run")
 
 
-def run(program, lines, refused=""):
+def run(program: str, lines: list[bytes], refused: str = "") -> tuple[int, bytes, bytes]:
     """What the program writes for the lines where one call is refused: its status, its output and
     what it says on standard error."""
     ran = subprocess.run(
@@ -139,7 +139,15 @@ class Refusals:
     name: str
     session: Transcript
 
-    def wrong(self, program):
+    def numbers(self, program: str) -> Iterable[int]:
+        """Which calls are refused, one after the other."""
+        raise NotImplementedError
+
+    def wrong_at(self, program: str, number: int) -> Optional[str]:
+        """What is wrong where the call of this number is refused, or None."""
+        raise NotImplementedError
+
+    def wrong(self, program: str) -> Optional[str]:
         """What is wrong with the first run that is wrong, or None."""
         for number in self.numbers(program):
             wrong = self.wrong_at(program, number)
@@ -154,12 +162,12 @@ class EachAllocation(Refusals):
     all is as if it had not been given: given once more, it and all others have their replies. Or no
     line does, and all have their replies: what is kept to save time is done without."""
 
-    def numbers(self, program):
+    def numbers(self, program: str) -> Iterable[int]:
         self.before, asked = requests(program, []), requests(program, self.session.lines())
         assert self.before < asked
         return range(1, asked + 2)
 
-    def wrong_at(self, program, number):
+    def wrong_at(self, program: str, number: int) -> Optional[str]:
         lines, replies = self.session.lines(), self.session.replies()
         status, output, told = run(program, lines, f"m{number}")
         if status == 4:
@@ -181,7 +189,7 @@ class EachAllocation(Refusals):
             else f"the status is {status}, it said {told!r}"
         )
 
-    def refused(self, output):
+    def refused(self, output: bytes) -> Optional[int]:
         """Which line was refused, where those before it have their replies; none where no line
         was."""
         before = b""
@@ -192,7 +200,7 @@ class EachAllocation(Refusals):
         return None
 
 
-def requests(program, lines):
+def requests(program: str, lines: list[bytes]) -> int:
     """How many requests for memory the program makes."""
     return int(run(program, lines, "c0")[2])
 
@@ -203,10 +211,10 @@ class EachRead(Refusals):
 
     kind = "r"
 
-    def numbers(self, program):
+    def numbers(self, program: str) -> Iterable[int]:
         return range(1, len(b"".join(self.session.lines())) + 2)
 
-    def wrong_at(self, program, number):
+    def wrong_at(self, program: str, number: int) -> Optional[str]:
         came = b"".join(self.session.lines())[: number - 1]
         wanted = b"".join(self.session.replies()[: came.count(b"\n")])
         status, output, told = run(program, self.session.lines(), f"{self.kind}{number}")
@@ -230,14 +238,14 @@ class EachWrite(Refusals):
 
     kind = "w"
 
-    def numbers(self, program):
+    def numbers(self, program: str) -> Iterable[int]:
         return range(1, len(self.spoken()) + 2)
 
-    def spoken(self):
+    def spoken(self) -> list[bytes]:
         """The replies that are no silence."""
         return [reply for reply in self.session.replies() if reply]
 
-    def wrong_at(self, program, number):
+    def wrong_at(self, program: str, number: int) -> Optional[str]:
         spoken = self.spoken()
         ended = (2, b"propbench: write fault\n") if number <= len(spoken) else (0, b"")
         status, output, told = run(program, self.session.lines(), f"{self.kind}{number}")
@@ -259,10 +267,10 @@ class EachWriteOfNothing(EachWrite):
 class HalfWrites(Refusals):
     """Each write takes a half of what it is given: all is written all the same."""
 
-    def numbers(self, program):
+    def numbers(self, program: str) -> Iterable[int]:
         return [1]
 
-    def wrong_at(self, program, number):
+    def wrong_at(self, program: str, number: int) -> Optional[str]:
         status, output, told = run(program, self.session.lines(), "s1")
         return (
             first_difference(output, b"".join(self.session.replies()))
@@ -275,10 +283,10 @@ class Interrupted(Refusals):
     """A signal interrupts each read and each write, once or often, before it is carried out: all
     goes its way. One that is interrupted each time is a fault in the end."""
 
-    def numbers(self, program):
+    def numbers(self, program: str) -> Iterable[int]:
         return [1, 1_000, 65_535, 65_536]
 
-    def wrong_at(self, program, number):
+    def wrong_at(self, program: str, number: int) -> Optional[str]:
         lines, replies = self.session.lines()[:2], self.session.replies()[:2]
         if number == 1:
             lines, replies = self.session.lines(), self.session.replies()
@@ -293,10 +301,10 @@ class EachCut(Refusals):
     """The input ends after each byte in turn: the whole lines have their replies, and what is left
     is carried out as a last line."""
 
-    def numbers(self, program):
+    def numbers(self, program: str) -> Iterable[int]:
         return range(len(b"".join(self.session.lines())) + 1)
 
-    def wrong_at(self, program, number):
+    def wrong_at(self, program: str, number: int) -> Optional[str]:
         came = b"".join(self.session.lines())[:number]
         whole = b"".join(self.session.replies()[: came.count(b"\n")])
         status, output, told = run(program, [came])
@@ -345,7 +353,7 @@ def cases(transcripts: list[Transcript]) -> Iterator[Refusals]:
         yield kind(f"refusals: {kind.__name__}, {CHOOSING}", by_name[CHOOSING])
 
 
-def answered(program, path):
+def answered(program: str, path: str) -> Transcript:
     """The lines of a file, each with what the program writes for it."""
     with open(path, "rb") as file:
         lines = file.read().splitlines(keepends=True)
@@ -354,7 +362,7 @@ def answered(program, path):
     return Transcript(path, [], list(zip(lines, replies)))
 
 
-def main(program, path):
+def main(program: str, path: str) -> str | int:
     return EachAllocation(path, answered(program, path)).wrong(program) or 0
 
 

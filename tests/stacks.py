@@ -2,7 +2,7 @@
 is."""
 import subprocess
 from dataclasses import dataclass
-from typing import Iterable, Iterator
+from typing import Iterable, Iterator, Optional
 
 import made
 from case import SECONDS, Case, answered, as_bytes
@@ -17,7 +17,7 @@ class OnSmallStack(Case):
 
     memory: int | str = "unlimited"
 
-    def wrong(self, program):
+    def wrong(self, program: str) -> Optional[str]:
         # (no core is left where it dies, and no words of an environment lie on the stack)
         confined = [
             "/bin/sh",
@@ -30,7 +30,7 @@ class OnSmallStack(Case):
                 input=self.input(),
                 capture_output=True,
                 timeout=SECONDS,
-                env={},
+                env=dict[str, str](),
                 check=False,
             )
         except subprocess.TimeoutExpired:
@@ -38,13 +38,13 @@ class OnSmallStack(Case):
         return self.wrong_with(ran.returncode, ran.stdout, ran.stderr)
 
 
-def on_small_stack(case):
+def on_small_stack(case: Case) -> OnSmallStack:
     return OnSmallStack(
         f"stack of 64 kB: {case.name}", case.sent, case.wanted, case.options, case.status, case.told
     )
 
 
-def nested():
+def nested() -> list[str]:
     """A definition for each level, which has a local of its own and uses the one before."""
     lines = ["define d0 x y = copier x y"]
     lines += [
@@ -53,7 +53,7 @@ def nested():
     return [*lines, "cell a span", "cell b span"]
 
 
-def deep():
+def deep() -> Iterator[Case]:
     lines = [*nested(), f"attach d{LEVELS - 1} a b"]
     name = "stack of 64 kB: 1,000 definitions in one another"
     yield OnSmallStack(
@@ -75,7 +75,7 @@ MEMORY = "error 90: out of memory"
 MISSING = ("error 9: no such cell", "error 11: no such procedure")
 
 
-def wrong_where_refused(output, count):
+def wrong_where_refused(output: bytes, count: int) -> Optional[str]:
     """What is wrong with the replies to so many lines, each of which is carried out, refused
     memory, or lacks what a line before it was refused memory for."""
     replies = output.decode().splitlines()

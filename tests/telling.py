@@ -64,7 +64,7 @@ def first_wrong(told: drawn.Told, output: bytes) -> Optional[drawn.Wrong]:
     )
 
 
-def is_enough(session: plain.Plain, premises: set[str], cell: str, value: object) -> bool:
+def is_enough(session: plain.Plain, premises: set[str], cell: str, value: formulas.Info) -> bool:
     """Whether these premises are believed or sides, and say so much of the cell by themselves."""
     found = session.values(premises)
     return CLASH in found.values() or formulas.merged(found[cell], value) == found[cell]

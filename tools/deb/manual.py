@@ -23,7 +23,8 @@ SEE_ALSO = """
 The documents and examples lie in
 .IR /usr/share/doc/propbench :
 README.md says what is proved, docs/TUTORIAL.md begins from nothing, docs/LANGUAGE.md has every
-command, reply and refusal, docs/WIDE.md what propwide has beside that, and docs/PIPE.md is for who drives the program from another one.
+command, reply and refusal, docs/WIDE.md what propwide has beside that, and docs/PIPE.md is for who
+drives the program from another one.
 """
 
 

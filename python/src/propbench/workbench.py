@@ -59,15 +59,20 @@ class Workbench(PlainWorkbench, Laboratory):
     - what follows: `x.ask()`, `x.why()` and `x.core()` of a cell, `table` and `show` of several,
       `how` as a tree, `settle` for whether all fits. A question raises Conflict where what is
       believed can't all hold.
-    - what conflicts: `conflicts`, `repairs`, and of readings `outliers`.
+    - what conflicts: `conflicts` are the minimal sets that can't all hold, `repairs` the minimal
+      sets to give up so that the rest can, `outliers` those of readings.
     - what is best: `solve`, `least`, `greatest`, `trade_off`, `plans`, `slack`, `critical`;
       `try_first` says which values come first.
     - what if: `what_if`, `scenarios`, `sweep`, `sensitivity`, `snapshot`, `diff`, `compare`.
-    - quantities closer: `quantities`, `sought`, `device`, `devices`, `read_csv`,
-      `read_table`, `read_laws`, `results`, `shave`, `predict`, `improvements`, `room`,
-      `adjust`, `report`.
+    - quantities closer: `quantities`, `sought`, `device`, `devices`, `read_csv`, `read_table`,
+      `read_laws`, `results`, `predict`, `adjust`, `report`.
+    - why an answer is so wide: `x.why()` names the premises that it rests on, `improvements` which
+      reading to improve, `room` what a law costs in width; `shave` makes it narrower.
+    - what shows an answer: conflicts, repairs, optima and plans have a `certificate`, which
+      `propdesk check` asks a fresh program again.
     - to look at: `picture`, `film`, `serve`.
-    - files and lines: `save`, `load`, `lines`, `close`; `proved` and `lacks` tell of the program.
+    - files and lines: `save`, `load`, `close`; `lines` are those that state a constraint; `proved`
+      and `lacks` tell of the program.
     - within: `session`, `network`, `model`, `answer`, `constraint_of`; and `plan`, an older name of
     `project`.
 
@@ -203,8 +208,9 @@ class Workbench(PlainWorkbench, Laboratory):
         >>> p = w.project(days=30, people="ana ben")
         >>> venue = p.task("venue", 3, who="ana")
         >>> review = p.task("review", 5, who="ben", after=[venue])
+        >>> meeting = p.task("meeting", 1, who="ana ben", after=[review])
         >>> w.least(p.end).value
-        8
+        9
         """
         calendar = None if start is None else Calendar.of(start, off)
         return Project(self, days, people, calendar, skills)

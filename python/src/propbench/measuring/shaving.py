@@ -85,8 +85,7 @@ def find_shaved(
 
     def result() -> Shaved:
         if "room" not in state:
-            known = measured(bench._known(quantity.declared, clock))
-            return Shaved(**vars(known), complete=False)
+            return Shaved(**vars(measured(bench._known(quantity.declared, clock))), complete=False)
         room, begun = state["room"], state["begun"]
         because = [each for each in believed if trial.line[each] in narrowing.names]
         told = bench._told(quantity, room, because)
@@ -107,7 +106,7 @@ def find_shaved(
 
 def _shown_to_fail(
     trial: Trial, believed: Sequence[str], line: str, sides: Mapping[str, Fork]
-) -> Certificate:
+) -> Certificate | None:
     """What shows that the cell of a line has none of these values, each in its cases."""
     claims, evidence = [], Evidence.of(trial)
     for text, fork in sides.items():
