@@ -334,13 +334,14 @@ def command_lines() -> Iterator[Case]:
     stepping = as_bytes(
         "cell x span", "cell one span", "attach adder x one x", "fix one 1", "fix x 0..10", "ask x"
     )
-    for options, answer in [
+    limited: list[tuple[list[str], str]] = [
         ([], "contradiction: no premise"),
         (["--limit", "3"], "x = 3..10 unsettled"),
         (["--limit=0"], "x = 0..10 unsettled"),
         (["--limit", "007"], "x = 7..10 unsettled"),
         (["--limit", "1000000000000000"], "contradiction: no premise"),
-    ]:
+    ]
+    for options, answer in limited:
         yield Case(f"command lines: {options}", stepping, answered(5, answer), options)
     yield from refused_words()
     for options in [

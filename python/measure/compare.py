@@ -60,7 +60,7 @@ def queens_here() -> int:
 
 
 def conflicts_here() -> Any:
-    """All least conflicts and repairs among wishes."""
+    """All minimal conflicts and repairs among wishes."""
     with bench_of(wishes(WISHES, SEED)) as w:
         conflicts, repairs = w.conflicts(most=1000), w.repairs(most=1000)
         assert conflicts.complete and repairs.complete

@@ -258,7 +258,7 @@ def why_by_z3(sums: int, others: int) -> set[str]:
     return needed
 
 
-# All least conflicts and repairs.
+# All minimal conflicts and repairs.
 
 
 def conflicts_there(count: int, seed: int) -> tuple[Sets, Sets]:

@@ -235,7 +235,7 @@ def broken(made: Drawn, plan: tuple[Done, ...]) -> frozenset[str]:
 @dataclass
 class Known:
     """What a search of all plans finds: the ends and costs of those that fit, when their last task
-    is done, and the least sets of premises that are broken."""
+    is done, and the minimal sets of premises that are broken."""
 
     fits: set[tuple[int, int]]
     days: set[tuple[int, int]]

@@ -81,7 +81,7 @@ def least(sets: Iterable[Names]) -> set[Names]:
 def conflicts_and_repairs(
     premises: Iterable[str], fit: Callable[[Names], bool]
 ) -> tuple[set[Names], set[Names]]:
-    """The least sets of premises that can't all hold, and the least to give up so that the others
+    """The minimal sets of premises that can't all hold, and the least to give up so that the others
     can, by asking of every set whether it fits."""
     names = frozenset(premises)
     fitting = {some: fit(some) for some in subsets(names)}

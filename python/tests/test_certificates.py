@@ -392,9 +392,9 @@ def test_what_is_claimed_is_told_in_words(
     )
     assert told("repairs", "all")[1:4] == [
         "- Ana, cheap and comfort can't all hold, but without any one of them.",
-        "- There is no other least conflict among Ana, cheap and comfort.",
+        "- There is no other minimal conflict among Ana, cheap and comfort.",
         "- The rest of Ana, cheap and comfort fits without Ana; or cheap; or comfort, and in no "
-        "other least way.",
+        "other minimal way.",
     ]
     assert told("plans", "plan")[1].startswith(
         "- With Ana and cheap, there are these 5 plans over days and price, no others: days = 4, "

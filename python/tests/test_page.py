@@ -118,7 +118,7 @@ def test_a_cell_and_what_bears_on_it(example: Shown) -> None:
 
 
 def least_conflicts(bare: Bare, lines: list[str], premises: list[str]) -> set[frozenset[str]]:
-    """All least sets of premises that contradict each other, by trying all sets."""
+    """All minimal sets of premises that contradict each other, by trying all sets."""
     found: set[frozenset[str]] = set()
     for size in range(len(premises) + 1):
         for kept in (frozenset(each) for each in combinations(premises, size)):
@@ -131,7 +131,7 @@ def least_conflicts(bare: Bare, lines: list[str], premises: list[str]) -> set[fr
 
 
 def least_hits(conflicts: set[frozenset[str]], premises: list[str]) -> set[frozenset[str]]:
-    """All least sets that have something of each conflict, by trying all sets."""
+    """All minimal sets that have something of each conflict, by trying all sets."""
     found: set[frozenset[str]] = set()
     for size in range(len(premises) + 1):
         for out in (frozenset(each) for each in combinations(premises, size)):

@@ -224,7 +224,7 @@ def test_conflicts_and_repairs_of_a_session(program: str, bare: Bare) -> None:
             session.send_all(lines)
             found = SessionWatched(session).mend()
             assert found.complete and session.lines == lines
-        # a least conflict that no repair needs may stay unfound; all that are found are least
+        # a minimal conflict that no repair needs may stay unfound; all that are found are minimal
         assert {frozenset(each) for each in found.conflicts} <= conflicts
         hits: set[frozenset[str]] = set()
         for size in range(6):
