@@ -9,6 +9,7 @@ from propbench.measuring.exact import Exact, exact_of, number_in
 from propbench.measuring.shapes import DEGREES, Function, FunctionName, CurveTable, Undefined
 from propbench.measuring.terms import (
     Made,
+    Operand,
     Real,
     RealSort,
     Term,
@@ -19,64 +20,61 @@ from propbench.measuring.terms import (
 )
 from propbench.measuring.units import BARE, MixedUnits, UnknownUnit, dimension_text, unit_of
 
-# A term, or a constant as a text or a number.
-Given = Term | Exact | str
-
 pi = Made(Real(RealSort.PI, (), BARE))
 
 
-def exp(term: Given) -> Term:
+def exp(term: Operand) -> Term:
     """e to the power of a bare number."""
     return _of(FunctionName.EXP, term)
 
 
-def ln(term: Given) -> Term:
+def ln(term: Operand) -> Term:
     """The natural logarithm of a bare number, which is more than 0."""
     return _of(FunctionName.LN, term)
 
 
-def exp10(term: Given) -> Term:
+def exp10(term: Operand) -> Term:
     """10 to the power of a bare number."""
     return _of(FunctionName.EXP10, term)
 
 
-def log10(term: Given) -> Term:
+def log10(term: Operand) -> Term:
     """The logarithm to the base of 10 of a bare number, which is more than 0."""
     return _of(FunctionName.LOG10, term)
 
 
-def sin(angle: Given) -> Term:
+def sin(angle: Operand) -> Term:
     """The sine of an angle, in degrees or in radians."""
     return _of_angle(FunctionName.SIN, angle)
 
 
-def cos(angle: Given) -> Term:
+def cos(angle: Operand) -> Term:
     """The cosine of an angle, in degrees or in radians."""
     return _of_angle(FunctionName.COS, angle)
 
 
-def tan(angle: Given) -> Term:
+def tan(angle: Operand) -> Term:
     """The tangent of an angle, in degrees or in radians, between two of its poles."""
     return _of_angle(FunctionName.TAN, angle)
 
 
-def asin(term: Given) -> Term:
+def asin(term: Operand) -> Term:
     """The angle from -pi/2 to pi/2, in radians, whose sine this is; `degrees(asin(..))` has it in
     degrees."""
     return _of(FunctionName.ASIN, term)
 
 
-def acos(term: Given) -> Term:
+def acos(term: Operand) -> Term:
     """The angle from 0 to pi, in radians, whose cosine this is."""
     return _of(FunctionName.ACOS, term)
 
 
-def atan(term: Given) -> Term:
+def atan(term: Operand) -> Term:
     """The angle between -pi/2 and pi/2, in radians, whose tangent this is."""
     return _of(FunctionName.ATAN, term)
 
 
-def degrees(angle: Given) -> Term:
+def degrees(angle: Operand) -> Term:
     """An angle in radians, in degrees."""
     real = real_of(angle)
     if real.dimension == DEGREES:
@@ -86,7 +84,7 @@ def degrees(angle: Given) -> Term:
     return Made(real) * (Made(constant(Fraction(180), DEGREES, "180 deg")) / pi)
 
 
-def radians(angle: Given) -> Term:
+def radians(angle: Operand) -> Term:
     """An angle in degrees, in radians."""
     real = real_of(angle)
     if real.dimension != DEGREES:
@@ -96,7 +94,7 @@ def radians(angle: Given) -> Term:
     return Made(real) * (pi / Made(constant(Fraction(180), DEGREES, "180 deg")))
 
 
-def hypot(*sides: Given) -> Term:
+def hypot(*sides: Operand) -> Term:
     """The root of the sum of squares, of sides at right angles."""
     squares = [Made(real_of(side)) ** 2 for side in sides]
     if not squares:
@@ -104,7 +102,7 @@ def hypot(*sides: Given) -> Term:
     return sum(squares[1:], squares[0]).sqrt()
 
 
-def atan2(above: Given, beside: Given) -> Term:
+def atan2(above: Operand, beside: Operand) -> Term:
     """The angle, in radians, at which a point stands that is so far above an origin and so far
     beside it: from -pi to pi.
 
@@ -138,7 +136,7 @@ class Calibration:
         """What it is called, in laws that are texts too."""
         return self.table.name
 
-    def __call__(self, term: Given) -> Term:
+    def __call__(self, term: Operand) -> Term:
         return Made(function_of(Function(FunctionName.TABLE, table=self.table), real_of(term)))
 
 
@@ -173,7 +171,7 @@ def curve(
     return Calibration(CurveTable(name, tuple(made), off, argument.dimension, value.dimension))
 
 
-def level(term: Given) -> Term:
+def level(term: Operand) -> Term:
     """So many decibels: of a ratio of powers, of a power above 1 W, or of a voltage above 1 V."""
     real = real_of(term)
     for of, tenths in _LEVELS.items():
@@ -187,7 +185,7 @@ def level(term: Given) -> Term:
     )
 
 
-def at_level(decibels: Given, of: str = "1") -> Term:
+def at_level(decibels: Operand, of: str = "1") -> Term:
     """What has so many decibels: a ratio of powers, a power (`of="W"`), or a voltage (`of="V"`)."""
     if of not in _LEVELS:
         raise UnknownUnit(f'a level is that of "1", of "W" or of "V", and not of {of!r}')
@@ -196,12 +194,12 @@ def at_level(decibels: Given, of: str = "1") -> Term:
     return one * exp10(Made(real_of(decibels)) / _decibels(_LEVELS[of]))
 
 
-def pH(activity: Given) -> Term:
+def pH(activity: Operand) -> Term:
     """How acid something is, by the hydrogen ions in it: `pH("0.01 mol/L")` is 2."""
     return log10(Made(real_of(activity)) / "1 mol/L") * "-1 pH"
 
 
-def at_pH(acid: Given) -> Term:
+def at_pH(acid: Operand) -> Term:
     """The hydrogen ions of what is so acid, in mol/L."""
     return exp10(Made(real_of(acid)) / "-1 pH") * "1 mol/L"
 
@@ -232,11 +230,11 @@ def _is_of_angles(real: Real, in_degrees: bool) -> bool:
     return is_function and real.applied.in_degrees is in_degrees
 
 
-def _of(name: FunctionName, term: Given) -> Term:
+def _of(name: FunctionName, term: Operand) -> Term:
     return Made(function_of(Function(name), real_of(term)))
 
 
-def _of_angle(name: FunctionName, angle: Given) -> Term:
+def _of_angle(name: FunctionName, angle: Operand) -> Term:
     real = real_of(angle)
     return Made(function_of(Function(name, in_degrees=real.dimension == DEGREES), real))
 

@@ -4,14 +4,11 @@ from collections.abc import Callable, Iterable
 from functools import partial
 from typing import overload
 
-from propbench.measuring.exact import Exact
-from propbench.measuring.terms import RealSort, Term, extreme, mean, sum_of
+from propbench.measuring.terms import Operand, RealSort, Term, extreme, mean, sum_of
 from propbench.model import expressions
 from propbench.model.expressions import Number
 
 Whole = Number | int
-# A term, or a constant beside terms.
-Real = Term | Exact | str
 
 
 # (of nothing but numbers both fit: the first is meant)
@@ -21,7 +18,7 @@ def maximum(*numbers: Whole | Iterable[Whole]) -> Number:  # type: ignore[misc]
 
 
 @overload
-def maximum(*numbers: Real | Iterable[Term]) -> Term:
+def maximum(*numbers: Operand | Iterable[Term]) -> Term:
     ...
 
 
@@ -38,7 +35,7 @@ def minimum(*numbers: Whole | Iterable[Whole]) -> Number:  # type: ignore[misc]
 
 
 @overload
-def minimum(*numbers: Real | Iterable[Term]) -> Term:
+def minimum(*numbers: Operand | Iterable[Term]) -> Term:
     ...
 
 
@@ -55,7 +52,7 @@ def total(*numbers: Whole | Iterable[Whole]) -> Number:  # type: ignore[misc]
 
 
 @overload
-def total(*numbers: Real | Iterable[Term]) -> Term:
+def total(*numbers: Operand | Iterable[Term]) -> Term:
     ...
 
 

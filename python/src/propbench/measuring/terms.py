@@ -192,6 +192,10 @@ class Made(Term):
         return self._real
 
 
+# A term, or a constant beside terms, as a text or a number.
+Operand = Term | Exact | str
+
+
 @dataclass(frozen=True)
 class Law:
     """Two terms and what holds between them: `==`, or `<=` of the first and the second. A law with
@@ -228,7 +232,7 @@ def real_of(value: object) -> Real:
     )
 
 
-def mean(*terms: "Term | Exact | str | Iterable[Term]") -> Term:
+def mean(*terms: Operand | Iterable[Term]) -> Term:
     """The mean of these terms, given one by one or as one list."""
     reals = reals_of(terms)
     return Made(Real(RealSort.MEAN, tuple(reals), _common(reals)))
