@@ -28,7 +28,7 @@ class Exactly:
 
     text: str
 
-    def is_right(self, reply: Any, seen: Any) -> bool:
+    def is_right(self, reply: str, seen: Any) -> bool:
         return reply == self.text
 
     def wanted(self, seen: Any) -> str:
@@ -126,7 +126,7 @@ class Told:
 
 def is_right(reply: Any, came: str, seen: Any) -> bool:
     try:
-        return reply.is_right(came, seen)
+        return bool(reply.is_right(came, seen))
     except Unending:
         # (what the premises that came are enough for)
         return True

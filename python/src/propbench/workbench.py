@@ -62,7 +62,7 @@ class Workbench(PlainWorkbench, Laboratory):
     - what conflicts: `conflicts` are the minimal sets that can't all hold, `repairs` the minimal
       sets to give up so that the rest can, `outliers` those of readings.
     - what is best: `solve`, `least`, `greatest`, `trade_off`, `plans`, `slack`, `critical`;
-      `try_first` says which values come first.
+      `try_first` says which values come first. What is proved of these, docs/CLAIMS.md tells.
     - what if: `what_if`, `scenarios`, `sweep`, `sensitivity`, `snapshot`, `diff`, `compare`.
     - quantities closer: `quantities`, `sought`, `device`, `devices`, `read_csv`, `read_table`,
       `read_laws`, `results`, `predict`, `adjust`, `report`.
@@ -74,7 +74,7 @@ class Workbench(PlainWorkbench, Laboratory):
     - files and lines: `save`, `load`, `close`; `lines` are those that state a constraint; `proved`
       and `lacks` tell of the program.
     - within: `session`, `network`, `model`, `answer`, `constraint_of`; and `plan`, an older name of
-    `project`.
+      `project`.
 
     Several names may be given as a list, or in one text with spaces between.
 
