@@ -296,8 +296,7 @@ class Measuring(Questions):
             ordered,
             self._unread_first(measured_cells),
             most,
-            clock.seconds_left(),
-            progress,
+            Clock(clock.seconds_left(), progress),
         )
 
     def improvements(

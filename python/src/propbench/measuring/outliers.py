@@ -10,7 +10,7 @@ from propbench.model.events import Read
 from propbench.model.measures import Interval, Measure, rounded
 from propbench.questions.asking import tried
 from propbench.questions.certificate import Certificate, Evidence
-from propbench.questions.clock import Clock, Progress
+from propbench.questions.clock import Clock
 from propbench.questions.conflicts import Premises
 from propbench.questions.hitting import Hitting, bits_of
 from propbench.questions.model import Model
@@ -193,16 +193,11 @@ def _short(number: Fraction) -> Decimal:
 
 
 def find_outliers(
-    model: Model,
-    readings: Readings,
-    related: Sequence[str],
-    most: int,
-    seconds: float | None,
-    progress: Progress | None,
+    model: Model, readings: Readings, related: Sequence[str], most: int, clock: Clock
 ) -> Outliers:
     """The minimal sets of readings to give up, so many at the most."""
     kept = [name for name in model.believed() if name not in readings]
-    trial = Trial(model, kept, Clock(seconds, progress))
+    trial = Trial(model, kept, clock)
     weeding = Weeding(trial, readings, related)
 
     def run() -> None:
