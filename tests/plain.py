@@ -15,7 +15,7 @@ from dataclasses import dataclass, field, replace
 from itertools import product
 
 import drawn
-from typing import Any, Callable, Collection, Iterator, Optional
+from typing import AbstractSet, Any, Callable, Collection, Iterator, Optional
 from drawn import OK, Exactly, Unending
 from formulas import (
     CLASH,
@@ -55,6 +55,11 @@ DECLARED = [
     ],
 ]
 
+
+def copied(x: Info) -> Info:
+    return x
+
+
 # Each procedure with the kinds of its places, the output last, and what it answers to arguments
 # none of which is Nothing.
 PROCEDURES: dict[str, tuple[str, Callable[..., Info]]] = {
@@ -63,7 +68,7 @@ PROCEDURES: dict[str, tuple[str, Callable[..., Info]]] = {
     "multiplier": ("sss", multiplied),
     "divider": ("sss", divided),
     "squarer": ("ss", squared),
-    "copier": ("ss", lambda x: x),
+    "copier": ("ss", copied),
     "lesser": ("sst", compared),
     "below": ("tss", below),
     "above": ("tss", above),
@@ -157,7 +162,7 @@ class Plain:
         last = self.tried()[-1]
         return None if self.clashes(last) else last
 
-    def refutes(self, premises: set[str]) -> bool:
+    def refutes(self, premises: AbstractSet[str]) -> bool:
         """Whether these clash with every choice list that takes the sides among them; where none
         does, they are refuted by nothing."""
         lists = [
