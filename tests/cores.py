@@ -188,7 +188,8 @@ def main(program: str) -> str | int:
         if answer != core.answer:
             return f"{core.name}: the answer is {answer!r}, wanted {core.answer!r}"
         print(
-            f"| {core.name} | {steps(program, core):,} | {beyond_why(program, core)} | {seconds:.2f} |",
+            f"| {core.name} | {steps(program, core):,} | {beyond_why(program, core)}"
+            f" | {seconds:.2f} |",
             flush=True,
         )
     return 0

@@ -16,7 +16,7 @@ from formulas import text_of
 
 KINDS = {"s": "span", "t": "truth", "d": "d"}
 # How the compounds of the kit that are used here are made.
-KIT = {
+KIT: dict[str, tuple[list[str], list[tuple[str, list[str] | str, str]]]] = {
     "sum": (
         ["x", "y", "z"],
         [
@@ -46,7 +46,8 @@ KIT = {
 }
 DEFINED = [
     "define scaled x y z = local h span ; multiplier x y h by * ; sum h h z",
-    "define deeper x z = scaled x x z by 10 ; local m like x ; scaled m x z by * ; multiplier m m z by 7",
+    "define deeper x z = scaled x x z by 10 ; local m like x ; scaled m x z by * ;"
+    " multiplier m m z by 7",
     " define\tlone x = local a like x ; local b d",
 ]
 USES = [

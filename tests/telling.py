@@ -122,7 +122,10 @@ class Made:
         )
 
     def is_said(
-        self, parts: list[tuple[str, tuple[str, str, set[str]]]], premises: set[str], value: object
+        self,
+        parts: list[tuple[str, tuple[str, str, set[str]]]],
+        premises: set[str],
+        value: formulas.Info,
     ) -> bool:
         """Whether each part is founded on those behind it, and they say the value."""
         made: dict[str, Says] = {}
@@ -170,7 +173,8 @@ class Made:
         return True
 
     def wanted(self, _seen: object) -> str:
-        return f"what makes up {self.cell}{f' = {self.value}' if self.value else ''}, by statements and rules that bear it out"
+        value = f" = {self.value}" if self.value else ""
+        return f"what makes up {self.cell}{value}, by statements and rules that bear it out"
 
 
 @dataclass
@@ -181,7 +185,7 @@ class Stepped:
     # The lines behind the first, up to the premises.
     lines: list[str]
     cell: str = ""
-    value: object = None
+    value: formulas.Info = formulas.NOTHING
     end: str = ""
 
     def is_right(self, reply: str, _seen: object) -> bool:
