@@ -295,10 +295,10 @@ PAGE = """
 from propbench.files import OpenedFile
 from propbench.journal import Journal
 from propbench.page.asking import Asking
-from propbench.running import Way
+from propbench.running import RunAs
 from propbench.watching.opening import opened
 path = sys.argv[1]
-with opened(path, Way()) as watched:
+with opened(path, RunAs()) as watched:
     file = OpenedFile(path)
     file.journal = Journal("page", path, file.checksum)
     asking = Asking(watched, path, file)
