@@ -1,5 +1,6 @@
 #!/usr/bin/python3
-# Drives propbench by the Python package, which lies in python/src and comes with the Debian package.
+# Drives propbench by the Python package, which lies in python/src and comes with the Debian
+# package.
 from propbench import Refused, Session
 
 with Session() as session:

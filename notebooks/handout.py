@@ -3,8 +3,8 @@
 
 usage: python3 notebooks/handout.py FOLDER
 
-The folder is made where it isn't there. Cells that are marked as answers are left out, and so is the
-heading above them.
+The folder is made where it isn't there. Cells that are marked as answers are left out, and so is
+the heading above them.
 """
 
 import json

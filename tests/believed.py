@@ -2,15 +2,17 @@
 
 `tools/believed` finds what the headline's clauses reach: definitions, what sources declare, and
 functions that call the standard devices. docs/TRUST.md has to tell what to read first, and how many
-lines they have, those of the headline no more than MOST, how many with the clause on the work behind
-it, and how many in propwide, no more than MOST_WIDE: `tools/believed --write` puts them there. Over the definitions stands what they mean: no more than
-one in UNSAID lacks a comment. docs/HOSTING.md and docs/PRIMER.md have to show code that there is.
+lines they have, those of the headline no more than MOST, how many with the clause on the work
+behind it, and how many in propwide, no more than MOST_WIDE: `tools/believed --write` puts them
+there. Over the definitions stands what they mean: no more than one in UNSAID lacks a comment.
+docs/HOSTING.md and docs/PRIMER.md have to show code that there is.
 """
 import importlib.machinery
 import importlib.util
 import os
 import re
 from functools import cache
+from typing import Any, Callable, Iterator, Optional
 
 from documents import code_shown
 
@@ -20,20 +22,22 @@ MOST, MOST_WIDE = 1_599, 4_094
 UNSAID = 8
 
 
-def script(path):
+def script(path: str) -> Any:
     """A script of the repository as a module."""
     loader = importlib.machinery.SourceFileLoader(os.path.basename(path), f"{TOP}/{path}")
-    module = importlib.util.module_from_spec(importlib.util.spec_from_loader(loader.name, loader))
+    spec = importlib.util.spec_from_loader(loader.name, loader)
+    assert spec
+    module = importlib.util.module_from_spec(spec)
     loader.exec_module(module)
     return module
 
 
-def text_of(document):
+def text_of(document: str) -> str:
     with open(f"{TOP}/{document}", encoding="utf-8") as it:
         return it.read()
 
 
-def listed(text):
+def listed(text: str) -> list[tuple[str, str]]:
     """The rows of the table of what to read first, by file and name."""
     rows = re.findall(r"^\| `(\w+)` \| (prop\w+/specs/\w+\.antt) \|", text, flags=re.M)
     return [(f"crates/{path}", name) for name, path in rows]
@@ -42,34 +46,34 @@ def listed(text):
 class Held:
     """A case that needs no program: what is wrong with a document, or None."""
 
-    def __init__(self, name, wrong):
+    def __init__(self, name: str, wrong: Callable[[], Optional[str]]) -> None:
         self.name, self.of = f"believed: {name}", wrong
 
-    def wrong(self, _program):
+    def wrong(self, _program: str) -> Optional[str]:
         return self.of()
 
 
 @cache
-def tool():
+def tool() -> Any:
     return script("tools/believed")
 
 
 @cache
-def held():
+def held() -> Any:
     return tool().Believed()
 
 
 @cache
-def worked():
+def worked() -> Any:
     return tool().Believed(work=True)
 
 
 @cache
-def wide():
+def wide() -> Any:
     return tool().Believed([tool().WIDE])
 
 
-def figure():
+def figure() -> Optional[str]:
     trust = text_of("docs/TRUST.md")
     for believed, most in ((held(), MOST), (wide(), MOST_WIDE)):
         lines = believed.lines(believed.found)
@@ -78,24 +82,26 @@ def figure():
         if f"{most:,}" not in trust:
             return f"docs/TRUST.md does not tell the bound, {most:,} lines"
     told, owed = tool().FIGURE.findall(trust), [it.total() for it in (held(), worked(), wide())]
-    return None if told == owed else f"docs/TRUST.md tells {told} for {owed}: tools/believed --write"
+    return (
+        None if told == owed else f"docs/TRUST.md tells {told} for {owed}: tools/believed --write"
+    )
 
 
-def first():
+def first() -> Optional[str]:
     if listed(text_of("docs/TRUST.md")) != tool().FIRST:
         return "docs/TRUST.md and tools/believed differ in what to read first"
     gone = [name for path, name in tool().FIRST if (path, name) not in held().found]
     return f"the headline does not reach {'; '.join(gone)}" if gone else None
 
 
-def unsaid():
+def unsaid() -> Optional[str]:
     comment = worked().texts.comment
     lacking = sorted(f"{path}: {name}" for path, name in worked().found if not comment[path, name])
     few = len(lacking) * UNSAID <= len(worked().found)
     return None if few else f"without a comment stand {'; '.join(lacking)}"
 
 
-def cases():
+def cases() -> Iterator[Held]:
     yield Held("the figure that the documents tell", figure)
     yield Held("what to read first", first)
     yield Held("what definitions mean stands over them", unsaid)

@@ -14,8 +14,8 @@ from asked import Truth
 # How often each change is tried.
 SHARES = {"kick or bring": 8, "forget": 4, "tell": 6, "fix": 1, "attach": 3, "cell": 1, "choose": 1}
 LASTING = {"fix", "attach", "cell", "choose"}
-# How often one is made after which nothing fits, and one of those that last; and how often a rule is
-# attached that doesn't hold of the hidden points.
+# How often one is made after which nothing fits, and one of those that last; and how often a rule
+# is attached that doesn't hold of the hidden points.
 EMPTY, DULL, LOOSE = 0.4, 0.03, 0.1
 # How often a premise goes that the last answer named: on it something may rest that was learned.
 NAMED = 0.6

@@ -113,8 +113,8 @@ class Session(solving.Session):
         return asked
 
     def taken_up(self, question: Question, truth: Truth) -> Question:
-        """The same question as it is asked now: where it was asked last, it goes on, by as many rows
-        at a time as are asked for now."""
+        """The same question as it is asked now: where it was asked last, it goes on, by as many
+        rows at a time as are asked for now."""
         last = self.last
         if last and last.truth is truth and is_same(last, question):
             if isinstance(last, Rows) and isinstance(question, Rows):

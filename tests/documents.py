@@ -2,7 +2,8 @@
 
 A session is a block of lines that are indented by four spaces and begin with a command. The replies
 to a line stand under it; where none stands there, it is answered `ok`. The blocks of one document
-are one session. The examples in LANGUAGE's tables are no sessions: they stand among the worked ones.
+are one session. The examples in LANGUAGE's tables are no sessions: they stand among the worked
+ones.
 """
 import glob
 import os

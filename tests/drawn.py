@@ -1,15 +1,21 @@
-"""Sessions that are drawn: lines that look random, with what the reply to each has to be, and the smallest such session that is still answered wrongly.
+"""Sessions that are drawn: lines that look random, with what the reply to each has to be, and the
+smallest such session that is still answered wrongly.
 
-A session is a list of acts, each of which says one line. What its reply has to be follows from the acts before it, so that any of them can be left
-out: where a reply is wrong, as many are left out as leave one wrong.
+A session is a list of acts, each of which says one line. What its reply has to be follows from the
+acts before it, so that any of them can be left out: where a reply is wrong, as many are left out as
+leave one wrong.
 """
 import random
 import re
 import subprocess
 from dataclasses import dataclass
-from typing import Callable, Optional
+from typing import Any, Callable, Iterator, Optional
 
 from case import NO_END, SECONDS, Case, as_bytes
+
+
+# A word of a session that is told, and what it is said of.
+Act = tuple[Any, ...]
 
 
 class Unending(Exception):
@@ -22,17 +28,17 @@ class Exactly:
 
     text: str
 
-    def is_right(self, reply, seen):
+    def is_right(self, reply: str, seen: Any) -> bool:
         return reply == self.text
 
-    def wanted(self, seen):
+    def wanted(self, seen: Any) -> str:
         return self.text
 
 
 OK = Exactly("ok")
 
 
-def replies_of(output):
+def replies_of(output: bytes) -> Iterator[str]:
     """The replies in an output, each with all its lines."""
     lines = iter(output.decode(errors="replace").splitlines())
     for line in lines:
@@ -54,25 +60,28 @@ class Told:
     """A session as far as it is told: its lines, and what the reply to each has to be."""
 
     # What is kept in mind of the replies while they are read.
-    SEEN: Callable = list
+    SEEN: Callable[[], Any] = list
 
-    def __init__(self, options):
-        self.options, self.lines, self.replies = options, [], []
+    def __init__(self, options: list[str]) -> None:
+        self.options = options
+        self.lines: list[str] = []
+        self.replies: list[Any] = []
 
-    def act(self, word, *rest):
+    def act(self, word: str, *rest: object) -> None:
+        """Says a line by the method of this name."""
         getattr(self, word)(*rest)
 
-    def say(self, line, reply=OK):
+    def say(self, line: str, reply: Any = OK) -> None:
         self.lines.append(line)
         self.replies.append(reply)
 
-    def declare(self, line):
+    def declare(self, line: str) -> None:
         self.say(line)
 
-    def sent(self):
+    def sent(self) -> bytes:
         return as_bytes(*self.lines)
 
-    def wrong_in(self, output) -> Optional[Wrong]:
+    def wrong_in(self, output: bytes) -> Optional[Wrong]:
         """The first line that is answered wrongly."""
         came, seen = list(replies_of(output)), self.SEEN()
         for at, reply in enumerate(self.replies):
@@ -80,24 +89,44 @@ class Told:
                 return Wrong(at, "no reply", reply.wanted(seen))
             if not is_right(reply, came[at], seen):
                 return Wrong(at, came[at], reply.wanted(seen))
-        return Wrong(len(self.lines) - 1, "\n".join(came[len(self.lines) - 1 :]), "one reply") if len(came) > len(self.lines) else None
+        return (
+            Wrong(len(self.lines) - 1, "\n".join(came[len(self.lines) - 1 :]), "one reply")
+            if len(came) > len(self.lines)
+            else None
+        )
 
-    def wrong_by(self, program) -> Optional[Wrong]:
+    def wrong_by(self, program: str) -> Optional[Wrong]:
         """The first line that the program answers wrongly."""
-        ran = subprocess.run([program, *self.options], input=self.sent(), capture_output=True, timeout=SECONDS, check=False)
+        ran = subprocess.run(
+            [program, *self.options],
+            input=self.sent(),
+            capture_output=True,
+            timeout=SECONDS,
+            check=False,
+        )
         wrong = self.wrong_in(ran.stdout)
         if ran.returncode == 0 and not ran.stderr:
             return wrong
-        return Wrong(wrong.line if wrong else len(self.lines) - 1, f"status {ran.returncode}, and on standard error {ran.stderr!r}", "status 0")
+        return Wrong(
+            wrong.line if wrong else len(self.lines) - 1,
+            f"status {ran.returncode}, and on standard error {ran.stderr!r}",
+            "status 0",
+        )
 
-    def text_of(self, wrong):
+    def text_of(self, wrong: Wrong) -> str:
         """The lines up to the wrong one, what came and what is wanted."""
-        return "\n".join([*(f"> {line}" for line in self.lines[: wrong.line + 1]), f"came:   {wrong.came}", f"wanted: {wrong.wanted}"])
+        return "\n".join(
+            [
+                *(f"> {line}" for line in self.lines[: wrong.line + 1]),
+                f"came:   {wrong.came}",
+                f"wanted: {wrong.wanted}",
+            ]
+        )
 
 
-def is_right(reply, came, seen):
+def is_right(reply: Any, came: str, seen: Any) -> bool:
     try:
-        return reply.is_right(came, seen)
+        return bool(reply.is_right(came, seen))
     except Unending:
         # (what the premises that came are enough for)
         return True
@@ -109,23 +138,30 @@ def is_right(reply, came, seen):
 class Draw:
     """Draws the acts of a session."""
 
-    TOLD = Told
+    TOLD: Callable[[list[str]], Any] = Told
 
-    def __init__(self, number, options):
-        self.chance, self.acts, self.told = random.Random(number), [], self.TOLD(options)
+    def __init__(self, number: int, options: list[str]) -> None:
+        self.chance = random.Random(number)
+        self.acts: list[Act] = []
+        self.told: Any = type(self).TOLD(options)
         try:
             self.draw()
         except Unending:
             # (the session ends before the question whose evaluation doesn't)
             pass
 
-    def act(self, *act):
+    def draw(self) -> None:
+        """Draws the acts, each by `act`."""
+        raise NotImplementedError
+
+    def act(self, *act: object) -> None:
         self.told.act(*act)
         self.acts.append(act)
 
 
-def shrunk(acts, is_wrong):
-    """What is left of the acts where as many are left out as leave something wrong: none of those left can be left out by itself."""
+def shrunk(acts: list[Act], is_wrong: Callable[[list[Act]], bool]) -> list[Act]:
+    """What is left of the acts where as many are left out as leave something wrong: none of those
+    left can be left out by itself."""
     size = len(acts)
     while size:
         before, at = len(acts), 0
@@ -139,9 +175,11 @@ def shrunk(acts, is_wrong):
     return acts
 
 
-def undeclared(acts, lines):
-    """The acts without declarations of what no later line names. The lines are those of the acts."""
-    kept, words = [], set()
+def undeclared(acts: list[Act], lines: list[str]) -> list[Act]:
+    """The acts without declarations of what no later line names. The lines are those of the
+    acts."""
+    kept: list[Act] = []
+    words: set[str] = set()
     for act, line in zip(reversed(acts), reversed(lines)):
         if act[0] != "declare" or line.split()[1] in words:
             kept.insert(0, act)
@@ -153,18 +191,18 @@ def undeclared(acts, lines):
 class Drawn(Case):
     """A session that is drawn, once it is run."""
 
-    draw: Callable = Draw
+    draw: type[Draw] = Draw
     number: int = 0
 
-    def wrong(self, program):
+    def wrong(self, program: str) -> Optional[str]:
         told = self.draw(self.number, self.options).told
         try:
             wrong = told.wrong_by(program)
         except subprocess.TimeoutExpired:
             return NO_END
-        return wrong and told.text_of(wrong)
+        return told.text_of(wrong) if wrong else None
 
-    def session(self, acts):
+    def session(self, acts: list[Act]) -> Any:
         """The session of these acts, or None where its evaluation doesn't end."""
         told = self.draw.TOLD(self.options)
         try:
@@ -175,9 +213,10 @@ class Drawn(Case):
         return told
 
     def smallest(self, program: str) -> Optional[str]:
-        """The smallest session found that the program answers wrongly too, with what is wrong, or None where it is right the next time."""
+        """The smallest session found that the program answers wrongly too, with what is wrong, or
+        None where it is right the next time."""
 
-        def is_wrong(acts):
+        def is_wrong(acts: list[Act]) -> bool:
             told = self.session(acts)
             try:
                 return told is not None and told.wrong_by(program) is not None
@@ -185,14 +224,20 @@ class Drawn(Case):
                 return False
 
         acts = self.draw(self.number, self.options).acts
-        declared, others = ([act for act in acts if (act[0] == "declare") == is_declared] for is_declared in (True, False))
+        declared, others = (
+            [act for act in acts if (act[0] == "declare") == is_declared]
+            for is_declared in (True, False)
+        )
         acts = declared + shrunk(others, lambda fewer: is_wrong(declared + fewer))
         fewer = undeclared(acts, self.session(acts).lines)
         told = self.session(fewer if is_wrong(fewer) else acts)
         wrong = told.wrong_by(program)
-        return wrong and told.text_of(wrong)
+        return told.text_of(wrong) if wrong else None
 
 
-def drawn(draw, name, count):
+def drawn(draw: type[Draw], name: str, count: int) -> Iterator[Drawn]:
     """So many cases of this kind, each drawn when it is run."""
-    return (Drawn(f"{name}: random session {number}", b"", b"", draw=draw, number=number) for number in range(count))
+    return (
+        Drawn(f"{name}: random session {number}", b"", b"", draw=draw, number=number)
+        for number in range(count)
+    )

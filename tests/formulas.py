@@ -2,41 +2,46 @@
 
 BOUND = 10**18
 
+Ends = tuple[int, int]
+Truth = frozenset[str]
+Info = str | Ends | frozenset[str]
+
 # An information is NOTHING, CLASH, a pair of ends, or a set of truths or of elements of one domain.
 NOTHING, CLASH = "nothing", "contradiction"
 ELEMENTS = ["a", "b", "c"]
 YES, NO = frozenset(["yes"]), frozenset(["no"])
 
 
-def clipped(low, high):
+def clipped(low: int, high: int) -> str | Ends:
     low, high = max(low, -BOUND), min(high, BOUND)
     return (low, high) if low <= high else CLASH
 
 
-def merged(one, other):
+def merged(one: Info, other: Info) -> Info:
     if CLASH in (one, other):
         return CLASH
     if NOTHING in (one, other):
         return other if one == NOTHING else one
-    if isinstance(one, frozenset):
+    if isinstance(one, frozenset) and isinstance(other, frozenset):
         return one & other or CLASH
+    assert isinstance(one, tuple) and isinstance(other, tuple)
     return clipped(max(one[0], other[0]), min(one[1], other[1]))
 
 
-def floor(number, by):
+def floor(number: int, by: int) -> int:
     return number // by
 
 
-def ceiling(number, by):
+def ceiling(number: int, by: int) -> int:
     return -(-number // by)
 
 
-def multiplied(x, y):
+def multiplied(x: Ends, y: Ends) -> str | Ends:
     products = [a * b for a in x for b in y]
     return clipped(min(products), max(products))
 
 
-def divided(z, y, scale=1):
+def divided(z: Ends, y: Ends, scale: int = 1) -> str | Ends:
     if y[0] <= 0 <= y[1]:
         return NOTHING
     low, high = scale * (z[0] - 1) + 1, scale * (z[1] + 1) - 1
@@ -47,50 +52,54 @@ def divided(z, y, scale=1):
     return clipped(low, high) if low <= high else CLASH
 
 
-def squared(x):
+def squared(x: Ends) -> str | Ends:
     squares = [x[0] ** 2, x[1] ** 2]
     return clipped(0 if x[0] <= 0 <= x[1] else min(squares), max(squares))
 
 
-def compared(x, y):
+def compared(x: Ends, y: Ends) -> str | Truth:
     if x[1] < y[0]:
         return YES
     return NO if x[0] >= y[1] else NOTHING
 
 
-def below(t, y):
-    return {YES: clipped(-BOUND, y[1] - 1), NO: (y[0], BOUND)}.get(t, NOTHING)
+def below(t: Truth, y: Ends) -> str | Ends:
+    if t == YES:
+        return clipped(-BOUND, y[1] - 1)
+    return (y[0], BOUND) if t == NO else NOTHING
 
 
-def above(t, x):
-    return {YES: clipped(x[0] + 1, BOUND), NO: (-BOUND, x[1])}.get(t, NOTHING)
+def above(t: Truth, x: Ends) -> str | Ends:
+    if t == YES:
+        return clipped(x[0] + 1, BOUND)
+    return (-BOUND, x[1]) if t == NO else NOTHING
 
 
-def alike(x, y):
+def alike(x: frozenset[str], y: frozenset[str]) -> str | Truth:
     if x == y and len(x) == 1:
         return YES
     return NOTHING if x & y else NO
 
 
-def parted(t, x, y):
+def parted(t: Truth, x: frozenset[str], y: frozenset[str]) -> str | frozenset[str]:
     return (y - x or CLASH) if t == NO and len(x) == 1 else NOTHING
 
 
-def passed(t, x):
+def passed(t: Truth, x: Info) -> Info:
     return x if t == YES else NOTHING
 
 
-def others(x):
+def others(x: frozenset[str]) -> frozenset[str]:
     """The elements that differ from some element of the set."""
     return frozenset(it for it in ELEMENTS if x - {it})
 
 
-def is_below(one, other):
+def is_below(one: Info, other: Info) -> bool:
     """Whether the second says all that the first says."""
     return merged(one, other) == other
 
 
-def text_of(info):
+def text_of(info: Info) -> str:
     if isinstance(info, tuple):
         return str(info[0]) if info[0] == info[1] else f"{info[0]}..{info[1]}"
     if isinstance(info, frozenset):
@@ -99,7 +108,7 @@ def text_of(info):
     return info
 
 
-def info_of(text):
+def info_of(text: str) -> Info:
     """The information that an answer writes."""
     if text in (NOTHING, CLASH):
         return text

@@ -1,8 +1,9 @@
 """The handbook that tools/handbook makes of README.md, docs/ and examples/.
 
-What is laid out for Sphinx is looked at whether Sphinx is there or not: that each document stands in
-the contents, that each block has a language, and that each link leads to a file and a heading. Where
-Sphinx is there, the pages are made, each link in them leads somewhere, and their search knows them.
+What is laid out for Sphinx is looked at whether Sphinx is there or not: that each document stands
+in the contents, that each block has a language, and that each link leads to a file and a heading.
+Where Sphinx is there, the pages are made, each link in them leads somewhere, and their search knows
+them.
 """
 import contextlib
 import glob

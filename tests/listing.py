@@ -1,8 +1,10 @@
-"""What `list` has to tell, from the lines of a session alone, and random sessions of which each line of it is looked at.
+"""What `list` has to tell, from the lines of a session alone, and random sessions of which each
+line of it is looked at.
 
-A compound is taken apart here by its definition as its line says it: cells and instances are numbered in the order of that walk, a local has the name of
-the use that made it in front, and an instance is named by the use that it is. What a choice stands on is known where all is settled: it is the first
-list that the plain evaluation doesn't find refuted.
+A compound is taken apart here by its definition as its line says it: cells and instances are
+numbered in the order of that walk, a local has the name of the use that made it in front, and an
+instance is named by the use that it is. What a choice stands on is known where all is settled: it
+is the first list that the plain evaluation doesn't find refuted.
 """
 from dataclasses import dataclass, field, replace
 from typing import Any, Iterator, Optional
@@ -14,18 +16,48 @@ from formulas import text_of
 
 KINDS = {"s": "span", "t": "truth", "d": "d"}
 # How the compounds of the kit that are used here are made.
-KIT = {
-    "sum": (["x", "y", "z"], [("adder", ["x", "y", "z"], ""), ("subtracter", ["z", "x", "y"], ""), ("subtracter", ["z", "y", "x"], "")]),
-    "scaled": (["x", "y", "z"], [("local", "h", "span"), ("multiplier", ["x", "y", "h"], "*"), ("sum", ["h", "h", "z"], "")]),
-    "deeper": (["x", "z"], [("scaled", ["x", "x", "z"], "10"), ("local", "m", "like x"), ("scaled", ["m", "x", "z"], "*"), ("multiplier", ["m", "m", "z"], "7")]),
+KIT: dict[str, tuple[list[str], list[tuple[str, list[str] | str, str]]]] = {
+    "sum": (
+        ["x", "y", "z"],
+        [
+            ("adder", ["x", "y", "z"], ""),
+            ("subtracter", ["z", "x", "y"], ""),
+            ("subtracter", ["z", "y", "x"], ""),
+        ],
+    ),
+    "scaled": (
+        ["x", "y", "z"],
+        [
+            ("local", "h", "span"),
+            ("multiplier", ["x", "y", "h"], "*"),
+            ("sum", ["h", "h", "z"], ""),
+        ],
+    ),
+    "deeper": (
+        ["x", "z"],
+        [
+            ("scaled", ["x", "x", "z"], "10"),
+            ("local", "m", "like x"),
+            ("scaled", ["m", "x", "z"], "*"),
+            ("multiplier", ["m", "m", "z"], "7"),
+        ],
+    ),
     "lone": (["x"], [("local", "a", "like x"), ("local", "b", "d")]),
 }
 DEFINED = [
     "define scaled x y z = local h span ; multiplier x y h by * ; sum h h z",
-    "define deeper x z = scaled x x z by 10 ; local m like x ; scaled m x z by * ; multiplier m m z by 7",
+    "define deeper x z = scaled x x z by 10 ; local m like x ; scaled m x z by * ;"
+    " multiplier m m z by 7",
     " define\tlone x = local a like x ; local b d",
 ]
-USES = [("sum", "sss", ""), ("scaled", "sss", "by 3"), ("scaled", "sss", ""), ("deeper", "ss", "by 5"), ("lone", "t", ""), ("imager", "dd", "by differ")]
+USES = [
+    ("sum", "sss", ""),
+    ("scaled", "sss", "by 3"),
+    ("scaled", "sss", ""),
+    ("deeper", "ss", "by 5"),
+    ("lone", "t", ""),
+    ("imager", "dd", "by differ"),
+]
 
 
 @dataclass
@@ -54,7 +86,9 @@ class Made:
                 self.cells.append((there[str(on)], kind))
             else:
                 part += 1
-                self.use(f"{path}.{part}", word, [there[it] for it in on], given if how == "*" else how)
+                self.use(
+                    f"{path}.{part}", word, [there[it] for it in on], given if how == "*" else how
+                )
 
 
 @dataclass
@@ -67,23 +101,37 @@ class Listed:
 
     def lines(self) -> list[str]:
         session = self.session
-        statements = [f"{'tell ' + premise if premise else 'fix'} {cell} {text_of(info)}" for premise, cell, info in session.stated]
+        statements = [
+            f"{'tell ' + premise if premise else 'fix'} {cell} {text_of(info)}"
+            for premise, cell, info in session.stated
+        ]
         return [
             *[f"cell {name} {kind}" for name, kind in self.made.cells],
             *[f"instance {number} {text}" for number, text in enumerate(self.made.instances)],
             *statements,
-            *[f"premise {name} {'in' if name in session.believed else 'out'}" for name in session.known if "=" not in name],
+            *[
+                f"premise {name} {'in' if name in session.believed else 'out'}"
+                for name in session.known
+                if "=" not in name
+            ],
         ]
 
     def choice(self, sides: list[str], line: str, worldview: Optional[set[str]]) -> bool:
         word, name, side, _, count, belief = line.split()
         stands = f"{name}={side}"
-        return (word, name, int(count)) == ("choice", sides[0].partition("=")[0], len(sides)) and stands in sides and (
-            belief == "in" and stands in worldview if worldview is not None else belief in ("in", "out")
+        return (
+            (word, name, int(count)) == ("choice", sides[0].partition("=")[0], len(sides))
+            and stands in sides
+            and (
+                belief == "in" and stands in worldview
+                if worldview is not None
+                else belief in ("in", "out")
+            )
         )
 
     def refuted(self, side: str, line: str, taken: set[str]) -> bool:
-        """Whether a line tells why a side was left, beside these sides of earlier choices and what is believed."""
+        """Whether a line tells why a side was left, beside these sides of earlier choices and what
+        is believed."""
         word, left, because, *reason = line.split()
         premises = set(reason)
         return (
@@ -93,7 +141,8 @@ class Listed:
         )
 
     def are_choices(self, lines: list[str], worldview: Optional[set[str]]) -> bool:
-        """Whether the lines tell of each choice where it stands, and why it left each side before."""
+        """Whether the lines tell of each choice where it stands, and why it left each side
+        before."""
         taken: set[str] = set()
         for sides in self.session.choices:
             head, *lines = lines
@@ -117,7 +166,12 @@ class Listed:
         )
 
     def wanted(self, _seen: Any) -> str:
-        return "\n".join([*self.lines(), *(f"choice {sides[0].partition('=')[0]} .." for sides in self.session.choices)])
+        return "\n".join(
+            [
+                *self.lines(),
+                *(f"choice {sides[0].partition('=')[0]} .." for sides in self.session.choices),
+            ]
+        )
 
 
 class Told(choices.Told):
@@ -156,10 +210,20 @@ class Told(choices.Told):
 
 
 class Draw(choices.Draw):
-    """Draws lines with compounds and procedures among them, and lists between them before anything runs."""
+    """Draws lines with compounds and procedures among them, and lists between them before anything
+    runs."""
 
     TOLD = Told
-    COMMANDS = [*["compound", "tell"] * 3, "attach", "fix", "kick", "bring", "forget", *["choose"] * 3, *["list"] * 3]
+    COMMANDS = [
+        *["compound", "tell"] * 3,
+        "attach",
+        "fix",
+        "kick",
+        "bring",
+        "forget",
+        *["choose"] * 3,
+        *["list"] * 3,
+    ]
     SETTLED = False
 
     def draw(self) -> None:
@@ -179,7 +243,8 @@ class Draw(choices.Draw):
 
 
 class Settled(Draw):
-    """Draws lines with procedures alone, so that the plain evaluation knows where the choices stand, and lists between them where all is settled."""
+    """Draws lines with procedures alone, so that the plain evaluation knows where the choices
+    stand, and lists between them where all is settled."""
 
     COMMANDS = [*["tell", "attach"] * 3, "kick", "bring", "forget", *["choose"] * 4, *["list"] * 3]
     SETTLED = True

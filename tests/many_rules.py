@@ -291,7 +291,8 @@ TASKS, LAST, PLANS = 4, 7, 8
 
 @dataclass(frozen=True)
 class Plan:
-    """Tasks by length and demand, in a hall of this capacity, or one at a time where it has none."""
+    """Tasks by length and demand, in a hall of this capacity, or one at a time where it has
+    none."""
 
     tasks: tuple[tuple[int, int], ...]
     capacity: Optional[int]

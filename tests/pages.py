@@ -1,5 +1,5 @@
-"""What README.md, docs/, examples/README.md and python/REALS.md are held to as texts: length, lines,
-links, names.
+"""What README.md, docs/, examples/README.md and python/REALS.md are held to as texts: length,
+lines, links, names.
 
 - README.md and docs/ have MOST bytes in all, and a paragraph fewer than WORDS words. An item of a
   list is a paragraph of its own; rows of tables and indented blocks are none.

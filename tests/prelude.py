@@ -1,9 +1,10 @@
 """The prelude: for each use of a procedure in each compound an example that needs it.
 
-The compounds stand here as the language's page tells them, and not as the program has them. Each example is asked of the program's own compound;
-and of the compound as it stands here without that one use, where the answer has to be another: so no use can be lost unseen.
+The compounds stand here as the language's page tells them, and not as the program has them. Each
+example is asked of the program's own compound; and of the compound as it stands here without that
+one use, where the answer has to be another: so no use can be lost unseen.
 """
-from typing import Iterator
+from typing import Callable, Iterator, Optional
 
 from case import Case, answered, as_bytes
 
@@ -13,13 +14,25 @@ KINDS = {"t": "truth", "n": "truth"}
 # A compound: its cells, the kind of those that are no truth by name, and its steps.
 COMPOUNDS = {
     "sum": ("x y z", "span", ["adder x y z", "subtracter z x y", "subtracter z y x"]),
-    "product": ("x y z", "span", ["multiplier x y z by *", "divider z y x by *", "divider z x y by *"]),
+    "product": (
+        "x y z",
+        "span",
+        ["multiplier x y z by *", "divider z y x by *", "divider z x y by *"],
+    ),
     "square": ("x y", "span", ["squarer x y", "rooter y x x"]),
     "less": ("x y t", "span", ["lesser x y t", "below t y x", "above t x y"]),
     "same": ("x y", "span", ["copier x y", "copier y x"]),
-    "alike": ("x y t", "span", ["comparer x y t", "passer t x y", "passer t y x", "parter t x y y", "parter t y x x"]),
+    "alike": (
+        "x y t",
+        "span",
+        ["comparer x y t", "passer t x y", "passer t y x", "parter t x y y", "parter t y x x"],
+    ),
     "switch": ("t x y", "span", ["passer t x y"]),
-    "conditional": ("t a b o", "span", ["local n truth", "inverter t n", "passer t a o", "passer n b o"]),
+    "conditional": (
+        "t a b o",
+        "span",
+        ["local n truth", "inverter t n", "passer t a o", "passer n b o"],
+    ),
     "not": ("x y", "truth", ["inverter x y", "inverter y x"]),
     "and": ("x y z", "truth", ["conjoiner x y z", "conjoin_back z y x", "conjoin_back z x y"]),
     "or": ("x y z", "truth", ["disjoiner x y z", "disjoin_back z y x", "disjoin_back z x y"]),
@@ -66,18 +79,22 @@ EXAMPLES = [
 ]
 
 
-def session(compound, attached, behind, stated, asked, first=()):
-    """The lines of an example, of which the last one asks."""
-    cells, kind, _ = COMPOUNDS[compound]
-    lines = [*DECLARED, *first, *(f"cell {cell} {KINDS.get(cell, kind)}" for cell in cells.split())]
-    lines.append(f"attach {attached} {cells}{behind}")
+def session(compound: str, stated: str, asked: str, defined: str = "") -> list[str]:
+    """The lines of an example, of which the last one asks. It attaches the compound that is there,
+    or `other` where that one's definition is given."""
+    name, by, parameter = compound.partition(" ")
+    cells, kind, _ = COMPOUNDS[name]
+    lines = [*DECLARED, *([defined] if defined else [])]
+    lines += [f"cell {cell} {KINDS.get(cell, kind)}" for cell in cells.split()]
+    lines.append(f"attach {'other' if defined else name} {cells}{by}{parameter}")
     return [*lines, *(f"fix {it}" for it in stated.split(", ")), f"ask {asked}"]
 
 
-def lacks(lines, answer):
-    """Says what is wrong where the output is not `ok` to each line but the last, and something else than the answer to it."""
+def lacks(lines: list[str], answer: str) -> Callable[[bytes], Optional[str]]:
+    """Says what is wrong where the output is not `ok` to each line but the last, and something else
+    than the answer to it."""
 
-    def wrong(output):
+    def wrong(output: bytes) -> Optional[str]:
         replies = output.decode().splitlines()
         if replies[:-1] != ["ok"] * (len(lines) - 1):
             return f"it wrote {replies}"
@@ -86,20 +103,26 @@ def lacks(lines, answer):
     return wrong
 
 
-def without(steps, use):
+def without(steps: list[str], use: str) -> list[str]:
     """The steps without this one; where none is left, a step that says nothing."""
     return [it for it in steps if it != use] or ["local nothing_said span"]
 
 
 def cases() -> Iterator[Case]:
     seen = {(compound.split()[0], use) for compound, use, _, _ in EXAMPLES}
-    missing = [(name, use) for name, (_, _, steps) in COMPOUNDS.items() for use in steps if (name, use) not in seen and not use.startswith("local")]
+    missing = [
+        (name, use)
+        for name, (_, _, steps) in COMPOUNDS.items()
+        for use in steps
+        if (name, use) not in seen and not use.startswith("local")
+    ]
     assert not missing, missing
     for compound, use, stated, answer in EXAMPLES:
-        name, _, behind = compound.partition(" ")
-        behind = " " + behind if behind else ""
-        cells, _, steps = COMPOUNDS[name]
-        lines = session(name, name, behind, stated, answer.split()[0])
-        yield Case(f"prelude: {compound} needs {use}", as_bytes(*lines), answered(len(lines) - 1, answer))
-        less = session(name, "other", behind, stated, answer.split()[0], [f"define other {cells} = {' ; '.join(without(steps, use))}"])
+        cells, _, steps = COMPOUNDS[compound.split()[0]]
+        lines = session(compound, stated, answer.split()[0])
+        yield Case(
+            f"prelude: {compound} needs {use}", as_bytes(*lines), answered(len(lines) - 1, answer)
+        )
+        defined = f"define other {cells} = {' ; '.join(without(steps, use))}"
+        less = session(compound, stated, answer.split()[0], defined)
         yield Case(f"prelude: {compound} without {use}", as_bytes(*less), lacks(less, answer))

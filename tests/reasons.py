@@ -1,4 +1,5 @@
-"""Random statements of one cell, and `why`: that no premise that is named can be left out beside what rests on none."""
+"""Random statements of one cell, and `why`: that no premise that is named can be left out beside
+what rests on none."""
 import random
 from typing import Iterator
 
@@ -50,7 +51,11 @@ def cases() -> Iterator[Case]:
     lines = [f"domain d {' '.join(ELEMENTS)}"]
     for at, said in enumerate(all_said):
         renamed = [(premise and f"{premise}_{at}", some) for premise, some in said]
-        lines += [f"cell x{at} d", *(line(premise, some).replace(" x ", f" x{at} ") for premise, some in renamed), f"why x{at}"]
+        lines += [
+            f"cell x{at} d",
+            *(line(premise, some).replace(" x ", f" x{at} ") for premise, some in renamed),
+            f"why x{at}",
+        ]
 
     def judged(output: bytes) -> str | None:
         replies = [it for it in output.decode().splitlines() if it != "ok"]

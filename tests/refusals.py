@@ -1,9 +1,11 @@
 #!/usr/bin/python3
-"""Worked sessions in which what they ask the machine for is refused: memory, a read, a write; or whose input is cut.
+"""Worked sessions in which what they ask the machine for is refused: memory, a read, a write; or
+whose input is cut.
 
 usage: tests/refusals.py PROGRAM SESSION
 
-refuses each request for memory of the lines of the file SESSION in turn, once each. The gate runs worked sessions so.
+refuses each request for memory of the lines of the file SESSION in turn, once each. The gate runs
+worked sessions so.
 """
 import atexit
 import os
@@ -13,15 +15,17 @@ import sys
 import tempfile
 from dataclasses import dataclass
 from functools import cache
-from typing import Iterator
+from typing import Iterable, Iterator, Optional
 
 from case import SECONDS, first_difference
 from transcripts import Transcript
 
-# Stands before the C library: the Nth request for memory, the Nth read of standard input or the Nth write to standard output is refused where
-# REFUSED is mN, rN or wN; with rN a read brings one byte, with nN the Nth write takes nothing, with s1 each write takes a half. With aN the Nth read would have to wait, with bN the Nth
-# write; with iN a signal interrupts each read and each write N times before it is carried out. With cN the requests for memory are counted, and told on standard error at the end. All else
-# goes to the C library. It needs no header.
+# Stands before the C library: the Nth request for memory, the Nth read of standard input or the Nth
+# write to standard output is refused where REFUSED is mN, rN or wN; with rN a read brings one byte,
+# with nN the Nth write takes nothing, with s1 each write takes a half. With aN the Nth read would
+# have to wait, with bN the Nth write; with iN a signal interrupts each read and each write N times
+# before it is carried out. With cN the requests for memory are counted, and told on standard error
+# at the end. All else goes to the C library. It needs no header.
 STANDING_BEFORE = r"""
 typedef unsigned long size;
 void *__libc_malloc(size); void *__libc_realloc(void *, size);
@@ -84,7 +88,7 @@ OUT_OF_MEMORY = b"error 90: out of memory\n"
 
 
 @cache
-def library():
+def library() -> str:
     """The library that stands before the C library, built once."""
     folder = tempfile.mkdtemp()
     atexit.register(shutil.rmtree, folder)
@@ -93,14 +97,30 @@ def library():
         file.write(STANDING_BEFORE)
     for compiler in COMPILERS:
         if shutil.which(compiler):
-            made = subprocess.run([compiler, "-shared", "-fPIC", "-O1", "-nostdlib", "-fno-builtin", "-w", "-o", built, source], capture_output=True, check=False)
+            made = subprocess.run(
+                [
+                    compiler,
+                    "-shared",
+                    "-fPIC",
+                    "-O1",
+                    "-nostdlib",
+                    "-fno-builtin",
+                    "-w",
+                    "-o",
+                    built,
+                    source,
+                ],
+                capture_output=True,
+                check=False,
+            )
             if made.returncode == 0:
                 return built
     raise SystemExit("no C compiler: the sessions whose memory is refused can't be run")
 
 
-def run(program, lines, refused=""):
-    """What the program writes for the lines where one call is refused: its status, its output and what it says on standard error."""
+def run(program: str, lines: list[bytes], refused: str = "") -> tuple[int, bytes, bytes]:
+    """What the program writes for the lines where one call is refused: its status, its output and
+    what it says on standard error."""
     ran = subprocess.run(
         [program],
         input=b"".join(lines),
@@ -119,7 +139,15 @@ class Refusals:
     name: str
     session: Transcript
 
-    def wrong(self, program):
+    def numbers(self, program: str) -> Iterable[int]:
+        """Which calls are refused, one after the other."""
+        raise NotImplementedError
+
+    def wrong_at(self, program: str, number: int) -> Optional[str]:
+        """What is wrong where the call of this number is refused, or None."""
+        raise NotImplementedError
+
+    def wrong(self, program: str) -> Optional[str]:
         """What is wrong with the first run that is wrong, or None."""
         for number in self.numbers(program):
             wrong = self.wrong_at(program, number)
@@ -129,28 +157,41 @@ class Refusals:
 
 
 class EachAllocation(Refusals):
-    """Each request for memory is refused in turn. Before the first line the program goes on without it, or ends with status 4. Behind it either the
-    line for which memory was refused says so, and all is as if it had not been given: given once more, it and all others have their replies. Or no
+    """Each request for memory is refused in turn. Before the first line the program goes on without
+    it, or ends with status 4. Behind it either the line for which memory was refused says so, and
+    all is as if it had not been given: given once more, it and all others have their replies. Or no
     line does, and all have their replies: what is kept to save time is done without."""
 
-    def numbers(self, program):
+    def numbers(self, program: str) -> Iterable[int]:
         self.before, asked = requests(program, []), requests(program, self.session.lines())
         assert self.before < asked
         return range(1, asked + 2)
 
-    def wrong_at(self, program, number):
+    def wrong_at(self, program: str, number: int) -> Optional[str]:
         lines, replies = self.session.lines(), self.session.replies()
         status, output, told = run(program, lines, f"m{number}")
         if status == 4:
-            return None if (output, told) == (b"", b"propbench: out of memory\n") and number <= self.before else f"it wrote {output!r} and said {told!r}"
+            return (
+                None
+                if (output, told) == (b"", b"propbench: out of memory\n") and number <= self.before
+                else f"it wrote {output!r} and said {told!r}"
+            )
         refused = self.refused(output)
         if refused is not None:
-            lines, replies = lines[:refused] + lines[refused : refused + 1] + lines[refused:], replies[:refused] + [OUT_OF_MEMORY] + replies[refused:]
+            lines, replies = (
+                lines[:refused] + lines[refused : refused + 1] + lines[refused:],
+                replies[:refused] + [OUT_OF_MEMORY] + replies[refused:],
+            )
             status, output, told = run(program, lines, f"m{number}")
-        return first_difference(output, b"".join(replies)) if (status, told) == (0, b"") else f"the status is {status}, it said {told!r}"
+        return (
+            first_difference(output, b"".join(replies))
+            if (status, told) == (0, b"")
+            else f"the status is {status}, it said {told!r}"
+        )
 
-    def refused(self, output):
-        """Which line was refused, where those before it have their replies; none where no line was."""
+    def refused(self, output: bytes) -> Optional[int]:
+        """Which line was refused, where those before it have their replies; none where no line
+        was."""
         before = b""
         for number, reply in enumerate(self.session.replies()):
             if reply and output.startswith(before + OUT_OF_MEMORY):
@@ -159,49 +200,60 @@ class EachAllocation(Refusals):
         return None
 
 
-def requests(program, lines):
+def requests(program: str, lines: list[bytes]) -> int:
     """How many requests for memory the program makes."""
     return int(run(program, lines, "c0")[2])
 
 
 class EachRead(Refusals):
-    """The input comes byte by byte, and each read fails in turn: the lines that came whole have their replies, and no other is carried out."""
+    """The input comes byte by byte, and each read fails in turn: the lines that came whole have
+    their replies, and no other is carried out."""
 
     kind = "r"
 
-    def numbers(self, program):
+    def numbers(self, program: str) -> Iterable[int]:
         return range(1, len(b"".join(self.session.lines())) + 2)
 
-    def wrong_at(self, program, number):
+    def wrong_at(self, program: str, number: int) -> Optional[str]:
         came = b"".join(self.session.lines())[: number - 1]
         wanted = b"".join(self.session.replies()[: came.count(b"\n")])
         status, output, told = run(program, self.session.lines(), f"{self.kind}{number}")
-        return first_difference(output, wanted) if (status, told) == (2, b"propbench: read fault\n") else f"the status is {status}, it said {told!r}"
+        return (
+            first_difference(output, wanted)
+            if (status, told) == (2, b"propbench: read fault\n")
+            else f"the status is {status}, it said {told!r}"
+        )
 
 
 class EachReadThatWouldWait(EachRead):
-    """The same where each read in turn would have to wait: it is a fault as any other, and is not tried again."""
+    """The same where each read in turn would have to wait: it is a fault as any other, and is not
+    tried again."""
 
     kind = "a"
 
 
 class EachWrite(Refusals):
-    """Each write fails in turn, or takes nothing: each reply before it was written, by one write with its line feed, and nothing else. One write more is none."""
+    """Each write fails in turn, or takes nothing: each reply before it was written, by one write
+    with its line feed, and nothing else. One write more is none."""
 
     kind = "w"
 
-    def numbers(self, program):
+    def numbers(self, program: str) -> Iterable[int]:
         return range(1, len(self.spoken()) + 2)
 
-    def spoken(self):
+    def spoken(self) -> list[bytes]:
         """The replies that are no silence."""
         return [reply for reply in self.session.replies() if reply]
 
-    def wrong_at(self, program, number):
+    def wrong_at(self, program: str, number: int) -> Optional[str]:
         spoken = self.spoken()
         ended = (2, b"propbench: write fault\n") if number <= len(spoken) else (0, b"")
         status, output, told = run(program, self.session.lines(), f"{self.kind}{number}")
-        return first_difference(output, b"".join(spoken[: number - 1])) if (status, told) == ended else f"the status is {status}, it said {told!r}"
+        return (
+            first_difference(output, b"".join(spoken[: number - 1]))
+            if (status, told) == ended
+            else f"the status is {status}, it said {told!r}"
+        )
 
 
 class EachWriteThatWouldWait(EachWrite):
@@ -215,44 +267,58 @@ class EachWriteOfNothing(EachWrite):
 class HalfWrites(Refusals):
     """Each write takes a half of what it is given: all is written all the same."""
 
-    def numbers(self, program):
+    def numbers(self, program: str) -> Iterable[int]:
         return [1]
 
-    def wrong_at(self, program, number):
+    def wrong_at(self, program: str, number: int) -> Optional[str]:
         status, output, told = run(program, self.session.lines(), "s1")
-        return first_difference(output, b"".join(self.session.replies())) if (status, told) == (0, b"") else f"the status is {status}, it said {told!r}"
+        return (
+            first_difference(output, b"".join(self.session.replies()))
+            if (status, told) == (0, b"")
+            else f"the status is {status}, it said {told!r}"
+        )
 
 
 class Interrupted(Refusals):
-    """A signal interrupts each read and each write, once or often, before it is carried out: all goes its way. One that is interrupted each time is a fault in the end."""
+    """A signal interrupts each read and each write, once or often, before it is carried out: all
+    goes its way. One that is interrupted each time is a fault in the end."""
 
-    def numbers(self, program):
+    def numbers(self, program: str) -> Iterable[int]:
         return [1, 1_000, 65_535, 65_536]
 
-    def wrong_at(self, program, number):
+    def wrong_at(self, program: str, number: int) -> Optional[str]:
         lines, replies = self.session.lines()[:2], self.session.replies()[:2]
         if number == 1:
             lines, replies = self.session.lines(), self.session.replies()
-        wanted = (0, b"".join(replies), b"") if number < 65_536 else (2, b"", b"propbench: read fault\n")
+        wanted = (
+            (0, b"".join(replies), b"") if number < 65_536 else (2, b"", b"propbench: read fault\n")
+        )
         ended = run(program, lines, f"i{number}")
         return None if ended == wanted else f"it ended with {ended}, wanted {wanted}"
 
 
 class EachCut(Refusals):
-    """The input ends after each byte in turn: the whole lines have their replies, and what is left is carried out as a last line."""
+    """The input ends after each byte in turn: the whole lines have their replies, and what is left
+    is carried out as a last line."""
 
-    def numbers(self, program):
+    def numbers(self, program: str) -> Iterable[int]:
         return range(len(b"".join(self.session.lines())) + 1)
 
-    def wrong_at(self, program, number):
+    def wrong_at(self, program: str, number: int) -> Optional[str]:
         came = b"".join(self.session.lines())[:number]
         whole = b"".join(self.session.replies()[: came.count(b"\n")])
         status, output, told = run(program, [came])
         ended = run(program, [came, b"" if came.endswith(b"\n") or not came else b"\n"])
         if (status, output, told) != ended or not output.startswith(whole):
-            return f"it wrote {output!r}, with a line feed {ended!r}, and whole lines want {whole!r}"
+            return (
+                f"it wrote {output!r}, with a line feed {ended!r}, and whole lines want {whole!r}"
+            )
         left = came.rpartition(b"\n")[2]
-        return None if (output == whole) == (not left.strip()) else f"what is left, {left!r}, was answered {output.removeprefix(whole)!r}"
+        return (
+            None
+            if (output == whole) == (not left.strip())
+            else f"what is left, {left!r}, was answered {output.removeprefix(whole)!r}"
+        )
 
 
 # The sessions whose requests for memory are refused.
@@ -274,11 +340,20 @@ CHOOSING = HUNGRY[1]
 def cases(transcripts: list[Transcript]) -> Iterator[Refusals]:
     by_name = {each.name: each for each in transcripts}
     yield from (EachAllocation(f"refusals: memory, {name}", by_name[name]) for name in HUNGRY)
-    for kind in [EachRead, EachReadThatWouldWait, EachWrite, EachWriteThatWouldWait, EachWriteOfNothing, HalfWrites, Interrupted, EachCut]:
+    for kind in [
+        EachRead,
+        EachReadThatWouldWait,
+        EachWrite,
+        EachWriteThatWouldWait,
+        EachWriteOfNothing,
+        HalfWrites,
+        Interrupted,
+        EachCut,
+    ]:
         yield kind(f"refusals: {kind.__name__}, {CHOOSING}", by_name[CHOOSING])
 
 
-def answered(program, path):
+def answered(program: str, path: str) -> Transcript:
     """The lines of a file, each with what the program writes for it."""
     with open(path, "rb") as file:
         lines = file.read().splitlines(keepends=True)
@@ -287,7 +362,7 @@ def answered(program, path):
     return Transcript(path, [], list(zip(lines, replies)))
 
 
-def main(program, path):
+def main(program: str, path: str) -> str | int:
     return EachAllocation(path, answered(program, path)).wrong(program) or 0
 
 

@@ -49,7 +49,8 @@ TYPED_TESTS += ["package", "pages", "peers", "pipe", "points", "puzzles", "relat
 TYPED_TESTS += ["searches", "solving", "spoiled_solving", "talking", "test_sessions", "versions"]
 TYPED_TESTS += ["changes", "changing", "questions", "spoiled_changing"]
 TYPED_TESTS += ["many_rules", "row_rules", "wide_puzzles", "wide_rules"]
-# Scripts and modules that are typed and laid out by black, by the folder that they are looked at in.
+# Scripts and modules that are typed and laid out by black, by the folder that they are looked at
+# in.
 TYPED = {
     "tools/start": ["*.py", "../../propbench", "../../propwide"],
     "tools/book": ["making.py", "../handbook"],

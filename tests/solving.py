@@ -18,8 +18,10 @@ PROGRAM is a workbench that answers these, as propwide; of networks that are dra
   no other row;
 - each question comes to its end, by slices of 1, 10 and 1,000 steps in about as many steps as by
   more; there it is answered the same again; and after another question it begins anew;
-- what changes nothing between two `plans`, a `limit` too, changes nothing of the rows that are told;
-- each nogood that `step` tells of a `solve` under way leaves no points by the premises that it names,
+- what changes nothing between two `plans`, a `limit` too, changes nothing of the rows that are
+told;
+- each nogood that `step` tells of a `solve` under way leaves no points by the premises that it
+names,
   and step by step it comes to the same end.
 
 A question may stay unsettled for ever where nothing is stated of a symbol, since none is tried, or
@@ -372,7 +374,8 @@ def built() -> Iterator[Check]:
 
 
 def tell_of(program: str, seeds: range, kind: type[Session] = Session) -> int:
-    """Prints each session of these seeds that is wrong, and what came of all; how many are wrong."""
+    """Prints each session of these seeds that is wrong, and what came of all; how many are
+    wrong."""
     failed, counts = 0, Counter[str]()
     for seed in seeds:
         found = tried(os.path.abspath(program), [seed], kind)

@@ -3,8 +3,8 @@
 
 usage: tests/spoiled_solving.py SPOIL PROGRAM
 
-answers as PROGRAM does but for what SPOIL changes: twice, better, worse, nearer, fewer, elsewhere or
-early.
+answers as PROGRAM does but for what SPOIL changes: twice, better, worse, nearer, fewer, elsewhere
+or early.
 """
 import os
 import re

@@ -4,9 +4,9 @@ calls.
 
 The model (tests/steps.py) knows which instances wait and what is believed of each cell, and calls
 one at the place that the order picks: its number, cells and output are what `step` has to name. The
-premises that are said to be why are looked at by the plain evaluation (tests/plain.py): they have to
-be enough. With choices the model is that evaluation alone: a move goes to the next side, for a set
-that is refuted and holds the side that was left, and the end is the one that `settle` tells.
+premises that are said to be why are looked at by the plain evaluation (tests/plain.py): they have
+to be enough. With choices the model is that evaluation alone: a move goes to the next side, for a
+set that is refuted and holds the side that was left, and the end is the one that `settle` tells.
 
 Of `how` each part has to be a statement that was made under one of the premises of the value, or
 what its procedure answers on what the parts behind it say; it says more of its cell than they do,
@@ -33,7 +33,9 @@ from formulas import CLASH, text_of
 
 DRAWN = 100
 MOST = 200
-BUILT = f"{os.path.dirname(os.path.dirname(os.path.realpath(__file__)))}/crates/propwide/out/propwide"
+BUILT = (
+    f"{os.path.dirname(os.path.dirname(os.path.realpath(__file__)))}/crates/propwide/out/propwide"
+)
 
 
 def replies_of(output: bytes) -> Iterator[str]:
@@ -41,7 +43,9 @@ def replies_of(output: bytes) -> Iterator[str]:
     lines = iter(output.decode(errors="replace").splitlines())
     for line in lines:
         counted = re.fullmatch(r"(?:step|how|list) (\d+)", line)
-        yield "\n".join([line, *(next(lines, "") for _ in range(int(counted[1]) if counted else 0))])
+        yield "\n".join(
+            [line, *(next(lines, "") for _ in range(int(counted[1]) if counted else 0))]
+        )
 
 
 def first_wrong(told: drawn.Told, output: bytes) -> Optional[drawn.Wrong]:
@@ -53,10 +57,14 @@ def first_wrong(told: drawn.Told, output: bytes) -> Optional[drawn.Wrong]:
         if not drawn.is_right(reply, came[at], seen):
             return drawn.Wrong(at, came[at], reply.wanted(seen))
     last = len(told.lines) - 1
-    return drawn.Wrong(last, "\n".join(came[last:]), "one reply") if len(came) > len(told.lines) else None
+    return (
+        drawn.Wrong(last, "\n".join(came[last:]), "one reply")
+        if len(came) > len(told.lines)
+        else None
+    )
 
 
-def is_enough(session: plain.Plain, premises: set[str], cell: str, value: object) -> bool:
+def is_enough(session: plain.Plain, premises: set[str], cell: str, value: formulas.Info) -> bool:
     """Whether these premises are believed or sides, and say so much of the cell by themselves."""
     found = session.values(premises)
     return CLASH in found.values() or formulas.merged(found[cell], value) == found[cell]
@@ -77,7 +85,12 @@ def said_in(line: str) -> tuple[str, str, set[str]]:
 
 # What is said of a cell, and on which premises.
 Says = tuple[Any, set[str]]
-REFUSED = {"how": "error 4: wrong form", "how c0 c1": "error 4: wrong form", "how 1x": "error 5: not a name", "how nope": "error 9: no such cell"}
+REFUSED = {
+    "how": "error 4: wrong form",
+    "how c0 c1": "error 4: wrong form",
+    "how 1x": "error 5: not a name",
+    "how nope": "error 9: no such cell",
+}
 
 
 @dataclass
@@ -91,7 +104,11 @@ class Made:
 
     def is_right(self, reply: str, _seen: object) -> bool:
         lines = reply.split("\n")
-        if lines[0] != f"how {len(lines) - 1}" or not lines[1].startswith("sides:") or len(lines) % 2 == 0:
+        if (
+            lines[0] != f"how {len(lines) - 1}"
+            or not lines[1].startswith("sides:")
+            or len(lines) % 2 == 0
+        ):
             return False
         sides, (cell, value, premises) = lines[1].split()[1:], said_in(lines[2])
         parts = [*zip(lines[3::2], map(said_in, lines[4::2]))]
@@ -104,19 +121,30 @@ class Made:
             and self.are_read(parts)
         )
 
-    def is_said(self, parts: list[tuple[str, tuple[str, str, set[str]]]], premises: set[str], value: object) -> bool:
+    def is_said(
+        self,
+        parts: list[tuple[str, tuple[str, str, set[str]]]],
+        premises: set[str],
+        value: formulas.Info,
+    ) -> bool:
         """Whether each part is founded on those behind it, and they say the value."""
         made: dict[str, Says] = {}
         for origin, (cell, said, support) in reversed(parts):
             info, (before, on) = formulas.info_of(said), made.get(cell, (formulas.NOTHING, set()))
             both = formulas.merged(before, info)
-            if not self.is_founded(origin, made, (cell, said, support)) or not support <= premises or both == before:
+            if (
+                not self.is_founded(origin, made, (cell, said, support))
+                or not support <= premises
+                or both == before
+            ):
                 return False
             made[cell] = both, on | support
         found, _ = made.get(self.cell, (formulas.NOTHING, set()))
         return bool(formulas.merged(found, value) == found)
 
-    def is_founded(self, origin: str, made: dict[str, Says], part: tuple[str, str, set[str]]) -> bool:
+    def is_founded(
+        self, origin: str, made: dict[str, Says], part: tuple[str, str, set[str]]
+    ) -> bool:
         """Whether it is a statement, or what a procedure answers on what was made."""
         cell, said, support = part
         word, *names = origin.split()
@@ -145,7 +173,8 @@ class Made:
         return True
 
     def wanted(self, _seen: object) -> str:
-        return f"what makes up {self.cell}{f' = {self.value}' if self.value else ''}, by statements and rules that bear it out"
+        value = f" = {self.value}" if self.value else ""
+        return f"what makes up {self.cell}{value}, by statements and rules that bear it out"
 
 
 @dataclass
@@ -156,7 +185,7 @@ class Stepped:
     # The lines behind the first, up to the premises.
     lines: list[str]
     cell: str = ""
-    value: object = None
+    value: formulas.Info = formulas.NOTHING
     end: str = ""
 
     def is_right(self, reply: str, _seen: object) -> bool:
@@ -165,15 +194,22 @@ class Stepped:
             return False
         if self.end:
             said, _, names = lines[2].partition(":")
-            return len(lines) == 3 and said == self.end and (self.end == "settled") == (not names) and (
-                not names or self.session.clashes(set(names.split()))
+            return (
+                len(lines) == 3
+                and said == self.end
+                and (self.end == "settled") == (not names)
+                and (not names or self.session.clashes(set(names.split())))
             )
         said, _, names = lines[3].partition(" because")
         premises = set() if names == " no premise" else set(names.split())
-        return [*lines[2:3], said] == self.lines and is_enough(self.session, premises, self.cell, self.value)
+        return [*lines[2:3], said] == self.lines and is_enough(
+            self.session, premises, self.cell, self.value
+        )
 
     def wanted(self, _seen: object) -> str:
-        return "\n".join([f"step {2 if self.end else 3}", "sides:", *([self.end] if self.end else self.lines)])
+        return "\n".join(
+            [f"step {2 if self.end else 3}", "sides:", *([self.end] if self.end else self.lines)]
+        )
 
 
 class Told(steps.Told):
@@ -240,14 +276,21 @@ class Looked:
         if not are_first(self.session, sides):
             return False
         kind = lines[2].partition(":")[0]
-        return {"settled": self.settled, "contradiction": self.ends, "moved": self.moved, "called": self.called}[kind](lines, sides)
+        return {
+            "settled": self.settled,
+            "contradiction": self.ends,
+            "moved": self.moved,
+            "called": self.called,
+        }[kind](lines, sides)
 
     def settled(self, lines: list[str], sides: list[str]) -> bool:
         return len(lines) == 3 and self.session.worldview() == self.session.believed | set(sides)
 
     def ends(self, lines: list[str], _sides: list[str]) -> bool:
         premises = plain.premises_in(lines[2].partition(": ")[2])
-        return len(lines) == 3 and premises <= self.session.believed and self.session.refutes(premises)
+        return (
+            len(lines) == 3 and premises <= self.session.believed and self.session.refutes(premises)
+        )
 
     def moved(self, lines: list[str], sides: list[str]) -> bool:
         left, taken = lines[2].split()[1:]
@@ -273,7 +316,11 @@ class Looked:
             and premises <= self.session.believed | set(sides)
             and said.startswith(f"{output} = ")
             # (what is said follows from the premises, so they say no less)
-            and (CLASH in found.values() or text_of(formulas.merged(found[output], self.info(output, said))) == text_of(found[output]))
+            and (
+                CLASH in found.values()
+                or text_of(formulas.merged(found[output], self.info(output, said)))
+                == text_of(found[output])
+            )
         )
 
     @staticmethod
@@ -301,7 +348,14 @@ class DrawChoices(choices.Draw):
     """Draws lines with choices, and steps between them up to an end."""
 
     TOLD = ToldOfChoices
-    COMMANDS = [*["tell"] * 3, *["kick", "bring"] * 2, *["attach"] * 4, *["choose"] * 4, *["step"] * 15, *["how"] * 5]
+    COMMANDS = [
+        *["tell"] * 3,
+        *["kick", "bring"] * 2,
+        *["attach"] * 4,
+        *["choose"] * 4,
+        *["step"] * 15,
+        *["how"] * 5,
+    ]
     LINES = 60
 
     def draw(self) -> None:

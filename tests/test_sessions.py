@@ -19,8 +19,9 @@ PATH is crates/propbench/out/propbench where it is left out. What is run:
 - each procedure of the kit on small informations, against plain enumeration (tests/rules.py), and
   those beside the kit over propwide, where that is built (tests/wide_rules.py), and values that all
   differ, and Sudokus (tests/wide_puzzles.py), and tasks that share a resource
-  (tests/many_rules.py), sums and rows (tests/row_rules.py), and random networks over the former two, and sums as chains
-  (tests/wide_sessions.py), and random sessions of steps that are told (tests/telling.py);
+  (tests/many_rules.py), sums and rows (tests/row_rules.py), and random networks over the former
+  two, and sums as chains (tests/wide_sessions.py), and random sessions of steps that are told
+  (tests/telling.py);
 - points that are asked for of random small networks, against all that there are (tests/solving.py),
   and such replies spoiled on purpose, which these networks have to find out
   (tests/spoiled_solving.py);
@@ -196,8 +197,8 @@ def program(request: pytest.FixtureRequest) -> str:
 
 @pytest.fixture(scope="session")
 def found(request: pytest.FixtureRequest, program: str) -> Iterator[Found]:
-    """What is wrong with each case that is chosen, as soon as it is known: they are run by processes
-    of their own, and told in the order in which they are begun."""
+    """What is wrong with each case that is chosen, as soon as it is known: they are run by
+    processes of their own, and told in the order in which they are begun."""
     for test in request.session.items:
         if isinstance(test, pytest.Function) and test.function is test_session:
             case: Any = test.callspec.params["case"]

@@ -1,8 +1,9 @@
 """The version: VERSION has it, and each other place that says it says the same.
 
 tools/package and tools/release read it from there. The programs say it in a proved text, and
-python/pyproject.toml may not read a file above its folder: those are compared here. What is promised
-by it stands in docs/PROMISES.md, whose names and statuses python/tests/test_promises.py tries.
+python/pyproject.toml may not read a file above its folder: those are compared here. What is
+promised by it stands in docs/PROMISES.md, whose names and statuses python/tests/test_promises.py
+tries.
 """
 import os
 import re

@@ -372,8 +372,8 @@ def tour() -> Case:
 
 
 def one_way(first: int, second: int) -> Case:
-    """All that differ by `first` less c and `second` less c, and together are c: what each procedure
-    says of one cell no other says the other way round, though it looks so."""
+    """All that differ by `first` less c and `second` less c, and together are c: what each
+    procedure says of one cell no other says the other way round, though it looks so."""
     lines = [
         *(f"cell {it} span" for it in "cabkl"),
         *("fix c 1..9", "fix a -20..20", "fix b -20..20", f"fix k {first}", f"fix l {second}"),
@@ -396,8 +396,8 @@ def one_ways() -> Iterator[Case]:
 
 
 def built() -> Iterator[Check]:
-    """The Sudokus, a ruler, a tour and procedures in one direction over propwide where it is built,
-    and one of each STEP small ones."""
+    """The Sudokus, a ruler, a tour and procedures in one direction over propwide, where it is
+    built, and one of each STEP small ones."""
     if os.path.exists(PROGRAM):
         few = islice(small(), 0, None, STEP)
         yield from map(over_propwide, chain(sudokus(), [ruler(), tour()], one_ways(), few))

@@ -32,11 +32,11 @@ Points = Iterable[Point]
 # An information that is answered: a span by its two ends.
 Answer = Union[Info, tuple[int, int]]
 
-# (rules.py has no types)
+# (those of rules.py take any points)
 Sheet: Any = rules.Sheet
 Ends: Any = rules.Ends
-text_of: Callable[[Answer], str] = rules.text_of
-spans: Callable[[int], list[Info]] = rules.spans
+text_of: Callable[[Any], str] = rules.text_of
+spans: Callable[[int], Any] = rules.spans
 subsets: Callable[[list[str]], list[frozenset[Point]]] = rules.subsets
 
 NUMBERS = [-BOUND, 1 - BOUND, *range(-30, 31), BOUND - 1, BOUND]

@@ -1,5 +1,6 @@
 #!/usr/bin/python3
-"""A course timetable: nine lessons of four teachers for two classes, in two rooms and five hours."""
+"""A course timetable: nine lessons of four teachers for two classes, in two rooms and five
+hours."""
 from itertools import combinations
 
 from propbench import Workbench

@@ -4,8 +4,8 @@
 usage: measure/beside.py
 
 `uncertainties` propagates standard deviations to first order, from what is known to what is wanted.
-Here readings are bounds, and laws run in every direction. Where both can say something, widths stand
-side by side: `first order` is twice the sum of what each tolerance adds by the derivatives of
+Here readings are bounds, and laws run in every direction. Where both can say something, widths
+stand side by side: `first order` is twice the sum of what each tolerance adds by the derivatives of
 `uncertainties`, `three deviations` six times its standard deviation, where each tolerance is three
 of them, and `exact` is the width that interval arithmetic gives by hand.
 """
@@ -88,7 +88,8 @@ def here(case: Case) -> str:
 
 
 def beside(case: Case, library: Any) -> tuple[str, str]:
-    """The widths that `uncertainties` gives: by the sum of what tolerances add, and by deviations."""
+    """The widths that `uncertainties` gives: by the sum of what tolerances add, and by
+    deviations."""
     if library is None:
         return "not installed", ""
     given = [library.ufloat(middle, off / 3) for middle, off in case.readings]

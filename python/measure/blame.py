@@ -111,7 +111,7 @@ class Translated:
         raise ValueError(name)
 
     def conflicts(self, most: float, count: int) -> tuple[Sets, Sets, bool]:
-        """All least conflicts and repairs, and whether that was done in time."""
+        """All minimal conflicts and repairs, and whether that was done in time."""
         flags = {name: z3.Bool(f"flag {name}") for name in self.marks}
         for name, held in self.marks.items():
             self.solver.add(z3.Implies(flags[name], z3.And(held)))
@@ -122,7 +122,7 @@ class Translated:
 
 
 def theirs(made: Compiled, most: float, count: int) -> tuple[Sets, Sets, bool]:
-    """All least conflicts and repairs by z3, so many conflicts at the most."""
+    """All minimal conflicts and repairs by z3, so many conflicts at the most."""
     return Translated(made.flat).conflicts(most, count)
 
 

@@ -37,7 +37,8 @@ WISHES, SEED = 20, 1
 
 @dataclass(frozen=True)
 class Question:
-    """What is asked, how this package is asked, how others are, and of how many answers one counts."""
+    """What is asked, how this package is asked, how others are, and of how many answers one
+    counts."""
 
     asked: str
     here: Callable[[], Any]
@@ -59,7 +60,7 @@ def queens_here() -> int:
 
 
 def conflicts_here() -> Any:
-    """All least conflicts and repairs among wishes."""
+    """All minimal conflicts and repairs among wishes."""
     with bench_of(wishes(WISHES, SEED)) as w:
         conflicts, repairs = w.conflicts(most=1000), w.repairs(most=1000)
         assert conflicts.complete and repairs.complete
@@ -130,8 +131,12 @@ def measured_there() -> str:
 
 def questions() -> list[Question]:
     """What is asked."""
+    return [*of_solutions(), *of_premises()]
+
+
+def of_solutions() -> list[Question]:
+    """Questions for all solutions, and for the best."""
     plan = schedules.drawn(0)
-    known = ((CELLS - 5000, CELLS + 5000), (CELLS, CELLS + 10))
     return [
         Question(
             "8 queens: all 92 ways",
@@ -153,8 +158,15 @@ def questions() -> list[Question]:
                 "z3": partial(elsewhere.plan_by_z3, plan),
             },
         ),
+    ]
+
+
+def of_premises() -> list[Question]:
+    """Questions for conflicts and reasons, and what becomes of answers where premises change."""
+    known = ((CELLS - 5000, CELLS + 5000), (CELLS, CELLS + 10))
+    return [
         Question(
-            f"{WISHES} wishes: all least conflicts and repairs",
+            f"{WISHES} wishes: all minimal conflicts and repairs",
             conflicts_here,
             {"z3": partial(elsewhere.conflicts_there, WISHES, SEED)},
         ),

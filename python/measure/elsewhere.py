@@ -234,7 +234,8 @@ def what_if_by_z3(cells: int, rounds: int, known: Spans) -> Spans:
 
 
 def why_by_z3(sums: int, others: int) -> set[str]:
-    """It is told the answer, and reduces the premises of both unsatisfiable cores by trying each."""
+    """It is told the answer, and reduces the premises of both unsatisfiable cores by trying
+    each."""
     z3 = z3_library()
     x, d = ([z3.Int(f"{name}{i}") for i in range(sums + 1)] for name in "xd")
     solver, flags = z3.Solver(), {}
@@ -257,7 +258,7 @@ def why_by_z3(sums: int, others: int) -> set[str]:
     return needed
 
 
-# All least conflicts and repairs.
+# All minimal conflicts and repairs.
 
 
 def conflicts_there(count: int, seed: int) -> tuple[Sets, Sets]:

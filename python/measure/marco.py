@@ -1,4 +1,4 @@
-"""MARCO over z3: all least sets of what can't hold together, and of what to give up."""
+"""MARCO over z3: all minimal sets of what can't hold together, and of what to give up."""
 
 import time
 from collections.abc import Mapping

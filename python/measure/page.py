@@ -3,9 +3,9 @@
 
 usage: measure/page.py [CELLS]   (1000; there are twice as many procedures)
 
-A browser without a window draws by the processor alone, so moving is slower than on a screen. Beside
-each time by the clock stand the processor's milliseconds of the page's own thread, and with what the
-machine was busy, since a browser needs processors of its own.
+A browser without a window draws by the processor alone, so moving is slower than on a screen.
+Beside each time by the clock stand the processor's milliseconds of the page's own thread, and with
+what the machine was busy, since a browser needs processors of its own.
 
 A switch goes through the page, the server and the program, one after another. The last line adds up
 what the processor did for it in each, which is what it takes by the clock on a machine at rest.
@@ -31,7 +31,10 @@ from propbench.watching.of_session import SessionWatched  # noqa: E402
 # So many seconds the page is left to come to rest, and so many switches are asked of the server.
 _REST, _SWITCHES = 1.0, 40
 
-SHOWN = "return performance.timing.loadEventEnd && document.querySelector('#cells tr') ? performance.now() : 0"
+SHOWN = (
+    "return performance.timing.loadEventEnd && document.querySelector('#cells tr')"
+    " ? performance.now() : 0"
+)
 LOOK = """
 const [place, done] = arguments;
 const begun = performance.now();

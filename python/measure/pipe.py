@@ -4,12 +4,12 @@ replies of a bare pipe, in one run.
 
 usage: python/measure/pipe.py [PROGRAM] [--lines N] [--rounds N]
 
-On the bare pipe lines that are pipelined are written by a thread while line feeds of the replies are
-counted; lines one by one are an `os.write` and an `os.read` each. A workbench asks cells that are
-joined by sums, and each answer is looked at. What stands beside is timed in turn, each the given
-number of rounds, and the best of each counts: on a machine that does other work too, short rounds
-find a moment in which it doesn't. The answers of a workbench, and what stands beside these, are
-timed by what the two processes use of a processor.
+On the bare pipe lines that are pipelined are written by a thread while line feeds of the replies
+are counted; lines one by one are an `os.write` and an `os.read` each. A workbench asks cells that
+are joined by sums, and each answer is looked at. What stands beside is timed in turn, each the
+given number of rounds, and the best of each counts: on a machine that does other work too, short
+rounds find a moment in which it doesn't. The answers of a workbench, and what stands beside these,
+are timed by what the two processes use of a processor.
 """
 
 import argparse
@@ -41,8 +41,8 @@ MADE, CELLS = 90_000, 5_000
 
 
 def statements(count: int) -> list[str]:
-    """Lines that make a chain of sums, with something told of every third cell. Behind as many cells
-    as that, one more is told of, narrower each time."""
+    """Lines that make a chain of sums, with something told of every third cell. Behind as many
+    cells as that, one more is told of, narrower each time."""
     lines = ["cell c0 span"]
     for number in range(1, MADE):
         before, cell = f"c{number - 1}", f"c{number}"
@@ -75,7 +75,8 @@ def seconds(work: Callable[[], None]) -> float:
 
 
 def spent(pid: int, work: Callable[[], None]) -> float:
-    """How long the work takes, in seconds of one processor, here and in the process of the number."""
+    """How long the work takes, in seconds of one processor, here and in the process of the
+    number."""
 
     def used() -> float:
         # (clock_getcpuclockid(3) makes the number of a process's clock so)
@@ -186,8 +187,8 @@ def joined(workbench: Workbench) -> list[NumberCell]:
 
 
 def of_answers(program: str, count: int, rounds: int) -> tuple[float, float]:
-    """The best replies a second of the bare pipe, and answers of a workbench to the same: seconds of
-    one processor, of both processes, since each waits for the other."""
+    """The best replies a second of the bare pipe, and answers of a workbench to the same: seconds
+    of one processor, of both processes, since each waits for the other."""
     with Workbench(program) as workbench:
         cells = joined(workbench)
         bare = Bare(program)

@@ -3,8 +3,10 @@
 
 usage: measure/questions.py [--seconds N] [--premises N ..] [--seeds N]
 
-- Wishes over ten numbers, of which many can't all hold: both this package and MARCO over z3 find the
-  least conflicts and repairs among them, 100 at the most, and the same ones where there are fewer.
+- Wishes over ten numbers, of which many can't all hold: both this package and MARCO over z3 find
+the
+  minimal conflicts and repairs among them, 100 at the most, and the same ones where there are
+  fewer.
 - The shortest plans of tasks on three people, and all 360 and 10,000 plans of a product of choices,
   beside MiniZinc with Gecode, which has to find as many and as short ones.
 

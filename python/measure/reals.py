@@ -8,8 +8,8 @@ A law is stated, and some quantities are read as is true at a point that fits it
 with errors of their own. Then the program is asked for all: each real has to lie in its answer. At
 `each` more points that fit the law, all that was told of it is worked out in whole numbers. The
 reals are exact fractions; with --functions the laws have functions, and the reals are intervals of
-60 digits. With --benches there are up to four laws, of one point: each quantity is asked for, and no
-reading may have to be given up; in each fourth bench a quantity is shaved, and in each fourth a
+60 digits. With --benches there are up to four laws, of one point: each quantity is asked for, and
+no reading may have to be given up; in each fourth bench a quantity is shaved, and in each fourth a
 further reading is predicted.
 
 COUNT points (or benches) are looked at, for so many seconds at the most. What is lost is printed,

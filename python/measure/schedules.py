@@ -26,7 +26,7 @@ def drawn(seed: int) -> puzzles.Plan:
 def shortest_here(plan: puzzles.Plan, seconds: float) -> int | None:
     """The length of the shortest plan by a workbench, None where that is not proved in time."""
     with Workbench() as w:
-        p = w.plan(days=puzzles.LONGEST, people=[f"p{i}" for i in range(PEOPLE)])
+        p = w.project(days=puzzles.LONGEST, people=[f"p{i}" for i in range(PEOPLE)])
         tasks: list[Task] = []
         for number, days in enumerate(plan.long):
             before = [tasks[first] for first, second in plan.before if second == number]

@@ -113,7 +113,10 @@ class Work:
         """A workbench in which `end` is when all is done."""
         w = Workbench()
         people = sorted({*self.who})
-        plan, tasks = w.plan(days=self.days, people=[f"p{each}" for each in people]), list[Task]()
+        plan, tasks = (
+            w.project(days=self.days, people=[f"p{each}" for each in people]),
+            list[Task](),
+        )
         for number, (days, who) in enumerate(zip(self.long, self.who)):
             first = [tasks[one] for one, other in self.before if other == number]
             tasks.append(plan.task(f"t{number}", days, who=f"p{who}", after=first))

@@ -1,7 +1,9 @@
 #!/usr/bin/python3
-"""Runs MiniZinc's own test suite over propbench, and says what passed, was refused, or ran out of time.
+"""Runs MiniZinc's own test suite over propbench, and says what passed, was refused, or ran out of
+time.
 
-usage: python/measure/suite.py SPEC [--tenth] [--again FILE] [--seconds N] [--solver FILE] [--list FILE]
+usage: python/measure/suite.py SPEC [--tenth] [--again FILE] [--seconds N] [--solver FILE] [--list
+FILE]
 
 SPEC is the folder tests/spec of MiniZinc's sources (`apt-get source minizinc`). A test passes where
 what is found is one of the results that it expects. Where it is another, Gecode is asked whether

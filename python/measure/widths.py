@@ -3,10 +3,11 @@
 
 usage: measure/widths.py [--seconds S] [CASE ..]
 
-Of each case all is read but one quantity, which is asked for by `ask`, and by `shave` within so many
-seconds. `best` is the width of all that the readings leave for it: its formula, solved by hand, is
-bounded by intervals of floats over ever smaller boxes, until what is seen at points and what boxes
-leave differ by less than a thousandth of the width. Both widths are told as parts of that.
+Of each case all is read but one quantity, which is asked for by `ask`, and by `shave` within so
+many seconds. `best` is the width of all that the readings leave for it: its formula, solved by
+hand, is bounded by intervals of floats over ever smaller boxes, until what is seen at points and
+what boxes leave differ by less than a thousandth of the width. Both widths are told as parts of
+that.
 """
 
 import argparse
@@ -53,8 +54,8 @@ class Read:
 
 @dataclass(frozen=True)
 class Wanted:
-    """The quantity that is asked for: its unit and ends, and how many of the unit in which a formula
-    gives it are one of these."""
+    """The quantity that is asked for: its unit and ends, and how many of the unit in which a
+    formula gives it are one of these."""
 
     unit: str
     ends: tuple[float, float]

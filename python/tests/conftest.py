@@ -1,8 +1,8 @@
 """What all tests use: the program, and what it answers on a bare pipe.
 
 The program is the one that is found, $PROPBENCH first; tests of the workbench are run over propwide
-too, where that is named by $PROPWIDE, built or installed. $PROPBENCH_TESTS is how many times as many
-random cases as usual are drawn (1 where it is not set).
+too, where that is named by $PROPWIDE, built or installed. $PROPBENCH_TESTS is how many times as
+many random cases as usual are drawn (1 where it is not set).
 """
 
 import os

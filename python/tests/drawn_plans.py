@@ -11,7 +11,7 @@ def drawn_plan(w: Workbench, tasks: int, wishes: int, seed: int, people: int = 4
     tasks end early."""
     draw = random.Random(seed)
     names = [f"p{number}" for number in range(people)]
-    p = w.plan(days=3 * tasks, people=names)
+    p = w.project(days=3 * tasks, people=names)
     made: list[Task] = []
     for number in range(tasks):
         after = draw.sample(made, min(len(made), draw.randint(0, 2)))

@@ -23,7 +23,8 @@ _KINDS = ("red", "blue")
 
 @dataclass(frozen=True)
 class DrawnTask:
-    """A task: its ways of days and cost, or the days of each; who does it, and so many of others."""
+    """A task: its ways of days and cost, or the days of each; who does it, and so many of
+    others."""
 
     ways: tuple[tuple[int, int], ...]
     people: tuple[str, ...]
@@ -233,8 +234,8 @@ def broken(made: Drawn, plan: tuple[Done, ...]) -> frozenset[str]:
 
 @dataclass
 class Known:
-    """What a search of all plans finds: the ends and costs of those that fit, when their last task is
-    done, and the least sets of premises that are broken."""
+    """What a search of all plans finds: the ends and costs of those that fit, when their last task
+    is done, and the minimal sets of premises that are broken."""
 
     fits: set[tuple[int, int]]
     days: set[tuple[int, int]]

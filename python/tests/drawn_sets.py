@@ -52,8 +52,8 @@ for _name, (_letters, _says) in RELATIONS.items():
 
 @dataclass
 class DrawnSets:
-    """A model: the possible values of its numbers and truths, the possible elements of its sets, and
-    its constraints."""
+    """A model: the possible values of its numbers and truths, the possible elements of its sets,
+    and its constraints."""
 
     values: dict[str, list[Any]]
     elements: dict[str, list[int]]

@@ -216,7 +216,7 @@ class Held:
             assert len(there) == len(found) == min(len(values), MOST_PLANS) and there <= values
 
     def conflicts(self) -> None:
-        """The least sets of premises that can't all hold, and those to give up."""
+        """The minimal sets of premises that can't all hold, and those to give up."""
         found, wanted = self.w.conflicts(), self.fresh.conflicts()
         assert set(found) == set(wanted) and found.complete == wanted.complete
         for each in found:
@@ -226,7 +226,7 @@ class Held:
             assert bool(found) is not self.tried.fits
 
     def repairs(self, keep: Sequence[str]) -> None:
-        """The least sets of premises to give up, with some that are kept."""
+        """The minimal sets of premises to give up, with some that are kept."""
         found, wanted = (w.repairs(keep=keep) for w in (self.w, self.fresh))
         assert set(found) == set(wanted) and found.complete == wanted.complete
         for each in found:

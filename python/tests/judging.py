@@ -10,7 +10,7 @@ from typing import Any
 from lines_model import RULES, LineModel, allows, ends_of
 
 from propbench import Session
-from propbench.listing import Statement
+from propbench.listing import CellStatement
 from propbench.questions import Plan
 
 # A compound with a cell of its own: `define twice v w = local k like v ; same v k ; sum k v w`.
@@ -39,7 +39,7 @@ class Judge:
 
     def fit(self, given: Sequence[str], told: Told) -> list[Plan]:
         """Those of them that have the values that are told."""
-        said = [Statement(cell, value) for cell, value in told]
+        said = [CellStatement(cell, value) for cell, value in told]
         return [plan for plan in self.plans(given) if all(allows(each, plan) for each in said)]
 
     def is_true(self, claim: Any) -> bool:

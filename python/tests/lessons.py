@@ -4,7 +4,8 @@
 usage: python/tests/lessons.py [FILE ..]
 
 The files, all lessons where none is given, are run over $PROPBENCH and $PROPWIDE, and written with
-what they show. What says that a program isn't proved is not kept. See each page before you commit it.
+what they show. What says that a program isn't proved is not kept. See each page before you commit
+it.
 """
 
 import json

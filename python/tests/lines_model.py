@@ -8,7 +8,7 @@ from dataclasses import dataclass, field
 from itertools import product
 
 from propbench import Session
-from propbench.listing import Statement, Told, told_by
+from propbench.listing import CellStatement, ToldLines, told_by
 from propbench.questions import Model, Point, Questions
 from propbench.questions.model import First
 
@@ -37,14 +37,15 @@ RULES: dict[str, Callable[..., object]] = {
 
 @dataclass
 class LineModel(Questions):
-    """A network of lines: `cell`, `domain`, `relation`, `attach`, `fix`, `tell`, `choose`, `kick`."""
+    """A network of lines: `cell`, `domain`, `relation`, `attach`, `fix`, `tell`, `choose`,
+    `kick`."""
 
     session: Session
     lines: list[str] = field(default_factory=list)
 
     def __post_init__(self) -> None:
         given, self.lines = self.lines, []
-        self.told, self.kinds = Told(), dict[str, str]()
+        self.told, self.kinds = ToldLines(), dict[str, str]()
         self.send(*given)
 
     @property
@@ -184,7 +185,7 @@ def ends_of(value: str) -> tuple[int, int]:
     return int(low), int(high or low)
 
 
-def allows(statement: Statement, plan: Mapping[str, Point]) -> bool:
+def allows(statement: CellStatement, plan: Mapping[str, Point]) -> bool:
     """Whether what is stated of a cell allows its point."""
     point = plan[statement.cell]
     if isinstance(point, int) and not isinstance(point, bool):

@@ -1,5 +1,5 @@
-"""Whether constraints over whole numbers hold at many points at once, worked out by numpy beside the
-package: each cell has a column, with a number for each point.
+"""Whether constraints over whole numbers hold at many points at once, worked out by numpy beside
+the package: each cell has a column, with a number for each point.
 
 Numbers of the program stay below 10^18, so columns of 64 bits hold them; where one is not, that is
 found by floating point, and the constraint counts as one that doesn't hold.

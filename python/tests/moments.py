@@ -3,8 +3,8 @@ or another exception there.
 
 A step is an instruction of Python's that is about to be executed, in any function of the package,
 those that are called in between too: a line has several. `signal.raise_signal` is what the kernel
-does at Ctrl-C: so a handler that holds it back is asked. `Raised` stands for what a debugger may do,
-which asks nobody: it comes at any line but those that hold signals back themselves.
+does at Ctrl-C: so a handler that holds it back is asked. `Raised` stands for what a debugger may
+do, which asks nobody: it comes at any line but those that hold signals back themselves.
 """
 
 import os

@@ -1,4 +1,5 @@
-"""Finds what fits by trying, with nothing of the workbench: what answers of examples are held to."""
+"""Finds what fits by trying, with nothing of the workbench: what answers of examples are held
+to."""
 
 from collections.abc import Callable, Iterable, Iterator, Mapping, Sequence
 from dataclasses import dataclass
@@ -11,8 +12,8 @@ Names = frozenset[str]
 
 @dataclass(frozen=True)
 class Rule:
-    """What has to hold of the values of some names. `may` is asked, where it is there, of the values
-    that are known as long as some aren't."""
+    """What has to hold of the values of some names. `may` is asked, where it is there, of the
+    values that are known as long as some aren't."""
 
     names: Sequence[str]
     test: Callable[..., bool]
@@ -80,7 +81,7 @@ def least(sets: Iterable[Names]) -> set[Names]:
 def conflicts_and_repairs(
     premises: Iterable[str], fit: Callable[[Names], bool]
 ) -> tuple[set[Names], set[Names]]:
-    """The least sets of premises that can't all hold, and the least to give up so that the others
+    """The minimal sets of premises that can't all hold, and the least to give up so that the others
     can, by asking of every set whether it fits."""
     names = frozenset(premises)
     fitting = {some: fit(some) for some in subsets(names)}

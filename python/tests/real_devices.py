@@ -1,5 +1,5 @@
-"""Devices in random cases, whose errors are drawn: what is measured is what a device shows, times one
-more than its scale error, and its offset error beside.
+"""Devices in random cases, whose errors are drawn: what is measured is what a device shows, times
+one more than its scale error, and its offset error beside.
 """
 
 import random
@@ -9,9 +9,9 @@ from fractions import Fraction
 from typing import Any
 
 from propbench import Workbench
-from propbench.measuring.devices import Device, DevicePart, Role, ShownMade
+from propbench.measuring.devices import Device, DevicePart, DeviceRole, ShownMade
 from propbench.measuring.quantities import Quantity
-from propbench.measuring.terms import Sort
+from propbench.measuring.terms import RealSort
 from propbench.measuring.units import unit_of
 from propbench.model.nodes import Declared
 from real_intervals import Number, worked_out
@@ -32,7 +32,7 @@ class Drawn:
         """Other errors: as small as is said of it, or what it may be without its premise."""
         parts = self.device.parts
         errors = []
-        for role, size in zip((Role.OFFSET, Role.SCALE), self.sizes):
+        for role, size in zip((DeviceRole.OFFSET, DeviceRole.SCALE), self.sizes):
             most = size
             if not is_good and size:
                 measure = parts[role].measure
@@ -43,12 +43,12 @@ class Drawn:
 
     def shows(self, real: Number) -> Number:
         """What it shows of a real."""
-        raised = worked_out(Sort.DIFFERENCE, [real, self.offset])
-        return worked_out(Sort.QUOTIENT, [raised, 1 + self.scale])
+        raised = worked_out(RealSort.DIFFERENCE, [real, self.offset])
+        return worked_out(RealSort.QUOTIENT, [raised, 1 + self.scale])
 
-    def part(self, role: Role) -> Fraction:
+    def part(self, role: DeviceRole) -> Fraction:
         """What a quantity of it is."""
-        found = {Role.OFFSET: self.offset, Role.SCALE: self.scale}
+        found = {DeviceRole.OFFSET: self.offset, DeviceRole.SCALE: self.scale}
         return found[role] if role in found else self.offset / (1 + self.scale)
 
 
@@ -113,10 +113,10 @@ def device_for(
 def _fits(drawn: Drawn, quantity: Quantity) -> bool:
     """Whether a device can read a quantity."""
     parts, unit = drawn.device.parts, quantity.unit
-    if Role.SCALE in parts and unit.offset:
+    if DeviceRole.SCALE in parts and unit.offset:
         return False
-    if Role.OFFSET not in parts:
+    if DeviceRole.OFFSET not in parts:
         return True
-    measure = parts[Role.OFFSET].measure
+    measure = parts[DeviceRole.OFFSET].measure
     assert measure is not None
     return unit_of(measure.unit).dimension == unit.dimension

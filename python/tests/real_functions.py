@@ -15,9 +15,9 @@ from propbench.measuring import elementary
 from propbench.measuring.bounds import BoundsOf
 from propbench.measuring.curves import Segments, Wave
 from propbench.measuring.quantities import Quantity
-from propbench.measuring.shapes import Name, shape_of
+from propbench.measuring.shapes import FunctionName, shape_of
 from propbench.measuring.stating import RootMade
-from propbench.measuring.terms import Law, Real, Sort, Term
+from propbench.measuring.terms import Law, Real, RealSort, Term
 from propbench.model.events import Required, Told
 from propbench.model.nodes import Declared
 from real_devices import Drawn, device_for, reals_of_devices
@@ -167,7 +167,8 @@ def _logarithm(case: Case, depth: int) -> Term:
 
 
 def _angle(case: Case, depth: int, low: float, high: float) -> Term:
-    """An angle between so many degrees: in degrees, in gons or in radians, or the one as another."""
+    """An angle between so many degrees: in degrees, in gons or in radians, or the one as
+    another."""
     shape = case.draw.random()
     if shape < 0.4:
         return case.within(low, high, depth) * "1 deg"
@@ -265,8 +266,8 @@ def stated_case(w: Workbench, draw: random.Random, count: int | None = None) -> 
 
 
 def redraw(case: Case, *, is_good: bool = True) -> None:
-    """Other reals that fit the laws, and other errors of devices: where devices are good, as small as
-    is said of them. Raises Unfit."""
+    """Other reals that fit the laws, and other errors of devices: where devices are good, as small
+    as is said of them. Raises Unfit."""
     given = dict(case.given)
     case.reals = {}
     case.off.clear()
@@ -370,9 +371,9 @@ def quantity_of(case: Case, name: str) -> Number:
 
 def value_of(case: Case, real: Real) -> Number:
     """What a term is, in base units."""
-    if real.sort is Sort.QUANTITY:
+    if real.sort is RealSort.QUANTITY:
         return quantity_of(case, real.quantity.name)
-    if real.sort is Sort.CONSTANT:
+    if real.sort is RealSort.CONSTANT:
         return real.number
     found = case.found.get(id(real))
     if found is None:
@@ -382,9 +383,9 @@ def value_of(case: Case, real: Real) -> Number:
 
 def _value_of(case: Case, real: Real) -> Number:
     values = [value_of(case, arg) for arg in real.args]
-    if real.sort is Sort.FUNCTION:
+    if real.sort is RealSort.FUNCTION:
         return _applied(case, real, values[0])
-    if real.sort is Sort.POWER:
+    if real.sort is RealSort.POWER:
         return powered(values[0], real.number)
     return worked_out(real.sort, values)
 
@@ -392,7 +393,7 @@ def _value_of(case: Case, real: Real) -> Number:
 def _applied(case: Case, real: Real, value: Number) -> Number:
     """A function of a value; of a curve that is one of several, beyond its ends as there."""
     function = real.applied
-    if function.name is Name.TABLE:
+    if function.name is FunctionName.TABLE:
         return _looked_up(case, real, value)
     if function.branch is None:
         return applied(function, value)
@@ -417,4 +418,4 @@ def _looked_up(case: Case, real: Real, value: Number) -> Number:
         return found
     if whole not in case.off:
         case.off[whole] = Fraction(case.draw.choice([-8, 8, case.draw.randint(-8, 8)]), 8)
-    return worked_out(Sort.SUM, [found, table.off * case.off[whole]])
+    return worked_out(RealSort.SUM, [found, table.off * case.off[whole]])

@@ -13,8 +13,8 @@ from typing import Any
 
 from mpmath import MPIntervalContext
 
-from propbench.measuring.shapes import Function, Name
-from propbench.measuring.terms import Sort
+from propbench.measuring.shapes import Function, FunctionName
+from propbench.measuring.terms import RealSort
 from propbench.model.measures import Measure
 
 INTERVALS = MPIntervalContext()
@@ -68,7 +68,7 @@ def _rounded(end: Any, step: Fraction) -> int:
     return (above + below) // (2 * below)
 
 
-def worked_out(sort: Sort, values: list[Number]) -> Number:
+def worked_out(sort: RealSort, values: list[Number]) -> Number:
     """What a sort of term makes of its arguments. (Powers and functions have their own.)"""
     is_exact = all(isinstance(each, Fraction) for each in values)
     return _VALUES[sort](values if is_exact else [_interval(each) for each in values])
@@ -96,7 +96,7 @@ def root(value: Number) -> Number:
 def applied(function: Function, value: Number) -> Number:
     """A function of a value, which is no table."""
     half = _half_turn(function) / INTERVALS.pi
-    if function.name is Name.POWER:
+    if function.name is FunctionName.POWER:
         return powered(value, function.exponent)
     if function.name in _OF_ANGLES:
         return _OF_ANGLES[function.name](_interval(value) / half)
@@ -108,7 +108,9 @@ def applied(function: Function, value: Number) -> Number:
 def on_branch(value: Number, function: Function, branch: int) -> Number:
     """A value cut off at the ends of a branch of a sine or cosine, as the branch goes on level."""
     half = _half_turn(function)
-    first = _interval(Fraction(branch) if function.name is Name.COS else branch - Fraction(1, 2))
+    first = _interval(
+        Fraction(branch) if function.name is FunctionName.COS else branch - Fraction(1, 2)
+    )
     return _most(_least(_interval(value), (first + 1) * half), first * half)
 
 
@@ -172,21 +174,21 @@ def _ln(value: Any) -> Any:
     return INTERVALS.log(value)
 
 
-_OF_ANGLES: dict[Name, Callable[[Any], Any]] = {
-    Name.SIN: INTERVALS.sin,
-    Name.COS: INTERVALS.cos,
-    Name.TAN: INTERVALS.tan,
+_OF_ANGLES: dict[FunctionName, Callable[[Any], Any]] = {
+    FunctionName.SIN: INTERVALS.sin,
+    FunctionName.COS: INTERVALS.cos,
+    FunctionName.TAN: INTERVALS.tan,
 }
-_ANGLES: dict[Name, Callable[[Any], Any]] = {
-    Name.ASIN: _asin,
-    Name.ACOS: lambda value: INTERVALS.pi / 2 - _asin(value),
-    Name.ATAN: lambda value: INTERVALS.atan2(value, INTERVALS.mpf(1)),
+_ANGLES: dict[FunctionName, Callable[[Any], Any]] = {
+    FunctionName.ASIN: _asin,
+    FunctionName.ACOS: lambda value: INTERVALS.pi / 2 - _asin(value),
+    FunctionName.ATAN: lambda value: INTERVALS.atan2(value, INTERVALS.mpf(1)),
 }
-_PLAIN: dict[Name, Callable[[Any], Any]] = {
-    Name.EXP: INTERVALS.exp,
-    Name.LN: _ln,
-    Name.EXP10: lambda value: INTERVALS.exp(value * INTERVALS.log(INTERVALS.mpf(10))),
-    Name.LOG10: lambda value: INTERVALS.log(value) / INTERVALS.log(INTERVALS.mpf(10)),
+_PLAIN: dict[FunctionName, Callable[[Any], Any]] = {
+    FunctionName.EXP: INTERVALS.exp,
+    FunctionName.LN: _ln,
+    FunctionName.EXP10: lambda value: INTERVALS.exp(value * INTERVALS.log(INTERVALS.mpf(10))),
+    FunctionName.LOG10: lambda value: INTERVALS.log(value) / INTERVALS.log(INTERVALS.mpf(10)),
 }
 
 
@@ -197,16 +199,16 @@ def _over(values: list[Number], pick: Callable[[list[Any]], Any]) -> Number:
     return INTERVALS.mpf([pick([each.a for each in values]), pick([each.b for each in values])])
 
 
-_VALUES: dict[Sort, Callable[[list[Number]], Number]] = {
-    Sort.PI: lambda values: +INTERVALS.pi,
-    Sort.SUM: lambda values: sum(values[1:], values[0]),
-    Sort.DIFFERENCE: lambda values: values[0] - values[1],
-    Sort.NEGATIVE: lambda values: -values[0],
-    Sort.PRODUCT: lambda values: values[0] * values[1],
-    Sort.QUOTIENT: lambda values: values[0] / values[1],
-    Sort.ROOT: lambda values: root(values[0]),
-    Sort.ABSOLUTE: lambda values: abs(values[0]),
-    Sort.GREATEST: lambda values: _over(values, max),
-    Sort.LEAST: lambda values: _over(values, min),
-    Sort.MEAN: lambda values: sum(values[1:], values[0]) / len(values),
+_VALUES: dict[RealSort, Callable[[list[Number]], Number]] = {
+    RealSort.PI: lambda values: +INTERVALS.pi,
+    RealSort.SUM: lambda values: sum(values[1:], values[0]),
+    RealSort.DIFFERENCE: lambda values: values[0] - values[1],
+    RealSort.NEGATIVE: lambda values: -values[0],
+    RealSort.PRODUCT: lambda values: values[0] * values[1],
+    RealSort.QUOTIENT: lambda values: values[0] / values[1],
+    RealSort.ROOT: lambda values: root(values[0]),
+    RealSort.ABSOLUTE: lambda values: abs(values[0]),
+    RealSort.GREATEST: lambda values: _over(values, max),
+    RealSort.LEAST: lambda values: _over(values, min),
+    RealSort.MEAN: lambda values: sum(values[1:], values[0]) / len(values),
 }

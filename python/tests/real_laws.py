@@ -9,7 +9,7 @@ from math import isqrt
 from propbench import Workbench, maximum, mean, minimum, total
 from propbench.measuring.quantities import Quantity
 from propbench.measuring.stating import RootMade
-from propbench.measuring.terms import Law, Made, Real, Sort, Term, real_of
+from propbench.measuring.terms import Law, Made, Real, RealSort, Term, real_of
 from propbench.model.events import Required, Told
 from propbench.model.nodes import Declared
 from real_devices import Drawn as DrawnDevice
@@ -235,8 +235,8 @@ def shared_law(case: Case) -> Law:
 
 
 def redraw(case: Case, *, is_good: bool = True) -> None:
-    """Other reals that fit the law, and other errors of devices: where devices are good, as small as
-    is said of them. Raises Unfit where what was drawn doesn't fit."""
+    """Other reals that fit the law, and other errors of devices: where devices are good, as small
+    as is said of them. Raises Unfit where what was drawn doesn't fit."""
     reals = {name: _within(case, name) for name in case.reals}
     for name, real in case.given:
         reals[name] = value_of(real, reals)
@@ -325,14 +325,14 @@ def unmet(case: Case, *, is_read: bool = True) -> list[str]:
 
 def value_of(real: Real, reals: dict[str, Fraction]) -> Fraction:
     """What a term is, in base units. Raises Unfit for a root that is no fraction."""
-    if real.sort is Sort.QUANTITY:
+    if real.sort is RealSort.QUANTITY:
         return reals[real.quantity.name]
-    if real.sort is Sort.CONSTANT:
+    if real.sort is RealSort.CONSTANT:
         return real.number
     values = [value_of(arg, reals) for arg in real.args]
-    if real.sort is Sort.POWER:
+    if real.sort is RealSort.POWER:
         return values[0] ** int(real.number)
-    if real.sort is Sort.ROOT:
+    if real.sort is RealSort.ROOT:
         return root_of(values[0])
     return _VALUES[real.sort](values)
 
@@ -353,14 +353,14 @@ def _quotient_of(values: list[Fraction]) -> Fraction:
     return values[0] / values[1]
 
 
-_VALUES: dict[Sort, Callable[[list[Fraction]], Fraction]] = {
-    Sort.SUM: lambda values: sum(values, Fraction(0)),
-    Sort.DIFFERENCE: lambda values: values[0] - values[1],
-    Sort.NEGATIVE: lambda values: -values[0],
-    Sort.PRODUCT: lambda values: values[0] * values[1],
-    Sort.QUOTIENT: _quotient_of,
-    Sort.ABSOLUTE: lambda values: abs(values[0]),
-    Sort.GREATEST: max,
-    Sort.LEAST: min,
-    Sort.MEAN: lambda values: sum(values, Fraction(0)) / len(values),
+_VALUES: dict[RealSort, Callable[[list[Fraction]], Fraction]] = {
+    RealSort.SUM: lambda values: sum(values, Fraction(0)),
+    RealSort.DIFFERENCE: lambda values: values[0] - values[1],
+    RealSort.NEGATIVE: lambda values: -values[0],
+    RealSort.PRODUCT: lambda values: values[0] * values[1],
+    RealSort.QUOTIENT: _quotient_of,
+    RealSort.ABSOLUTE: lambda values: abs(values[0]),
+    RealSort.GREATEST: max,
+    RealSort.LEAST: min,
+    RealSort.MEAN: lambda values: sum(values, Fraction(0)) / len(values),
 }

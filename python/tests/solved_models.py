@@ -26,7 +26,8 @@ def printed_in(output: str) -> list[str]:
 
 
 def solutions_in(output: Iterable[str], shown: Iterable[str]) -> list[str]:
-    """The solutions in what a solver prints, each with the lines for these names, without spaces."""
+    """The solutions in what a solver prints, each with the lines for these names, without
+    spaces."""
     found: list[str] = []
     lines: dict[str, str] = {}
     for line in output:

@@ -1,7 +1,7 @@
 """Certificates that tell lies, or that are none: how each is made from one that holds.
 
-Each honest one is claims, evidence and a base; each spoilt one is the name of one of these, a path into
-it, and what stands there instead.
+Each honest one is claims, evidence and a base; each spoilt one is the name of one of these, a path
+into it, and what stands there instead.
 """
 
 import copy

@@ -32,7 +32,7 @@ class Front:
         w.tell("out", self.x, 3, 8)
         w.kick("out")
         self.q, self.r = (w.measured(name, "m", 1, 100, 1) for name in "qr")
-        self.p = w.plan(days=20, people="ana ben")
+        self.p = w.project(days=20, people="ana ben")
         self.a = self.p.task("a", 2, who="ana", cost=3)
         self.p.task("b", 3, who="ben", after=[self.a])
         self.p.away("ana", 1, 4, under="ill")
@@ -121,8 +121,9 @@ def calls(name: str) -> dict[str, Call]:
 
 
 def is_carried_out(f: Front, call: Call, faults: Faults, kinds: list[str]) -> bool:
-    """Has each line of a call go wrong in turn, in these ways, one after the other: all is as before
-    each time. And whether the call is carried out then; where it is refused anyway, all is too."""
+    """Has each line of a call go wrong in turn, in these ways, one after the other: all is as
+    before each time. And whether the call is carried out then; where it is refused anyway, all is
+    too."""
     before, count = f.seen(), 0
     while True:
         lines = f.w.session.lines
@@ -199,8 +200,8 @@ some_kinds = st.lists(st.sampled_from(KINDS), min_size=1, max_size=4)
 def test_a_workbench_is_what_was_carried_out(
     drawn: list[tuple[str, str]], kinds: list[str]
 ) -> None:
-    """Whatever was refused before, on whichever line: it is as another to which only that was stated
-    which was carried out."""
+    """Whatever was refused before, on whichever line: it is as another to which only that was
+    stated which was carried out."""
     with TemporaryDirectory() as folder, pytest.MonkeyPatch.context() as patch:
         f, other, faults = Front(Path(folder)), Front(Path(folder)), Faults(patch)
         with f.w, other.w:

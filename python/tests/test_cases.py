@@ -84,8 +84,8 @@ def test_what_is_needless_is_left_out(found: tuple[str, ...]) -> None:
 
 
 def test_large_numbers_are_tried_in_halves() -> None:
-    """Two that are the same have an even sum: of an odd one no value is left, which runs alone don't
-    find. (More values than choices have digits for.)"""
+    """Two that are the same have an even sum: of an odd one no value is left, which runs alone
+    don't find. (More values than choices have digits for.)"""
     for total, most in ((150_000_000, 75_000_000), (150_000_001, None)):
         with Workbench() as w:
             x, y = w.number("x", 0, 10**8), w.number("y", 0, 10**8)

@@ -186,7 +186,8 @@ def test_another_optimum(found: dict[str, Certificate]) -> None:
 
 
 def another_best(certificate: Certificate, claims: list[Any]) -> None:
-    """What a program that searches has found, with another value or fewer premises, doesn't hold."""
+    """What a program that searches has found, with another value or fewer premises, doesn't
+    hold."""
     for by in (-1, 1):
         changed = copy.deepcopy(claims)
         changed[0][1]["value"] += by
@@ -391,9 +392,9 @@ def test_what_is_claimed_is_told_in_words(
     )
     assert told("repairs", "all")[1:4] == [
         "- Ana, cheap and comfort can't all hold, but without any one of them.",
-        "- There is no other least conflict among Ana, cheap and comfort.",
+        "- There is no other minimal conflict among Ana, cheap and comfort.",
         "- The rest of Ana, cheap and comfort fits without Ana; or cheap; or comfort, and in no "
-        "other least way.",
+        "other minimal way.",
     ]
     assert told("plans", "plan")[1].startswith(
         "- With Ana and cheap, there are these 5 plans over days and price, no others: days = 4, "

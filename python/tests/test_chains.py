@@ -47,7 +47,7 @@ def cases(draw: st.DrawFn) -> Case:
 
 
 def project_of(w: Workbench, case: Case) -> Project:
-    p = w.plan(days=DAYS, people=PEOPLE)
+    p = w.project(days=DAYS, people=PEOPLE)
     made: list[Task] = []
     for number, each in enumerate(case.tasks):
         after = [made[before] for before in each.after]
@@ -129,7 +129,7 @@ def test_a_chain_prints_what_is_waited_for() -> None:
     """Ana has 7 days of work, from the day on which she is back; c can wait for as many as b takes
     less two."""
     with Workbench() as w:
-        p = w.plan(days=40, people="ana ben", start="2026-03-02", off="sat sun")
+        p = w.project(days=40, people="ana ben", start="2026-03-02", off="sat sun")
         a = p.task("a", 3, who="ana")
         p.task("b", 4, who="ana", after=[a])
         p.task("c", 2, who="ben", after=[a])
@@ -149,7 +149,7 @@ def test_a_chain_prints_what_is_waited_for() -> None:
 def test_who_is_needed_twice() -> None:
     """Three tasks of 2 days by one person take 6; where somebody helps her, 2."""
     with Workbench() as w:
-        p = w.plan(days=9, people="ana")
+        p = w.project(days=9, people="ana")
         for name in "abc":
             p.task(name, 2, who="ana")
         chain = p.critical()
@@ -169,7 +169,7 @@ def test_who_is_needed_twice() -> None:
 
 def test_a_wish_is_told_beside_the_chain() -> None:
     with Workbench() as w:
-        p = w.plan(days=20, people="ana")
+        p = w.project(days=20, people="ana")
         a = p.task("a", options={"quick": dict(days=1), "good": dict(days=4)})
         b = p.task("b", 2, after=[a])
         w.require(a.days >= 4, under="good work")
@@ -191,7 +191,7 @@ def test_a_wish_is_told_beside_the_chain() -> None:
 def test_what_is_the_same_does_not_differ() -> None:
     """However it is told: a project's statements, and the same by hand."""
     with Workbench() as w, Workbench() as other:
-        p = w.plan(days=9, people="ana")
+        p = w.project(days=9, people="ana")
         p.task("a", 2, who="ana", pauses=False)
         p.away("ana", 3, 5, under="ill")
         start, end, days = (other.number(f"a {it}", 0, 9) for it in ("start", "end", "days"))

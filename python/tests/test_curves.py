@@ -1,4 +1,5 @@
-"""Curves of calibration in laws that are texts and in benches that are files, beside exact fractions."""
+"""Curves of calibration in laws that are texts and in benches that are files, beside exact
+fractions."""
 
 import re
 from fractions import Fraction

@@ -215,8 +215,9 @@ def test_a_traverse() -> None:
 
 
 def test_a_net_of_levels() -> None:
-    """The bounds are those of the shortest ways from the mark, and the estimates those of the normal
-    equations, both in exact fractions; the line that was misread is the first way to give up."""
+    """The bounds are those of the shortest ways from the mark, and the estimates those of the
+    normal equations, both in exact fractions; the line that was misread is the first way to give
+    up."""
     printed, found = shown("levels")
     lines = {
         f"{begin}{end}": Fraction(rises)

@@ -245,7 +245,8 @@ def first_end(engine: int, tests: int, translation: int) -> int:
 
 
 def ways() -> Iterator[tuple[int, int, tuple[int, ...]]]:
-    """For each way to go when it is out at the earliest, what it costs, and how long things take."""
+    """For each way to go when it is out at the earliest, what it costs, and how long things
+    take."""
     for taken in product(*WAYS.values()):
         days = tuple(day for day, _ in taken)
         yield first_end(*days), AUDIT + sum(cost for _, cost in taken), days

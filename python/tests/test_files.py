@@ -62,7 +62,7 @@ def save_certificate(path: Path) -> None:
 
 def save_chart(path: Path) -> None:
     with Workbench() as w:
-        plan = w.plan(days=5)
+        plan = w.project(days=5)
         plan.task("paint", days=2)
         plan.chart().save(path)
 

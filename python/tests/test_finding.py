@@ -8,7 +8,7 @@ from pathlib import Path
 import pytest
 
 from propbench import NoProgram, ProgramEnded, Session, finding
-from propbench.finding import SAVED, Found, find_for, find_program, find_wide
+from propbench.finding import SAVED, FoundProgram, find_for, find_program, find_wide
 
 
 def script(path: Path, text: str) -> Path:
@@ -35,41 +35,43 @@ def repository(tmp_path: Path, monkeypatch: pytest.MonkeyPatch) -> Path:
 def test_the_order_of_finding(
     repository: Path, tmp_path: Path, monkeypatch: pytest.MonkeyPatch
 ) -> None:
-    assert find_program() == Found(str(repository / "propbench"), False, builds=True)
+    assert find_program() == FoundProgram(str(repository / "propbench"), False, builds=True)
     on_path = script(tmp_path / "bin/propbench", "exit 0")
-    assert find_program() == Found(str(on_path), False)
+    assert find_program() == FoundProgram(str(on_path), False)
     built = script(repository / "crates/propbench/out/propbench", "exit 0")
-    assert find_program() == Found(str(built), True)
+    assert find_program() == FoundProgram(str(built), True)
     named = script(tmp_path / "named", "exit 0")
     monkeypatch.setenv("PROPBENCH", str(named))
-    assert find_program() == Found(str(named), False)
-    assert find_program(built) == Found(str(built), True)
-    assert find_program("propbench") == Found(str(on_path), False)
+    assert find_program() == FoundProgram(str(named), False)
+    assert find_program(built) == FoundProgram(str(built), True)
+    assert find_program("propbench") == FoundProgram(str(on_path), False)
 
 
 def test_a_workbench_finds_the_wider_program_first(
     repository: Path, tmp_path: Path, monkeypatch: pytest.MonkeyPatch
 ) -> None:
     """An unproved build is the last, and what is named the first."""
-    assert find_wide() == Found(str(repository / "propwide"), False, builds=True)
+    assert find_wide() == FoundProgram(str(repository / "propwide"), False, builds=True)
     plain = script(tmp_path / "bin/propbench", "exit 0")
-    assert find_wide() == Found(str(plain), False)
+    assert find_wide() == FoundProgram(str(plain), False)
     plain = script(repository / "crates/propbench/out/propbench", "exit 0")
-    assert find_wide() == find_program() == Found(str(plain), True)
+    assert find_wide() == find_program() == FoundProgram(str(plain), True)
     on_path = script(tmp_path / "bin/propwide", "exit 0")
-    assert find_wide() == Found(str(on_path), False)
+    assert find_wide() == FoundProgram(str(on_path), False)
     built = script(repository / "crates/propwide/out/propwide", "exit 0")
-    assert find_wide() == Found(str(built), True)
-    assert find_wide(repository / "propwide") == Found(str(built), True)
-    assert find_program() == Found(str(plain), True)
+    assert find_wide() == FoundProgram(str(built), True)
+    assert find_wide(repository / "propwide") == FoundProgram(str(built), True)
+    assert find_program() == FoundProgram(str(plain), True)
     assert find_for([SAVED, "cell x span"]) == find_wide()
     assert find_for(["cell x span", SAVED]) == find_for([]) == find_program()
     monkeypatch.setenv("PROPBENCH", str(on_path))
-    assert find_wide() == find_program() == Found(str(on_path), False)
+    assert find_wide() == find_program() == FoundProgram(str(on_path), False)
     monkeypatch.setenv("PROPWIDE", str(plain))
-    assert find_wide() == Found(str(plain), True)
-    assert find_program() == Found(str(on_path), False)
-    assert find_wide("propwide") == find_for([SAVED], "propwide") == Found(str(on_path), False)
+    assert find_wide() == FoundProgram(str(plain), True)
+    assert find_program() == FoundProgram(str(on_path), False)
+    assert (
+        find_wide("propwide") == find_for([SAVED], "propwide") == FoundProgram(str(on_path), False)
+    )
 
 
 def test_a_program_of_a_package_is_proved_where_its_checksum_is_told(
@@ -79,15 +81,15 @@ def test_a_program_of_a_package_is_proved_where_its_checksum_is_told(
     told = tmp_path / "share/propbench/proved.sha256"
     told.parent.mkdir(parents=True)
     told.write_text(f"{hashlib.sha256(installed.read_bytes()).hexdigest()}  propbench\n")
-    assert find_program() == Found(str(installed), True)
+    assert find_program() == FoundProgram(str(installed), True)
     link = tmp_path / "link"
     link.symlink_to(installed)
-    assert find_program(link) == Found(str(link), True)
+    assert find_program(link) == FoundProgram(str(link), True)
     wide = script(tmp_path / "bin/propwide", "exit 2")
-    assert find_wide() == Found(str(wide), False)
+    assert find_wide() == FoundProgram(str(wide), False)
     with told.open("a") as file:
         file.write(f"{hashlib.sha256(wide.read_bytes()).hexdigest()}  propwide\n")
-    assert find_wide() == Found(str(wide), True)
+    assert find_wide() == FoundProgram(str(wide), True)
     script(installed, "exit 1")
     assert not find_program().proved
     told.write_text("")
@@ -100,10 +102,10 @@ def test_a_link_to_a_repository_stands_for_what_is_built_there(
     link = tmp_path / "bin/propbench"
     link.parent.mkdir()
     link.symlink_to(repository / "propbench")
-    assert find_program() == Found(str(link), False, builds=True)
-    assert find_program(link) == Found(str(link), False, builds=True)
+    assert find_program() == FoundProgram(str(link), False, builds=True)
+    assert find_program(link) == FoundProgram(str(link), False, builds=True)
     built = script(repository / "crates/propbench/out/propbench", "exit 0")
-    assert find_program(link) == Found(str(built), True)
+    assert find_program(link) == FoundProgram(str(built), True)
 
 
 def test_no_program(repository: Path, monkeypatch: pytest.MonkeyPatch) -> None:

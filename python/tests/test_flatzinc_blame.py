@@ -37,7 +37,7 @@ def least(sets: Sets) -> Sets:
 
 
 def conflicts_and_repairs(drawn: Drawn) -> tuple[Sets, Sets]:
-    """The least sets that can't all hold, and those without which the others can."""
+    """The minimal sets that can't all hold, and those without which the others can."""
     names = [str(number) for number in range(len(drawn.constraints))]
     every = chain.from_iterable(combinations(names, count) for count in range(len(names) + 1))
     fits: Sets = set()

@@ -1,4 +1,5 @@
-"""`propdesk minizinc`: the file by which MiniZinc knows of the solver, in a home of the test's own."""
+"""`propdesk minizinc`: the file by which MiniZinc knows of the solver, in a home of the test's
+own."""
 
 import json
 import os

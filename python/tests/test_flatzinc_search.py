@@ -1,4 +1,5 @@
-"""The search for solutions of FlatZinc: told as they come, cut, free, by another order, interrupted."""
+"""The search for solutions of FlatZinc: told as they come, cut, free, by another order,
+interrupted."""
 
 import re
 import signal

@@ -16,7 +16,7 @@ from propbench.measuring import enclosing
 from propbench.measuring.curves import Exponential, Power, Tangent, Wave, inverse
 from propbench.measuring.quantities import MeasuredAnswer
 from propbench.measuring.readings import reading_of
-from propbench.measuring.shapes import Function, Name
+from propbench.measuring.shapes import Function, FunctionName
 from propbench.measuring.slopes_of import value_and_slope
 from propbench.measuring.stating import BendTold
 from propbench.measuring.terms import Term
@@ -481,12 +481,17 @@ def test_values_and_slopes_for_estimates(
 
 
 def test_where_there_is_no_slope() -> None:
-    for name, at in ((Name.LN, 0.0), (Name.ASIN, 1.0), (Name.EXP, 1e6), (Name.ACOS, 2.0)):
+    for name, at in (
+        (FunctionName.LN, 0.0),
+        (FunctionName.ASIN, 1.0),
+        (FunctionName.EXP, 1e6),
+        (FunctionName.ACOS, 2.0),
+    ):
         with pytest.raises(ValueError):
             value_and_slope(Function(name), at)
     for exponent in (Fraction(2, 3), Fraction(-1, 2)):
         with pytest.raises(ValueError):
-            value_and_slope(Function(Name.POWER, exponent=exponent), -2.0)
+            value_and_slope(Function(FunctionName.POWER, exponent=exponent), -2.0)
     steps = p.curve("steps", [(0, 0), (1, 2), (2, 3)])
     applied = steps("1.5").real.applied
     assert value_and_slope(applied, 1.5) == (2.5, 1.0)

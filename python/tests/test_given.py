@@ -44,7 +44,7 @@ WRONG: list[tuple[str, Callable[[Workbench], object], type[Exception], str]] = [
 
 
 def _planned(w: Workbench) -> Project:
-    plan = w.plan(days=9)
+    plan = w.project(days=9)
     plan.task("a", 2)
     return plan
 

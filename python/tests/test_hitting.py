@@ -8,7 +8,7 @@ from propbench.questions.hitting import Hitting, bits_of
 
 
 def least_hitting(conflicts: list[int], count: int) -> set[int]:
-    """The least sets that hit all of these, by trying each."""
+    """The minimal sets that hit all of these, by trying each."""
     hits = [hit for hit in range(1 << count) if all(hit & conflict for conflict in conflicts)]
     return {hit for hit in hits if not any(other != hit and other & hit == other for other in hits)}
 
@@ -46,8 +46,8 @@ def test_each_least_set_comes_once_cheapest_first(drawn: tuple[list[float], list
 
 
 def test_many_sets_are_hit_soon() -> None:
-    """Of 24 names in a ring two each that stand side by side: the least ways to hit all these pairs
-    are few beside all ways to take one of each."""
+    """Of 24 names in a ring two each that stand side by side: the minimal ways to hit all these
+    pairs are few beside all ways to take one of each."""
     ring = [frozenset((f"{number}", f"{(number + 1) % 24}")) for number in range(24)]
     found = {frozenset(each) for each in hitting(ring)}
     assert all(each & pair for each in found for pair in ring)

@@ -235,8 +235,8 @@ def test_what_is_listed_is_what_was_said(wide: str, options: dict[str, Any]) -> 
 
 @pytest.mark.parametrize("options", ORDERS)
 def test_what_bears_is_told_and_enough(wide: str, options: dict[str, Any]) -> None:
-    """What is lit of a network, with its premises and choices alone, says of the cell what all of it
-    says; and each claim says what its ways say together."""
+    """What is lit of a network, with its premises and choices alone, says of the cell what all of
+    it says; and each claim says what its ways say together."""
     looked = 0
     shell = [f"--{name}={value}" for name, value in options.items()]
     for seed in range(30 * TIMES):

@@ -209,8 +209,8 @@ def seconds_of(session: Session, call: Call) -> float:
 def test_a_long_run_that_is_cut_short_is_what_its_lines_say(
     program: str, happens: Callable[[], None], monkeypatch: pytest.MonkeyPatch
 ) -> None:
-    """Slices of seven steps, of which some are done: what is known then is what a session knows that
-    is given the lines, no less than before, and what is asked next goes on from there."""
+    """Slices of seven steps, of which some are done: what is known then is what a session knows
+    that is given the lines, no less than before, and what is asked next goes on from there."""
     monkeypatch.setattr(runs, "_STEPS", 7)
     monkeypatch.setattr(runs, "_MOST_STEPS", 7)
     monkeypatch.setattr(runs, "_GRACE", 0.1)

@@ -23,7 +23,7 @@ from propbench.files import OpenedFile
 from propbench.journal import Journal, left
 from propbench.page.asking import Asking
 from propbench.shell import Shell
-from propbench.watching import Seen, Watched
+from propbench.watching import SeenNow, Watched
 
 # So many seconds something is waited for, far longer than it takes on a busy machine.
 PATIENCE = 300
@@ -295,10 +295,10 @@ PAGE = """
 from propbench.files import OpenedFile
 from propbench.journal import Journal
 from propbench.page.asking import Asking
-from propbench.running import Way
+from propbench.running import RunAs
 from propbench.watching.opening import opened
 path = sys.argv[1]
-with opened(path, Way()) as watched:
+with opened(path, RunAs()) as watched:
     file = OpenedFile(path)
     file.journal = Journal("page", path, file.checksum)
     asking = Asking(watched, path, file)
@@ -370,10 +370,10 @@ def test_a_change_is_kept_before_it_is_looked_what_follows(
     def change(asking: Asking) -> None:
         kept: list[bool] = []
 
-        def look() -> Seen:
+        def look() -> SeenNow:
             [path] = state.iterdir()
             kept.append(path.read_text().endswith("kick ana\n"))
-            return Seen()
+            return SeenNow()
 
         asking.do({"what": "look"})
         if not asking.state()["workbench"]:

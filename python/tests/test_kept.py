@@ -1,5 +1,5 @@
-"""The session that a workbench keeps for its questions for plans: what it is told, what ends it, and
-that nothing which was asked before changes an answer."""
+"""The session that a workbench keeps for its questions for plans: what it is told, what ends it,
+and that nothing which was asked before changes an answer."""
 
 import os
 import random

@@ -1,5 +1,5 @@
-"""The lessons of notebooks/: each runs, shows what is kept, and its exercises have answers that check
-themselves; handouts have no answers; the page for who teaches names them all.
+"""The lessons of notebooks/: each runs, shows what is kept, and its exercises have answers that
+check themselves; handouts have no answers; the page for who teaches names them all.
 
 They are run over both programs, as a class does. `lessons.py` runs them and keeps what they show.
 """

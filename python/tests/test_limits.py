@@ -170,8 +170,8 @@ def test_it_ends_where_plans_are_hard_to_find(bench: Bench, name: str) -> None:
 
 
 def test_batches_take_no_steps_of_their_own(wide: str) -> None:
-    """Of 25 tasks 100 plans are there: each cell's ask took a run of its own where a run was cut, and
-    the first plan came after minutes."""
+    """Of 25 tasks 100 plans are there: each cell's ask took a run of its own where a run was cut,
+    and the first plan came after minutes."""
     with Workbench(wide) as w:
         p = drawn_plan(w, 25, 3, 2)
         assert str(p.end) and str(p.total_cost)

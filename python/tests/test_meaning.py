@@ -20,7 +20,7 @@ from modelling import (
 )
 
 from propbench.model.kinds import Plain
-from propbench.model.meaning import Undefined, value_of
+from propbench.model.meaning import NoValueThere, value_of
 from propbench.model.ranges import range_of
 
 X, Y, Z = map(cell, ENDS)
@@ -87,7 +87,7 @@ def test_each_operation_at_all_points(made: Bench) -> None:
             points = {declared[name]: point for name, point in at.items()}
             try:
                 found = value_of(node, points)
-            except Undefined:
+            except NoValueThere:
                 found = None  # type: ignore[assignment]
             assert found == value(recipe, at), (recipe, at)
 

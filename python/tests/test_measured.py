@@ -1,4 +1,5 @@
-"""Measured quantities: answers beside exact intervals, which are worked out by hand from formulas."""
+"""Measured quantities: answers beside exact intervals, which are worked out by hand from
+formulas."""
 
 import time
 from collections.abc import Iterator
@@ -263,7 +264,8 @@ def test_a_coordinate_by_three_distances(w: Workbench) -> None:
 
 
 def test_shaving_takes_off_what_one_run_leaves(w: Workbench) -> None:
-    """(a + b) * a by whole numbers' ends is wider than it is: 2..4 times 1..2, and a stands twice."""
+    """(a + b) * a by whole numbers' ends is wider than it is: 2..4 times 1..2, and a stands
+    twice."""
     a = w.measured("a", unit="m", low=-10, high=10, step="0.001")
     b = w.measured("b", unit="m", low=-10, high=10, step="0.001")
     area = w.measured("area", unit="m2", low=-100, high=100, step="0.001")
@@ -640,7 +642,8 @@ def test_a_quantity_in_a_workbench(w: Workbench, tmp_path: Path) -> None:
 
 
 def test_plans_are_told_without_quantities(w: Workbench) -> None:
-    """No plan has the real number of a quantity, and the steps of its cell say nothing to a user."""
+    """No plan has the real number of a quantity, and the steps of its cell say nothing to a
+    user."""
     x, n = w.measured("x", unit="mm", low=0, high=100, step="0.1"), w.number("n", 1, 3)
     w.read("calliper", x, "20 +- 1 mm")
     plans = w.plans()

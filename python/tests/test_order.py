@@ -1,4 +1,5 @@
-"""Days between tasks: lags at least and at the most, from an end or a start, and those of a set-up."""
+"""Days between tasks: lags at least and at the most, from an end or a start, and those of a
+set-up."""
 
 from collections.abc import Iterator
 

@@ -19,7 +19,7 @@ from conftest import ENDLESS, REPOSITORY, Bare
 
 from propbench import Session, Workbench, find_program
 from propbench.page import Page
-from propbench.running import Way
+from propbench.running import RunAs
 from propbench.watching.of_session import SessionWatched
 from propbench.watching.of_workbench import WorkbenchWatched
 from propbench.watching.opening import opened
@@ -43,7 +43,7 @@ def browser() -> Iterator[Any]:
 def example(program: str, tmp_path: Path, browser: Any) -> Iterator[Shown]:
     """The example of the building's height, opened from a file."""
     path = shutil.copy(EXAMPLES / "measuring/premises.prop", tmp_path)
-    with opened(path, Way(), program) as watched:
+    with opened(path, RunAs(), program) as watched:
         with shown(browser, Page(watched, "premises.prop", path=path)) as page:
             yield page
 
@@ -118,7 +118,7 @@ def test_a_cell_and_what_bears_on_it(example: Shown) -> None:
 
 
 def least_conflicts(bare: Bare, lines: list[str], premises: list[str]) -> set[frozenset[str]]:
-    """All least sets of premises that contradict each other, by trying all sets."""
+    """All minimal sets of premises that contradict each other, by trying all sets."""
     found: set[frozenset[str]] = set()
     for size in range(len(premises) + 1):
         for kept in (frozenset(each) for each in combinations(premises, size)):
@@ -131,7 +131,7 @@ def least_conflicts(bare: Bare, lines: list[str], premises: list[str]) -> set[fr
 
 
 def least_hits(conflicts: set[frozenset[str]], premises: list[str]) -> set[frozenset[str]]:
-    """All least sets that have something of each conflict, by trying all sets."""
+    """All minimal sets that have something of each conflict, by trying all sets."""
     found: set[frozenset[str]] = set()
     for size in range(len(premises) + 1):
         for out in (frozenset(each) for each in combinations(premises, size)):
@@ -221,7 +221,7 @@ def test_reload_save_replay(program: str, bare: Bare, tmp_path: Path, browser: A
     path = tmp_path / "premises.prop"
     shutil.copy(EXAMPLES / "measuring/premises.prop", path)
     before = path.read_text()
-    with opened(str(path), Way(), program) as watched:
+    with opened(str(path), RunAs(), program) as watched:
         with shown(browser, Page(watched, path.name, path=str(path))) as page:
             page.switch("fall")
             page.until(lambda: page.values["height"] == "44514..48977")
@@ -543,7 +543,7 @@ def test_save_where_another_has_changed_it(program: str, tmp_path: Path, browser
     path = tmp_path / "premises.prop"
     shutil.copy(EXAMPLES / "measuring/premises.prop", path)
     mine, others = path.read_text() + "kick fall\n", "# of somebody else\n"
-    with opened(str(path), Way(), program) as watched:
+    with opened(str(path), RunAs(), program) as watched:
         with shown(browser, Page(watched, path.name, path=str(path))) as page:
             page.switch("fall")
             page.one("#plain summary").click()
@@ -560,7 +560,7 @@ def test_save_where_another_has_changed_it(program: str, tmp_path: Path, browser
             page.until(lambda: page.text("status") == f"Saved to {tmp_path / 'mine.prop'}.")
             assert (tmp_path / "mine.prop").read_text() == mine and path.read_text() == others
             assert not page.one("#save-form").is_displayed()
-    with opened(str(path), Way(), program) as watched:
+    with opened(str(path), RunAs(), program) as watched:
         with shown(browser, Page(watched, path.name, path=str(path))) as page:
             page.one("#plain summary").click()
             path.write_text(mine)
@@ -627,7 +627,8 @@ def test_what_hides_is_shown_and_what_turns_is_apart(program: str, browser: Any)
                 " + [...document.querySelectorAll('#drawing text')].map(it => it.textContent)"
             )
             assert not any(each in text for each in "\x1b\u202e\u200b\u3164")
-            # wherever letters that turn stand in a text, that is in a <bdi> or a text of the drawing
+            # wherever letters that turn stand in a text, that is in a <bdi> or a text of the
+            # drawing
             apart = page.js(
                 """
                 const found = [];

@@ -379,7 +379,8 @@ def until_busy(page: Page) -> None:
 def test_a_page_is_closed_while_it_is_asked(
     program: str, what: str, capsys: pytest.CaptureFixture[str]
 ) -> None:
-    """The question is stopped, one that waits behind it is not begun, and nobody reads of errors."""
+    """The question is stopped, one that waits behind it is not begun, and nobody reads of
+    errors."""
     lines = [*ENDLESS, "cell y span", "tell a y 1"]
     asked = {"what": what, "cell": "x", "sort": "least", "premises": ["a"]}
     came: list[Answer | None] = []

@@ -160,7 +160,8 @@ def test_a_pause_is_told_of_the_chain(p: Project) -> None:
 
 
 def test_how_far_work_can_move(p: Project) -> None:
-    """Letters take days 0, 1 and 5, or all behind the leave: they can begin on days 0, 1 and 5 to 7."""
+    """Letters take days 0, 1 and 5, or all behind the leave: they can begin on days 0, 1 and 5 to
+    7."""
     p.task("letters", 3, who="ana")
     p.task("review", 10, who="ben")
     p.away("ana", 2, 5)

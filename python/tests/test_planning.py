@@ -41,7 +41,7 @@ def drawn_tasks(draw: st.DrawFn) -> list[Drawn]:
 
 
 def project_of(w: Workbench, drawn: list[Drawn], away: tuple[int, int]) -> Project:
-    p = w.plan(days=DAYS, people=PEOPLE)
+    p = w.project(days=DAYS, people=PEOPLE)
     made: list[Task] = []
     for number, each in enumerate(drawn):
         after = [made[before] for before in each.after]
@@ -98,7 +98,7 @@ def test_best_plans_are_those_of_all(drawn: list[Drawn], away: tuple[int, int]) 
 @pytest.fixture
 def p() -> Iterator[Project]:
     with Workbench() as w:
-        p = w.plan(days=60, people="ana ben", start=date(2026, 3, 4), off="sat sun")
+        p = w.project(days=60, people="ana ben", start=date(2026, 3, 4), off="sat sun")
         ways = {"hotel": dict(days=2, cost=4000), "uni": dict(days=5, cost=1500)}
         venue = p.task("venue", who="ana", options=ways)
         p.task("review", 5, who="ben", after=[venue], cost=10)
@@ -135,7 +135,7 @@ def test_what_is_wrong(p: Project) -> None:
     with pytest.raises(ValueError, match="nobody in the plan is called 'anna'. Did you mean ana?"):
         p.task("talk", 2, who="anna")
     with Workbench() as other:
-        elsewhere = other.plan(days=60).task("elsewhere", 1)
+        elsewhere = other.project(days=60).task("elsewhere", 1)
         with pytest.raises(ValueError, match="talk: the task 'elsewhere' is none of this workben"):
             p.task("talk", 2, after=[elsewhere])
     with pytest.raises(ValueError, match="there is a task 'venue'"):
@@ -153,7 +153,7 @@ def test_what_is_wrong(p: Project) -> None:
         with pytest.raises(TypeError, match="talk: `after` is a list of what p.task gave"):
             p.task("talk", 2, after=after)  # type: ignore[arg-type]
     with pytest.raises(TypeError, match="days='30' is no whole number"):
-        p.workbench.plan(days="30")  # type: ignore[arg-type]
+        p.workbench.project(days="30")  # type: ignore[arg-type]
     assert list(p.tasks) == ["venue", "review"]
     assert p.total_cost.ask(over="all plans").low == 1510
     with pytest.raises(ValueError, match="before the end or the total cost"):
@@ -279,10 +279,10 @@ def test_people_are_names() -> None:
     with Workbench() as w:
         for people in ({"hall": 2}, {"hall": 1, "ana": 1}):
             with pytest.raises(TypeError, match='says more of them.*name two, as "hall1 hall2"'):
-                w.plan(days=9, people=people)  # type: ignore[arg-type]
+                w.project(days=9, people=people)  # type: ignore[arg-type]
         with pytest.raises(TypeError, match="names are one text"):
-            w.plan(days=9, people=["ana", 2])  # type: ignore[list-item]
-        p = w.plan(days=9, people="hall1 hall2")
+            w.project(days=9, people=["ana", 2])  # type: ignore[list-item]
+        p = w.project(days=9, people="hall1 hall2")
         with pytest.raises(TypeError, match="names are one text"):
             p.task("talk", 2, who={"hall1": 1})  # type: ignore[arg-type]
         assert not p.tasks and not w.cells

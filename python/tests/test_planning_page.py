@@ -58,7 +58,9 @@ def test_its_calls(wide: str) -> None:
     calls = [call for row in table.split("\n")[1:] for call in row.split(" | ")[0].split("`")[1::2]]
     assert len(calls) == 8
     with Workbench(wide) as w:
-        p = w.plan(days=60, people="ana ben press", start="2026-03-02", skills={"ana": "welding"})
+        p = w.project(
+            days=60, people="ana ben press", start="2026-03-02", skills={"ana": "welding"}
+        )
         a, b = p.task("a", 1, who="press", kind="red"), p.task("b", 2, who="press", kind="blue")
         functions = {"any_of": any_of, "skilled": skilled}
         names = {"p": p, "a": a, "b": b, "task": a, "first": 3, "end": 4, "day": 5}

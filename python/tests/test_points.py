@@ -1,5 +1,6 @@
-"""Questions for points over propwide: how replies are read, and what sessions make of them, in slices
-too. What is expected was worked out by hand, or by going through all points of random models."""
+"""Questions for points over propwide: how replies are read, and what sessions make of them, in
+slices too. What is expected was worked out by hand, or by going through all points of random
+models."""
 
 import time
 from collections.abc import Callable

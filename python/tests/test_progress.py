@@ -18,7 +18,7 @@ DAYS = 9
 @pytest.fixture
 def p() -> Iterator[Project]:
     with Workbench() as w:
-        p = w.plan(days=40, people="ana ben", start="2026-03-02", off="sat sun")
+        p = w.project(days=40, people="ana ben", start="2026-03-02", off="sat sun")
         ways = {"hotel": dict(days=2, cost=4000), "uni": dict(days=5, cost=1500)}
         venue = p.task("venue", who="ana", options=ways)
         call = p.task("call", 3, who="ben", after=[venue])
@@ -103,7 +103,7 @@ def test_what_cannot_have_been(p: Project) -> None:
         p.today(2)
     with Workbench() as other:
         with pytest.raises(ValueError, match="is a cell of another workbench"):
-            p.done(other.plan(days=9).task("call", 3), 0, 3)
+            p.done(other.project(days=9).task("call", 3), 0, 3)
 
 
 @settings(max_examples=15 * TIMES)
@@ -115,7 +115,7 @@ def test_what_cannot_have_been(p: Project) -> None:
 def test_the_rest_is_planned_anew(tasks: list[tuple[int, str]], today: int, took: int) -> None:
     """The first task was begun on day 0; of the others the best starts are those of all."""
     with Workbench() as w:
-        p = w.plan(days=DAYS, people="a b")
+        p = w.project(days=DAYS, people="a b")
         made = [p.task(f"t{n}", days, who=who) for n, (days, who) in enumerate(tasks)]
         p.done(made[0], 0, took)
         p.today(today)

@@ -1,5 +1,5 @@
-"""Estimates beside `uncertainties`, which propagates deviations by slopes: of laws that give quantities
-from readings both say the same, how far errors go together among it."""
+"""Estimates beside `uncertainties`, which propagates deviations by slopes: of laws that give
+quantities from readings both say the same, how far errors go together among it."""
 
 import random
 from collections.abc import Callable, Mapping
@@ -168,8 +168,8 @@ def test_what_one_device_read_goes_together() -> None:
 
 
 def test_a_curve_is_off_by_what_is_said_of_it() -> None:
-    """Lines from (0, 0) by (1, 25.2) to (2, 49.9), off by 0.3 at the most: by the same error for one
-    argument, and by another for another."""
+    """Lines from (0, 0) by (1, 25.2) to (2, 49.9), off by 0.3 at the most: by the same error for
+    one argument, and by another for another."""
     voltage, other = uncertainties.ufloat(1.5, 0.003), uncertainties.ufloat(0.5, 0.002)
     error, another = (uncertainties.ufloat(0, 0.3 / 3**0.5) for _ in "ab")
     lamp = 25.2 + 24.7 * (voltage - 1) + error

@@ -53,7 +53,8 @@ def test_a_sheet_states_what_a_file_would(saved: Saved, ending: str, tmp_path: P
 
 @WAYS
 def test_what_is_wrong_with_a_sheet(saved: Saved, ending: str, tmp_path: Path) -> None:
-    """A number doesn't say how exact it is, whatever the sheet shows of it; a row has its number."""
+    """A number doesn't say how exact it is, whatever the sheet shows of it; a row has its
+    number."""
     rows: list[list[Value]] = [
         HEAD,
         ["mass", 100, "g", None, None, None, None],

@@ -7,7 +7,7 @@ from fractions import Fraction
 import pytest
 
 from propbench import MixedUnits, NoReading, UnknownUnit, Workbench
-from propbench.measuring.readings import Given, reading_of
+from propbench.measuring.readings import GivenReading, reading_of
 from propbench.measuring.units import dimension_text, unit_of
 from propbench.model.measures import Measure, rounded
 
@@ -137,7 +137,7 @@ def test_units_by_pint() -> None:
 
 
 # What is read of ohms: between which it lies.
-READINGS: list[tuple[Given, str, str]] = [
+READINGS: list[tuple[GivenReading, str, str]] = [
     ("468.0 +- 1.2 ohm", "466.8", "469.2"),
     ("468.0 ± 1.2 ohm", "466.8", "469.2"),
     ("468.0 ohm +/- 1.2 ohm", "466.8", "469.2"),
@@ -170,7 +170,7 @@ READINGS: list[tuple[Given, str, str]] = [
 
 
 @pytest.mark.parametrize("given, low, high", READINGS, ids=lambda it: str(it))
-def test_readings(given: Given, low: str, high: str) -> None:
+def test_readings(given: GivenReading, low: str, high: str) -> None:
     reading = reading_of(given, unit_of("ohm"))
     assert (reading.low, reading.high) == (Fraction(low), Fraction(high))
     is_standard = isinstance(given, str) and ("(47)" in given or "u=" in given)
@@ -262,7 +262,7 @@ def test_what_is_not_understood_to_its_end_is_refused(unit: str, text: str, says
 
 
 LONG = "9" * 5000
-TOO_LONG: list[Given] = [
+TOO_LONG: list[GivenReading] = [
     *["1e999999999", "1e9999999999 m", "1e-999999999", "-1e999999999 m", "1e401", "1e-401 m"],
     *[
         "5 +- 1e999999999 m",

@@ -15,8 +15,8 @@ CASES = 60 * TIMES
 
 @pytest.mark.parametrize("seed", range(CASES))
 def test_reals_lie_in_every_answer(wide: str, seed: int) -> None:
-    """Where what is read holds, there is no conflict, and each real lies in its answer; what is told
-    of curves holds at other reals too, pieces that answers asked for among it."""
+    """Where what is read holds, there is no conflict, and each real lies in its answer; what is
+    told of curves holds at other reals too, pieces that answers asked for among it."""
     draw = random.Random(seed)
     with Workbench(program=wide) as w:
         try:

@@ -1,4 +1,5 @@
-"""What random laws are held to: intervals beside 80 digits, and columns beside one point at a time."""
+"""What random laws are held to: intervals beside 80 digits, and columns beside one point at a
+time."""
 
 import random
 from fractions import Fraction
@@ -11,7 +12,7 @@ pytest.importorskip("numpy")
 from many_points import ManyPoints, Unable
 from mpmath import MPContext
 from propbench import Workbench
-from propbench.measuring.shapes import Function, Name
+from propbench.measuring.shapes import Function, FunctionName
 from propbench.model.events import Required
 from propbench.model.meaning import Beyond
 from real_functions import Unfit, stated_case
@@ -22,18 +23,18 @@ EXACT.dps = 80
 TINY = Fraction(1, 10**50)
 # Each function, its arguments, and the same by mpmath's numbers.
 FUNCTIONS = {
-    Name.EXP: ((-6, 6), EXACT.exp),
-    Name.EXP10: ((-3, 3), lambda x: EXACT.power(10, x)),
-    Name.LN: ((Fraction(1, 1000), 1000), EXACT.ln),
-    Name.LOG10: ((Fraction(1, 1000), 1000), EXACT.log10),
-    Name.SIN: ((-400, 400), EXACT.sin),
-    Name.COS: ((-400, 400), EXACT.cos),
-    Name.TAN: ((Fraction(-3, 2), Fraction(3, 2)), EXACT.tan),
-    Name.ASIN: ((-1, 1), EXACT.asin),
-    Name.ACOS: ((-1, 1), EXACT.acos),
-    Name.ATAN: ((-20, 20), EXACT.atan),
+    FunctionName.EXP: ((-6, 6), EXACT.exp),
+    FunctionName.EXP10: ((-3, 3), lambda x: EXACT.power(10, x)),
+    FunctionName.LN: ((Fraction(1, 1000), 1000), EXACT.ln),
+    FunctionName.LOG10: ((Fraction(1, 1000), 1000), EXACT.log10),
+    FunctionName.SIN: ((-400, 400), EXACT.sin),
+    FunctionName.COS: ((-400, 400), EXACT.cos),
+    FunctionName.TAN: ((Fraction(-3, 2), Fraction(3, 2)), EXACT.tan),
+    FunctionName.ASIN: ((-1, 1), EXACT.asin),
+    FunctionName.ACOS: ((-1, 1), EXACT.acos),
+    FunctionName.ATAN: ((-20, 20), EXACT.atan),
 }
-OF_ANGLES = (Name.SIN, Name.COS, Name.TAN)
+OF_ANGLES = (FunctionName.SIN, FunctionName.COS, FunctionName.TAN)
 
 
 def number(exact: Fraction) -> object:
@@ -47,7 +48,7 @@ def is_held(found: object, wanted: object) -> bool:
 
 
 @pytest.mark.parametrize("name", FUNCTIONS)
-def test_intervals_hold_the_functions(name: Name) -> None:
+def test_intervals_hold_the_functions(name: FunctionName) -> None:
     draw, ((low, high), plain) = random.Random(1), FUNCTIONS[name]
     shares = [
         Fraction(0),

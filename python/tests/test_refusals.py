@@ -102,7 +102,8 @@ def test_near_names(program: str) -> None:
 
 
 def test_names_that_are_near() -> None:
-    """A letter more, less, another or swapped, and capitals; three at the most, the nearest first."""
+    """A letter more, less, another or swapped, and capitals; three at the most, the nearest
+    first."""
     assert near_names("coffe", ["tea", "coffee", "COFFEE"]) == ("coffee", "COFFEE")
     assert near_names("zz", ["z"]) == ("z",)
     assert near_names("aks", ["ask"]) == ("ask",)

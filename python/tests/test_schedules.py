@@ -34,7 +34,7 @@ WORK = [
 @pytest.fixture
 def p() -> Iterator[Project]:
     with Workbench() as w:
-        p = w.plan(days=40, people="ana ben", start=START, off=OFF)
+        p = w.project(days=40, people="ana ben", start=START, off=OFF)
         ways = {"hotel": dict(days=2, cost=4000), "uni": dict(days=5, cost=1500)}
         venue = p.task("venue", who="ana", options=ways)
         p.task("review", 5, who="ana ben", after=[venue])
@@ -67,7 +67,7 @@ def test_a_best_plan_prints_by_date_and_person(p: Project) -> None:
 
 def test_numbers_stand_where_there_are_no_dates() -> None:
     with Workbench() as w:
-        p = w.plan(days=9, people="ana")
+        p = w.project(days=9, people="ana")
         p.task("post", 0, after=[p.task("letter", 3, who="ana")])
         assert str(w.least(p.end)) == (
             "The least end is 3:\n"
@@ -88,7 +88,7 @@ def test_which_plan_is_a_schedule() -> None:
         assert str(w.least(x)) == "The least x is 0:\n  cell  value\n  x     0"
         with pytest.raises(ValueError, match="this is no schedule"):
             w.least(x).to_csv()
-        p, q = (w.plan(days=9) for _ in range(2))
+        p, q = (w.project(days=9) for _ in range(2))
         p.task("a", 2)
         assert w.solve().schedule is not None
         q.task("b", 3)

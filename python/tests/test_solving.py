@@ -23,8 +23,8 @@ from propbench.questions.seeking import Seeker, Unlike
 
 
 def crowd(w: Workbench) -> Number:
-    """Fourteen that differ, of thirteen values, where a truth is no: so it is yes, which takes long to
-    find out."""
+    """Fourteen that differ, of thirteen values, where a truth is no: so it is yes, which takes long
+    to find out."""
     holes = [w.number(f"p{i}", 1, 13) for i in range(14)]
     free = w.truth("free")
     for i, one in enumerate(holes):
@@ -82,8 +82,8 @@ def test_what_cannot_hold_denies_nothing_where_it_is_not_said(
         assert len(w.plans(["n"])) == 1
 
 
-# Three elements of a domain of two that are to differ, as they were saved before there were switched
-# forms among what a workbench uses.
+# Three elements of a domain of two that are to differ, as they were saved before there were
+# switched forms among what a workbench uses.
 SAVED = """#: {"workbench": 1, "kit": ["different3"]}
 cell _yes truth
 fix _yes yes
@@ -204,7 +204,8 @@ def answers(w: Workbench) -> list[str]:
 
 
 def test_both_ways_answer_the_same(monkeypatch: pytest.MonkeyPatch) -> None:
-    """Also where a plan of the program doesn't hold as it was stated: then cases are gone through."""
+    """Also where a plan of the program doesn't hold as it was stated: then cases are gone
+    through."""
     with Workbench() as w:
         said = answers(w)
 

@@ -1,5 +1,5 @@
-"""What is imported, which is what a start takes: as few modules as a command needs, and none of those
-of Python that take long. (A clock would tell how busy the machine is.)"""
+"""What is imported, which is what a start takes: as few modules as a command needs, and none of
+those of Python that take long. (A clock would tell how busy the machine is.)"""
 
 import ast
 import importlib
@@ -109,7 +109,8 @@ def test_a_solver_imports_what_solves_alone(tmp_path: Path) -> None:
 
 @pytest.mark.parametrize("package", ["propbench", "propbench.errors", "propbench.questions"])
 def test_each_name_is_there(package: str) -> None:
-    """What stands for type checkers is what there is: a module's own names, found when asked for."""
+    """What stands for type checkers is what there is: a module's own names, found when asked
+    for."""
     there = importlib.import_module(package)
     with open(str(there.__file__), encoding="utf-8") as file:
         [block] = [node for node in ast.parse(file.read()).body if isinstance(node, ast.If)]

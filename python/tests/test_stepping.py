@@ -1,5 +1,5 @@
-"""Steps that propwide tells: how its replies are read, and what sessions, the shell, films, pictures
-and the page make of them.
+"""Steps that propwide tells: how its replies are read, and what sessions, the shell, films,
+pictures and the page make of them.
 
 What is expected are texts of docs/WIDE.md's form, the definitions in the sources, the bare program
 under `limit 1`, and its bare `step`.

@@ -412,8 +412,8 @@ sessions[1].send_all(["limit 1000000000000000", "ask x"])
 @pytest.mark.parametrize("forks", [False, True])
 @pytest.mark.parametrize("stopped", [False, True])
 def test_a_program_ends_with_its_parent(program: str, forks: bool, stopped: bool) -> None:
-    """Killed in the midst of a long run of one of three: all of them end, also where one is stopped,
-    and where a child that was forked goes on."""
+    """Killed in the midst of a long run of one of three: all of them end, also where one is
+    stopped, and where a child that was forked goes on."""
     source = HELD.format(sources=SOURCES, program=program, lines=ENDLESS, forks=forks)
     parent = subprocess.Popen(
         [sys.executable, "-c", source], stdout=subprocess.PIPE, text=True, start_new_session=True

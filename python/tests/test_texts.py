@@ -1,4 +1,5 @@
-"""Texts for eyes: nothing that somebody wrote moves the cursor, hides, or turns what is beside it."""
+"""Texts for eyes: nothing that somebody wrote moves the cursor, hides, or turns what is beside
+it."""
 
 import json
 import unicodedata
@@ -15,8 +16,8 @@ from propbench.questions.conflicts import find_both
 from propbench.shell import Shell
 from propbench.showing import cut, printable
 
-# A colour, a window's title, the cursor, C1's own start of these, a turn, two marks without a width,
-# a separator, a filler.
+# A colour, a window's title, the cursor, C1's own start of these, a turn, two marks without a
+# width, a separator, a filler.
 BAD = [
     "\x1b[31m",
     "\x1b]0;x\x07",

@@ -11,8 +11,8 @@ import pytest
 from conftest import REPOSITORY, TIMES, Bare
 
 from propbench import NoSuchCell, Session, Workbench
-from propbench.running import Way
-from propbench.watching import Network, Use, Watched, bears
+from propbench.running import RunAs
+from propbench.watching import NetworkSeen, Use, Watched, bears
 from propbench.watching.bearing import bearing
 from propbench.watching.of_session import SessionWatched
 from propbench.watching.of_workbench import WorkbenchWatched
@@ -21,7 +21,7 @@ from propbench.watching.opening import opened
 ORDERS = (["--order", "fifo"], ["--order", "lifo"], ["--order", "mixed", "--seed", "7"])
 
 
-def network_of(lines: list[str], program: str) -> Network:
+def network_of(lines: list[str], program: str) -> NetworkSeen:
     with Session(program) as session:
         session.send_all(lines)
         return SessionWatched(session).network()
@@ -224,7 +224,7 @@ def test_conflicts_and_repairs_of_a_session(program: str, bare: Bare) -> None:
             session.send_all(lines)
             found = SessionWatched(session).mend()
             assert found.complete and session.lines == lines
-        # a least conflict that no repair needs may stay unfound; all that are found are least
+        # a minimal conflict that no repair needs may stay unfound; all that are found are minimal
         assert {frozenset(each) for each in found.conflicts} <= conflicts
         hits: set[frozenset[str]] = set()
         for size in range(6):
@@ -350,12 +350,12 @@ def test_files(program: str, tmp_path: Path) -> None:
     path = str(tmp_path / "w.prop")
     with bench(program) as w:
         w.save(path)
-    with opened(path, Way(), program) as watched:
+    with opened(path, RunAs(), program) as watched:
         assert isinstance(watched, WorkbenchWatched)
         watched.believe("cheap", False)
         assert watched.see().values["days"].text == "2"
         assert watched.saved()[0].startswith("# A workbench") and watched.saved()[-1] == "kick odd"
-    with opened(str(REPOSITORY / "examples/planning/talks.prop"), Way(), program) as watched:
+    with opened(str(REPOSITORY / "examples/planning/talks.prop"), RunAs(), program) as watched:
         assert isinstance(watched, SessionWatched)
         text = (REPOSITORY / "examples/planning/talks.prop").read_text()
         assert "".join(f"{line}\n" for line in watched.saved()) == text
@@ -364,7 +364,7 @@ def test_files(program: str, tmp_path: Path) -> None:
         assert watched.saved()[-1] == "kick bus" and len(watched.saved()) == text.count("\n") + 1
     (tmp_path / "bad.prop").write_text("cell x span\n# three\nask y\n")
     with pytest.raises(NoSuchCell) as refused:
-        with opened(str(tmp_path / "bad.prop"), Way(), program):
+        with opened(str(tmp_path / "bad.prop"), RunAs(), program):
             pass
     assert refused.value.line_number == 3
 

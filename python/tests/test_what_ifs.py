@@ -234,8 +234,8 @@ def test_ctrl_c_leaves_all_as_it_was() -> None:
 
 @pytest.mark.parametrize("count", [400, 1100])
 def test_a_plan_of_many_cells(program: str, count: int) -> None:
-    """Each cell is a case within that of the one before, and Python's stack is not as deep; beyond a
-    thousand no more cases are gone through."""
+    """Each cell is a case within that of the one before, and Python's stack is not as deep; beyond
+    a thousand no more cases are gone through."""
     with Workbench(program) as w:
         cells = [w.number(f"x{number}", 0, 9) for number in range(count)]
         w.require(cells[-1] == 7)

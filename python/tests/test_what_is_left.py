@@ -1,5 +1,5 @@
-"""What is left behind a what-if, and of a premise that was forgotten: nothing, in the workbench, its
-projects and quantities, its names, and its files.
+"""What is left behind a what-if, and of a premise that was forgotten: nothing, in the workbench,
+its projects and quantities, its names, and its files.
 """
 
 from collections.abc import Callable, Iterator
@@ -46,7 +46,7 @@ def state_much(w: Workbench) -> None:
     w.fix(s, "a colour")
     w.choose("a choice", x, [3, (5, 6)])
     w.choose("another choice", {"a": [x >= 3], "b": [x == 2]})
-    p = w.plan(days=9, people="ana")
+    p = w.project(days=9, people="ana")
     p.task("a task", 2, who="ana", cost=3)
     p.away("ana", 0, 3)
     p.done_by(7)
@@ -116,7 +116,7 @@ def leaves_nothing(w: Workbench, tmp_path: Path, error: type[BaseException] | No
 
 def test_a_project_is_as_it_was_behind_a_what_if(w: Workbench) -> None:
     """Two tasks of one person, of 5 and 2 days: 7 days, whoever was ill in a what-if."""
-    p = w.plan(days=40, people="ana ben")
+    p = w.project(days=40, people="ana ben")
     a = p.task("a", 5, who="ana")
     with w.what_if():
         p.away("ana", 0, 20, under="ill")
@@ -134,7 +134,7 @@ def test_a_project_is_as_it_was_behind_a_what_if(w: Workbench) -> None:
 
 
 def test_what_was_made_in_a_what_if_says_that_it_is_gone(w: Workbench) -> None:
-    p = w.plan(days=9, people="ana")
+    p = w.project(days=9, people="ana")
     with w.what_if():
         b = p.task("b", 2)
         x, q = w.number("x", 0, 9), w.measured("q", "m", 0, 9)
@@ -174,7 +174,7 @@ def test_what_was_made_in_a_what_if_says_that_it_is_gone(w: Workbench) -> None:
 
 def test_what_is_forgotten_is_no_longer_a_project_s(w: Workbench) -> None:
     """Two tasks of one person, of 5 and 2 days: 7 days, when she is no longer ill."""
-    p = w.plan(days=30, people="ana ben")
+    p = w.project(days=30, people="ana ben")
     a = p.task("a", 5, who="ana")
     p.away("ana", 0, 20, under="ill")
     p.away("ben", 0, 30)

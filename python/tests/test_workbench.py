@@ -320,7 +320,7 @@ def _wrong(w: Workbench) -> dict[str, Any]:
         ("w.choose('way', {'a': x, 'b': x < 4})", TypeError, "`x` is a number, where a truth is"),
         ("w.cell(3)", TypeError, "a cell is named by a text: 3"),
         ("w.domain('d2', 3)", TypeError, "or a list of texts: 3"),
-        ("w.plan(days=9, people=3)", TypeError, "or a list of texts: 3"),
+        ("w.project(days=9, people=3)", TypeError, "or a list of texts: 3"),
         ("w.measured('q', low=0, high=1, step='x')", ValueError, "'x' is no number, as 5"),
         ("w.conflicts(keep='anna')", ValueError, "no premise `anna`. Did you mean ana?"),
         ("w.scenarios([{}], [x])", TypeError, "a dict, each by its name: [{}] is none"),

@@ -182,7 +182,7 @@ class Walk:
         raise ValueError("it is gone")
 
     def plan(self, days: int) -> None:
-        self.project = self.w.plan(days=days, people="ana ben")
+        self.project = self.w.project(days=days, people="ana ben")
 
     def task(
         self,

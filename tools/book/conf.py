@@ -1,4 +1,5 @@
-"""How Sphinx makes the handbook. `tools/handbook` calls it, over the files that making.py lays out."""
+"""How Sphinx makes the handbook. `tools/handbook` calls it, over the files that making.py lays
+out."""
 import re
 
 from propbench.grammar import parsed

@@ -1,9 +1,9 @@
 """The handbook: README.md, docs/, examples/ and what is said of the Python package, in HTML.
 
-The documents are copied into a folder, ready for Sphinx: their indented blocks as code of a language,
-their links to examples as links to pages of these. A page of an example has its code, what it prints
-or is answered, and its picture. Sphinx makes pages of all that, by conf.py beside this file, with
-contents and a search that needs no server.
+The documents are copied into a folder, ready for Sphinx: their indented blocks as code of a
+language, their links to examples as links to pages of these. A page of an example has its code,
+what it prints or is answered, and its picture. Sphinx makes pages of all that, by conf.py beside
+this file, with contents and a search that needs no server.
 """
 import ast
 import glob
@@ -212,8 +212,8 @@ def outside(texts: dict[str, str]) -> Iterator[str]:
 
 
 def mend(path: str) -> None:
-    """Mends the theme's style sheet as Debian has it: it asks a server for a file, and leaves a page
-    light, but for its code, where the system is dark."""
+    """Mends the theme's style sheet as Debian has it: it asks a server for a file, and leaves a
+    page light, but for its code, where the system is dark."""
     text = re.sub(r"@import [^;]*;", "", read_from(path))
     dark = re.search(r'body\[data-theme="dark"\] (\{[^}]*\})', text)
     if dark and "prefers-color-scheme" not in text:

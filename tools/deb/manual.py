@@ -23,7 +23,8 @@ SEE_ALSO = """
 The documents and examples lie in
 .IR /usr/share/doc/propbench :
 README.md says what is proved, docs/TUTORIAL.md begins from nothing, docs/LANGUAGE.md has every
-command, reply and refusal, docs/WIDE.md what propwide has beside that, and docs/PIPE.md is for who drives the program from another one.
+command, reply and refusal, docs/WIDE.md what propwide has beside that, and docs/PIPE.md is for who
+drives the program from another one.
 """
 
 
@@ -172,8 +173,10 @@ THE END
 """
 
 
-def shown(room: str, name: str, text: str, about: str, version: str, seconds: int) -> str:
-    """What help2man makes of the help that a command of this name shows."""
+def shown(room: str, named: tuple[str, str], text: str, version: str, seconds: int) -> str:
+    """What help2man makes of the help that a command shows, of which its name and what it is for
+    are told."""
+    name, about = named
     for head, capital in HEADS:
         text = re.sub(rf"^{head}", capital, text, flags=re.M)
     with open(f"{room}/{name}", "w", encoding="utf-8") as it:
@@ -184,7 +187,7 @@ def shown(room: str, name: str, text: str, about: str, version: str, seconds: in
 
 def desk_page(room: str, version: str, seconds: int, *command: str) -> str:
     """What help2man makes of propdesk's help, or of one of its commands'."""
-    return shown(room, "propdesk", desk_help(*command), NAME_OF_DESK, version, seconds)
+    return shown(room, ("propdesk", NAME_OF_DESK), desk_help(*command), version, seconds)
 
 
 def of_solver(version: str, seconds: int) -> str:
@@ -192,7 +195,7 @@ def of_solver(version: str, seconds: int) -> str:
     words = ["/usr/bin/python3", f"{TOP}/python/src/propbench/flatzinc/fzn-propbench", "--help"]
     text = ran(words, PYTHONDONTWRITEBYTECODE="1", COLUMNS="1000")
     with tempfile.TemporaryDirectory(prefix="manual-") as room:
-        return shown(room, "fzn-propbench", text, NAME_OF_SOLVER, version, seconds)
+        return shown(room, ("fzn-propbench", NAME_OF_SOLVER), text, version, seconds)
 
 
 def of_desk(version: str, seconds: int) -> str:

@@ -3,8 +3,8 @@
 
 usage: tools/start/building.py PROGRAM STATE FOLDER [--soon]
 
-PROGRAM is propbench or propwide, STATE the checksum of the sources, FOLDER where programs are kept. What it is at is told in lines
-on standard output, of a word and what belongs to it:
+PROGRAM is propbench or propwide, STATE the checksum of the sources, FOLDER where programs are kept.
+What it is at is told in lines on standard output, of a word and what belongs to it:
 
     waiting                 another one builds in this folder; this one goes on once that has ended
     building                it begins

@@ -101,8 +101,8 @@ else:
     # Functions that stand in laws: no star brings them in, since `math` has many of these names.
     _FUNCTIONS = {
         "propbench.measuring.elementary": """
-            acos asin at_level at_pH atan atan2 cos curve degrees exp exp10 hypot level ln log10 pH pi
-            radians sin tan
+            acos asin at_level at_pH atan atan2 cos curve degrees exp exp10 hypot level ln log10 pH
+            pi radians sin tan
         """
     }
     # What has a module of its own since, and stays here for who wrote it so.
@@ -118,8 +118,8 @@ else:
         """,
         "propbench.replies": """
             Best Called Contradiction Done How Impossible Instance Listing Moved Nogoods NoneFits
-            Points Reply Searched Settled Several Silent SoFar Stand Stated Step Symbol Unsettled Value
-            Worldview
+            Points Reply Searched Settled Several Silent SoFar Stand Stated Step Symbol Unsettled
+            Value Worldview
         """,
     }
     __all__ = sorted(["errors", "replies", *all_of(_HOMES)])

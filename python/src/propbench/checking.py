@@ -1,7 +1,8 @@
-"""`propdesk check`: a report of `propdesk run --json`, or a certificate, held against a fresh session.
+"""`propdesk check`: a report of `propdesk run --json`, or a certificate, held against a fresh
+session.
 
-A report is compared with what the program tells to the same lines. A certificate says what was found
-by many questions, and the program is asked what shows that.
+A report is compared with what the program tells to the same lines. A certificate says what was
+found by many questions, and the program is asked what shows that.
 """
 
 import re

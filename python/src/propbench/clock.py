@@ -50,8 +50,8 @@ class Clock:
 
     @property
     def last(self) -> float | None:
-        """Until when what is behind that has to come, by the monotonic clock; None where there is no
-        end."""
+        """Until when what is behind that has to come, by the monotonic clock; None where there is
+        no end."""
         return None if self._until is None else self._until + _LAST
 
     def reply_left(self) -> float | None:

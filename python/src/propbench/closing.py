@@ -3,13 +3,13 @@
 from types import TracebackType
 from typing import TypeVar
 
-Some = TypeVar("Some", bound="Closing")
+_Closing = TypeVar("_Closing", bound="Closing")
 
 
 class Closing:
     """Something that is to be closed: by `close`, or at the end of a `with`."""
 
-    def __enter__(self: Some) -> Some:
+    def __enter__(self: _Closing) -> _Closing:
         return self
 
     def __exit__(

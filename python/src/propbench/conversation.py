@@ -1,10 +1,10 @@
 """A conversation: a program, the lines that it carried out, and the names that these declared.
 
 What was carried out and what the program has done are in step, but where an exception came between
-the two; then the program is begun anew with the lines that are known to be carried out. So `in_step`
-is False from before a line is sent until all that came of it is taken in, and an exception may cut
-that short at any place. Where the time of a question was over before that, and the program is at
-work on it yet, it is `owed`, and can be taken in later.
+the two; then the program is begun anew with the lines that are known to be carried out. So
+`in_step` is False from before a line is sent until all that came of it is taken in, and an
+exception may cut that short at any place. Where the time of a question was over before that, and
+the program is at work on it yet, it is `owed`, and can be taken in later.
 """
 
 from dataclasses import dataclass
@@ -35,8 +35,8 @@ class WrongReply(ProgramEnded):
 
 @dataclass(frozen=True)
 class Owed:
-    """A line whose reply is still to come: a question under a limit of so many steps, or that limit.
-    All that was done before it is taken in."""
+    """A line whose reply is still to come: a question under a limit of so many steps, or that
+    limit. All that was done before it is taken in."""
 
     line: str
     words: list[str]
@@ -57,8 +57,8 @@ class Conversation:
         self.limit = limit
         self.program_limit = limit
         self._learns = self.known.learns
-        # The question for points that the program goes on with where it is asked again at once: what
-        # is sought, and behind how many lines.
+        # The question for points that the program goes on with where it is asked again at once:
+        # what is sought, and behind how many lines.
         self.sought = ("", 0)
         # The cells of the question for plans that would be gone on with by the lines.
         self._listed: list[str] = []

@@ -6,7 +6,7 @@ What a command needs is imported once it is carried out: the others start at onc
 import argparse
 import os
 import sys
-from collections.abc import Sequence
+from collections.abc import Callable, Sequence
 from contextlib import suppress
 from typing import TYPE_CHECKING
 
@@ -16,7 +16,7 @@ if TYPE_CHECKING:
     from decimal import Decimal
 
     from propbench.journal import Journal
-    from propbench.running import Way
+    from propbench.running import RunAs
     from propbench.watching import Watched
 
 # What a schedule is written as, by the endings of files.
@@ -47,170 +47,143 @@ def parser() -> argparse.ArgumentParser:
     """The reader of the command line, from which manual pages and completion can be made."""
     top = argparse.ArgumentParser(prog="propdesk", description=DESCRIPTION, epilog=STATUS)
     commands = top.add_subparsers(dest="command", metavar="COMMAND", required=True)
-    run = commands.add_parser(
-        "run",
-        help="run a file, and show what follows",
-        description="Runs a file of the language: shows each question with its reply, and at the"
-        " end each cell with its value and reasons. Stops at the first line that is refused, and"
-        " points to the word.",
-    )
-    run.add_argument("file", metavar="FILE", help="the file, or - for standard input")
-    run.add_argument(
+    for name, (told, description, add) in _COMMANDS.items():
+        each = commands.add_parser(name, help=told, description=description)
+        add(each)
+        if name != "minizinc":
+            each.add_argument("--program", metavar="PATH", help="the program that answers")
+        if name == "page":
+            _add_resume(each)
+        if name in ("shell", "page"):
+            each.add_argument(
+                "--no-journal",
+                action="store_true",
+                help="don't keep what is carried out on the disk",
+            )
+        if name in ("run", "shell", "page", "draw"):
+            _add_begin(each)
+    return top
+
+
+def _add_run(to: argparse.ArgumentParser) -> None:
+    to.add_argument("file", metavar="FILE", help="the file, or - for standard input")
+    to.add_argument(
         "--keep-going", action="store_true", help="go on behind refused lines; the status stays 1"
     )
-    run.add_argument(
+    to.add_argument(
         "--json", action="store_true", help="write a report, one JSON object, and nothing else"
     )
-    run.add_argument(
+    to.add_argument(
         "--seconds",
         type=_seconds,
         default=60.0,
         metavar="N",
         help="how long may be worked for the table at the end (60)",
     )
-    shell = commands.add_parser(
-        "shell",
-        help="speak the language line by line",
-        description="Reads lines from the terminal and answers each. Has a history, completes"
-        " commands and names, and points to the word where a line is refused. :help says more.",
-    )
-    shell.add_argument("file", metavar="FILE", nargs="?", help="a file whose lines come first")
-    check = commands.add_parser(
-        "check",
-        help="hold a report of run --json, or a certificate, against the program",
-        description="Carries out the lines of a report in a fresh session, and compares each answer"
-        " with that of the report; or asks what shows the claims of a certificate, and tells these"
-        " in words. Says what differs, and ends with status 1 then.",
-    )
-    check.add_argument(
+
+
+def _add_shell(to: argparse.ArgumentParser) -> None:
+    to.add_argument("file", metavar="FILE", nargs="?", help="a file whose lines come first")
+
+
+def _add_check(to: argparse.ArgumentParser) -> None:
+    to.add_argument(
         "file", metavar="FILE", help="what `propdesk run --json` wrote, or a saved certificate"
     )
-    check.add_argument(
+    to.add_argument(
         "--base", metavar="FILE", help="the saved workbench that the certificate has to be of"
     )
-    blame = commands.add_parser(
-        "blame",
-        help="say which constraints of a MiniZinc model can't all hold",
-        description="Has MiniZinc make FlatZinc of a model and its data, and says which of its"
-        " constraints can't all hold and which to give up, all least sets of both; and solves the"
-        " model without what the cheapest repair gives up. Ends with status 1 where that was not"
-        " found out in time.",
-    )
-    blame.add_argument("file", metavar="MODEL", help="the model, .mzn, or FlatZinc with marks")
-    blame.add_argument("data", metavar="DATA", nargs="*", help="its data, .dzn")
-    blame.add_argument(
+
+
+def _add_blame(to: argparse.ArgumentParser) -> None:
+    to.add_argument("file", metavar="MODEL", help="the model, .mzn, or FlatZinc with marks")
+    to.add_argument("data", metavar="DATA", nargs="*", help="its data, .dzn")
+    to.add_argument(
         "--keep", metavar="NAME", action="append", default=[], help="a constraint to keep: `line 4`"
     )
-    blame.add_argument(
+    to.add_argument(
         "--most", type=int, default=100, metavar="N", help="so many of each at the most (100)"
     )
-    blame.add_argument("--seconds", type=_seconds, metavar="N", help="how long it may take")
-    blame.add_argument("--picture", metavar="FILE", help="draw the conflicts: .svg, .png or .dot")
-    blame.add_argument("--certificate", metavar="FILE", help="save what `propdesk check` checks")
-    plan = commands.add_parser(
-        "plan",
-        help="make a schedule of the tables of a spreadsheet",
-        description="Reads tables of tasks, people, absences and wishes, and tells a schedule that"
-        " ends as soon as can be, or what stands in the way: then the status is 1. One table alone,"
-        " or that called `tasks`, has the columns task, days, who, after, earliest, latest, cost.",
-    )
-    _add_plan(plan)
-    measure = commands.add_parser(
-        "measure",
-        help="say what follows from tables of readings",
-        description="Reads a bench (quantities, devices and laws, in TOML) and tables of readings,"
-        " and tells what follows for each quantity, which readings conflict, which to give up, and"
-        " which to improve. Ends with status 1 where readings conflict.",
-    )
-    measure.add_argument("file", metavar="BENCH", help="the bench, .toml")
-    measure.add_argument(
-        "readings", metavar="READINGS", nargs="+", help="tables, .csv, .ods or .xlsx"
-    )
-    measure.add_argument(
+    to.add_argument("--seconds", type=_seconds, metavar="N", help="how long it may take")
+    to.add_argument("--picture", metavar="FILE", help="draw the conflicts: .svg, .png or .dot")
+    to.add_argument("--certificate", metavar="FILE", help="save what `propdesk check` checks")
+
+
+def _add_measure(to: argparse.ArgumentParser) -> None:
+    to.add_argument("file", metavar="BENCH", help="the bench, .toml")
+    to.add_argument("readings", metavar="READINGS", nargs="+", help="tables, .csv, .ods or .xlsx")
+    to.add_argument(
         "--decimal", choices=(".", ","), default=".", help="what stands before decimals (.)"
     )
-    measure.add_argument(
+    to.add_argument(
         "--under",
         choices=_TOGETHER,
         help="the column by which readings stand or fall together (each stands by itself)",
     )
-    measure.add_argument(
+    to.add_argument(
         "--coverage",
         type=_coverage,
         default="3",
         metavar="K",
         help="how many times a standard uncertainty is taken for a bound (3)",
     )
-    measure.add_argument(
+    _add_measured(to)
+
+
+def _add_measured(to: argparse.ArgumentParser) -> None:
+    """What `measure` is to find out and to write down."""
+    to.add_argument(
         "--improve",
         metavar="QUANTITY",
         action="append",
         default=[],
         help="tell which reading to improve for this one (for three that nothing was read of)",
     )
-    measure.add_argument(
+    to.add_argument(
         "--predict",
         metavar="TEXT",
         action="append",
         default=[],
         help="tell what a further reading has to show: `volume +- 0.1 cm3`, or a quantity alone",
     )
-    measure.add_argument("--csv", metavar="FILE", help="write the results down as a table")
-    measure.add_argument(
+    to.add_argument("--csv", metavar="FILE", help="write the results down as a table")
+    to.add_argument(
         "--estimates",
         action="store_true",
         help="estimates by least squares too, which are tested and not proved",
     )
-    measure.add_argument(
-        "--report", metavar="FILE", help="write a report: .html, which prints, or .txt"
-    )
-    measure.add_argument(
+    to.add_argument("--report", metavar="FILE", help="write a report: .html, which prints, or .txt")
+    to.add_argument(
         "--seconds", type=_seconds, default=60.0, metavar="N", help="how long it may take (60)"
     )
-    minizinc = commands.add_parser(
-        "minizinc",
-        help="tell MiniZinc of the solver",
-        description="Says whether MiniZinc knows of the solver propbench by a file in your folder for"
-        " solvers; writes that file, or removes it.",
-    )
-    either = minizinc.add_mutually_exclusive_group()
+
+
+def _add_minizinc(to: argparse.ArgumentParser) -> None:
+    either = to.add_mutually_exclusive_group()
     either.add_argument("--install", action="store_true", help="write the file")
     either.add_argument("--remove", action="store_true", help="remove the file")
-    page = commands.add_parser(
-        "page",
-        help="show a file in a browser",
-        description="Serves a file, of the language or saved by a workbench, as a page on this"
-        " machine alone: the network drawn, switches, reasons, conflicts with repairs, steps. Prints"
-        " its address, and ends at Ctrl-C.",
-    )
-    page.add_argument("file", metavar="FILE", help="the file")
-    page.add_argument(
+
+
+def _add_page(to: argparse.ArgumentParser) -> None:
+    to.add_argument("file", metavar="FILE", help="the file")
+    to.add_argument(
         "--port", type=int, default=0, metavar="N", help="where it is served (any that is free)"
     )
-    draw = commands.add_parser(
-        "draw",
-        help="draw a file as a picture",
-        description="Draws what a file states and what follows, by Graphviz: cells with values,"
-        " procedures, premises, those that are out in grey.",
-    )
-    draw.add_argument("file", metavar="FILE", help="the file")
-    draw.add_argument("--cell", metavar="X", help="only what bears on this cell")
-    draw.add_argument(
-        "--out", metavar="PICTURE", help="where to, as SVG or .dot (beside the file, as .svg)"
-    )
-    for each in (run, shell, check, blame, measure, plan, page, draw):
-        each.add_argument("--program", metavar="PATH", help="the program that answers")
-    page.add_argument(
+
+
+def _add_resume(to: argparse.ArgumentParser) -> None:
+    to.add_argument(
         "--resume", action="store_true", help="go on with what a page of the file did that was cut"
     )
-    page.add_argument("--forget", action="store_true", help="forget it, and show the file")
-    for each in (shell, page):
-        each.add_argument(
-            "--no-journal", action="store_true", help="don't keep what is carried out on the disk"
-        )
-    for each in (run, shell, page, draw):
-        _add_begin(each)
-    return top
+    to.add_argument("--forget", action="store_true", help="forget it, and show the file")
+
+
+def _add_draw(to: argparse.ArgumentParser) -> None:
+    to.add_argument("file", metavar="FILE", help="the file")
+    to.add_argument("--cell", metavar="X", help="only what bears on this cell")
+    to.add_argument(
+        "--out", metavar="PICTURE", help="where to, as SVG or .dot (beside the file, as .svg)"
+    )
 
 
 def _add_plan(to: argparse.ArgumentParser) -> None:
@@ -274,6 +247,72 @@ def _coverage(text: str) -> "Decimal":
         return Decimal(text)
     except InvalidOperation:
         raise argparse.ArgumentTypeError("a coverage is a number, as 2") from None
+
+
+# The commands: what each is for in a line, what it does, and what adds its words.
+_COMMANDS: dict[str, tuple[str, str, Callable[[argparse.ArgumentParser], None]]] = {
+    "run": (
+        "run a file, and show what follows",
+        "Runs a file of the language: shows each question with its reply, and at the end each cell"
+        " with its value and reasons. Stops at the first line that is refused, and points to the"
+        " word.",
+        _add_run,
+    ),
+    "shell": (
+        "speak the language line by line",
+        "Reads lines from the terminal and answers each. Has a history, completes commands and"
+        " names, and points to the word where a line is refused. :help says more.",
+        _add_shell,
+    ),
+    "check": (
+        "hold a report of run --json, or a certificate, against the program",
+        "Carries out the lines of a report in a fresh session, and compares each answer with that"
+        " of the report; or asks what shows the claims of a certificate, and tells these in words."
+        " Says what differs, and ends with status 1 then.",
+        _add_check,
+    ),
+    "blame": (
+        "say which constraints of a MiniZinc model can't all hold",
+        "Has MiniZinc make FlatZinc of a model and its data, and says which of its constraints"
+        " can't all hold and which to give up, all minimal sets of both; and solves the model"
+        " without what the cheapest repair gives up. Ends with status 1 where that was not found"
+        " out in time.",
+        _add_blame,
+    ),
+    "plan": (
+        "make a schedule of the tables of a spreadsheet",
+        "Reads tables of tasks, people, absences and wishes, and tells a schedule that ends as soon"
+        " as can be, or what stands in the way: then the status is 1. One table alone, or that"
+        " called `tasks`, has the columns task, days, who, after, earliest, latest, cost.",
+        _add_plan,
+    ),
+    "measure": (
+        "say what follows from tables of readings",
+        "Reads a bench (quantities, devices and laws, in TOML) and tables of readings, and tells"
+        " what follows for each quantity, which readings conflict, which to give up, and which to"
+        " improve. Ends with status 1 where readings conflict.",
+        _add_measure,
+    ),
+    "minizinc": (
+        "tell MiniZinc of the solver",
+        "Says whether MiniZinc knows of the solver propbench by a file in your folder for solvers;"
+        " writes that file, or removes it.",
+        _add_minizinc,
+    ),
+    "page": (
+        "show a file in a browser",
+        "Serves a file, of the language or saved by a workbench, as a page on this machine alone:"
+        " the network drawn, switches, reasons, conflicts with repairs, steps. Prints its address,"
+        " and ends at Ctrl-C.",
+        _add_page,
+    ),
+    "draw": (
+        "draw a file as a picture",
+        "Draws what a file states and what follows, by Graphviz: cells with values, procedures,"
+        " premises, those that are out in grey.",
+        _add_draw,
+    ),
+}
 
 
 def main(words: Sequence[str] | None = None) -> int:
@@ -359,10 +398,10 @@ def _planned(options: argparse.Namespace) -> int:
 def _measured(options: argparse.Namespace) -> int:
     from pathlib import Path
 
-    from propbench.laboratory.command import Asked, Tables, measure_files
+    from propbench.laboratory.command import MeasureAsked, Tables, measure_files
     from propbench.spreadsheets import NoSheetReader
 
-    asked = Asked(
+    asked = MeasureAsked(
         Path(options.file),
         list(map(Path, options.readings)),
         Tables(options.decimal, options.under, options.coverage),
@@ -397,7 +436,7 @@ def _told_minizinc(options: argparse.Namespace) -> int:
 
 
 def _done(options: argparse.Namespace) -> int:
-    from propbench.running import Way, run_as_json, run_file
+    from propbench.running import RunAs, run_as_json, run_file
 
     if options.command == "minizinc":
         return _told_minizinc(options)
@@ -412,17 +451,17 @@ def _done(options: argparse.Namespace) -> int:
     begin = {"order": options.order, "seed": options.seed, "limit": options.limit}
     if options.command in ("page", "draw"):
         if options.command == "page":
-            return _page(options, Way(**begin))
+            return _page(options, RunAs(**begin))
         from propbench.watching.opening import opened
 
-        with opened(options.file, Way(**begin), options.program) as watched:
+        with opened(options.file, RunAs(**begin), options.program) as watched:
             return _draw(watched, options.file, options.cell, options.out)
     if options.command == "shell":
         from propbench.shell import run_shell
 
-        with Way(**begin).session(options.program, _lines(options.file)) as session:
+        with RunAs(**begin).session(options.program, _lines(options.file)) as session:
             return run_shell(session, options.file, _journal(options, options.file or ""))
-    way = Way(options.keep_going, options.seconds, **begin)
+    way = RunAs(options.keep_going, options.seconds, **begin)
     run = run_as_json if options.json else run_file
     return run(options.file, options.program, way)
 
@@ -448,7 +487,7 @@ def _journal(
     return None if options.no_journal else Journal(options.command, file, checksum)
 
 
-def _page(options: argparse.Namespace, way: "Way") -> int:
+def _page(options: argparse.Namespace, way: "RunAs") -> int:
     from propbench.files import OpenedFile
     from propbench.journal import left
     from propbench.page import serve

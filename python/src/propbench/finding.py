@@ -19,7 +19,7 @@ class NoProgram(Exception):
 
 
 @dataclass(frozen=True)
-class Found:
+class FoundProgram:
     """A program, and whether it is known to be built from proofs. One that `builds` may have to be
     built first, for minutes, of which it tells on standard error."""
 
@@ -35,7 +35,7 @@ def repository() -> str | None:
     return top if _is_repository(top) else None
 
 
-def find_program(given: str | os.PathLike[str] | None = None) -> Found:
+def find_program(given: str | os.PathLike[str] | None = None) -> FoundProgram:
     """The program to run: the one given, else that of $PROPBENCH, else the built program of this
     repository, else `propbench` on the path, else this repository's unproved build.
 
@@ -46,20 +46,20 @@ def find_program(given: str | os.PathLike[str] | None = None) -> Found:
     return _find(given, (PLAIN,))
 
 
-def find_wide(given: str | os.PathLike[str] | None = None) -> Found:
+def find_wide(given: str | os.PathLike[str] | None = None) -> FoundProgram:
     """The program for a workbench: the one given, else that of $PROPWIDE or $PROPBENCH, else
     `propwide` and else `propbench`, each found as `find_program` does. An unproved build is the
     last. Raises NoProgram where none is found."""
     return _find(given, (WIDE, PLAIN))
 
 
-def find_for(lines: Sequence[str], given: str | os.PathLike[str] | None = None) -> Found:
+def find_for(lines: Sequence[str], given: str | os.PathLike[str] | None = None) -> FoundProgram:
     """The program to carry out lines with: that for a workbench, where one has saved them. Raises
     NoProgram where none is found."""
     return find_wide(given) if SAVED in lines[:1] else find_program(given)
 
 
-def _find(given: str | os.PathLike[str] | None, names: Sequence[str]) -> Found:
+def _find(given: str | os.PathLike[str] | None, names: Sequence[str]) -> FoundProgram:
     """The program given or found by one of these names, the first that there is."""
     told = [os.environ.get(name.upper()) for name in names]
     named = given if given is not None else next(filter(None, told), "")
@@ -71,7 +71,7 @@ def _find(given: str | os.PathLike[str] | None, names: Sequence[str]) -> Found:
     top = repository()
     for name in names:
         if top and _is_built(top, name):
-            return Found(_built(top, name), True)
+            return FoundProgram(_built(top, name), True)
         installed = _runnable(name)
         if installed:
             return _found(installed)
@@ -84,7 +84,8 @@ def _find(given: str | os.PathLike[str] | None, names: Sequence[str]) -> Found:
 
 
 def _runnable(named: str) -> str | None:
-    """Where a program is that is named by its path, or lies on $PATH; None where it can't be run."""
+    """Where a program is that is named by its path, or lies on $PATH; None where it can't be
+    run."""
     if os.path.dirname(named):
         return named if os.access(named, os.X_OK) and os.path.isfile(named) else None
     import shutil
@@ -92,15 +93,15 @@ def _runnable(named: str) -> str | None:
     return shutil.which(named)
 
 
-def _found(path: str) -> Found:
+def _found(path: str) -> FoundProgram:
     """What is found at a path where a program is."""
     program = os.path.realpath(path)
     top, name = os.path.split(program)
     there = path if os.path.isabs(path) else os.path.join(os.getcwd(), path.removeprefix("./"))
     if name in (PLAIN, WIDE) and _is_repository(top):
         built = _is_built(top, name)
-        return Found(_built(top, name) if built else there, built, not built)
-    return Found(there, _is_proved(program))
+        return FoundProgram(_built(top, name) if built else there, built, not built)
+    return FoundProgram(there, _is_proved(program))
 
 
 def _built(top: str, name: str) -> str:

@@ -1,4 +1,5 @@
-"""Times, counts, names and paths that a caller gives; where one is none, that is said in his words."""
+"""Times, counts, names and paths that a caller gives; where one is none, that is said in his
+words."""
 
 import os
 from collections.abc import Container, Iterable, Mapping

@@ -241,8 +241,8 @@ FORMS: dict[str, Callable[[], Form]] = {
 
 # The commands that run the network.
 RUNNING = frozenset(("ask", "why", "core", "settle", "worldview"))
-# Those that tell what a run does, what a value is made of, and what there is: propwide has them, and
-# propbench has not.
+# Those that tell what a run does, what a value is made of, and what there is: propwide has them,
+# and propbench has not.
 TELLING: dict[str, Callable[[], Form]] = {"step": _bare, "how": _of_cell, "list": _bare}
 # Those that ask for points that fit: propwide has them as well.
 SEEKING: dict[str, Callable[[], Form]] = {

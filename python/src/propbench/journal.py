@@ -160,7 +160,7 @@ def _sync(folder: Path) -> None:
 
 
 @dataclass(frozen=True)
-class Left:
+class CutJournal:
     """A journal of what was cut off."""
 
     path: Path
@@ -181,13 +181,13 @@ class Left:
             self.path.unlink()
 
 
-def left(sort: str, file: str | None = None) -> list[Left]:
+def left(sort: str, file: str | None = None) -> list[CutJournal]:
     """The journals of what was cut off, the newest first: of a sort, and about a file where one is
     told. What can't be read is none."""
     folder = _state() / "journal"
     if not is_on() or not folder.is_dir():
         return []
-    found: list[Left] = []
+    found: list[CutJournal] = []
     with suppress(OSError):
         for path in _journals(_own_folder(folder)):
             read = _read(path)
@@ -222,7 +222,7 @@ def _without_owner(path: Path) -> Iterator[int | None]:
         os.close(descriptor)
 
 
-def _read(path: Path) -> Left | None:
+def _read(path: Path) -> CutJournal | None:
     """What a journal holds. A last line without its end was torn, and is none."""
     with _without_owner(path) as descriptor:
         if descriptor is None or os.fstat(descriptor).st_size > 2 * MOST_BYTES:
@@ -236,7 +236,7 @@ def _read(path: Path) -> Left | None:
         return None
     if not all(isinstance(each, str) for each in (sort, name, checksum or "", began)):
         return None
-    return Left(path, sort, name, checksum, began, [as_line(line) for line in lines])
+    return CutJournal(path, sort, name, checksum, began, [as_line(line) for line in lines])
 
 
 def _sweep(folder: Path) -> None:

@@ -12,7 +12,7 @@ from propbench.replies import Listing, Stand
 
 
 @dataclass(frozen=True)
-class Statement:
+class CellStatement:
     """A cell and the value that is stated of it, as it was written."""
 
     cell: str
@@ -23,13 +23,13 @@ class Statement:
 
 
 @dataclass
-class Told:
-    """What lines have told. `premises` has the statements of each premise, "" for what is fixed, and
-    `choices` those of each side, in order; `stands` has where a choice stands, where that is
+class ToldLines:
+    """What lines have told. `premises` has the statements of each premise, "" for what is fixed,
+    and `choices` those of each side, in order; `stands` has where a choice stands, where that is
     listed."""
 
-    premises: dict[str, list[Statement]] = field(default_factory=dict)
-    choices: dict[str, list[Statement]] = field(default_factory=dict)
+    premises: dict[str, list[CellStatement]] = field(default_factory=dict)
+    choices: dict[str, list[CellStatement]] = field(default_factory=dict)
     definitions: dict[str, str] = field(default_factory=dict)
     attached: list[str] = field(default_factory=list)
     kicked: dict[str, None] = field(default_factory=dict)
@@ -48,11 +48,11 @@ class Told:
         self.premises = {"": []} if any(not each.premise for each in stated) else {}
         self.premises.update((name, []) for name, _ in listing.premises)
         for each in stated:
-            self.premises[each.premise].append(Statement(each.cell, str(each.value)))
+            self.premises[each.premise].append(CellStatement(each.cell, str(each.value)))
         self.kicked = {name: None for name, is_believed in listing.premises if not is_believed}
         self.stands = {each.choice: each for each in listing.choices}
 
-    def side(self, name: str) -> Statement | None:
+    def side(self, name: str) -> CellStatement | None:
         """What a side such as `venue=2` says, None where the name is no side."""
         choice, mark, number = name.partition("=")
         if not mark or choice not in self.choices:
@@ -60,15 +60,15 @@ class Told:
         return self.choices[choice][int(number) - 1]
 
 
-def told_by(lines: Iterable[str]) -> Told:
+def told_by(lines: Iterable[str]) -> ToldLines:
     """What lines that were carried out have told."""
-    told = Told()
+    told = ToldLines()
     for line in lines:
         told.learn(line)
     return told
 
 
-def _values(line: str) -> list[Statement]:
+def _values(line: str) -> list[CellStatement]:
     """The cell of a line, with each value that the line states of it."""
     places = parsed(line).places
     cell = next(place.text for place in places if place.role is Role.CELL)
@@ -80,7 +80,7 @@ def _values(line: str) -> list[Statement]:
         elif begun:
             values[-1].append(place)
         begun = begun or place.role is Role.CELL
-    return [Statement(cell, _written(value)) for value in values]
+    return [CellStatement(cell, _written(value)) for value in values]
 
 
 def _written(value: list[Place]) -> str:
@@ -88,35 +88,35 @@ def _written(value: list[Place]) -> str:
     return words[0] if len(words) == 1 else "{" + " ".join(words[1:-1]) + "}"
 
 
-def _fix(told: Told, name: str, line: str) -> None:
+def _fix(told: ToldLines, name: str, line: str) -> None:
     told.premises.setdefault("", []).extend(_values(line))
 
 
-def _tell(told: Told, name: str, line: str) -> None:
+def _tell(told: ToldLines, name: str, line: str) -> None:
     told.premises.setdefault(name, []).extend(_values(line))
 
 
-def _choose(told: Told, name: str, line: str) -> None:
+def _choose(told: ToldLines, name: str, line: str) -> None:
     told.choices[name] = _values(line)
 
 
-def _define(told: Told, name: str, line: str) -> None:
+def _define(told: ToldLines, name: str, line: str) -> None:
     told.definitions[name] = line.strip()
 
 
-def _attach(told: Told, name: str, line: str) -> None:
+def _attach(told: ToldLines, name: str, line: str) -> None:
     told.attached.append(line.strip())
 
 
-def _kick(told: Told, name: str, line: str) -> None:
+def _kick(told: ToldLines, name: str, line: str) -> None:
     told.kicked[name] = None
 
 
-def _bring(told: Told, name: str, line: str) -> None:
+def _bring(told: ToldLines, name: str, line: str) -> None:
     told.kicked.pop(name, None)
 
 
-def _forget(told: Told, name: str, line: str) -> None:
+def _forget(told: ToldLines, name: str, line: str) -> None:
     told.premises[name] = []
 
 

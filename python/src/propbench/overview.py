@@ -7,7 +7,7 @@ says (`venue: days = 2`), and not as `venue=1`.
 from collections.abc import Sequence
 from dataclasses import dataclass
 
-from propbench.listing import Told, told_by
+from propbench.listing import ToldLines, told_by
 from propbench.refusals import Refused
 from propbench.replies import Contradiction, Reply, Value, Worldview
 from propbench.runs import RunProgress, is_settled
@@ -24,14 +24,14 @@ _MISSING = "(nothing was told)"
 @dataclass(frozen=True)
 class Overview:
     """The values of the cells, in the order in which they were made; or the premises that can't all
-    hold. `plan` has the sides on which the choices stand. `steps` tells after how many steps the run
-    was cut by the clock, None where it wasn't."""
+    hold. `plan` has the sides on which the choices stand. `steps` tells after how many steps the
+    run was cut by the clock, None where it wasn't."""
 
     settled: bool
     conflict: tuple[str, ...] | None
     values: tuple[Value, ...]
     plan: tuple[str, ...]
-    told: Told
+    told: ToldLines
     proved: bool
     steps: int | None = None
 
@@ -103,9 +103,9 @@ def overview(
 
 
 def _cut_after(ran: Sequence[str]) -> int | None:
-    """After how many steps a run was cut, by the lines that came of it and of a look behind it; None
-    where it was not. (What was cut stands between its steps and the limit that was in force. Of a
-    run in which the program hung there is nothing.)"""
+    """After how many steps a run was cut, by the lines that came of it and of a look behind it;
+    None where it was not. (What was cut stands between its steps and the limit that was in force.
+    Of a run in which the program hung there is nothing.)"""
     limits = [behind for behind, line in zip(["", *ran], ran) if line == "settle"]
     if not all(limit.startswith("limit ") for limit in limits):
         return None

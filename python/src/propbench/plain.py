@@ -1,7 +1,7 @@
 """A workbench of whole numbers, truths, elements and symbols: cells, what is stated, what follows.
 
-`propbench.workbench` has the same with measured quantities and projects, which take longer to import
-than all of this.
+`propbench.workbench` has the same with measured quantities and projects, which take longer to
+import than all of this.
 """
 
 from __future__ import annotations
@@ -37,7 +37,7 @@ from propbench.model.events import (
 )
 from propbench.model.expressions import Expression, Truth, node_of, point_of
 from propbench.model.first import First
-from propbench.model.given import Given, alternative_of, values_of
+from propbench.model.given import GivenValue, alternative_of, values_of
 from propbench.model.kinds import Domain, Kind, Plain, kind_text
 from propbench.model.network import Network
 from propbench.model.nodes import Declared, Node, cells_in
@@ -59,7 +59,7 @@ if TYPE_CHECKING:
 # What each alternative of a choice states: one constraint or several.
 Alternative = Truth | bool | Sequence[Truth | bool]
 SomeCell = TypeVar("SomeCell", bound=Cell)
-SomeBench = TypeVar("SomeBench", bound="PlainWorkbench")
+_SomeBench = TypeVar("_SomeBench", bound="PlainWorkbench")
 _UNTOLD = "what makes up a value is told by propwide, and this program is another"
 _MAY_BE_FEWER = "there was no time to find out whether fewer of these are in conflict"
 _LACKS = "The program has no rule of its own for {}: answers may be wider than those of propwide."
@@ -279,7 +279,7 @@ class PlainWorkbench(Questions, Closing):
         self._check_own(node)
         return node
 
-    def fix(self, cell: Cell, value: Given, high: int | None = None) -> None:
+    def fix(self, cell: Cell, value: GivenValue, high: int | None = None) -> None:
         """States that a cell has a value, always: a number, or the numbers up to `high`; a truth, a
         name, or a list of elements of which it is one; of a quantity a reading. Raises TypeError
         for a value of another kind, ValueError for one that the cell can't hold.
@@ -293,7 +293,7 @@ class PlainWorkbench(Questions, Closing):
         """
         self._tell(None, cell, value, high)
 
-    def tell(self, premise: str, cell: Cell, value: Given, high: int | None = None) -> None:
+    def tell(self, premise: str, cell: Cell, value: GivenValue, high: int | None = None) -> None:
         """States the same under a premise. Raises as `fix` does.
 
         >>> w = Workbench()
@@ -306,7 +306,7 @@ class PlainWorkbench(Questions, Closing):
         self._network.premises.check(premise)
         self._tell(premise, cell, value, high)
 
-    def _tell(self, premise: str | None, cell: Cell, value: Given, high: object) -> None:
+    def _tell(self, premise: str | None, cell: Cell, value: GivenValue, high: object) -> None:
         own = self._own(cell)
         self._network.do(Told(own, values_of(own, value, high), premise))
 
@@ -419,12 +419,14 @@ class PlainWorkbench(Questions, Closing):
         given = cell if isinstance(cell, Mapping) else alternatives
         if not isinstance(given, Collection):
             raise TypeError(
-                f"{name!r} is a choice between a list of values of a cell, as `w.choose(name, price, "
+                f"{name!r} is a choice between a list of values of a cell, as `w.choose(name,"
+                " price, "
                 "[1400, 2000])`, or between constraints by name, as in a dict"
             )
         if not 2 <= len(given) <= MOST_ALTERNATIVES:
             raise ValueError(
-                f"a choice has two to {MOST_ALTERNATIVES} alternatives, and {name!r} has {len(given)}"
+                f"a choice has two to {MOST_ALTERNATIVES} alternatives, and {name!r} has"
+                f" {len(given)}"
             )
         event: Choice
         if isinstance(cell, Mapping):
@@ -680,10 +682,10 @@ class PlainWorkbench(Questions, Closing):
 
     @classmethod
     def load(
-        cls: type[SomeBench],
+        cls: type[_SomeBench],
         path: str | os.PathLike[str],
         program: str | os.PathLike[str] | None = None,
-    ) -> SomeBench:
+    ) -> _SomeBench:
         """The workbench of a file that `save` has written; `cell` gives its cells by name.
 
         Raises NotAWorkbench, a ValueError, where the file is none, or its lines were changed.

@@ -1,8 +1,8 @@
-"""Points that fit: what propwide answers to `solve`, `least`, `greatest` and `plans`, and how that is
-read.
+"""Points that fit: what propwide answers to `solve`, `least`, `greatest` and `plans`, and how that
+is read.
 
-Points are a value of each cell. What is said of them is proved of the program: they satisfy all that
-is believed, with one side of each choice; and the premises that it names refute all others.
+Points are a value of each cell. What is said of them is proved of the program: they satisfy all
+that is believed, with one side of each choice; and the premises that it names refute all others.
 """
 
 from collections.abc import Iterator, Mapping, Sequence
@@ -18,8 +18,8 @@ Kinds = Mapping[str, str]
 
 @dataclass(frozen=True)
 class Points:
-    """Points that fit: `values` has one value for each cell with a name (Nothing of a symbol that may
-    be any), and `sides` the side that is taken of each choice, as `venue=1`.
+    """Points that fit: `values` has one value for each cell with a name (Nothing of a symbol that
+    may be any), and `sides` the side that is taken of each choice, as `venue=1`.
 
     >>> print(Points({"x": Span(3, 3)}, ("venue=1",)))
     plan 2
@@ -40,8 +40,8 @@ class Points:
 
 
 class Values(Mapping[str, Held]):
-    """Values by the names of cells, of which each is read once somebody asks for it: a plan may have
-    thousands of cells, and few that anybody asks for.
+    """Values by the names of cells, of which each is read once somebody asks for it: a plan may
+    have thousands of cells, and few that anybody asks for.
 
     >>> print(Values({"x": "3", "t": "yes"}, {"x": "span", "t": "truth"}))
     {'x': Span(low=3, high=3), 't': Elements(names=('yes',))}
@@ -109,9 +109,9 @@ class Best:
 
 @dataclass(frozen=True)
 class Several:
-    """Points that differ at the cells that were named, which alone have values in the `rows`. By what
-    the premises `others` say there are no others beside all that were told; where that is None it
-    isn't known.
+    """Points that differ at the cells that were named, which alone have values in the `rows`. By
+    what the premises `others` say there are no others beside all that were told; where that is None
+    it isn't known.
 
     >>> print(Several(({"x": Span(3, 3)}, {"x": Span(4, 4)}), ("ana",)))
     plans 2
@@ -170,8 +170,8 @@ def _count(line: str, word: str) -> int:
 
 
 def points_in(words: Sequence[str], text: str, kinds: Kinds) -> Found | None:
-    """What a text says in reply to a line of these words, a question for points; None where it is no
-    reply to that. Raises ValueError and KeyError too where it is none.
+    """What a text says in reply to a line of these words, a question for points; None where it is
+    no reply to that. Raises ValueError and KeyError too where it is none.
 
     >>> points_in(["solve"], "none: ana", {})
     NoneFits(premises=('ana',))

@@ -141,7 +141,8 @@ class Process:
             return True
 
     def is_at_work(self) -> bool:
-        """Whether it runs, or would if a processor were free: it doesn't wait, and isn't stopped."""
+        """Whether it runs, or would if a processor were free: it doesn't wait, and isn't
+        stopped."""
         with suppress(OSError), open(f"/proc/{self.pid}/stat", "rb") as file:
             return file.read().rpartition(b")")[2].split()[0] in (b"R", b"D")
         return False
@@ -217,8 +218,8 @@ def _new_leash() -> int:
 
 
 def _leash_end() -> int | None:
-    """A reading end of the leash, for one program, None where no /proc is there. (It is opened anew,
-    since what the kernel is told holds of all that share what was opened.)"""
+    """A reading end of the leash, for one program, None where no /proc is there. (It is opened
+    anew, since what the kernel is told holds of all that share what was opened.)"""
     try:
         return os.open(f"/proc/self/fd/{_leash}", os.O_RDONLY | os.O_CLOEXEC)
     except OSError:

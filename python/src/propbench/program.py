@@ -29,7 +29,8 @@ _END = 5.0
 _LOOK = 1
 _AGAIN = 0.05
 _AT_WORK = (
-    "the program did not answer in time: it is still at work, and the next use of the session goes on"
+    "the program did not answer in time: it is still at work, and the next use of the session"
+    " goes on"
     " from there"
 )
 # The variable by which a repository's scripts don't say once more that they run unproved.
@@ -77,9 +78,9 @@ def _signal_name(number: int) -> str:
 
 
 class Program:
-    """A process of the program. What it is sent are whole lines, in bytes. Where a reply doesn't come
-    by `until`, OutOfTime is raised by whoever waits, and it is ended, or left at work: then nothing
-    of what has come is lost, and whoever waits again goes on."""
+    """A process of the program. What it is sent are whole lines, in bytes. Where a reply doesn't
+    come by `until`, OutOfTime is raised by whoever waits, and it is ended, or left at work: then
+    nothing of what has come is lost, and whoever waits again goes on."""
 
     def __init__(self, command: list[str], show_errors: bool = False) -> None:
         """Starts the program. What it says on standard error is kept, or shown on that of this
@@ -244,8 +245,8 @@ class Program:
         return self._process.is_at_work() or self._is_readable(0)
 
     def _end_late(self) -> None:
-        """Ends the program, since the time is over, unless it is kept, and is at work on all that it
-        was sent. (What it says may come in this moment: then it isn't at work any more.)"""
+        """Ends the program, since the time is over, unless it is kept, and is at work on all that
+        it was sent. (What it says may come in this moment: then it isn't at work any more.)"""
         if self.is_kept and not self._waiting:
             if self._process.is_at_work() or self._is_readable(0):
                 raise StillAtWork(_AT_WORK)

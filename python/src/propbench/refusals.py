@@ -55,8 +55,8 @@ class Refused(Exception):
         return " ".join(filter(None, [self.blame.says, f"Did you mean {near}?" if near else ""]))
 
     def pointed(self, indent: str = "  ") -> str:
-        """The line, and under it carets that point to the word, where there is one. Of a line of more
-        than 200 letters that is so much, about the word."""
+        """The line, and under it carets that point to the word, where there is one. Of a line of
+        more than 200 letters that is so much, about the word."""
         if self.blame.start is None:
             return indent + cut(self.line.removesuffix("\r"))
         # (of a long line the part that has the word)

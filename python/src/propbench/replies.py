@@ -232,9 +232,9 @@ class Moved:
 
 @dataclass(frozen=True)
 class Searched:
-    """What a search for points did, line by line, where its question is under way: what it supposed,
-    what was called or denied, or a nogood that it learned, and how far it went back. `plan` and
-    `end` say that there is an answer now."""
+    """What a search for points did, line by line, where its question is under way: what it
+    supposed, what was called or denied, or a nogood that it learned, and how far it went back.
+    `plan` and `end` say that there is an answer now."""
 
     told: tuple[str, ...]
 

@@ -10,7 +10,7 @@ from collections.abc import Iterable, Iterator, Mapping
 from dataclasses import dataclass
 
 from propbench.beginning import MOST_SEED, ORDERS
-from propbench.running import Way, report
+from propbench.running import RunAs, report
 from propbench.showing import quoted
 from propbench.words import MOST_STEPS
 
@@ -43,12 +43,12 @@ class Answers:
 
 
 @dataclass(frozen=True)
-class Report:
+class RunReport:
     """What a report tells, of which lines, and how they were run."""
 
     name: str
     lines: list[str]
-    way: Way
+    way: RunAs
     told: Answers
     has_steps: bool
 
@@ -64,7 +64,7 @@ class Report:
         return found, proved
 
 
-def report_in(text: str) -> Report:
+def report_in(text: str) -> RunReport:
     """The report that a text is. Raises NoReport where it is none."""
     try:
         said = _fields(json.loads(text, parse_constant=_no_number))
@@ -73,7 +73,7 @@ def report_in(text: str) -> Report:
         lines = _texts(said["lines"])
         _demand(not any("\n" in line for line in lines))
         told = _told_in({"steps": None, **said})
-        return Report(_text(said["file"]), lines, _way(_fields(said["way"])), told, has_steps)
+        return RunReport(_text(said["file"]), lines, _way(_fields(said["way"])), told, has_steps)
     except (ValueError, KeyError, TypeError, RecursionError) as error:
         raise NoReport("no report of `propdesk run --json`, and no certificate") from error
 
@@ -120,15 +120,15 @@ def _number(value: object, most: int) -> int:
     return value
 
 
-def _way(said: dict[str, object]) -> Way:
+def _way(said: dict[str, object]) -> RunAs:
     """How a report was made. Raises ValueError where it can't have been."""
     _demand({*said} <= {"keep_going", "seconds", "order", "seed", "limit"})
-    made = Way()
+    made = RunAs()
     seconds, limit = said.get("seconds", made.seconds), said.get("limit")
     _demand(type(seconds) in (int, float))
     assert isinstance(seconds, int | float)
     _demand(0 <= seconds < float("inf") and said.get("order", made.order) in ORDERS)
-    return Way(
+    return RunAs(
         _flag(said.get("keep_going", False)),
         float(seconds),
         _text(said.get("order", made.order)),

@@ -37,7 +37,7 @@ def told_of(refused: Refused, name: str) -> str:
 
 
 @dataclass(frozen=True)
-class Way:
+class RunAs:
     """How a file is run: whether on behind refused lines, how many seconds may be worked for the
     table, and what the program begins with."""
 
@@ -108,7 +108,7 @@ def _exchange(line: str, reply: Reply) -> str:
     return f"{printable(line.strip())}\n{answered}"
 
 
-def run_file(path: str, program: str | None, way: Way) -> int:
+def run_file(path: str, program: str | None, way: RunAs) -> int:
     """Runs a file, and gives the status: 0, or 1 where a line was refused. Raises OSError where the
     file can't be read, and as `Session` does."""
     lines = lines_of(path)
@@ -126,7 +126,7 @@ def _ran(ran: FileRun, lines: list[str], seconds: float) -> int:
     return 1 if ran.refused else 0
 
 
-def run_as_json(path: str, program: str | None, way: Way) -> int:
+def run_as_json(path: str, program: str | None, way: RunAs) -> int:
     """The same, but that a report is written, one JSON object."""
     lines = lines_of(path)
     with way.session(program, lines) as session:
@@ -155,7 +155,7 @@ def _name_of(path: str) -> str:
 
 
 def report(
-    session: Session, name: str, lines: list[str], way: Way, steps: int | None = None
+    session: Session, name: str, lines: list[str], way: RunAs, steps: int | None = None
 ) -> dict[str, object]:
     """What a run of the lines tells, as values that JSON has, with the lines and how they were run.
     Refusals are told on standard error too. The run for the table is cut by the clock, or after so

@@ -250,8 +250,8 @@ class Runner:
             watch.recorded = watch.taken
 
     def _late(self, question: Question, watch: Watch) -> Reply:
-        """The reply to a question that was interrupted, where it comes soon. Raises what interrupted
-        it where none does, or a part of it was lost, and where it is refused."""
+        """The reply to a question that was interrupted, where it comes soon. Raises what
+        interrupted it where none does, or a part of it was lost, and where it is refused."""
         assert watch.stopped
         talk = self.talk
         try:

@@ -99,8 +99,8 @@ class Seeking:
         return self.found or reply
 
     def _late(self, words: list[str]) -> Reply:
-        """The reply to a question that was interrupted, where it comes soon. Raises what interrupted
-        it where none does, and where it is refused."""
+        """The reply to a question that was interrupted, where it comes soon. Raises what
+        interrupted it where none does, and where it is refused."""
         talk, stopped = self.talk, self.watch.stopped
         assert stopped
         try:

@@ -36,7 +36,7 @@ from propbench.words import MOST_STEPS, as_line, is_silent
 _GRACE = 3.0
 # (within the class `list` is what it does)
 Texts = list[str]
-Replies = list[Reply]
+ReplyList = list[Reply]
 Outcomes = list[Reply | Refused]
 # With what most questions begin, and with what those for points do.
 _QUESTIONS = frozenset(("ask ", "why "))
@@ -50,9 +50,9 @@ class SessionInUse(RuntimeError):
 
 
 class Session(Closing):
-    """A session of the program, which any thread of this process may use, one call at a time: a call
-    while another is running raises SessionInUse. `close` alone may come at any time, and ends what
-    is running. A child that is forked can't use it."""
+    """A session of the program, which any thread of this process may use, one call at a time: a
+    call while another is running raises SessionInUse. `close` alone may come at any time, and ends
+    what is running. A child that is forked can't use it."""
 
     def __init__(
         self,
@@ -236,10 +236,10 @@ class Session(Closing):
         and what is known. Where it raises, and at Ctrl-C, the run ends, and the session goes on.
 
         The call comes back within a second after `seconds`. Where a slice takes longer the answer
-        is what was known before, or OutOfTime is raised where nothing was. A program that is at work
-        goes on with the slice, and the next use of the session waits for it first: within its own
-        `seconds`, or for 20 seconds. One that hangs is ended, and the next use begins it anew; so is
-        one that has not carried out a statement by then.
+        is what was known before, or OutOfTime is raised where nothing was. A program that is at
+        work goes on with the slice, and the next use of the session waits for it first: within its
+        own `seconds`, or for 20 seconds. One that hangs is ended, and the next use begins it anew;
+        so is one that has not carried out a statement by then.
 
         Raises the Refused of the number that the program answers, ProgramEnded, SessionInUse, and
         ValueError where a line feed stands within the line.
@@ -283,7 +283,7 @@ class Session(Closing):
             turn.lock.release()
 
     @overload
-    def send_all(self, lines: Iterable[str | bytes], *, until: float | None = None) -> Replies:
+    def send_all(self, lines: Iterable[str | bytes], *, until: float | None = None) -> ReplyList:
         ...
 
     @overload
@@ -302,7 +302,7 @@ class Session(Closing):
         *,
         keep_refused: bool = False,
         until: float | None = None,
-    ) -> Replies | Outcomes:
+    ) -> ReplyList | Outcomes:
         """Sends lines without waiting for the replies in between, and gives the reply to each.
 
         All lines are carried out but those that are refused. The first of these is raised in the
@@ -555,9 +555,9 @@ class Session(Closing):
             turn.lock.release()
 
     def drop_lines(self, kept: Iterable[str] = ()) -> None:
-        """Lets go of the lines that were carried out, for a session that asks very much: `lines` has
-        those from now on, and a `replay` carries out no others. Lines that are `kept` stand in the
-        place of all of them; they have to make the same.
+        """Lets go of the lines that were carried out, for a session that asks very much: `lines`
+        has those from now on, and a `replay` carries out no others. Lines that are `kept` stand in
+        the place of all of them; they have to make the same.
 
         >>> with Session() as session:
         ...     said = session.send_all(["cell x span", "tell ana x 3..5", "ask x"])
@@ -574,8 +574,8 @@ class Session(Closing):
 
     @property
     def is_at_rest(self) -> bool:
-        """Whether its program can be asked at once, and is the one that was told what `lines` say: it
-        owes no reply, and needn't be begun anew.
+        """Whether its program can be asked at once, and is the one that was told what `lines` say:
+        it owes no reply, and needn't be begun anew.
 
         >>> with Session() as session:
         ...     print(session.is_at_rest)
@@ -587,8 +587,8 @@ class Session(Closing):
         return is_ours and talk.in_step and talk.program.is_open
 
     def keep(self, name: str, one: Closing) -> None:
-        """Keeps something by a name until the session is closed, which closes it too; it is closed at
-        once where the session is, or where there is something of that name.
+        """Keeps something by a name until the session is closed, which closes it too; it is closed
+        at once where the session is, or where there is something of that name.
 
         >>> with Session() as session:
         ...     session.keep("other", session.fresh())
@@ -651,7 +651,8 @@ class Session(Closing):
         self._talk.program.until, self._talk.program.is_kept = until, is_kept
 
     def _be_ready_in_time(self, until: float | None) -> None:
-        """The same for several lines, which have until then. Raises OutOfTime where that is over."""
+        """The same for several lines, which have until then. Raises OutOfTime where that is
+        over."""
         latest = _earlier(self._until, until)
         if until is not None and time.monotonic() >= until:
             self._be_open()
@@ -689,7 +690,8 @@ class Session(Closing):
             turn.lock.release()
 
     def _send_watched(self, line: str, watch: Watch) -> Reply:
-        """The reply to a line that may be a question which is watched, a `core`, or one for points."""
+        """The reply to a line that may be a question which is watched, a `core`, or one for
+        points."""
         words = line.split()
         if words and words[0] in RUNNING:
             return self._runner.watched(Question(line, words, self._sent), watch)
@@ -724,11 +726,12 @@ class Session(Closing):
         return turn if is_mine else self._see_whose_turn()
 
     def _see_whose_turn(self) -> "Turn":
-        """Raises SessionInUse, but where a call that had its turn was cut short before it could give
-        it back: then it is the caller's."""
+        """Raises SessionInUse, but where a call that had its turn was cut short before it could
+        give it back: then it is the caller's."""
         if self._turn is _NOBODYS:
             raise SessionInUse(
-                f"the session belongs to the process {self._process}, which made it: a child that is"
+                f"the session belongs to the process {self._process}, which made it: a child that"
+                " is"
                 " forked makes one of its own, by `fresh()`"
             )
         mine = Turn()
@@ -772,8 +775,8 @@ class Session(Closing):
                 turn.lock.release()
 
     def _users(self) -> Texts:
-        """The calls of this session that are running in all threads, but for those that look whether
-        any is."""
+        """The calls of this session that are running in all threads, but for those that look
+        whether any is."""
         users = []
         for frame in sys._current_frames().values():
             within: FrameType | None = frame
@@ -789,8 +792,8 @@ class Session(Closing):
 
 
 class Turn:
-    """The turn to use a session, which has who gets the lock; and those behind it that want it where
-    it was not given back, of whom the first has it."""
+    """The turn to use a session, which has who gets the lock; and those behind it that want it
+    where it was not given back, of whom the first has it."""
 
     def __init__(self) -> None:
         self.lock = threading.Lock()
@@ -817,7 +820,8 @@ _CALLS = {_LOOKING} | {
     )
 }
 _IN_USE = (
-    "the session is in use: a call of it is running, in another thread or around this one, and calls"
+    "the session is in use: a call of it is running, in another thread or around this one, and"
+    " calls"
     " come one at a time; `fresh()` makes a session of one's own"
 )
 # The turn of a session that is another process's: nobody here gets it.

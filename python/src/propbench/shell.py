@@ -13,8 +13,8 @@ from typing import TypeVar
 from propbench.files import ChangedSince, OpenedFile
 from propbench.grammar import ASKING
 from propbench.helping import all_help, columns, help_on
-from propbench.journal import Journal, Left, left
-from propbench.listing import Told, told_by
+from propbench.journal import Journal, CutJournal, left
+from propbench.listing import ToldLines, told_by
 from propbench.overview import UNPROVED, overview
 from propbench.pictures import NoGraphviz, picture_of
 from propbench.program import OutOfTime, ProgramEnded
@@ -40,7 +40,7 @@ from propbench.tables import table
 from propbench.watching.instances import listing_of
 from propbench.watching.of_session import SessionWatched
 
-Result = TypeVar("Result")
+_Result = TypeVar("_Result")
 
 WELCOME = "propbench: lines of its language, :help for help, :quit or Ctrl-D to end."
 
@@ -92,7 +92,7 @@ class Shell:
         self.session = session
         self._journal = journal
         # What was cut off that one may go on with, and the lines that this one began with.
-        self._left: list[Left] = []
+        self._left: list[CutJournal] = []
         self._first: list[str] = []
         # What the journal was given: the lines so far, and those of them that state something.
         self._seen: list[str] = []
@@ -172,7 +172,7 @@ class Shell:
             self._write(printable_lines(reply))
             self._explain(reply)
 
-    def _watched(self, run: Callable[[], Result]) -> Result:
+    def _watched(self, run: Callable[[], _Result]) -> _Result:
         """What a run gives, of which it is told how far it is where it takes long."""
         self._begun = self._told = time.monotonic()
         try:
@@ -209,7 +209,7 @@ class Shell:
             self._write("  (the limit is used up; asked again it goes on from there)")
 
     def _list(self, words: list[str]) -> None:
-        lists: dict[str, Callable[[Told], None]] = {
+        lists: dict[str, Callable[[ToldLines], None]] = {
             "cells": self._list_cells,
             "premises": self._list_premises,
             "choices": self._list_choices,
@@ -224,18 +224,18 @@ class Shell:
                 self._write(f"{name}:")
             lists[name](self._stated())
 
-    def _stated(self) -> Told:
+    def _stated(self) -> ToldLines:
         """What was told, as the program lists it where it does."""
         told, listing = told_by(self.session.lines), listing_of(self.session)
         if listing:
             told.take(listing)
         return told
 
-    def _list_cells(self, told: Told) -> None:
+    def _list_cells(self, told: ToldLines) -> None:
         shown = self._watched(partial(overview, self.session, progress=self._progress))
         self._write(str(shown))
 
-    def _list_premises(self, told: Told) -> None:
+    def _list_premises(self, told: ToldLines) -> None:
         rows = []
         for premise, statements in told.premises.items():
             believed = "" if not premise else "out" if premise in told.kicked else "in"
@@ -243,7 +243,7 @@ class Shell:
             rows.append((premise or "(fixed)", believed, said))
         self._listed(("premise", "", "says"), rows, "Nothing is told.")
 
-    def _list_choices(self, told: Told) -> None:
+    def _list_choices(self, told: ToldLines) -> None:
         rows: list[tuple[str, ...]] = []
         for choice, sides in told.choices.items():
             names = [f"{choice}={i}" for i in range(1, len(sides) + 1)]
@@ -255,10 +255,10 @@ class Shell:
         heads = ("side", "says", "") if told.stands else ("side", "says")
         self._listed(heads, rows, "There are no choices.")
 
-    def _list_definitions(self, told: Told) -> None:
+    def _list_definitions(self, told: ToldLines) -> None:
         self._write("\n".join(told.definitions.values()) or "Nothing is defined but the prelude.")
 
-    def _list_attached(self, told: Told) -> None:
+    def _list_attached(self, told: ToldLines) -> None:
         self._write("\n".join(told.attached) or "Nothing is attached.")
 
     def _listed(self, heads: Sequence[str], rows: Sequence[Sequence[str]], nothing: str) -> None:
@@ -391,7 +391,7 @@ class Shell:
         else:
             self._go_on(self._left[0])
 
-    def _go_on(self, with_it: Left) -> None:
+    def _go_on(self, with_it: CutJournal) -> None:
         """Begins anew with the lines of a journal, which goes once this one's has them."""
         outcomes = self.session.replay(with_it.lines)
         refused = [each for each in outcomes if isinstance(each, Refused)]

@@ -1,4 +1,5 @@
-"""What stands in the cells of spreadsheets of LibreOffice (.ods) and of Excel (.xlsx), as it stands.
+"""What stands in the cells of spreadsheets of LibreOffice (.ods) and of Excel (.xlsx), as it
+stands.
 
 They are read by Debian's python3-odf and python3-openpyxl, where these are installed.
 """

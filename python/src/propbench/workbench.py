@@ -12,6 +12,7 @@
 
 from __future__ import annotations
 
+import warnings
 from collections.abc import Iterable, Iterator, Mapping, Sequence
 from datetime import date
 from typing import TYPE_CHECKING
@@ -26,7 +27,7 @@ from propbench.measuring.terms import Law
 from propbench.model.answers import Answer
 from propbench.model.cells import Cell
 from propbench.model.expressions import Truth
-from propbench.model.given import Given, given_of
+from propbench.model.given import GivenValue, given_of
 from propbench.model.nodes import Declared, Node
 from propbench.model.seam import BenchModel
 from propbench.plain import PlainWorkbench
@@ -58,16 +59,22 @@ class Workbench(PlainWorkbench, Laboratory):
     - what follows: `x.ask()`, `x.why()` and `x.core()` of a cell, `table` and `show` of several,
       `how` as a tree, `settle` for whether all fits. A question raises Conflict where what is
       believed can't all hold.
-    - what conflicts: `conflicts`, `repairs`, and of readings `outliers`.
+    - what conflicts: `conflicts` are the minimal sets that can't all hold, `repairs` the minimal
+      sets to give up so that the rest can, `outliers` those of readings.
     - what is best: `solve`, `least`, `greatest`, `trade_off`, `plans`, `slack`, `critical`;
-      `try_first` says which values come first.
+      `try_first` says which values come first. What is proved of these, docs/CLAIMS.md tells.
     - what if: `what_if`, `scenarios`, `sweep`, `sensitivity`, `snapshot`, `diff`, `compare`.
-    - quantities closer: `quantities`, `sought`, `device`, `devices`, `read_csv`,
-      `read_table`, `read_laws`, `results`, `shave`, `predict`, `improvements`, `room`,
-      `adjust`, `report`.
+    - quantities closer: `quantities`, `sought`, `device`, `devices`, `read_csv`, `read_table`,
+      `read_laws`, `results`, `predict`, `adjust`, `report`.
+    - why an answer is so wide: `x.why()` names the premises that it rests on, `improvements` which
+      reading to improve, `room` what a law costs in width; `shave` makes it narrower.
+    - what shows an answer: conflicts, repairs, optima and plans have a `certificate`, which
+      `propdesk check` asks a fresh program again.
     - to look at: `picture`, `film`, `serve`.
-    - files and lines: `save`, `load`, `lines`, `close`; `proved` and `lacks` tell of the program.
-    - within: `session`, `network`, `model`, `answer`, `constraint_of`; and `plan`, an older name of `project`.
+    - files and lines: `save`, `load`, `close`; `lines` are those that state a constraint; `proved`
+      and `lacks` tell of the program.
+    - within: `session`, `network`, `model`, `answer`, `constraint_of`; and `plan`, an older name of
+      `project`.
 
     Several names may be given as a list, or in one text with spaces between.
 
@@ -201,8 +208,9 @@ class Workbench(PlainWorkbench, Laboratory):
         >>> p = w.project(days=30, people="ana ben")
         >>> venue = p.task("venue", 3, who="ana")
         >>> review = p.task("review", 5, who="ben", after=[venue])
+        >>> meeting = p.task("meeting", 1, who="ana ben", after=[review])
         >>> w.least(p.end).value
-        8
+        9
         """
         calendar = None if start is None else Calendar.of(start, off)
         return Project(self, days, people, calendar, skills)
@@ -216,18 +224,21 @@ class Workbench(PlainWorkbench, Laboratory):
         off: str | date | Iterable[str | date] = (),
         skills: Mapping[str, str | Sequence[str]] | None = None,
     ) -> Project:
-        """The same as `project`, by its older name, which stays until 2.0. (`plans` are others.)
+        """The same as `project`, by its older name, which stays until 2.0 and warns. (`plans` are
+        others.)
 
         >>> w = Workbench()
         >>> p = w.plan(days=30)
         >>> p.task("venue", 3).days.ask().value
         3
         """
+        said = "`w.plan` is called `w.project`: the older name goes with 2.0"
+        warnings.warn(said, DeprecationWarning, stacklevel=2)
         return self.project(days=days, people=people, start=start, off=off, skills=skills)
 
     # --- within ---
 
-    def _tell(self, premise: str | None, cell: Cell, value: Given, high: object) -> None:
+    def _tell(self, premise: str | None, cell: Cell, value: GivenValue, high: object) -> None:
         if not isinstance(cell, Quantity):
             return super()._tell(premise, cell, value, high)
         own = self._own(cell)

@@ -1,2 +1,2 @@
-"""What a laboratory wants of measured quantities: tables of readings, laws as texts, devices, results,
-a report, and statistics beside the bounds."""
+"""What a laboratory wants of measured quantities: tables of readings, laws as texts, devices,
+results, a report, and statistics beside the bounds."""

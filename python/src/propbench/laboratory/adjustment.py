@@ -1,4 +1,5 @@
-"""An adjustment as users see it: estimates with standard uncertainties, beside the bounds, and tests.
+"""An adjustment as users see it: estimates with standard uncertainties, beside the bounds, and
+tests.
 
 This is another statement than the bounds: estimated and tested, not proved. Bounds add up, and
 deviations by their squares, so both rarely say the same.
@@ -106,8 +107,8 @@ class Adjustment(Shown, list[Estimate]):
         return tuple(each.premise for each in self.tests if each.is_suspect)
 
     def correlation(self, one: Quantity, other: Quantity) -> float | None:
-        """How far the errors of two estimates go together: 1 is as one, -1 against each other, 0 not
-        at all. None where one isn't determined, or has no error."""
+        """How far the errors of two estimates go together: 1 is as one, -1 against each other, 0
+        not at all. None where one isn't determined, or has no error."""
         return self._correlations.of(one.declared, other.declared)
 
     def headline(self) -> str:
@@ -133,7 +134,8 @@ class Adjustment(Shown, list[Estimate]):
 
     def __str__(self) -> str:
         suspect = [
-            f"  {each.premise}: {each.of} is off by {each.residual:.3g} {each.unit}, w = {each.w:.1f}"
+            f"  {each.premise}: {each.of} is off by {each.residual:.3g} {each.unit}, w ="
+            f" {each.w:.1f}"
             for each in self.tests
             if each.is_suspect
         ]

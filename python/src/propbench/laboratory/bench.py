@@ -1,12 +1,13 @@
-"""What a workbench does for a laboratory: it has these methods beside those of measured quantities."""
+"""What a workbench does for a laboratory: it has these methods beside those of measured
+quantities."""
 
 import os
 from collections.abc import Iterable, Sequence
 
 from propbench.given import path_given
 from propbench.laboratory.results import Results, results_of
-from propbench.laboratory.sheets import Sheet, rows_of, rows_of_file
-from propbench.laboratory.tabled import Known, readings_in, together_of
+from propbench.laboratory.sheets import ReadingSheet, rows_of, rows_of_file
+from propbench.laboratory.tabled import KnownNames, readings_in, together_of
 from propbench.measuring.bench import Measuring
 from propbench.measuring.devices import DevicePart, ShownMade
 from propbench.measuring.elementary import Calibration
@@ -32,9 +33,9 @@ class Laboratory(Measuring):
         under: str | None = None,
         coverage: Exact = COVERAGE,
     ) -> int:
-        """States the readings of a file of comma-separated values (or semicolons, or tabs), or of the
-        first table of a spreadsheet (.ods, .xlsx), whose columns are those of `read_table`. Its head
-        is row 1. How many there were is given back.
+        """States the readings of a file of comma-separated values (or semicolons, or tabs), or of
+        the first table of a spreadsheet (.ods, .xlsx), whose columns are those of `read_table`. Its
+        head is row 1. How many there were is given back.
 
         Raises BadTable, which tells row, column and what would do, of all that is wrong; nothing
         of the file is stated then. Raises OSError too, and NoSheetReader where what reads a
@@ -78,9 +79,9 @@ class Laboratory(Measuring):
         return self._read_rows(rows_of(table, _decimal(decimal)), under, coverage)
 
     def read_laws(self, path: str | os.PathLike[str], *, curves: Iterable[Calibration] = ()) -> int:
-        """States the laws of a file, one a line, as one writes them; what stands behind a `#` is for
-        people. How many there were is given back. Raises OSError, and NotALaw with the line; nothing
-        of the file is stated then.
+        """States the laws of a file, one a line, as one writes them; what stands behind a `#` is
+        for people. How many there were is given back. Raises OSError, and NotALaw with the line;
+        nothing of the file is stated then.
 
         >>> w = Workbench()
         >>> height = w.measured("height", "m", 0, 100, step="0.1")
@@ -158,7 +159,7 @@ class Laboratory(Measuring):
         self._network.whole(state)
         return len(laws)
 
-    def _read_rows(self, sheet: Sheet, under: str | None, coverage: Exact) -> int:
+    def _read_rows(self, sheet: ReadingSheet, under: str | None, coverage: Exact) -> int:
         premises = self._network.premises
         of = {each.cell: each.of for each in self._network.events if isinstance(each, ShownMade)}
         stated = {
@@ -166,7 +167,7 @@ class Laboratory(Measuring):
             for name in premises.believed
         }
         made = {each.name: each for each in self.quantities}
-        known = Known(made, dict(self.devices), stated, premises.choices)
+        known = KnownNames(made, dict(self.devices), stated, premises.choices)
         readings = readings_in(sheet, known, together_of(under), coverage)
 
         def state() -> None:

@@ -35,7 +35,7 @@ _CURVE = (_POINTS, "of", "unit", "within")
 _LAW = ("law", "under")
 
 
-Made = TypeVar("Made")
+_Made = TypeVar("_Made")
 
 
 class BadBench(ValueError):
@@ -97,7 +97,7 @@ class BenchFile:
             points = points_of_file(self.path.parent / points)
         return curve(name, points, **{key: it for key, it in given.items() if key != _POINTS})
 
-    def _state(self, part: str, call: Callable[[], Made]) -> Made:
+    def _state(self, part: str, call: Callable[[], _Made]) -> _Made:
         try:
             return call()
         except (ValueError, TypeError) as error:

@@ -45,7 +45,7 @@ class Tables:
 
 
 @dataclass(frozen=True)
-class Asked:
+class MeasureAsked:
     """What a command line asks for: the files, how the tables are read, and what to tell."""
 
     bench: Path
@@ -59,7 +59,7 @@ class Asked:
     predict: Sequence[str] = ()
 
 
-def measure_files(asked: Asked, program: str | None) -> int:
+def measure_files(asked: MeasureAsked, program: str | None) -> int:
     """Tells what follows from readings of a bench: 0, or 1 where readings conflict. Raises
     ValueError for what is wrong in the files, and OSError."""
     bench = bench_in(asked.bench)
@@ -77,7 +77,7 @@ def measure_files(asked: Asked, program: str | None) -> int:
     return status
 
 
-def _told(w: Workbench, asked: Asked, further: Sequence[Further], clock: Clock) -> int:
+def _told(w: Workbench, asked: MeasureAsked, further: Sequence[Further], clock: Clock) -> int:
     """Tells what follows, and what is asked for beside it: the exit status."""
     try:
         results = w.results(seconds=clock.seconds_left())
@@ -107,7 +107,7 @@ def _further(w: Workbench, text: str) -> Further:
     return quantity, tolerance
 
 
-def _read(w: Workbench, path: Path, asked: Asked) -> int:
+def _read(w: Workbench, path: Path, asked: MeasureAsked) -> int:
     try:
         how = asked.tables
         return w.read_csv(path, decimal=how.decimal, under=how.under, coverage=how.coverage)
@@ -123,14 +123,14 @@ def _begun(bench: BenchFile, count: int) -> str:
     return f"{printable(bench.title)}: {readings} of {len(bench.quantities):,} quantities."
 
 
-def _tell(results: Results, asked: Asked) -> None:
+def _tell(results: Results, asked: MeasureAsked) -> None:
     print(shown(str(results)))
     if asked.csv is not None:
         results.to_csv(asked.csv)
         print(f"The results are in {printable(str(asked.csv))}.")
 
 
-def _in_conflict(w: Workbench, conflict: Conflict, asked: Asked, clock: Clock) -> int:
+def _in_conflict(w: Workbench, conflict: Conflict, asked: MeasureAsked, clock: Clock) -> int:
     """Tells which readings conflict and which to give up, and what follows without the first of
     these ways."""
     print(f"CONFLICT: {shown(str(conflict))}")
@@ -153,7 +153,7 @@ def _first(outliers: Outliers) -> list[str]:
     return sorted(outliers[0]) if outliers else []
 
 
-def _to_improve(w: Workbench, asked: Asked) -> list[Quantity]:
+def _to_improve(w: Workbench, asked: MeasureAsked) -> list[Quantity]:
     """The quantities of which it is told what to improve: those that are named, or a few of which
     nothing was read."""
     if not asked.improve:

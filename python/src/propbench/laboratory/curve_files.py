@@ -1,4 +1,5 @@
-"""The points of a curve of calibration from a file: two columns below a head, as a sheet saves them."""
+"""The points of a curve of calibration from a file: two columns below a head, as a sheet saves
+them."""
 
 import os
 from fractions import Fraction
@@ -6,16 +7,16 @@ from fractions import Fraction
 from propbench.laboratory.sheets import BadTable, Problem, lines_of_file
 from propbench.measuring.exact import number_in
 
-Points = list[tuple[Fraction, Fraction]]
+FilePoints = list[tuple[Fraction, Fraction]]
 
 
-def points_of_file(path: str | os.PathLike[str]) -> Points:
+def points_of_file(path: str | os.PathLike[str]) -> FilePoints:
     """The points of a file: what a curve is taken of, and what it is there. Where no commas stand
     between cells they may stand within numbers. Raises BadTable, OSError, and ValueError where it
     is no text in UTF-8."""
     lines, between = lines_of_file(path)
     head = lines[0] if lines else []
-    found: Points = []
+    found: FilePoints = []
     problems: list[Problem] = []
     for row, line in enumerate(lines[1:], 2):
         cells = [cell.strip() for cell in line]

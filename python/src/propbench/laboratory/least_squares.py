@@ -1,8 +1,8 @@
 """A weighted least-squares adjustment: readings with standard uncertainties, under laws that hold.
 
-The sum of squares of (reading - value) / u is made least among the points that fit the laws, step by
-step: at each point the laws are taken for planes, and what is free on these is solved for by SciPy.
-What is worked out here is floating arithmetic and statistics, and proves nothing.
+The sum of squares of (reading - value) / u is made least among the points that fit the laws, step
+by step: at each point the laws are taken for planes, and what is free on these is solved for by
+SciPy. What is worked out here is floating arithmetic and statistics, and proves nothing.
 """
 
 from collections.abc import Mapping, Sequence
@@ -29,7 +29,8 @@ class NoEstimate(ValueError):
 
 @dataclass(frozen=True)
 class Observation:
-    """A reading of a quantity: its premise, its value and its standard uncertainty, in base units."""
+    """A reading of a quantity: its premise, its value and its standard uncertainty, in base
+    units."""
 
     premise: str
     cell: Declared
@@ -49,8 +50,8 @@ class Tested:
 
 @dataclass(frozen=True)
 class Correlations:
-    """How far the errors of quantities go together, of those that have any: `table` is a square, with
-    a row and a column at each quantity's place."""
+    """How far the errors of quantities go together, of those that have any: `table` is a square,
+    with a row and a column at each quantity's place."""
 
     places: Mapping[Declared, int]
     table: Any

@@ -1,4 +1,5 @@
-"""By which readings a quantity is known of which nothing was read: each path by which laws lead to it.
+"""By which readings a quantity is known of which nothing was read: each path by which laws lead to
+it.
 
 A path is what an answer is because of, where a reading that it is because of otherwise is left out,
 and all others that add nothing then.

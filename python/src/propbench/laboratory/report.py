@@ -12,7 +12,13 @@ from propbench.files import write_file
 from propbench.given import path_given
 from propbench.laboratory import showing_html as html
 from propbench.laboratory.paths import paths_in
-from propbench.laboratory.reported import Found, Stated, bars_of, certificate_of, stated_in
+from propbench.laboratory.reported import (
+    ReportFound,
+    ReportStated,
+    bars_of,
+    certificate_of,
+    stated_in,
+)
 from propbench.laboratory.results import Result
 from propbench.model.answers import Conflict
 from propbench.questions.certificate import Certificate
@@ -25,7 +31,8 @@ if TYPE_CHECKING:
     from propbench.workbench import Workbench
 
 _BOUNDS = (
-    "Each quantity lies between its bounds, if the readings named with it are right: the half width "
+    "Each quantity lies between its bounds, if the readings named with it are right: the half"
+    " width "
     "is a bound, and no coverage factor belongs to it. It is rounded up, so that value and half "
     "width hold all that is between the bounds."
 )
@@ -42,12 +49,13 @@ _WIDE = 100
 
 @dataclass(frozen=True)
 class Report:
-    """A report of a bench: `html` is one page, which needs nothing else, `text` the same as text."""
+    """A report of a bench: `html` is one page, which needs nothing else, `text` the same as
+    text."""
 
     title: str
     day: date
-    stated: Stated
-    found: Found
+    stated: ReportStated
+    found: ReportFound
     is_proved: bool
 
     @property
@@ -176,7 +184,7 @@ def report_of(w: "Workbench", title: str, clock: Clock) -> Report:
         found = _found(w, clock)
     except Conflict as conflict:
         outliers = w.outliers(seconds=clock.seconds_left(), progress=clock.progress)
-        found = Found(None, {}, None, conflict, outliers)
+        found = ReportFound(None, {}, None, conflict, outliers)
         given_up = sorted(outliers[0]) if outliers else []
         if given_up:
             with w.what_if(kick=given_up) as without:
@@ -185,7 +193,7 @@ def report_of(w: "Workbench", title: str, clock: Clock) -> Report:
     return Report(title, date.today(), stated, found, w.proved)
 
 
-def _found(w: "Workbench", clock: Clock, given_up: Sequence[str] = ()) -> Found:
+def _found(w: "Workbench", clock: Clock, given_up: Sequence[str] = ()) -> ReportFound:
     """What follows. Raises Conflict."""
     results = w.results(seconds=clock.seconds_left())
     bars = paths_in(w, results, clock)
@@ -196,7 +204,7 @@ def _found(w: "Workbench", clock: Clock, given_up: Sequence[str] = ()) -> Found:
     except (ImportError, ValueError) as error:
         without = f"There are no estimates: {error}"
     certificate = certificate_of(w.model, results, clock)
-    return Found(results, bars, certificate, estimates=estimates, without_estimates=without)
+    return ReportFound(results, bars, certificate, estimates=estimates, without_estimates=without)
 
 
 def _result(each: Result) -> tuple[str, str, str, str]:
@@ -243,7 +251,8 @@ def _certificate(name: str, certificate: Certificate) -> str:
     link = f'<a download="{name}.txt" href="data:text/plain;base64,{data}">{name}.txt</a>'
     checksum = html.said(certificate.lines[-1])
     return (
-        f"<p>What shows the {name} is in this page, to be saved: {link}. A fresh program checks it by "
+        f"<p>What shows the {name} is in this page, to be saved: {link}. A fresh program checks"
+        " it by "
         f"<code>propdesk check {name}.txt</code>.</p>"
         f'<p class="small">Its last line is <code>{checksum}</code>.</p>'
     )

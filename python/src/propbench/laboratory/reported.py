@@ -1,4 +1,5 @@
-"""What a report tells, as data: laws, devices, readings, results, bars, conflicts, a certificate."""
+"""What a report tells, as data: laws, devices, readings, results, bars, conflicts, a
+certificate."""
 
 from collections.abc import Collection, Mapping, Sequence
 from dataclasses import dataclass
@@ -8,7 +9,7 @@ from typing import Protocol
 from propbench.laboratory.adjustment import Adjustment
 from propbench.laboratory.results import Results
 from propbench.measuring.devices import Corrected, DeviceLaw, DevicePart, ShownMade
-from propbench.measuring.narrowing import Impossible, Narrowing
+from propbench.measuring.narrowing import CantAllHold, Narrowing
 from propbench.measuring.outliers import Outliers
 from propbench.measuring.quantities import Quantity
 from propbench.measuring.stating import LawTold
@@ -44,7 +45,7 @@ class Bar:
     by: By
 
 
-class Bench(Protocol):
+class ReportedBench(Protocol):
     """What is asked of a workbench."""
 
     @property
@@ -68,8 +69,9 @@ class TakenReading:
 
 
 @dataclass(frozen=True)
-class Stated:
-    """What was stated: laws with the premise that each is under, devices with their errors, readings."""
+class ReportStated:
+    """What was stated: laws with the premise that each is under, devices with their errors,
+    readings."""
 
     laws: Sequence[tuple[str, str]]
     devices: Sequence[tuple[str, str]]
@@ -77,7 +79,7 @@ class Stated:
 
 
 @dataclass(frozen=True)
-class Found:
+class ReportFound:
     """What follows. Where readings conflict it follows without those that are given up."""
 
     results: Results | None
@@ -91,7 +93,7 @@ class Found:
     without_estimates: str = ""
 
 
-def stated_in(events: Sequence[Event], model: Model) -> Stated:
+def stated_in(events: Sequence[Event], model: Model) -> ReportStated:
     """What was stated, of the events of a workbench."""
     parts = {each.cell: each.device for each in events if isinstance(each, DevicePart)}
     shows = {each.cell: each for each in events if isinstance(each, ShownMade)}
@@ -115,11 +117,11 @@ def stated_in(events: Sequence[Event], model: Model) -> Stated:
     inner = (DeviceLaw, Corrected)
     stated = [it for it in events if isinstance(it, LawStated) and not isinstance(it, inner)]
     laws = [(each.text, each.premise or "") for each in told or stated]
-    return Stated(laws, devices, readings)
+    return ReportStated(laws, devices, readings)
 
 
 def bars_of(
-    bench: Bench,
+    bench: ReportedBench,
     events: Sequence[Event],
     results: Results,
     given_up: Collection[str],
@@ -172,7 +174,7 @@ def _left(trial: Trial, premises: Sequence[str], quantity: Quantity) -> Interval
     narrowing = Narrowing(trial, premises, ())
     try:
         narrowing.begin()
-    except Impossible:
+    except CantAllHold:
         return None
     room, declared = narrowing.left(quantity.name), quantity.declared
     if room is None or (room.low, room.high) == (declared.low, declared.high):

@@ -22,8 +22,8 @@ _HEADS = ("quantity", "value", "half width", "unit", "low", "high", "because of"
 
 @dataclass(frozen=True)
 class Result:
-    """What follows for a quantity: the interval in which it lies, and the same as a value and a half
-    width, rounded outward; None where nothing is known."""
+    """What follows for a quantity: the interval in which it lies, and the same as a value and a
+    half width, rounded outward; None where nothing is known."""
 
     name: str
     interval: Interval | None

@@ -1,5 +1,5 @@
-"""Tables of readings as they come: a file of comma-separated values, a sheet of LibreOffice or Excel,
-rows, or a frame of pandas.
+"""Tables of readings as they come: a file of comma-separated values, a sheet of LibreOffice or
+Excel, rows, or a frame of pandas.
 
 Each becomes rows of cells under the columns that are known, with the number that a person finds the
 row by. What is wrong with a table is told by row and column, all of it at once.
@@ -58,8 +58,8 @@ class Problem:
 
 
 class BadTable(ValueError):
-    """A table of readings can't be read: `problems` has what is wrong, row by row. Nothing of it was
-    stated."""
+    """A table of readings can't be read: `problems` has what is wrong, row by row. Nothing of it
+    was stated."""
 
     def __init__(self, problems: Sequence[Problem]) -> None:
         self.problems = tuple(problems)
@@ -70,7 +70,7 @@ class BadTable(ValueError):
 
 
 @dataclass(frozen=True)
-class Row:
+class SheetRow:
     """The cells of a row: texts, or numbers that a program gave; none for empty ones."""
 
     number: int
@@ -86,10 +86,10 @@ class Row:
 
 
 @dataclass(frozen=True)
-class Sheet:
+class ReadingSheet:
     """The rows of a table, and what is wrong with others."""
 
-    rows: Sequence[Row]
+    rows: Sequence[SheetRow]
     problems: Sequence[Problem]
 
 
@@ -142,10 +142,10 @@ def _known() -> str:
     return ", ".join(f"`{name}`" for name in _NAMES)
 
 
-def rows_of_file(path: str | os.PathLike[str], decimal: str = ".") -> Sheet:
-    """The rows of a file of values with commas, semicolons or tabs between, or of the first table of
-    a spreadsheet; the head is row 1. Raises BadTable, OSError, NoSheetReader, and ValueError where
-    it is no such file."""
+def rows_of_file(path: str | os.PathLike[str], decimal: str = ".") -> ReadingSheet:
+    """The rows of a file of values with commas, semicolons or tabs between, or of the first table
+    of a spreadsheet; the head is row 1. Raises BadTable, OSError, NoSheetReader, and ValueError
+    where it is no such file."""
     lines: Sequence[Sequence[object]]
     if ending_of(os.fspath(path)) in ENDINGS:
         lines = _lines_of_sheet(os.fspath(path))
@@ -185,7 +185,7 @@ def lines_of_file(path: str | os.PathLike[str]) -> tuple[list[list[str]], str]:
         raise BadTable([Problem(1, "", f"this is no table: {error}")]) from None
 
 
-def rows_of(table: object, decimal: str = ".") -> Sheet:
+def rows_of(table: object, decimal: str = ".") -> ReadingSheet:
     """The rows of what a program has: dicts, or lists below one with the names of the columns, or a
     frame of pandas. The first one is row 1, and a list of names has none. Raises BadTable, and
     TypeError for what is no table."""
@@ -200,7 +200,7 @@ def rows_of(table: object, decimal: str = ".") -> Sheet:
         )
     given = list(table)
     if not given:
-        return Sheet((), ())
+        return ReadingSheet((), ())
     if all(isinstance(row, Mapping) for row in given):
         names = dict.fromkeys(str(name) for row in given for name in row)
         head = Head.of(list(names))
@@ -211,9 +211,9 @@ def rows_of(table: object, decimal: str = ".") -> Sheet:
     return _rows(Head.of(given[0]), enumerate(given[1:], 1), decimal)
 
 
-def _rows(head: Head, lines: Iterable[tuple[int, Sequence[object]]], decimal: str) -> Sheet:
+def _rows(head: Head, lines: Iterable[tuple[int, Sequence[object]]], decimal: str) -> ReadingSheet:
     """The rows that are not blank. Raises BadTable for a table that is too long."""
-    rows: list[Row] = []
+    rows: list[SheetRow] = []
     problems: list[Problem] = []
     for number, line in lines:
         cells = [_cell(each) for each in line]
@@ -222,7 +222,7 @@ def _rows(head: Head, lines: Iterable[tuple[int, Sequence[object]]], decimal: st
         if len(rows) == MOST_ROWS:
             said = f"a table has {MOST_ROWS:,} rows at the most: read it in parts, or means of some"
             raise BadTable([Problem(number, "", said)])
-        row = Row(number, {it: cell for it, cell in zip(head.columns, cells) if cell != ""})
+        row = SheetRow(number, {it: cell for it, cell in zip(head.columns, cells) if cell != ""})
         if not head.has_room_for(cells):
             wrong = [row.problem(None, _too_many(len(cells), len(head.columns)))]
         else:
@@ -232,7 +232,7 @@ def _rows(head: Head, lines: Iterable[tuple[int, Sequence[object]]], decimal: st
         problems += wrong
         if not wrong:
             rows.append(row)
-    return Sheet(rows, problems)
+    return ReadingSheet(rows, problems)
 
 
 def _cell(given: object) -> object:
@@ -267,7 +267,7 @@ def _too_many(count: int, wanted: int) -> str:
     )
 
 
-def _with_points(row: Row, problems: list[Problem]) -> Row:
+def _with_points(row: SheetRow, problems: list[Problem]) -> SheetRow:
     """A row whose numbers are written with commas, with points."""
     cells = dict(row.cells)
     for column in (Column.VALUE, Column.UNCERTAINTY):
@@ -280,4 +280,4 @@ def _with_points(row: Row, problems: list[Problem]) -> Row:
                 said = f"{short(written)!r}: leave out what stands between thousands"
             problems.append(row.problem(column, said))
         cells[column] = written.replace(",", ".")
-    return Row(row.number, cells)
+    return SheetRow(row.number, cells)

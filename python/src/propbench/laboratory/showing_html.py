@@ -52,7 +52,8 @@ def page(title: str, body: str) -> str:
     head = f'<meta charset="utf-8"><title>{said(title)}</title><style>{STYLE}</style>'
     policy = "default-src 'none'; style-src 'unsafe-inline'; img-src data:"
     meta = f'<meta http-equiv="Content-Security-Policy" content="{policy}">'
-    return f'<!DOCTYPE html>\n<html lang="en"><head>{meta}{head}</head><body>\n{body}\n</body></html>\n'
+    head = f'<html lang="en"><head>{meta}{head}</head>'
+    return f"<!DOCTYPE html>\n{head}<body>\n{body}\n</body></html>\n"
 
 
 def said(text: object) -> str:

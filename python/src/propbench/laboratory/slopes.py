@@ -1,11 +1,12 @@
-"""Values of laws at a point in floating numbers, with their slopes: what an adjustment is made of."""
+"""Values of laws at a point in floating numbers, with their slopes: what an adjustment is made
+of."""
 
 from collections.abc import Callable, Mapping
 from dataclasses import dataclass
 from math import pi, sqrt
 
 from propbench.measuring.slopes_of import value_and_slope
-from propbench.measuring.terms import Real, Sort, text_of
+from propbench.measuring.terms import Real, RealSort, text_of
 from propbench.model.nodes import Declared
 
 
@@ -39,16 +40,16 @@ class Sloped:
 
 def sloped(real: Real, at: Mapping[Declared, float]) -> Sloped:
     """A term at a point, in base units. Raises NoValue."""
-    if real.sort is Sort.QUANTITY:
+    if real.sort is RealSort.QUANTITY:
         return Sloped(at[real.quantity], {real.quantity: 1.0})
-    if real.sort is Sort.CONSTANT:
+    if real.sort is RealSort.CONSTANT:
         return Sloped(float(real.number), {})
     args = [sloped(arg, at) for arg in real.args]
-    if real.sort is Sort.POWER:
+    if real.sort is RealSort.POWER:
         [base], power = args, int(real.number)
         return base.bent(base.value**power, power * base.value ** (power - 1))
     try:
-        if real.sort is Sort.FUNCTION:
+        if real.sort is RealSort.FUNCTION:
             [inner] = args
             return inner.bent(*value_and_slope(real.applied, inner.value))
         return _OF_SORT[real.sort](args)
@@ -79,16 +80,16 @@ def _root(args: list[Sloped]) -> Sloped:
     return args[0].bent(found, 1 / (2 * found))
 
 
-_OF_SORT: dict[Sort, Callable[[list[Sloped]], Sloped]] = {
-    Sort.PI: lambda args: Sloped(pi, {}),
-    Sort.SUM: _sum,
-    Sort.DIFFERENCE: lambda args: args[0].plus(args[1].times(-1.0)),
-    Sort.NEGATIVE: lambda args: args[0].times(-1.0),
-    Sort.PRODUCT: _product,
-    Sort.QUOTIENT: _quotient,
-    Sort.ROOT: _root,
-    Sort.ABSOLUTE: lambda args: args[0].times(-1.0 if args[0].value < 0 else 1.0),
-    Sort.GREATEST: lambda args: max(args, key=lambda each: each.value),
-    Sort.LEAST: lambda args: min(args, key=lambda each: each.value),
-    Sort.MEAN: lambda args: _sum(args).times(1 / len(args)),
+_OF_SORT: dict[RealSort, Callable[[list[Sloped]], Sloped]] = {
+    RealSort.PI: lambda args: Sloped(pi, {}),
+    RealSort.SUM: _sum,
+    RealSort.DIFFERENCE: lambda args: args[0].plus(args[1].times(-1.0)),
+    RealSort.NEGATIVE: lambda args: args[0].times(-1.0),
+    RealSort.PRODUCT: _product,
+    RealSort.QUOTIENT: _quotient,
+    RealSort.ROOT: _root,
+    RealSort.ABSOLUTE: lambda args: args[0].times(-1.0 if args[0].value < 0 else 1.0),
+    RealSort.GREATEST: lambda args: max(args, key=lambda each: each.value),
+    RealSort.LEAST: lambda args: min(args, key=lambda each: each.value),
+    RealSort.MEAN: lambda args: _sum(args).times(1 / len(args)),
 }

@@ -4,7 +4,7 @@ from collections.abc import Iterable, Mapping
 from dataclasses import dataclass, replace
 from typing import TypeVar
 
-from propbench.laboratory.sheets import BadTable, Column, Problem, Row, Sheet
+from propbench.laboratory.sheets import BadTable, Column, Problem, SheetRow, ReadingSheet
 from propbench.measuring.devices import Device
 from propbench.measuring.exact import Exact, is_number, number_in, short
 from propbench.measuring.quantities import Quantity
@@ -12,7 +12,7 @@ from propbench.measuring.readings import Reading, reading_of
 from propbench.nearby import near_names
 from propbench.showing import quoted
 
-Found = TypeVar("Found", Quantity, Device)
+_Found = TypeVar("_Found", Quantity, Device)
 # So many readings can each be given up by itself: questions have premises of their own beside them.
 MOST_ALONE = 2_000
 # The columns by which readings may stand or fall together.
@@ -23,7 +23,7 @@ _TOGETHER = {
 
 
 @dataclass(frozen=True)
-class Known:
+class KnownNames:
     """What there is of a workbench: quantities, devices, the names that premises have, and which
     quantities each has readings of."""
 
@@ -53,7 +53,7 @@ def together_of(under: str | None) -> Column | None:
 
 
 def readings_in(
-    sheet: Sheet, known: Known, together: Column | None, coverage: Exact
+    sheet: ReadingSheet, known: KnownNames, together: Column | None, coverage: Exact
 ) -> list[TableReading]:
     """The readings of a table. Raises BadTable, which tells all that is wrong with it."""
     naming = _Naming(known, together)
@@ -76,7 +76,7 @@ class _Wrong(Exception):
         self.problem = problem
 
 
-def _reading(row: Row, known: Known, naming: "_Naming", coverage: Exact) -> TableReading:
+def _reading(row: SheetRow, known: KnownNames, naming: "_Naming", coverage: Exact) -> TableReading:
     quantity = _named(row, Column.QUANTITY, known.quantities)
     device = None
     if Column.DEVICE in row.cells:
@@ -88,7 +88,7 @@ def _reading(row: Row, known: Known, naming: "_Naming", coverage: Exact) -> Tabl
     return TableReading(naming.premise(row, quantity.name), quantity, reading, device)
 
 
-def _named(row: Row, column: Column, known: Mapping[str, Found]) -> Found:
+def _named(row: SheetRow, column: Column, known: Mapping[str, _Found]) -> _Found:
     """What a cell names."""
     name = row.text(column)
     if name in known:
@@ -106,7 +106,7 @@ def _some(known: Mapping[str, object]) -> str:
     return ", ".join([*names, *([".."] if len(known) > 6 else [])]) or "none yet"
 
 
-def _read(row: Row, quantity: Quantity, coverage: Exact) -> Reading:
+def _read(row: SheetRow, quantity: Quantity, coverage: Exact) -> Reading:
     """What the cells of value, unit and uncertainty say together."""
     value, unit, off = (
         row.cells.get(column, "") for column in (Column.VALUE, Column.UNIT, Column.UNCERTAINTY)
@@ -136,7 +136,7 @@ def _is_plain(value: object) -> bool:
     return True
 
 
-def _at_fault(row: Row, quantity: Quantity) -> Column:
+def _at_fault(row: SheetRow, quantity: Quantity) -> Column:
     """In which of the cells an error lies: the first that is wrong by itself."""
     if _has_two_units(row, quantity):
         return Column.UNIT
@@ -155,7 +155,7 @@ def _is_reading(text: str, quantity: Quantity) -> bool:
     return True
 
 
-def _has_two_units(row: Row, quantity: Quantity) -> bool:
+def _has_two_units(row: SheetRow, quantity: Quantity) -> bool:
     """Whether a value has its unit with it, and another stands in its column."""
     if Column.UNIT not in row.cells or not isinstance(row.cells[Column.VALUE], str):
         return False
@@ -164,8 +164,9 @@ def _has_two_units(row: Row, quantity: Quantity) -> bool:
     return any(letter.isalpha() for letter in row.text(Column.VALUE).replace("e", ""))
 
 
-def _told(row: Row, quantity: Quantity, error: ValueError) -> str:
-    """An error as a table tells it: what would do where a comma is meant, or a unit stands twice."""
+def _told(row: SheetRow, quantity: Quantity, error: ValueError) -> str:
+    """An error as a table tells it: what would do where a comma is meant, or a unit stands
+    twice."""
     if _has_two_units(row, quantity):
         return "the value has its unit with it: leave this cell empty"
     column = _at_fault(row, quantity)
@@ -182,13 +183,13 @@ def _told(row: Row, quantity: Quantity, error: ValueError) -> str:
 class _Naming:
     """Under which premise each reading of a table is stated."""
 
-    def __init__(self, known: Known, together: Column | None) -> None:
+    def __init__(self, known: KnownNames, together: Column | None) -> None:
         self._together, self._choices = together, frozenset(known.choices)
         self._taken = {name: dict.fromkeys(cells, 0) for name, cells in known.premises.items()}
         self._count: dict[str, int] = {}
         self._alone = 0
 
-    def premise(self, row: Row, quantity: str) -> str:
+    def premise(self, row: SheetRow, quantity: str) -> str:
         """The premise of a row that reads this quantity: the one that it names, or that of all
         that are together with it, or one of its own."""
         if self._together is not None and self._together in row.cells:
@@ -204,7 +205,7 @@ class _Naming:
         self._taken[name] = {quantity: row.number}
         return name
 
-    def _given(self, row: Row, quantity: str) -> str:
+    def _given(self, row: SheetRow, quantity: str) -> str:
         name = row.text(Column.PREMISE)
         self._check(row, Column.PREMISE, name)
         before = self._taken.setdefault(name, {})
@@ -215,7 +216,7 @@ class _Naming:
         before[quantity] = row.number
         return name
 
-    def _check(self, row: Row, column: Column, name: str) -> None:
+    def _check(self, row: SheetRow, column: Column, name: str) -> None:
         if name in self._choices:
             said = f"{quoted(name)} is a choice, under which nothing is stated: call it otherwise"
             raise _Wrong(row.problem(column, said))

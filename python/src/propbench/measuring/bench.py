@@ -22,16 +22,16 @@ from propbench.measuring.outliers import Outliers, find_outliers
 from propbench.measuring.polynomials import Polynomial
 from propbench.measuring.predict import Prediction, expected, predicted
 from propbench.measuring.quantities import MeasuredAnswer, Quantity, measure_of, measured
-from propbench.measuring.readings import COVERAGE, Given, reading_of
+from propbench.measuring.readings import COVERAGE, GivenReading, reading_of
 from propbench.measuring.refining import SHAVED, Sharp, Sharpening
-from propbench.measuring.rooms import Room, find_room
+from propbench.measuring.rooms import GapSeen, find_room
 from propbench.measuring.sensitivity import Improvements, find_improvements
 from propbench.measuring.shaving import Shaved, find_shaved
 from propbench.measuring.stating import (
     BendTold,
     LawTold,
     RootMade,
-    Stated,
+    StatedLaw,
     declared,
     quantities_in,
     read,
@@ -92,7 +92,8 @@ class Measuring(Questions):
         """
         if low is None or high is None:
             raise ValueError(
-                f"{name!r} needs low= and high=: between these it lies for sure, however wide they are"
+                f"{name!r} needs low= and high=: between these it lies for sure, however wide"
+                " they are"
             )
         measure = measure_of(name, unit_of(unit), low, high, step)
         self._check_name(name)
@@ -197,7 +198,7 @@ class Measuring(Questions):
         self,
         premise: str,
         quantity: Quantity,
-        reading: Given | list[Given],
+        reading: GivenReading | list[GivenReading],
         *,
         coverage: Exact = COVERAGE,
         by: Device | None = None,
@@ -295,8 +296,7 @@ class Measuring(Questions):
             ordered,
             self._unread_first(measured_cells),
             most,
-            clock.seconds_left(),
-            progress,
+            Clock(clock.seconds_left(), progress),
         )
 
     def improvements(
@@ -344,7 +344,7 @@ class Measuring(Questions):
         left = self.shave(quantity, seconds=seconds, progress=progress)
         return predicted(quantity, left, by)
 
-    def room(self, law: Law) -> Room:
+    def room(self, law: Law) -> GapSeen:
         """What a law that was stated costs in width, since whole numbers stand for the reals.
 
         Raises ValueError for a law that was not stated.
@@ -364,8 +364,8 @@ class Measuring(Questions):
     # --- within ---
 
     def _sharpen(self, cells: Iterable[Declared], clock: Clock, parts: int = 0) -> None:
-        """Tells curves of functions by finer pieces where what is believed leaves the quantities that
-        these cells hang on, in so many parts too, as long as that narrows answers and there is
+        """Tells curves of functions by finer pieces where what is believed leaves the quantities
+        that these cells hang on, in so many parts too, as long as that narrows answers and there is
         time."""
         if not self._has_bends:
             return
@@ -555,7 +555,9 @@ class Measuring(Questions):
             self._network.do(*roots.events, *corrections)
         return known[cell]
 
-    def _corrections(self, device: Device, laws: Iterable[Stated], roots: "_Roots") -> list[Event]:
+    def _corrections(
+        self, device: Device, laws: Iterable[StatedLaw], roots: "_Roots"
+    ) -> list[Event]:
         """What follows from laws that always hold for what a device shows."""
         shows = shown_in(self._network.events).get(device.name, {})
         found: list[Event] = []
@@ -566,13 +568,14 @@ class Measuring(Questions):
                     found += told_if_possible(law, roots)
         return found
 
-    def _laws(self) -> list[Stated]:
+    def _laws(self) -> list[StatedLaw]:
         """The laws, as they are told, in the order in which they were stated."""
         return [each.stated for each in self._network.events if isinstance(each, LawTold)]
 
 
 class _Roots:
-    """Gives the quantities that stand for roots within terms: those that are known, and new ones."""
+    """Gives the quantities that stand for roots within terms: those that are known, and new
+    ones."""
 
     def __init__(self, bench: Measuring) -> None:
         made = (each for each in bench._network.events if isinstance(each, RootMade))

@@ -11,7 +11,7 @@ from functools import lru_cache
 from math import ceil, floor
 
 from propbench.measuring.curves import Curve, Segments
-from propbench.measuring.enclosing import Ends
+from propbench.measuring.enclosing import EnclosingEnds
 from propbench.measuring.shapes import clipped, range_of
 from propbench.model.expressions import Number, maximum, minimum
 from propbench.model.measures import HALF, Measure
@@ -28,11 +28,11 @@ _TINY = Fraction(1, 10**60)
 _KEPT = 1000
 
 # The first and the last number of the argument's cell in a piece.
-Place = tuple[int, int]
+PiecePlace = tuple[int, int]
 
 
 @lru_cache(_KEPT)
-def _value_at(curve: Curve, at: Fraction) -> Ends:
+def _value_at(curve: Curve, at: Fraction) -> EnclosingEnds:
     """The value of a curve, which is kept for a while: a piece ends where the next one begins."""
     return curve.value(at)
 
@@ -49,7 +49,7 @@ class Bend:
     written: str
 
     @property
-    def whole(self) -> Place:
+    def whole(self) -> PiecePlace:
         """The numbers of the argument's cell that lie in the curve's domain."""
         measure = self._measures[0]
         low, high = (clipped(self.curve, end) for end in (measure.low, measure.high))
@@ -61,7 +61,7 @@ class Bend:
         assert argument is not None and value is not None
         return argument, value
 
-    def first_places(self) -> Iterator[Place]:
+    def first_places(self) -> Iterator[PiecePlace]:
         """The pieces by which it is told at first: those between its points, where it has some."""
         low, high = self.whole
         if isinstance(self.curve, Segments):
@@ -82,7 +82,7 @@ class Bend:
         found = self.curve.guess(min(max(value * measure.step, low), high))
         return round(found / argument.step)
 
-    def piece(self, place: Place) -> "Piece | None":
+    def piece(self, place: PiecePlace) -> "Piece | None":
         """What is told of a piece; None where the curve rises or falls by less than a step."""
         ends = self._value(place[0]), self._value(place[1])
         lowest, highest = ends if self.curve.rises else (ends[1], ends[0])
@@ -90,7 +90,7 @@ class Bend:
         if low >= high or place[0] >= place[1]:
             return None
         if high - low > _MOST:
-            return Piece(self, place, (low, high), Lines(1, 0, 0, high - low))
+            return Piece(self, place, (low, high), PieceLines(1, 0, 0, high - low))
         length = place[1] - place[0]
         slope = (ends[1][0] + ends[1][1] - ends[0][0] - ends[0][1]) / 2 / length
         of_value = max(1, min(_MOST // (high - low), floor(_MOST / abs(slope) / length)))
@@ -105,15 +105,17 @@ class Bend:
         # (no more is told than what cutting off leaves anyway)
         least = max(floor(below) + shift, min(0, -of_argument * length))
         most = min(ceil(above) + shift, of_value * (high - low) + max(0, -of_argument * length))
-        return Piece(self, place, (low, high), Lines(of_value, of_argument, least, most))
+        return Piece(self, place, (low, high), PieceLines(of_value, of_argument, least, most))
 
-    def _value(self, at: int) -> Ends:
+    def _value(self, at: int) -> EnclosingEnds:
         """Between what the value lies where the argument's cell is a number, in steps."""
         argument, value = self._measures
         low, high = _value_at(self.curve, at * argument.step)
         return low / value.step, high / value.step
 
-    def _between(self, place: Place, ends: tuple[Ends, Ends], slope: Fraction) -> Ends:
+    def _between(
+        self, place: PiecePlace, ends: tuple[EnclosingEnds, EnclosingEnds], slope: Fraction
+    ) -> EnclosingEnds:
         """Between what the value less a line through zero lies, in steps, over a piece: by how far
         the curve bends from the line through its ends, or by the ends alone."""
         first, last = place
@@ -133,9 +135,9 @@ class Bend:
 
 
 @dataclass(frozen=True)
-class Lines:
-    """So many times what a value is above the least of a piece, less so many times what its argument
-    is above the first, lies between these."""
+class PieceLines:
+    """So many times what a value is above the least of a piece, less so many times what its
+    argument is above the first, lies between these."""
 
     of_value: int
     of_argument: int
@@ -153,9 +155,9 @@ class Piece:
     """A piece of a bend: where its argument is, between what its values are, and two lines."""
 
     bend: Bend
-    place: Place
-    values: Place
-    lines: Lines
+    place: PiecePlace
+    values: PiecePlace
+    lines: PieceLines
 
     @property
     def constraint(self) -> Node:
@@ -168,7 +170,7 @@ class Piece:
         return ((found >= self.lines.low) & (found <= self.lines.high)).node
 
 
-def _cut_off(declared: Declared, place: Place) -> Number:
+def _cut_off(declared: Declared, place: PiecePlace) -> Number:
     """How far a cell's number is above the first of some, 0 below that, and no farther than the
     last."""
     made, (low, high) = Number(cell(declared)), place

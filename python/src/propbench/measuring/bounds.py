@@ -6,7 +6,7 @@ from math import isqrt
 
 from propbench.measuring.enclosing import pi_ends
 from propbench.measuring.shapes import Undefined, shape_of
-from propbench.measuring.terms import Real, Sort, text_of
+from propbench.measuring.terms import Real, RealSort, text_of
 from propbench.measuring.units import dimension_text
 
 Bounds = tuple[Fraction, Fraction]
@@ -32,21 +32,21 @@ class BoundsOf:
         return self._found[real]
 
     def _bounds(self, real: Real) -> Bounds:
-        if real.sort is Sort.QUANTITY:
+        if real.sort is RealSort.QUANTITY:
             measure = real.quantity.measure
             assert measure is not None
             return measure.low, measure.high
-        if real.sort is Sort.CONSTANT:
+        if real.sort is RealSort.CONSTANT:
             return real.number, real.number
-        if real.sort is Sort.PI:
+        if real.sort is RealSort.PI:
             return pi_ends()
-        if real.sort is Sort.FUNCTION:
+        if real.sort is RealSort.FUNCTION:
             return self._of_function(real)
-        if real.sort is Sort.POWER:
+        if real.sort is RealSort.POWER:
             return power(self(real.args[0]), int(real.number))
-        if real.sort is Sort.PRODUCT and real.args[0] == real.args[1]:
+        if real.sort is RealSort.PRODUCT and real.args[0] == real.args[1]:
             return power(self(real.args[0]), 2)
-        if real.sort is Sort.QUOTIENT:
+        if real.sort is RealSort.QUOTIENT:
             below = self(real.args[1])
             if below[0] <= 0 <= below[1]:
                 raise NoBound(
@@ -69,7 +69,8 @@ class BoundsOf:
 
 
 def _without_value(real: Real, argument: Bounds, said: str) -> str:
-    """That a function has no value where its argument may be, with the names and numbers of both."""
+    """That a function has no value where its argument may be, with the names and numbers of
+    both."""
     [inner], table = real.args, real.applied.table
     points = "" if table is None else _between(inner, (table.points[0][0], table.points[-1][0]))
     between = _between(inner, argument)
@@ -81,7 +82,7 @@ def _between(real: Real, ends: Bounds) -> str:
     """Two ends of a term as people read them: in the unit of the quantity that it is, else in base
     units."""
     unit, low, high = dimension_text(real.dimension) if real.dimension else "1", *ends
-    if real.sort is Sort.QUANTITY:
+    if real.sort is RealSort.QUANTITY:
         measure = real.quantity.measure
         assert measure is not None
         unit, (low, high) = measure.unit, ((end - measure.offset) / measure.factor for end in ends)
@@ -135,14 +136,17 @@ def _absolute(bounds: list[Bounds]) -> Bounds:
     return max(low, -high, Fraction(0)), max(abs(low), abs(high))
 
 
-_OF_SORT: dict[Sort, Callable[[list[Bounds]], Bounds]] = {
-    Sort.SUM: _sum,
-    Sort.DIFFERENCE: lambda bounds: (bounds[0][0] - bounds[1][1], bounds[0][1] - bounds[1][0]),
-    Sort.NEGATIVE: lambda bounds: (-bounds[0][1], -bounds[0][0]),
-    Sort.PRODUCT: lambda bounds: product(bounds[0], bounds[1]),
-    Sort.ROOT: lambda bounds: root(bounds[0]),
-    Sort.ABSOLUTE: _absolute,
-    Sort.GREATEST: lambda bounds: (max(low for low, _ in bounds), max(high for _, high in bounds)),
-    Sort.LEAST: lambda bounds: (min(low for low, _ in bounds), min(high for _, high in bounds)),
-    Sort.MEAN: _mean,
+_OF_SORT: dict[RealSort, Callable[[list[Bounds]], Bounds]] = {
+    RealSort.SUM: _sum,
+    RealSort.DIFFERENCE: lambda bounds: (bounds[0][0] - bounds[1][1], bounds[0][1] - bounds[1][0]),
+    RealSort.NEGATIVE: lambda bounds: (-bounds[0][1], -bounds[0][0]),
+    RealSort.PRODUCT: lambda bounds: product(bounds[0], bounds[1]),
+    RealSort.ROOT: lambda bounds: root(bounds[0]),
+    RealSort.ABSOLUTE: _absolute,
+    RealSort.GREATEST: lambda bounds: (
+        max(low for low, _ in bounds),
+        max(high for _, high in bounds),
+    ),
+    RealSort.LEAST: lambda bounds: (min(low for low, _ in bounds), min(high for _, high in bounds)),
+    RealSort.MEAN: _mean,
 }

@@ -6,7 +6,7 @@ from collections.abc import Iterator, Sequence
 from dataclasses import dataclass
 from itertools import combinations
 
-from propbench.measuring.forms import Form
+from propbench.measuring.forms import SumForm
 from propbench.measuring.linear import linear_of
 from propbench.measuring.polynomials import Monomial, Polynomial, factored
 from propbench.measuring.terms import Real
@@ -37,7 +37,7 @@ class Equation:
         return Equation(kept, self.laws | other.laws)
 
 
-def combined(before: Sequence[Polynomial], new: Polynomial) -> list[Form]:
+def combined(before: Sequence[Polynomial], new: Polynomial) -> list[SumForm]:
     """What follows from an equation with others: each is a sum of products that is zero."""
     last = Equation(new, frozenset([len(before)]))
     others = [Equation(made, frozenset([place])) for place, made in enumerate(before)]
@@ -45,7 +45,7 @@ def combined(before: Sequence[Polynomial], new: Polynomial) -> list[Form]:
     found = _without_products(known)
     found += _without_quantities([*known, *found], last.laws)
     kept = [each for each in found if last.laws <= each.laws and each.made]
-    return [Form(linear_of(factored(each.made)), True) for each in kept[:_MOST]]
+    return [SumForm(linear_of(factored(each.made)), True) for each in kept[:_MOST]]
 
 
 def _without_products(known: list[Equation]) -> list[Equation]:

@@ -9,11 +9,11 @@ from dataclasses import dataclass
 from fractions import Fraction
 from typing import Any, Protocol
 
-from propbench.measuring.enclosing import Ends, enclosed, guessed, pi_ends
+from propbench.measuring.enclosing import EnclosingEnds, enclosed, guessed, pi_ends
 
 # Where a curve has a value, None where that has no end.
-Domain = tuple[Fraction | None, Fraction | None]
-Points = tuple[tuple[Fraction, Fraction], ...]
+ArgumentEnds = tuple[Fraction | None, Fraction | None]
+CurvePoints = tuple[tuple[Fraction, Fraction], ...]
 ZERO, HALF = Fraction(0), Fraction(1, 2)
 # What is taken of an exponential is so much at the most.
 MOST_EXPONENT = 400
@@ -33,20 +33,20 @@ class Curve(Protocol):
         ...
 
     @property
-    def domain(self) -> Domain:
+    def domain(self) -> ArgumentEnds:
         """Ends within which it surely rises or falls, None where there is no end."""
         ...
 
     @property
-    def reach(self) -> Domain:
+    def reach(self) -> ArgumentEnds:
         """The same ends, beyond which its argument surely doesn't lie."""
         ...
 
-    def value(self, at: Fraction) -> Ends:
+    def value(self, at: Fraction) -> EnclosingEnds:
         """Between what its value lies there."""
         ...
 
-    def bend(self, low: Fraction, high: Fraction) -> Ends | None:
+    def bend(self, low: Fraction, high: Fraction) -> EnclosingEnds | None:
         """Between what its second derivative lies from one to the other; None where that has no
         end."""
         ...
@@ -56,7 +56,7 @@ class Curve(Protocol):
         ...
 
 
-def inverse(curve: Curve, value: Fraction) -> Ends:
+def inverse(curve: Curve, value: Fraction) -> EnclosingEnds:
     """Between what that lies of which a curve has this value."""
     near = curve.guess(value)
     off = max(abs(near), Fraction(1)) * _OFF
@@ -93,16 +93,16 @@ class Exponential:
 
     base: int | None = None
     rises: bool = True
-    domain: Domain = (None, None)
-    reach: Domain = (None, None)
+    domain: ArgumentEnds = (None, None)
+    reach: ArgumentEnds = (None, None)
 
-    def value(self, at: Fraction) -> Ends:
+    def value(self, at: Fraction) -> EnclosingEnds:
         # (so little that no digits tell it apart from nothing)
         if at < -MOST_EXPONENT:
             return ZERO, Exponential(self.base).value(Fraction(-MOST_EXPONENT))[1]
         return enclosed(self._of, at, at)
 
-    def bend(self, low: Fraction, high: Fraction) -> Ends | None:
+    def bend(self, low: Fraction, high: Fraction) -> EnclosingEnds | None:
         factor = enclosed(lambda its, x: its.log(x) ** 2, *(Fraction(self.base or 1),) * 2)
         least, most = factor if self.base else (Fraction(1), Fraction(1))
         return self.value(low)[0] * least, self.value(high)[1] * most
@@ -122,13 +122,13 @@ class Power:
 
     exponent: Fraction
     rises: bool = True
-    domain: Domain = (ZERO, None)
-    reach: Domain = (ZERO, None)
+    domain: ArgumentEnds = (ZERO, None)
+    reach: ArgumentEnds = (ZERO, None)
 
-    def value(self, at: Fraction) -> Ends:
+    def value(self, at: Fraction) -> EnclosingEnds:
         return enclosed(self._of, at, at) if at > 0 else (ZERO, ZERO)
 
-    def bend(self, low: Fraction, high: Fraction) -> Ends | None:
+    def bend(self, low: Fraction, high: Fraction) -> EnclosingEnds | None:
         if low <= 0:
             return None
         factor, exponent = self.exponent * (self.exponent - 1), self.exponent - 2
@@ -161,11 +161,11 @@ class Wave:
         return (self.branch % 2 == 0) is not self.is_cosine
 
     @property
-    def domain(self) -> Domain:
+    def domain(self) -> ArgumentEnds:
         return inward(self._first, self._first + 1, self.in_degrees)
 
     @property
-    def reach(self) -> Domain:
+    def reach(self) -> ArgumentEnds:
         return outward(self._first, self._first + 1, self.in_degrees)
 
     @property
@@ -173,10 +173,10 @@ class Wave:
         """At how many half turns it begins."""
         return self.branch - (ZERO if self.is_cosine else HALF)
 
-    def value(self, at: Fraction) -> Ends:
+    def value(self, at: Fraction) -> EnclosingEnds:
         return enclosed(self._of, at, at)
 
-    def bend(self, low: Fraction, high: Fraction) -> Ends | None:
+    def bend(self, low: Fraction, high: Fraction) -> EnclosingEnds | None:
         return enclosed(lambda its, x: -self._of(its, x) * self._scale(its) ** 2, low, high)
 
     def guess(self, value: Fraction) -> Fraction:
@@ -205,17 +205,17 @@ class Tangent:
     rises: bool = True
 
     @property
-    def domain(self) -> Domain:
+    def domain(self) -> ArgumentEnds:
         return inward(self.branch - HALF, self.branch + HALF, self.in_degrees)
 
     @property
-    def reach(self) -> Domain:
+    def reach(self) -> ArgumentEnds:
         return outward(self.branch - HALF, self.branch + HALF, self.in_degrees)
 
-    def value(self, at: Fraction) -> Ends:
+    def value(self, at: Fraction) -> EnclosingEnds:
         return enclosed(lambda its, x: self._of(its, x), at, at)
 
-    def bend(self, low: Fraction, high: Fraction) -> Ends | None:
+    def bend(self, low: Fraction, high: Fraction) -> EnclosingEnds | None:
         return enclosed(self._bent, low, high)
 
     def guess(self, value: Fraction) -> Fraction:
@@ -239,7 +239,7 @@ class Tangent:
 class Segments:
     """Points with straight lines between them, each of them higher than the last, or lower."""
 
-    points: Points
+    points: CurvePoints
 
     # (that of all points takes a while, and is asked for often)
     def __hash__(self) -> int:
@@ -250,18 +250,18 @@ class Segments:
         return self.points[0][1] < self.points[-1][1]
 
     @property
-    def domain(self) -> Domain:
+    def domain(self) -> ArgumentEnds:
         return self.points[0][0], self.points[-1][0]
 
     @property
-    def reach(self) -> Domain:
+    def reach(self) -> ArgumentEnds:
         return self.domain
 
-    def value(self, at: Fraction) -> Ends:
+    def value(self, at: Fraction) -> EnclosingEnds:
         found = between(self.points, at)
         return found, found
 
-    def bend(self, low: Fraction, high: Fraction) -> Ends | None:
+    def bend(self, low: Fraction, high: Fraction) -> EnclosingEnds | None:
         first, last = (bisect_right(self.points, at, key=lambda it: it[0]) for at in (low, high))
         is_line = first == last or first == last - 1 and self.points[first][0] == high
         return (ZERO, ZERO) if is_line else None
@@ -270,7 +270,7 @@ class Segments:
         return between(tuple(sorted((height, at) for at, height in self.points)), value)
 
 
-def between(points: Points, at: Fraction) -> Fraction:
+def between(points: CurvePoints, at: Fraction) -> Fraction:
     """The value on the line between the two points that are next to a number."""
     place = bisect_right(points, at, key=lambda point: point[0])
     place = min(max(place, 1), len(points) - 1)
@@ -278,7 +278,7 @@ def between(points: Points, at: Fraction) -> Fraction:
     return first + (last - first) * (at - low) / (high - low)
 
 
-def half_turn(in_degrees: bool) -> Ends:
+def half_turn(in_degrees: bool) -> EnclosingEnds:
     """Between what half a turn lies."""
     return (Fraction(180), Fraction(180)) if in_degrees else pi_ends()
 

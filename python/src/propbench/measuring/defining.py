@@ -9,7 +9,7 @@ from propbench.measuring.bounds import Bounds, BoundsOf
 from propbench.measuring.curves import Segments
 from propbench.measuring.quantities import measure_between
 from propbench.measuring.shapes import Join, branches, shape_of
-from propbench.measuring.terms import Law, Real, Sort, constant, function_of, text_of
+from propbench.measuring.terms import Law, Real, RealSort, constant, function_of, text_of
 from propbench.measuring.units import Unit, dimension_text
 from propbench.model.measures import Measure
 from propbench.model.nodes import Declared
@@ -34,8 +34,8 @@ class Definitions:
         if real not in self._made:
             bounds = self.bounds(real)
             made = self._made[real] = self._quantity(real, bounds)
-            if real.sort is Sort.ROOT:
-                square = Real(Sort.POWER, (made,), real.args[0].dimension, Fraction(2))
+            if real.sort is RealSort.ROOT:
+                square = Real(RealSort.POWER, (made,), real.args[0].dimension, Fraction(2))
                 self.laws.append(Law(square, real.args[0], True, f"{text_of(real)} is a root"))
             else:
                 self._bend(real, made)
@@ -43,7 +43,7 @@ class Definitions:
 
     def _quantity(self, real: Real, bounds: Bounds) -> Real:
         made = self.root_of(real, _measure_of(real, bounds))
-        return Real(Sort.QUANTITY, (), real.dimension, declared=made)
+        return Real(RealSort.QUANTITY, (), real.dimension, declared=made)
 
     def _bend(self, real: Real, value: Real) -> None:
         """What a function of a term is: a curve, or some that are joined."""
@@ -61,16 +61,16 @@ class Definitions:
             if join is Join.SUM:
                 assert isinstance(curve, Segments)
                 level = constant(curve.points[0][1], real.dimension)
-                risen = Real(Sort.DIFFERENCE, (part, level), real.dimension)
-                joined = Real(Sort.SUM, (joined, risen), real.dimension)
+                risen = Real(RealSort.DIFFERENCE, (part, level), real.dimension)
+                joined = Real(RealSort.SUM, (joined, risen), real.dimension)
             else:
-                sort = Sort.LEAST if join is Join.LEAST else Sort.GREATEST
+                sort = RealSort.LEAST if join is Join.LEAST else RealSort.GREATEST
                 joined = Real(sort, (joined, part), real.dimension)
         self.laws.append(Law(value, joined, True, f"{text_of(real)} in parts"))
 
     def _argument(self, inner: Real) -> Real:
         """The quantity of which a function is taken."""
-        if inner.sort is Sort.QUANTITY:
+        if inner.sort is RealSort.QUANTITY:
             return inner
         if inner not in self._made:
             self._made[inner] = self._quantity(inner, self.bounds(inner))

@@ -19,7 +19,7 @@ from propbench.measuring.polynomials import Polynomial, factored, multiplied_out
 from propbench.measuring.quantities import countable, measure_between
 from propbench.measuring.readings import Reading, in_ascii
 from propbench.measuring.stating import declared, read, stated
-from propbench.measuring.terms import ONE, Law, Real, Sort, text_of
+from propbench.measuring.terms import ONE, Law, Real, RealSort, text_of
 from propbench.measuring.units import BARE, MixedUnits, Unit, dimension_text, unit_of
 from propbench.model.events import CellMade, Event, LawStated
 from propbench.model.nodes import Declared
@@ -30,8 +30,9 @@ _BEYOND = 1000
 _MOST_SCALE = Fraction(1, 2)
 
 
-class Role(Enum):
-    """What a cell is to a device. Its shift is the offset before the scale: offset / (1 + scale)."""
+class DeviceRole(Enum):
+    """What a cell is to a device. Its shift is the offset before the scale: offset / (1 +
+    scale)."""
 
     OFFSET = "offset"
     SCALE = "scale"
@@ -43,7 +44,7 @@ class Device:
     """A device, the premise that it is as good as is said of it, and its errors."""
 
     name: str
-    parts: Mapping[Role, Declared] = field(compare=False)
+    parts: Mapping[DeviceRole, Declared] = field(compare=False)
 
     def __str__(self) -> str:
         return self.name
@@ -54,7 +55,7 @@ class DevicePart(CellMade):
     """A quantity is there for an error of a device."""
 
     device: str
-    role: Role
+    role: DeviceRole
 
 
 @dataclass(frozen=True)
@@ -120,13 +121,13 @@ def _size(name: str, role: str, given: Exact | str | None) -> tuple[Fraction, Un
 
 def made(name: str, errors: Errors, owner: object, root_of: RootOf) -> list[Event]:
     """The events of a new device."""
-    parts: dict[Role, Declared] = {}
+    parts: dict[DeviceRole, Declared] = {}
     events: list[Event] = []
     # (what is off by more than it may be, without the premise)
     scale = min(_BEYOND * errors.scale, _MOST_SCALE)
     sizes = {
-        Role.OFFSET: (errors.offset, _BEYOND * errors.offset, errors.unit),
-        Role.SCALE: (errors.scale, scale, unit_of("1")),
+        DeviceRole.OFFSET: (errors.offset, _BEYOND * errors.offset, errors.unit),
+        DeviceRole.SCALE: (errors.scale, scale, unit_of("1")),
     }
     for role, (size, most, unit) in sizes.items():
         if size:
@@ -139,11 +140,11 @@ def made(name: str, errors: Errors, owner: object, root_of: RootOf) -> list[Even
     if len(parts) == len(sizes):
         end = _BEYOND * errors.offset / (1 - scale) / errors.unit.factor
         measure = measure_between(f"{name} shift", errors.unit, (-end, end), None)
-        parts[Role.SHIFT] = declared(f"{name} shift", measure, owner)
-        events.append(DevicePart(parts[Role.SHIFT], name, Role.SHIFT))
-        shift, gain = real_of_cell(parts[Role.SHIFT]), _gain(parts)
-        right = Real(Sort.PRODUCT, (shift, gain), shift.dimension)
-        events += _told(_law(real_of_cell(parts[Role.OFFSET]), right), root_of)
+        parts[DeviceRole.SHIFT] = declared(f"{name} shift", measure, owner)
+        events.append(DevicePart(parts[DeviceRole.SHIFT], name, DeviceRole.SHIFT))
+        shift, gain = real_of_cell(parts[DeviceRole.SHIFT]), _gain(parts)
+        right = Real(RealSort.PRODUCT, (shift, gain), shift.dimension)
+        events += _told(_law(real_of_cell(parts[DeviceRole.OFFSET]), right), root_of)
     return events
 
 
@@ -153,7 +154,7 @@ def _text(number: Fraction) -> str:
 
 def devices_in(events: Iterable[Event]) -> dict[str, Device]:
     """The devices that there are, by name."""
-    parts: dict[str, dict[Role, Declared]] = {}
+    parts: dict[str, dict[DeviceRole, Declared]] = {}
     for each in events:
         if isinstance(each, DevicePart):
             parts.setdefault(each.device, {})[each.role] = each.cell
@@ -181,11 +182,11 @@ def shown(device: Device, quantity: Declared, name: str, root_of: RootOf) -> lis
     step = countable(measure.digits, unit, (low, high))
     cell = declared(name, measure_between(name, unit, (low, high), step), quantity.owner)
     shows, right = real_of_cell(cell), real_of_cell(cell)
-    if Role.SCALE in device.parts:
-        right = Real(Sort.PRODUCT, (shows, _gain(device.parts)), shows.dimension)
-    if Role.OFFSET in device.parts:
-        offset = real_of_cell(device.parts[Role.OFFSET])
-        right = Real(Sort.SUM, (right, offset), shows.dimension)
+    if DeviceRole.SCALE in device.parts:
+        right = Real(RealSort.PRODUCT, (shows, _gain(device.parts)), shows.dimension)
+    if DeviceRole.OFFSET in device.parts:
+        offset = real_of_cell(device.parts[DeviceRole.OFFSET])
+        right = Real(RealSort.SUM, (right, offset), shows.dimension)
     law = _law(real_of_cell(quantity), right)
     return [ShownMade(cell, device.name, quantity), *_told(law, root_of)]
 
@@ -194,8 +195,8 @@ def _bounds(device: Device, ends: Bounds, unit: Unit, name: str) -> Bounds:
     """Between which reals that lies which a device shows of what lies between these. Raises
     MixedUnits, and ValueError for the scale of a temperature whose zero is somewhere."""
     offset = scale = Fraction(0)
-    if Role.OFFSET in device.parts:
-        of = device.parts[Role.OFFSET].measure
+    if DeviceRole.OFFSET in device.parts:
+        of = device.parts[DeviceRole.OFFSET].measure
         assert of is not None
         other = unit_of(of.unit)
         if other.dimension != unit.dimension:
@@ -204,13 +205,13 @@ def _bounds(device: Device, ends: Bounds, unit: Unit, name: str) -> Bounds:
                 f"({dimension_text(other.dimension)}), and {name!r} in {unit.text}"
             )
         offset = of.high
-    if Role.SCALE in device.parts:
+    if DeviceRole.SCALE in device.parts:
         if unit.offset:
             raise ValueError(
                 f"{device.name!r} has a scale error, and {name!r} is in {unit.text}, whose zero is "
                 "none of a scale: give the device an offset alone"
             )
-        of = device.parts[Role.SCALE].measure
+        of = device.parts[DeviceRole.SCALE].measure
         assert of is not None
         scale = of.high
     corners = [
@@ -227,7 +228,9 @@ def corrected(
 ) -> Law | None:
     """What follows from an equation for what a device shows of several quantities in it: without
     its shift where that cancels, and without its scale. None where there are not several."""
-    atoms = {atom for monomial in equation for atom, _ in monomial if atom.sort is Sort.QUANTITY}
+    atoms = {
+        atom for monomial in equation for atom, _ in monomial if atom.sort is RealSort.QUANTITY
+    }
     pairs = {
         real_of_cell(cell): real_of_cell(shows[cell])
         for cell in shows
@@ -235,8 +238,8 @@ def corrected(
     }
     if len(pairs) < 2:
         return None
-    shift = device.parts.get(Role.SHIFT) or (
-        device.parts.get(Role.OFFSET) if Role.SCALE not in device.parts else None
+    shift = device.parts.get(DeviceRole.SHIFT) or (
+        device.parts.get(DeviceRole.OFFSET) if DeviceRole.SCALE not in device.parts else None
     )
     by_degree = _by_degree(_without_divisors(equation, list(pairs)), pairs, shift)
     if by_degree is None:
@@ -248,7 +251,7 @@ def corrected(
     ]
     if not parts:
         return None
-    return _law(summed(parts), Real(Sort.CONSTANT, (), parts[0].dimension))
+    return _law(summed(parts), Real(RealSort.CONSTANT, (), parts[0].dimension))
 
 
 def _without_divisors(equation: Polynomial, atoms: Sequence[Real]) -> Polynomial:
@@ -297,21 +300,21 @@ def _shifted(shows: Real, shift: Declared | None) -> Polynomial:
 
 def _times_gain(real: Real, device: Device, degree: int) -> Real:
     """A term times a power of one more than the scale error."""
-    if not degree or Role.SCALE not in device.parts:
+    if not degree or DeviceRole.SCALE not in device.parts:
         return real
     gain = _gain(device.parts)
-    power = gain if degree == 1 else Real(Sort.POWER, (gain,), BARE, Fraction(degree))
-    return Real(Sort.PRODUCT, (power, real), real.dimension)
+    power = gain if degree == 1 else Real(RealSort.POWER, (gain,), BARE, Fraction(degree))
+    return Real(RealSort.PRODUCT, (power, real), real.dimension)
 
 
 def real_of_cell(cell: Declared) -> Real:
     """The quantity of a cell as a term."""
     assert cell.measure is not None
-    return Real(Sort.QUANTITY, (), unit_of(cell.measure.unit).dimension, declared=cell)
+    return Real(RealSort.QUANTITY, (), unit_of(cell.measure.unit).dimension, declared=cell)
 
 
-def _gain(parts: Mapping[Role, Declared]) -> Real:
-    return Real(Sort.SUM, (ONE, real_of_cell(parts[Role.SCALE])), BARE)
+def _gain(parts: Mapping[DeviceRole, Declared]) -> Real:
+    return Real(RealSort.SUM, (ONE, real_of_cell(parts[DeviceRole.SCALE])), BARE)
 
 
 def _law(left: Real, right: Real) -> Law:

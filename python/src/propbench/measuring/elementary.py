@@ -6,11 +6,12 @@ from fractions import Fraction
 
 from propbench.measuring.bounds import BoundsOf
 from propbench.measuring.exact import Exact, exact_of, number_in
-from propbench.measuring.shapes import DEGREES, Function, Name, Table, Undefined
+from propbench.measuring.shapes import DEGREES, Function, FunctionName, CurveTable, Undefined
 from propbench.measuring.terms import (
     Made,
+    Operand,
     Real,
-    Sort,
+    RealSort,
     Term,
     constant,
     function_of,
@@ -19,64 +20,61 @@ from propbench.measuring.terms import (
 )
 from propbench.measuring.units import BARE, MixedUnits, UnknownUnit, dimension_text, unit_of
 
-# A term, or a constant as a text or a number.
-Given = Term | Exact | str
-
-pi = Made(Real(Sort.PI, (), BARE))
+pi = Made(Real(RealSort.PI, (), BARE))
 
 
-def exp(term: Given) -> Term:
+def exp(term: Operand) -> Term:
     """e to the power of a bare number."""
-    return _of(Name.EXP, term)
+    return _of(FunctionName.EXP, term)
 
 
-def ln(term: Given) -> Term:
+def ln(term: Operand) -> Term:
     """The natural logarithm of a bare number, which is more than 0."""
-    return _of(Name.LN, term)
+    return _of(FunctionName.LN, term)
 
 
-def exp10(term: Given) -> Term:
+def exp10(term: Operand) -> Term:
     """10 to the power of a bare number."""
-    return _of(Name.EXP10, term)
+    return _of(FunctionName.EXP10, term)
 
 
-def log10(term: Given) -> Term:
+def log10(term: Operand) -> Term:
     """The logarithm to the base of 10 of a bare number, which is more than 0."""
-    return _of(Name.LOG10, term)
+    return _of(FunctionName.LOG10, term)
 
 
-def sin(angle: Given) -> Term:
+def sin(angle: Operand) -> Term:
     """The sine of an angle, in degrees or in radians."""
-    return _of_angle(Name.SIN, angle)
+    return _of_angle(FunctionName.SIN, angle)
 
 
-def cos(angle: Given) -> Term:
+def cos(angle: Operand) -> Term:
     """The cosine of an angle, in degrees or in radians."""
-    return _of_angle(Name.COS, angle)
+    return _of_angle(FunctionName.COS, angle)
 
 
-def tan(angle: Given) -> Term:
+def tan(angle: Operand) -> Term:
     """The tangent of an angle, in degrees or in radians, between two of its poles."""
-    return _of_angle(Name.TAN, angle)
+    return _of_angle(FunctionName.TAN, angle)
 
 
-def asin(term: Given) -> Term:
+def asin(term: Operand) -> Term:
     """The angle from -pi/2 to pi/2, in radians, whose sine this is; `degrees(asin(..))` has it in
     degrees."""
-    return _of(Name.ASIN, term)
+    return _of(FunctionName.ASIN, term)
 
 
-def acos(term: Given) -> Term:
+def acos(term: Operand) -> Term:
     """The angle from 0 to pi, in radians, whose cosine this is."""
-    return _of(Name.ACOS, term)
+    return _of(FunctionName.ACOS, term)
 
 
-def atan(term: Given) -> Term:
+def atan(term: Operand) -> Term:
     """The angle between -pi/2 and pi/2, in radians, whose tangent this is."""
-    return _of(Name.ATAN, term)
+    return _of(FunctionName.ATAN, term)
 
 
-def degrees(angle: Given) -> Term:
+def degrees(angle: Operand) -> Term:
     """An angle in radians, in degrees."""
     real = real_of(angle)
     if real.dimension == DEGREES:
@@ -86,7 +84,7 @@ def degrees(angle: Given) -> Term:
     return Made(real) * (Made(constant(Fraction(180), DEGREES, "180 deg")) / pi)
 
 
-def radians(angle: Given) -> Term:
+def radians(angle: Operand) -> Term:
     """An angle in degrees, in radians."""
     real = real_of(angle)
     if real.dimension != DEGREES:
@@ -96,7 +94,7 @@ def radians(angle: Given) -> Term:
     return Made(real) * (pi / Made(constant(Fraction(180), DEGREES, "180 deg")))
 
 
-def hypot(*sides: Given) -> Term:
+def hypot(*sides: Operand) -> Term:
     """The root of the sum of squares, of sides at right angles."""
     squares = [Made(real_of(side)) ** 2 for side in sides]
     if not squares:
@@ -104,7 +102,7 @@ def hypot(*sides: Given) -> Term:
     return sum(squares[1:], squares[0]).sqrt()
 
 
-def atan2(above: Given, beside: Given) -> Term:
+def atan2(above: Operand, beside: Operand) -> Term:
     """The angle, in radians, at which a point stands that is so far above an origin and so far
     beside it: from -pi to pi.
 
@@ -131,15 +129,15 @@ def atan2(above: Given, beside: Given) -> Term:
 class Calibration:
     """A curve of calibration, which gives a term for a term."""
 
-    table: Table
+    table: CurveTable
 
     @property
     def name(self) -> str:
         """What it is called, in laws that are texts too."""
         return self.table.name
 
-    def __call__(self, term: Given) -> Term:
-        return Made(function_of(Function(Name.TABLE, table=self.table), real_of(term)))
+    def __call__(self, term: Operand) -> Term:
+        return Made(function_of(Function(FunctionName.TABLE, table=self.table), real_of(term)))
 
 
 def curve(
@@ -151,8 +149,9 @@ def curve(
     within: Exact | str = 0,
 ) -> Calibration:
     """A function by its points, as a curve of calibration: straight lines between them, from which
-    it is off by no more than `within`. An argument is in the unit `of`, a value in `unit`. A law that
-    is a text knows it by its name, where it is given: `w.law("t == probe(u)", curves=[probe])`.
+    it is off by no more than `within`. An argument is in the unit `of`, a value in `unit`. A law
+    that is a text knows it by its name, where it is given: `w.law("t == probe(u)",
+    curves=[probe])`.
 
     Raises ValueError where the points are too few, out of order, or two have one argument.
     """
@@ -169,10 +168,10 @@ def curve(
     off = _exact(within) * value.factor
     if off < 0:
         raise ValueError(f"the curve {name!r} is off by 0 or more, and not by {within}")
-    return Calibration(Table(name, tuple(made), off, argument.dimension, value.dimension))
+    return Calibration(CurveTable(name, tuple(made), off, argument.dimension, value.dimension))
 
 
-def level(term: Given) -> Term:
+def level(term: Operand) -> Term:
     """So many decibels: of a ratio of powers, of a power above 1 W, or of a voltage above 1 V."""
     real = real_of(term)
     for of, tenths in _LEVELS.items():
@@ -186,7 +185,7 @@ def level(term: Given) -> Term:
     )
 
 
-def at_level(decibels: Given, of: str = "1") -> Term:
+def at_level(decibels: Operand, of: str = "1") -> Term:
     """What has so many decibels: a ratio of powers, a power (`of="W"`), or a voltage (`of="V"`)."""
     if of not in _LEVELS:
         raise UnknownUnit(f'a level is that of "1", of "W" or of "V", and not of {of!r}')
@@ -195,12 +194,12 @@ def at_level(decibels: Given, of: str = "1") -> Term:
     return one * exp10(Made(real_of(decibels)) / _decibels(_LEVELS[of]))
 
 
-def pH(activity: Given) -> Term:
+def pH(activity: Operand) -> Term:
     """How acid something is, by the hydrogen ions in it: `pH("0.01 mol/L")` is 2."""
     return log10(Made(real_of(activity)) / "1 mol/L") * "-1 pH"
 
 
-def at_pH(acid: Given) -> Term:
+def at_pH(acid: Operand) -> Term:
     """The hydrogen ions of what is so acid, in mol/L."""
     return exp10(Made(real_of(acid)) / "-1 pH") * "1 mol/L"
 
@@ -226,16 +225,16 @@ def _exact(given: Exact | str) -> Fraction:
 
 def _is_of_angles(real: Real, in_degrees: bool) -> bool:
     """Whether a term is an arcsine or the like that gives an angle in this."""
-    names = (Name.ASIN, Name.ACOS, Name.ATAN)
-    is_function = real.sort is Sort.FUNCTION and real.applied.name in names
+    names = (FunctionName.ASIN, FunctionName.ACOS, FunctionName.ATAN)
+    is_function = real.sort is RealSort.FUNCTION and real.applied.name in names
     return is_function and real.applied.in_degrees is in_degrees
 
 
-def _of(name: Name, term: Given) -> Term:
+def _of(name: FunctionName, term: Operand) -> Term:
     return Made(function_of(Function(name), real_of(term)))
 
 
-def _of_angle(name: Name, angle: Given) -> Term:
+def _of_angle(name: FunctionName, angle: Operand) -> Term:
     real = real_of(angle)
     return Made(function_of(Function(name, in_degrees=real.dimension == DEGREES), real))
 

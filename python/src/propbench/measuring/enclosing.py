@@ -10,7 +10,7 @@ from functools import cache
 from importlib import import_module
 from typing import Any
 
-Ends = tuple[Fraction, Fraction]
+EnclosingEnds = tuple[Fraction, Fraction]
 # Intervals are worked out to so many binary digits.
 _DIGITS = 200
 
@@ -42,7 +42,7 @@ def _numbers() -> Any:
     return made
 
 
-def enclosed(function: Callable[[Any, Any], Any], low: Fraction, high: Fraction) -> Ends:
+def enclosed(function: Callable[[Any, Any], Any], low: Fraction, high: Fraction) -> EnclosingEnds:
     """Between what the values of a function lie, for all numbers from `low` to `high`. It is given
     the intervals of mpmath, and the numbers as one of them."""
     intervals = _intervals()
@@ -60,7 +60,7 @@ def guessed(function: Callable[[Any, Any], Any], at: Fraction) -> Fraction:
 
 
 @cache
-def pi_ends() -> Ends:
+def pi_ends() -> EnclosingEnds:
     """Two numbers between which pi lies."""
     return enclosed(lambda intervals, zero: zero + intervals.pi, Fraction(0), Fraction(0))
 

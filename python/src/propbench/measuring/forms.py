@@ -17,48 +17,48 @@ from propbench.measuring.polynomials import (
     ordered,
     polynomial_of,
 )
-from propbench.measuring.terms import Law, Real, Sort, power_of
+from propbench.measuring.terms import Law, Real, RealSort, power_of
 
 _ROUNDS = 6
 
 
 @dataclass(frozen=True)
-class Form:
+class SumForm:
     """What a sum is: zero, or at most zero."""
 
     sum: Linear
     is_equation: bool
 
 
-def forms_of(law: Law, bounds: BoundsOf) -> list[Form]:
+def forms_of(law: Law, bounds: BoundsOf) -> list[SumForm]:
     """The forms of a law, the one as it was written in front. Each follows from the law."""
     form = linear_of(law.left).plus(linear_of(law.right), Fraction(-1))
     if not law.is_equation:
-        return [Form(form, False)]
-    found: list[Form] = []
+        return [SumForm(form, False)]
+    found: list[SumForm] = []
     for _ in range(_ROUNDS):
         divisor = _divisor_to_clear(form, bounds)
         if divisor is not None:
             form = _cleared(form, divisor)
             continue
-        roots = [atom for atom, _ in form.terms if atom.sort is Sort.ROOT]
+        roots = [atom for atom, _ in form.terms if atom.sort is RealSort.ROOT]
         if len(roots) != 1:
             break
         form, side = _squared(form, roots[0])
-        found.append(Form(side, False))
+        found.append(SumForm(side, False))
     polynomial = polynomial_of(form)
     others = [
         each_once(form, bounds),
         divided_once(law, bounds),
         completed(polynomial) if polynomial else None,
     ]
-    return [Form(form, True), *found, *(Form(other, True) for other in others if other)]
+    return [SumForm(form, True), *found, *(SumForm(other, True) for other in others if other)]
 
 
 def _divisor_to_clear(form: Linear, bounds: BoundsOf) -> Real | None:
     """A quotient in a sum by whose divisor the equation is multiplied: the only one, or one whose
     divisor may be zero."""
-    quotients = [atom for atom, _ in form.terms if atom.sort is Sort.QUOTIENT]
+    quotients = [atom for atom, _ in form.terms if atom.sort is RealSort.QUOTIENT]
     if len(quotients) == 1:
         return quotients[0]
     for each in quotients:
@@ -77,7 +77,7 @@ def _cleared(form: Linear, quotient: Real) -> Linear:
     rest = form.without(quotient)
     if rest.is_constant and not rest.constant:
         return cleared
-    multiplied = Real(Sort.PRODUCT, (real_of_linear(rest), below), cleared.dimension)
+    multiplied = Real(RealSort.PRODUCT, (real_of_linear(rest), below), cleared.dimension)
     return linear_of(multiplied).plus(cleared)
 
 

@@ -4,14 +4,11 @@ from collections.abc import Callable, Iterable
 from functools import partial
 from typing import overload
 
-from propbench.measuring.exact import Exact
-from propbench.measuring.terms import Sort, Term, extreme, mean, sum_of
+from propbench.measuring.terms import Operand, RealSort, Term, extreme, mean, sum_of
 from propbench.model import expressions
 from propbench.model.expressions import Number
 
 Whole = Number | int
-# A term, or a constant beside terms.
-Real = Term | Exact | str
 
 
 # (of nothing but numbers both fit: the first is meant)
@@ -21,14 +18,14 @@ def maximum(*numbers: Whole | Iterable[Whole]) -> Number:  # type: ignore[misc]
 
 
 @overload
-def maximum(*numbers: Real | Iterable[Term]) -> Term:
+def maximum(*numbers: Operand | Iterable[Term]) -> Term:
     ...
 
 
 def maximum(*numbers: object) -> Number | Term:
     """The greatest of these numbers, or of these quantities and what is made of them, given one by
     one or as one list."""
-    return _over(numbers, partial(extreme, Sort.GREATEST), expressions.maximum)
+    return _over(numbers, partial(extreme, RealSort.GREATEST), expressions.maximum)
 
 
 # (of nothing but numbers both fit: the first is meant)
@@ -38,14 +35,14 @@ def minimum(*numbers: Whole | Iterable[Whole]) -> Number:  # type: ignore[misc]
 
 
 @overload
-def minimum(*numbers: Real | Iterable[Term]) -> Term:
+def minimum(*numbers: Operand | Iterable[Term]) -> Term:
     ...
 
 
 def minimum(*numbers: object) -> Number | Term:
     """The least of these numbers, or of these quantities and what is made of them, given one by one
     or as one list."""
-    return _over(numbers, partial(extreme, Sort.LEAST), expressions.minimum)
+    return _over(numbers, partial(extreme, RealSort.LEAST), expressions.minimum)
 
 
 # (of nothing but numbers both fit: the first is meant)
@@ -55,13 +52,13 @@ def total(*numbers: Whole | Iterable[Whole]) -> Number:  # type: ignore[misc]
 
 
 @overload
-def total(*numbers: Real | Iterable[Term]) -> Term:
+def total(*numbers: Operand | Iterable[Term]) -> Term:
     ...
 
 
 def total(*numbers: object) -> Number | Term:
-    """The sum of these numbers, or of these quantities and what is made of them, given one by one or
-    as one list."""
+    """The sum of these numbers, or of these quantities and what is made of them, given one by one
+    or as one list."""
     return _over(numbers, sum_of, expressions.total)
 
 

@@ -68,7 +68,8 @@ def laws_of(
     for name in known:
         if not name.isidentifier() or name in _FUNCTIONS or name in quantities:
             raise NotALaw(
-                f"a law can't name the curve {quoted(name)}: call it by letters, digits and `_`, and "
+                f"a law can't name the curve {quoted(name)}: call it by letters, digits and `_`,"
+                " and "
                 "as no function and no quantity is called"
             )
     return _Reading(text, quantities, known).laws()

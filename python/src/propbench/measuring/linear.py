@@ -4,7 +4,7 @@ from collections.abc import Iterable
 from dataclasses import dataclass
 from fractions import Fraction
 
-from propbench.measuring.terms import ONE, Real, Sort, constant, text_of
+from propbench.measuring.terms import ONE, Real, RealSort, constant, text_of
 from propbench.measuring.units import Dimension, times, to_power
 
 ZERO = Fraction(0)
@@ -56,27 +56,27 @@ class Linear:
 
 def linear_of(real: Real) -> Linear:
     """A term as a sum of atoms."""
-    if real.sort is Sort.CONSTANT:
+    if real.sort is RealSort.CONSTANT:
         return Linear((), real.number, real.dimension)
-    if real.sort in (Sort.SUM, Sort.DIFFERENCE):
+    if real.sort in (RealSort.SUM, RealSort.DIFFERENCE):
         first, *others = (linear_of(arg) for arg in real.args)
-        sign = Fraction(1 if real.sort is Sort.SUM else -1)
+        sign = Fraction(1 if real.sort is RealSort.SUM else -1)
         made = Linear(first.terms, first.constant, real.dimension)
         for other in others:
             made = made.plus(other, sign)
         return made
-    if real.sort is Sort.NEGATIVE:
+    if real.sort is RealSort.NEGATIVE:
         return linear_of(real.args[0]).times(Fraction(-1))
-    if real.sort is Sort.MEAN:
+    if real.sort is RealSort.MEAN:
         total = Linear((), ZERO, real.dimension)
         for arg in real.args:
             total = total.plus(linear_of(arg))
         return total.times(Fraction(1, len(real.args)))
-    if real.sort is Sort.PRODUCT:
+    if real.sort is RealSort.PRODUCT:
         return _product(linear_of(real.args[0]), linear_of(real.args[1]))
-    if real.sort is Sort.QUOTIENT:
+    if real.sort is RealSort.QUOTIENT:
         return _quotient(linear_of(real.args[0]), linear_of(real.args[1]))
-    if real.sort is Sort.POWER:
+    if real.sort is RealSort.POWER:
         return _power(linear_of(real.args[0]), int(real.number))
     return _alone(real)
 
@@ -92,13 +92,13 @@ def real_of_linear(form: Linear) -> Real:
 def summed(parts: Iterable[Real]) -> Real:
     """The sum of one or more terms."""
     given = tuple(parts)
-    return given[0] if len(given) == 1 else Real(Sort.SUM, given, given[0].dimension)
+    return given[0] if len(given) == 1 else Real(RealSort.SUM, given, given[0].dimension)
 
 
 def _scaled(atom: Real, coefficient: Fraction) -> Real:
     if coefficient == 1:
         return atom
-    return Real(Sort.PRODUCT, (constant(coefficient), atom), atom.dimension)
+    return Real(RealSort.PRODUCT, (constant(coefficient), atom), atom.dimension)
 
 
 def _alone(atom: Real, coefficient: Fraction = Fraction(1)) -> Linear:
@@ -116,7 +116,7 @@ def _product(left: Linear, right: Linear) -> Linear:
         atom, coefficient = each.single or (real_of_linear(each), Fraction(1))
         atoms.append(atom)
         factor *= coefficient
-    if atoms[0].sort is Sort.ROOT and atoms[0] == atoms[1]:
+    if atoms[0].sort is RealSort.ROOT and atoms[0] == atoms[1]:
         return linear_of(atoms[0].args[0]).times(factor)
     return _alone(_joined(*sorted(atoms, key=text_of)), factor)
 
@@ -124,12 +124,12 @@ def _product(left: Linear, right: Linear) -> Linear:
 def _joined(left: Real, right: Real) -> Real:
     """The product of two atoms: a power, where they have the same base."""
     bases = [
-        (each.args[0], each.number) if each.sort is Sort.POWER else (each, Fraction(1))
+        (each.args[0], each.number) if each.sort is RealSort.POWER else (each, Fraction(1))
         for each in (left, right)
     ]
     if bases[0][0] == bases[1][0]:
         return _powered(bases[0][0], int(bases[0][1] + bases[1][1]))
-    return Real(Sort.PRODUCT, (left, right), times(left.dimension, right.dimension))
+    return Real(RealSort.PRODUCT, (left, right), times(left.dimension, right.dimension))
 
 
 def _quotient(above: Linear, below: Linear) -> Linear:
@@ -144,14 +144,14 @@ def _quotient(above: Linear, below: Linear) -> Linear:
         if not above.constant:
             return Linear((), ZERO, dimension)
         made = Real(
-            Sort.QUOTIENT,
+            RealSort.QUOTIENT,
             (constant(Fraction(1), above.dimension), divisor),
             times(above.dimension, divisor.dimension, Fraction(-1)),
         )
         return _alone(made, above.constant / factor)
     atom, coefficient = above.single or (real_of_linear(above), Fraction(1))
     made = Real(
-        Sort.QUOTIENT, (atom, divisor), times(atom.dimension, divisor.dimension, -ONE.number)
+        RealSort.QUOTIENT, (atom, divisor), times(atom.dimension, divisor.dimension, -ONE.number)
     )
     return _alone(made, coefficient / factor)
 
@@ -161,15 +161,15 @@ def _power(base: Linear, exponent: int) -> Linear:
         dimension = to_power(base.dimension, Fraction(exponent))
         return Linear((), base.constant**exponent, dimension)
     atom, coefficient = base.single or (real_of_linear(base), Fraction(1))
-    if atom.sort is Sort.ROOT and exponent == 2:
+    if atom.sort is RealSort.ROOT and exponent == 2:
         return linear_of(atom.args[0]).times(coefficient**2)
     return _alone(_powered(atom, exponent), coefficient**exponent)
 
 
 def _powered(base: Real, exponent: int) -> Real:
-    if base.sort is Sort.POWER:
+    if base.sort is RealSort.POWER:
         return _powered(base.args[0], exponent * int(base.number))
     if exponent == 1:
         return base
     dimension = to_power(base.dimension, Fraction(exponent))
-    return Real(Sort.POWER, (base,), dimension, Fraction(exponent))
+    return Real(RealSort.POWER, (base,), dimension, Fraction(exponent))

@@ -7,11 +7,11 @@ from fractions import Fraction
 
 from propbench.measuring.bounds import BoundsOf, NoBound
 from propbench.measuring.linear import Linear, linear_of, real_of_linear
-from propbench.measuring.shapes import Function, Name, Undefined
-from propbench.measuring.terms import Law, Real, Sort, function_of
+from propbench.measuring.shapes import Function, FunctionName, Undefined
+from propbench.measuring.terms import Law, Real, RealSort, function_of
 from propbench.measuring.units import BARE
 
-_LOGARITHMS = {Name.EXP: Name.LN, Name.EXP10: Name.LOG10}
+_LOGARITHMS = {FunctionName.EXP: FunctionName.LN, FunctionName.EXP10: FunctionName.LOG10}
 # An exponential that may be so many times as much as it is at least is told by its logarithm.
 _WIDE = 10**4
 
@@ -39,9 +39,9 @@ def by_logarithm(law: Law, bounds: BoundsOf) -> Law:
 
 def _exponential(atom: Real) -> Real | None:
     """The exponential that an atom is, or of which it is the product with something."""
-    if atom.sort is Sort.FUNCTION and atom.applied.name in _LOGARITHMS:
+    if atom.sort is RealSort.FUNCTION and atom.applied.name in _LOGARITHMS:
         return atom
-    if atom.sort is Sort.PRODUCT:
+    if atom.sort is RealSort.PRODUCT:
         found = [each for arg in atom.args if (each := _exponential(arg)) is not None]
         return found[0] if len(found) == 1 and found[0] in atom.args else None
     return None
@@ -61,4 +61,4 @@ def _value(form: Linear, atom: Real, exponential: Real) -> Real:
     if atom == exponential:
         return replace(others, dimension=BARE)
     [factor] = [arg for arg in atom.args if arg != exponential]
-    return Real(Sort.QUOTIENT, (others, factor), BARE)
+    return Real(RealSort.QUOTIENT, (others, factor), BARE)

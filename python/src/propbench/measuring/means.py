@@ -1,7 +1,7 @@
 """The mean of readings that were repeated, as a laboratory writes it: `12.34 V s=0.05 n=10`.
 
-Its standard uncertainty is s / sqrt(n). Of few readings *s* is not known well either: so it is taken
-by Student's distribution where three times would be taken of a normal one.
+Its standard uncertainty is s / sqrt(n). Of few readings *s* is not known well either: so it is
+taken by Student's distribution where three times would be taken of a normal one.
 """
 
 import re

@@ -1,5 +1,5 @@
-"""How answers are made narrower than by one run: an end of a quantity is told, and where the program
-contradicts that, in cases that cover it, the end is taken off.
+"""How answers are made narrower than by one run: an end of a quantity is told, and where the
+program contradicts that, in cases that cover it, the end is taken off.
 """
 
 from collections.abc import Collection, Sequence
@@ -14,7 +14,7 @@ from propbench.values import Held
 _DEPTH, _FINEST = 7, 256
 
 
-class Impossible(Exception):
+class CantAllHold(Exception):
     """What is believed can't all hold: these premises, as lines name them."""
 
     def __init__(self, names: Collection[str], tree: Fork | None) -> None:
@@ -44,7 +44,7 @@ class Narrowing:
         """Looks at what is left by one run. Raises Impossible."""
         seen = self.trial.look(self.premises, self._told)
         if isinstance(seen, Contradiction):
-            raise Impossible(seen.premises, None)
+            raise CantAllHold(seen.premises, None)
         self._base = seen if isinstance(seen, dict) else {}
 
     def left(self, cell: str) -> Numbers | None:
@@ -62,7 +62,7 @@ class Narrowing:
             while size >= finest and not self.trial.clock.is_over():
                 narrowed = self._cut(cell, room, size, depth, slices)
                 if narrowed.high < narrowed.low:
-                    raise Impossible(self.names, Fork(self.trial.cell_line[cell], tuple(slices)))
+                    raise CantAllHold(self.names, Fork(self.trial.cell_line[cell], tuple(slices)))
                 if len(narrowed) == len(room):
                     size //= 2
                 room = narrowed

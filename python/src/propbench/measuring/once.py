@@ -12,7 +12,7 @@ from propbench.measuring.bounds import BoundsOf, NoBound
 from propbench.measuring.linear import Linear, linear_of, summed
 from propbench.measuring.polynomials import Monomial, Polynomial, linear_of_polynomial
 from propbench.measuring.shapes import Undefined
-from propbench.measuring.terms import Law, Real, Sort, constant, power_of
+from propbench.measuring.terms import Law, Real, RealSort, constant, power_of
 from propbench.measuring.units import BARE
 
 _ONE, _TWO = Fraction(1), Fraction(2)
@@ -31,7 +31,7 @@ def _divided(real: Real, bounds: BoundsOf) -> Real:
     """A term with its quotients divided by their numerators, where these stand in the divisors and
     aren't zero."""
     made = replace(real, args=tuple(_divided(arg, bounds) for arg in real.args))
-    if made.sort is not Sort.QUOTIENT:
+    if made.sort is not RealSort.QUOTIENT:
         return made
     numerator, below = linear_of(made.args[0]), linear_of(made.args[1])
     if numerator.single is None or below.single is not None:
@@ -40,9 +40,9 @@ def _divided(real: Real, bounds: BoundsOf) -> Real:
     share = below.coefficient(atom)
     if not share or may_be_zero(atom, bounds):
         return made
-    rest = linear_of(Real(Sort.QUOTIENT, (_real(below.without(atom)), atom), BARE))
+    rest = linear_of(Real(RealSort.QUOTIENT, (_real(below.without(atom)), atom), BARE))
     divisor = summed([_real(rest), constant(share)])
-    quotient = Real(Sort.QUOTIENT, (constant(factor), divisor), made.dimension)
+    quotient = Real(RealSort.QUOTIENT, (constant(factor), divisor), made.dimension)
     return quotient
 
 
@@ -56,7 +56,7 @@ def may_be_zero(atom: Real, bounds: BoundsOf) -> bool:
 
 
 def _real(form: Linear) -> Real:
-    parts = [Real(Sort.PRODUCT, (constant(each), atom), BARE) for atom, each in form.terms]
+    parts = [Real(RealSort.PRODUCT, (constant(each), atom), BARE) for atom, each in form.terms]
     return summed([*parts, constant(form.constant)] if form.constant or not parts else parts)
 
 
@@ -94,5 +94,5 @@ def _completed(left: Polynomial, monomial: Monomial) -> Linear | None:
         moved = power_of(summed([factors[0], constant(share)]), _TWO)
         return linear_of(moved).times(factor).plus(linear_of(constant(-factor * share**2)))
     moved_by = [summed([atom, constant(share)]) for atom, share in zip(factors, reversed(shares))]
-    product = linear_of(Real(Sort.PRODUCT, (moved_by[0], moved_by[1]), BARE))
+    product = linear_of(Real(RealSort.PRODUCT, (moved_by[0], moved_by[1]), BARE))
     return product.times(factor).plus(linear_of(constant(-factor * shares[0] * shares[1])))

@@ -5,12 +5,12 @@ from dataclasses import dataclass
 from decimal import Decimal
 from fractions import Fraction
 
-from propbench.measuring.narrowing import Impossible, Narrowing
+from propbench.measuring.narrowing import CantAllHold, Narrowing
 from propbench.model.events import Read
 from propbench.model.measures import Interval, Measure, rounded
 from propbench.questions.asking import tried
 from propbench.questions.certificate import Certificate, Evidence
-from propbench.questions.clock import Clock, Progress
+from propbench.questions.clock import Clock
 from propbench.questions.conflicts import Premises
 from propbench.questions.hitting import Hitting, bits_of
 from propbench.questions.model import Model
@@ -132,7 +132,7 @@ class Weeding:
             if not is_out:
                 return None
             named = narrowing.names
-        except Impossible as impossible:
+        except CantAllHold as impossible:
             named = set(impossible.names)
         lines = [self.trial.line[name] in named for name in self.names]
         return sum(1 << place for place, is_in in enumerate(lines) if is_in) & mask, tree
@@ -193,16 +193,11 @@ def _short(number: Fraction) -> Decimal:
 
 
 def find_outliers(
-    model: Model,
-    readings: Readings,
-    related: Sequence[str],
-    most: int,
-    seconds: float | None,
-    progress: Progress | None,
+    model: Model, readings: Readings, related: Sequence[str], most: int, clock: Clock
 ) -> Outliers:
     """The minimal sets of readings to give up, so many at the most."""
     kept = [name for name in model.believed() if name not in readings]
-    trial = Trial(model, kept, Clock(seconds, progress))
+    trial = Trial(model, kept, clock)
     weeding = Weeding(trial, readings, related)
 
     def run() -> None:

@@ -1,8 +1,8 @@
 """Whole numbers that stand for reals, and how far apart the two may be.
 
-A part is a whole number for a real in steps: their distance is at most its radius. That is a number,
-or one that grows with other whole numbers, which are not negative: where a quantity may be anything
-from 0 to 1000, a product of it is told no worse when it is 5.
+A part is a whole number for a real in steps: their distance is at most its radius. That is a
+number, or one that grows with other whole numbers, which are not negative: where a quantity may be
+anything from 0 to 1000, a product of it is told no worse when it is 5.
 """
 
 from collections.abc import Iterable
@@ -21,7 +21,8 @@ from propbench.model.ranges import uncut_range_of
 MOST_WHOLE, MOST_DIVIDED, MOST_FACTOR = 8 * 10**17, 10**17, 6 * 10**8
 # What stands beside a radius in a constraint may be so large together with it.
 MOST_BESIDE = 99 * 10**16
-# A factor is rounded up that is less than this, and where it is told exactly, at most by the second.
+# A factor is rounded up that is less than this, and where it is told exactly, at most by the
+# second.
 _ROUGH, _EXACT = 60, 1000
 
 

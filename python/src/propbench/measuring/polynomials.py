@@ -3,7 +3,7 @@
 from fractions import Fraction
 
 from propbench.measuring.linear import Linear, linear_of, summed
-from propbench.measuring.terms import Real, Sort, constant, power_of, text_of
+from propbench.measuring.terms import Real, RealSort, constant, power_of, text_of
 from propbench.measuring.units import BARE
 
 # A product of powers: atoms with exponents that are not zero, in order.
@@ -27,19 +27,19 @@ def polynomial_of(form: Linear) -> Polynomial | None:
 
 def _expanded(real: Real) -> Polynomial | None:
     """A term with its products multiplied out."""
-    if real.sort is Sort.POWER:
+    if real.sort is RealSort.POWER:
         [base] = real.args
-        inner = polynomial_of(linear_of(base)) if base.sort is not Sort.QUANTITY else None
+        inner = polynomial_of(linear_of(base)) if base.sort is not RealSort.QUANTITY else None
         if inner is None or len(inner) == 1:
             return {((base, int(real.number)),): Fraction(1)}
         made: Polynomial | None = inner
         for _ in range(int(real.number) - 1):
             made = multiplied_out(made, inner)
         return made
-    if real.sort is Sort.PRODUCT:
+    if real.sort is RealSort.PRODUCT:
         left, right = (polynomial_of(linear_of(arg)) for arg in real.args)
         return multiplied_out(left, right)
-    if real.sort is Sort.QUOTIENT:
+    if real.sort is RealSort.QUOTIENT:
         above, below = (polynomial_of(linear_of(arg)) for arg in real.args)
         if below is None or len(below) != 1:
             return None
@@ -89,7 +89,7 @@ def linear_of_polynomial(made: Polynomial) -> Linear:
 def _real(monomial: Monomial, factor: Fraction) -> Real:
     """A product of powers, those with negative exponents below a line."""
     made = constant(factor, BARE)
-    for sign, sort in ((1, Sort.PRODUCT), (-1, Sort.QUOTIENT)):
+    for sign, sort in ((1, RealSort.PRODUCT), (-1, RealSort.QUOTIENT)):
         for atom, exponent in monomial:
             if exponent * sign > 0:
                 raised = power_of(atom, Fraction(abs(exponent)))
@@ -106,4 +106,4 @@ def factored(made: Polynomial) -> Real:
         return summed(_real(monomial, factor) for monomial, factor in made.items())
     inner = summed(_real(joined(each, ((often, 1),), -1), it) for each, it in within.items())
     outer = [_real(each, it) for each, it in made.items() if each not in within]
-    return summed([Real(Sort.PRODUCT, (often, inner), BARE), *outer])
+    return summed([Real(RealSort.PRODUCT, (often, inner), BARE), *outer])

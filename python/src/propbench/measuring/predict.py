@@ -9,7 +9,13 @@ from propbench.measuring.exact import Exact, exact_of, short
 from propbench.measuring.quantities import Quantity, coverage_text
 from propbench.measuring.readings import in_ascii
 from propbench.measuring.shaving import Shaved
-from propbench.measuring.tolerances import Part, Sort, is_relative, parts_of, size_of
+from propbench.measuring.tolerances import (
+    TolerancePart,
+    ToleranceSort,
+    is_relative,
+    parts_of,
+    size_of,
+)
 from propbench.measuring.units import Unit
 from propbench.model.measures import Interval
 from propbench.showing import printable
@@ -17,8 +23,8 @@ from propbench.showing import printable
 
 @dataclass(frozen=True)
 class Prediction:
-    """A further reading of a quantity has to show what lies in `shows`: what is left for the quantity
-    and the reading's tolerance around it. Any other is in conflict with `because`."""
+    """A further reading of a quantity has to show what lies in `shows`: what is left for the
+    quantity and the reading's tolerance around it. Any other is in conflict with `because`."""
 
     name: str
     tolerance: str
@@ -38,7 +44,7 @@ class Prediction:
 
 
 @dataclass(frozen=True)
-class Expected:
+class ExpectedTolerance:
     """The tolerance of a further reading: so much, in the quantity's unit, and a share of what it
     shows; and how that was written."""
 
@@ -55,19 +61,19 @@ class Expected:
         return least / below, most / above
 
 
-def expected(given: str | Exact | None, unit: Unit) -> Expected:
+def expected(given: str | Exact | None, unit: Unit) -> ExpectedTolerance:
     """The tolerance of a further reading of what is in a unit, as `+- 0.5 ohm`, `2 % + 1 ohm`, or
     a number. Raises NoReading for what is none, and MixedUnits."""
     if given is None:
-        return Expected(Fraction(0), Fraction(0), "")
+        return ExpectedTolerance(Fraction(0), Fraction(0), "")
     if not isinstance(given, str):
         size = exact_of(given)
         if size < 0:
             raise NoReading(f"{given} is a tolerance of less than nothing")
-        return Expected(size, Fraction(0), f"+- {given} {unit.text}".removesuffix(" 1"))
+        return ExpectedTolerance(size, Fraction(0), f"+- {given} {unit.text}".removesuffix(" 1"))
     written = in_ascii(given).removeprefix("+-").strip()
     parts = parts_of(written, written)
-    if any(part.sort is Sort.DIGITS for part in parts):
+    if any(part.sort is ToleranceSort.DIGITS for part in parts):
         raise NoReading(
             f"{short(given)!r}: what a digit is worth only a reading tells: say how much"
         )
@@ -77,17 +83,17 @@ def expected(given: str | Exact | None, unit: Unit) -> Expected:
         raise NoReading(f"{short(given)!r}: with a tolerance of all of it a reading tells nothing")
     others = [part for part in parts if part not in shares]
     size = size_of(others, Amount("0", ""), unit, written)
-    return Expected(size, share, f"+- {written}")
+    return ExpectedTolerance(size, share, f"+- {written}")
 
 
-def _is_of_reading(part: Part, unit: Unit, text: str) -> bool:
+def _is_of_reading(part: TolerancePart, unit: Unit, text: str) -> bool:
     """Whether a share is of what is read. Raises NoReading for a unit behind it."""
     if part.unit:
         raise NoReading(f"{short(text)!r}: {part.unit!r} behind `{part.share}` is not understood")
-    return part.sort is not Sort.AMOUNT and is_relative(part, unit, text)
+    return part.sort is not ToleranceSort.AMOUNT and is_relative(part, unit, text)
 
 
-def predicted(quantity: Quantity, left: Shaved, tolerance: Expected) -> Prediction:
+def predicted(quantity: Quantity, left: Shaved, tolerance: ExpectedTolerance) -> Prediction:
     """What a further reading of this tolerance has to show."""
     assert isinstance(left.value, Interval)
     measure = quantity.measure

@@ -3,9 +3,9 @@
 from fractions import Fraction
 
 from propbench.measuring.exact import Exact, exact_of, number_in
-from propbench.measuring.terms import Real, Sort, Term
+from propbench.measuring.terms import Real, RealSort, Term
 from propbench.measuring.units import Unit, unit_of
-from propbench.model.cells import Asked, Cell
+from propbench.model.cells import Answerer, Cell
 from propbench.model.measured import MeasuredAnswer as MeasuredAnswer
 from propbench.model.measured import coverage_of as coverage_of
 from propbench.model.measured import coverage_text as coverage_text
@@ -28,7 +28,7 @@ class Quantity(Cell, Term):
     height = 11.5..12.5 m because of tape
     """
 
-    def __init__(self, declared: Declared, workbench: Asked) -> None:
+    def __init__(self, declared: Declared, workbench: Answerer) -> None:
         super().__init__(declared, workbench)
         assert declared.measure is not None
         self._measure = declared.measure
@@ -56,7 +56,7 @@ class Quantity(Cell, Term):
 
     @property
     def real(self) -> Real:
-        return Real(Sort.QUANTITY, (), self._unit.dimension, declared=self.declared)
+        return Real(RealSort.QUANTITY, (), self._unit.dimension, declared=self.declared)
 
     def ask(self, *, over: str | None = None, seconds: float | None = None) -> MeasuredAnswer:
         """What follows for the quantity: real numbers between which it lies, outward.
@@ -104,7 +104,8 @@ def measure_between(
     if most > _MOST * counted:
         wanted = _usual_step(most / unit.factor)
         raise ValueError(
-            f"{name!r} has more steps than a cell can count: step={rounded(wanted, True):f} would do"
+            f"{name!r} has more steps than a cell can count: step={rounded(wanted, True):f} would"
+            " do"
         )
     while most * 10 <= (_FINEST if step is None else _FINE) * counted:
         counted /= 10
@@ -112,8 +113,8 @@ def measure_between(
 
 
 def countable(step: Fraction, unit: Unit, between: tuple[Fraction, Fraction]) -> Fraction:
-    """A step, or ten times as much so often that a cell can count what lies between two numbers in a
-    unit."""
+    """A step, or ten times as much so often that a cell can count what lies between two numbers in
+    a unit."""
     most = max(abs(end * unit.factor + unit.offset) for end in between)
     while most > _MOST * step * unit.factor:
         step *= 10

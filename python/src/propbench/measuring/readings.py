@@ -1,10 +1,11 @@
 """Readings as laboratories write them, as bounds in base units.
 
 `468.0 +- 1.2 ohm`, `470 ohm +- 5%` and `330..345 ohm` are bounds; what may stand behind `+-` is in
-`tolerances`. `468.0(47) ohm`, `468.0 ohm u=4.7`, `468.0 ohm U=9.4 k=2` and `468.0 ohm s=9.4 n=4` tell a standard
-uncertainty, which as a bound would convict a third of innocent readings: it is taken so many times
-as its coverage says. `12.5 kohm` holds half a unit of its last digit, and a number that is no text
-is exact. Behind a bound may stand how its reading is distributed: `468.0 +- 1.2 ohm triangular`.
+`tolerances`. `468.0(47) ohm`, `468.0 ohm u=4.7`, `468.0 ohm U=9.4 k=2` and `468.0 ohm s=9.4 n=4`
+tell a standard uncertainty, which as a bound would convict a third of innocent readings: it is
+taken so many times as its coverage says. `12.5 kohm` holds half a unit of its last digit, and a
+number that is no text is exact. Behind a bound may stand how its reading is distributed: `468.0 +-
+1.2 ohm triangular`.
 """
 
 import re
@@ -24,11 +25,11 @@ from propbench.measuring.exact import (
     short,
 )
 from propbench.measuring.means import mean_in
-from propbench.measuring.tolerances import Part, Sort, parts_of, size_of, unit_in
+from propbench.measuring.tolerances import TolerancePart, ToleranceSort, parts_of, size_of, unit_in
 from propbench.measuring.units import SHARES, Unit, unit_of
 
 # What a user gives for a reading: a text, a number, or the two ends of an interval.
-Given = str | Exact | tuple["Exact | str", "Exact | str"]
+GivenReading = str | Exact | tuple["Exact | str", "Exact | str"]
 COVERAGE = 3
 # A reading has so many characters at the most.
 MOST_CHARACTERS = 4000
@@ -65,7 +66,7 @@ def constant_of(text: str) -> tuple[Fraction, Unit]:
     return amount.value * unit.factor + unit.offset, unit
 
 
-def reading_of(given: Given, unit: Unit, coverage: Exact = COVERAGE) -> Reading:
+def reading_of(given: GivenReading, unit: Unit, coverage: Exact = COVERAGE) -> Reading:
     """A reading of what is in this unit: a text without a unit is in it too.
 
     Raises NoReading, UnknownUnit, and MixedUnits where it is in a unit of another sort.
@@ -178,12 +179,13 @@ def _with_tolerance(text: str, sign: str, unit: Unit, coverage: Fraction | None)
     return _around(amount, size_of(parts, amount, named, text) * times, named, text, coverage)
 
 
-def _in_unit(amount: Amount, parts: Sequence[Part], outer: str, text: str) -> Amount:
-    """A value whose unit, which is that of its tolerance too, stands behind the brackets of both."""
+def _in_unit(amount: Amount, parts: Sequence[TolerancePart], outer: str, text: str) -> Amount:
+    """A value whose unit, which is that of its tolerance too, stands behind the brackets of
+    both."""
     inner = [name for part in parts for name in part.units]
     if amount.unit or inner:
         raise NoReading(f"{short(text)!r} has a unit within the brackets and one behind them")
-    if outer in SHARES and any(part.sort is Sort.SHARE for part in parts):
+    if outer in SHARES and any(part.sort is ToleranceSort.SHARE for part in parts):
         raise NoReading(f"{short(text)!r}: write `of reading` behind a share of what is read")
     return Amount(amount.number, outer)
 

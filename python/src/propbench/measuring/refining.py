@@ -7,7 +7,7 @@ What is told of a piece holds whatever is believed, so pieces stay.
 from collections.abc import Collection, Iterable, Iterator, Mapping, Sequence
 from dataclasses import dataclass, field
 
-from propbench.measuring.bends import Bend, Piece, Place
+from propbench.measuring.bends import Bend, Piece, PiecePlace
 from propbench.measuring.curves import Segments
 from propbench.measuring.stating import BendTold, told_pieces
 from propbench.model.events import Event
@@ -26,13 +26,13 @@ _BEGUN, _FINEST = 3, 56
 _GAIN = 0.002
 
 # The pieces of a curve that are told; None for those of which there is nothing to tell.
-Told = dict[Place, Piece | None]
+ToldPieces = dict[PiecePlace, Piece | None]
 
 
 @dataclass(frozen=True)
 class Sharp:
-    """That no finer pieces are needed of curves among some cells, for so many parts, as long as what
-    is stated and believed is this."""
+    """That no finer pieces are needed of curves among some cells, for so many parts, as long as
+    what is stated and believed is this."""
 
     record: object
     cells: frozenset[Declared]
@@ -50,7 +50,7 @@ class Sharpening:
     so many `parts` of it, where these are more than 0."""
 
     parts: int
-    pieces: dict[tuple[Bend, str | None], Told] = field(default_factory=dict)
+    pieces: dict[tuple[Bend, str | None], ToldPieces] = field(default_factory=dict)
     _widths: dict[Bend, tuple[int, int]] = field(default_factory=dict)
 
     @staticmethod
@@ -101,9 +101,10 @@ def _ends(bend: Bend, argument: Numbers, value: Numbers) -> list[int]:
     return list(dict.fromkeys((begun, ended, *by_value)))
 
 
-def _at_ends(bend: Bend, ends: Iterable[int], told: Told, near: int) -> Iterator[Place]:
-    """Finer pieces at some numbers of the argument's cell, where lines aren't near yet: each with the
-    one beside it that is nearer, since a piece tells nothing of what lies just within its end."""
+def _at_ends(bend: Bend, ends: Iterable[int], told: ToldPieces, near: int) -> Iterator[PiecePlace]:
+    """Finer pieces at some numbers of the argument's cell, where lines aren't near yet: each with
+    the one beside it that is nearer, since a piece tells nothing of what lies just within its
+    end."""
     if isinstance(bend.curve, Segments):
         return
     low, high = bend.whole
@@ -123,7 +124,7 @@ def _at_ends(bend: Bend, ends: Iterable[int], told: Told, near: int) -> Iterator
                 yield found
 
 
-def _parts(bend: Bend, left: Numbers, told: Told, parts: int) -> Iterator[Place]:
+def _parts(bend: Bend, left: Numbers, told: ToldPieces, parts: int) -> Iterator[PiecePlace]:
     """Pieces that are as fine as so many parts of what is left for the argument, where lines aren't
     near yet."""
     low, high = bend.whole
@@ -141,20 +142,20 @@ def _parts(bend: Bend, left: Numbers, told: Told, parts: int) -> Iterator[Place]
             yield place
 
 
-def _place(bend: Bend, at: int, power: int) -> Place:
+def _place(bend: Bend, at: int, power: int) -> PiecePlace:
     """One of two to this power of pieces of a bend."""
     low, high = bend.whole
     return low + ((high - low) * at >> power), low + ((high - low) * (at + 1) >> power)
 
 
-def _is_near(place: Place, told: Told) -> bool:
+def _is_near(place: PiecePlace, told: ToldPieces) -> bool:
     """Whether the lines of a piece that is told and that another lies in are near already."""
     around = [each for each in told if each[0] <= place[0] and place[1] <= each[1]]
     piece = told[min(around, key=_size)] if around else None
     return bool(around) and (piece is None or piece.lines.width <= _NEAR)
 
 
-def _size(place: Place) -> int:
+def _size(place: PiecePlace) -> int:
     return max(1, place[1] - place[0])
 
 

@@ -5,8 +5,8 @@ from dataclasses import dataclass
 from fractions import Fraction
 
 from propbench.measuring.parts import size_of
-from propbench.measuring.stating import Stated, quantities_in
-from propbench.measuring.translation import Told
+from propbench.measuring.stating import StatedLaw, quantities_in
+from propbench.measuring.translation import LawInSteps
 from propbench.model.measures import Interval
 from propbench.model.nodes import Declared
 from propbench.questions.clock import Clock
@@ -16,10 +16,10 @@ from propbench.questions.trial import Seen, Trial
 
 
 @dataclass(frozen=True)
-class Room:
+class GapSeen:
     """How far the two sides of a law may be apart before that is seen: by a `share` of the largest
-    that its terms may be. `widths` has how wide each quantity's answer is where the others are known
-    exactly; without the room it would be a single number."""
+    that its terms may be. `widths` has how wide each quantity's answer is where the others are
+    known exactly; without the room it would be a single number."""
 
     law: str
     share: Fraction
@@ -31,7 +31,7 @@ class Room:
         return "\n".join([told, *widths])
 
 
-def find_room(model: Model, stated: Stated) -> Room:
+def find_room(model: Model, stated: StatedLaw) -> GapSeen:
     """The room of a law that was stated: how wide each of its quantities is where the others are at
     the middle of what is left for them, is asked of the program."""
     told = stated.written
@@ -46,7 +46,7 @@ def find_room(model: Model, stated: Stated) -> Room:
             if left is not None and cell.measure is not None:
                 ends = cell.measure.reals(left.low, left.high)
                 widths[cell.name] = cell.measure.interval(*ends)
-    return Room(stated.law.text, share_of(told), widths)
+    return GapSeen(stated.law.text, share_of(told), widths)
 
 
 def _left(seen: Seen, cell: Declared) -> Numbers | None:
@@ -60,6 +60,6 @@ def _middle(seen: Seen, cell: Declared) -> Numbers | None:
     return None if middle is None else Numbers(middle, middle)
 
 
-def share_of(told: Told) -> Fraction:
+def share_of(told: LawInSteps) -> Fraction:
     """The room of a law as a part of what its terms may be."""
     return told.radius.most / max(size_of(told.node), 1)

@@ -1,11 +1,11 @@
-"""Which reading to improve: how wide a quantity's answer is where each tolerance is halved, and where
-the reading is left out.
+"""Which reading to improve: how wide a quantity's answer is where each tolerance is halved, and
+where the reading is left out.
 """
 
-from collections.abc import Mapping, Sequence
+from collections.abc import Iterable, Mapping, Sequence
 from dataclasses import dataclass
 
-from propbench.measuring.narrowing import Impossible, Narrowing
+from propbench.measuring.narrowing import CantAllHold, Narrowing
 from propbench.measuring.quantities import Quantity
 from propbench.measuring.readings import Reading
 from propbench.model.events import Read
@@ -32,8 +32,8 @@ class Improvement:
 
 
 class Improvements(Shown, list[Improvement]):
-    """What each reading is worth to a quantity, whose answer now is `now`: that in front whose better
-    tolerance makes the answer narrowest."""
+    """What each reading is worth to a quantity, whose answer now is `now`: that in front whose
+    better tolerance makes the answer narrowest."""
 
     _certificate: Certificate | None = None
 
@@ -77,27 +77,12 @@ def find_improvements(
     )
     found: dict[tuple[str, bool], Interval | None] = {}
 
-    def left(premises: Sequence[str], told: Sequence[Case] = ()) -> Interval | None:
-        narrowing = Narrowing(trial, premises, (), told, depth=0)
-        try:
-            narrowing.begin()
-            room = narrowing.left(quantity.name)
-            if room is not None:
-                room, _ = narrowing.shaved(quantity.name, room)
-        except Impossible:
-            return None
-        if room is None:
-            return None
-        ends = quantity.measure.reals(room.low, room.high)
-        low, high = max(ends[0], quantity.measure.low), min(ends[1], quantity.measure.high)
-        return quantity.measure.interval(min(low, high), max(low, high))
-
     def run() -> None:
-        found["", False] = left(believed)
+        found["", False] = _left(trial, quantity, believed)
         for name, stated in readings.items():
             others = [each for each in believed if each != name]
-            found[name, False] = left(others)
-            found[name, True] = left(others, [_halved(read) for read in stated])
+            found[name, False] = _left(trial, quantity, others)
+            found[name, True] = _left(trial, quantity, others, map(_halved, stated))
 
     def result() -> Improvements:
         rows = [
@@ -109,6 +94,25 @@ def find_improvements(
         return Improvements(quantity.name, found.get(("", False)), rows, is_all)
 
     return tried(trial, run, result)
+
+
+def _left(
+    trial: Trial, quantity: Quantity, premises: Sequence[str], told: Iterable[Case] = ()
+) -> Interval | None:
+    """What is left for a quantity under these premises and what is told beside them; None where
+    nothing is known, or they can't all hold."""
+    narrowing = Narrowing(trial, premises, (), list(told), depth=0)
+    try:
+        narrowing.begin()
+        room = narrowing.left(quantity.name)
+        if room is None:
+            return None
+        room, _ = narrowing.shaved(quantity.name, room)
+    except CantAllHold:
+        return None
+    ends = quantity.measure.reals(room.low, room.high)
+    low, high = max(ends[0], quantity.measure.low), min(ends[1], quantity.measure.high)
+    return quantity.measure.interval(min(low, high), max(low, high))
 
 
 def _halved(read: Read) -> Case:

@@ -16,7 +16,7 @@ from propbench.measuring.curves import (
     ZERO,
     Curve,
     Exponential,
-    Points,
+    CurvePoints,
     Power,
     Segments,
     Tangent,
@@ -24,7 +24,7 @@ from propbench.measuring.curves import (
     half_turn,
     inverse,
 )
-from propbench.measuring.enclosing import Ends
+from propbench.measuring.enclosing import EnclosingEnds
 from propbench.measuring.units import BARE, Dimension, MixedUnits, dimension_text, to_power
 
 # The dimension of angles in degrees; those in radians are bare numbers.
@@ -41,7 +41,7 @@ class Undefined(ValueError):
     those of a table's points."""
 
 
-class Name(Enum):
+class FunctionName(Enum):
     """Which function."""
 
     EXP = "exp"
@@ -58,7 +58,7 @@ class Name(Enum):
     TABLE = "table"
 
 
-_OF_ANGLES = (Name.SIN, Name.COS, Name.TAN)
+_OF_ANGLES = (FunctionName.SIN, FunctionName.COS, FunctionName.TAN)
 
 
 class Join(Enum):
@@ -70,12 +70,12 @@ class Join(Enum):
 
 
 @dataclass(frozen=True)
-class Table:
+class CurveTable:
     """Points of a curve in base units, with straight lines between them, how far the values may be
     off, and of what in what it is."""
 
     name: str
-    points: Points
+    points: CurvePoints
     off: Fraction
     argument: Dimension
     value: Dimension
@@ -90,10 +90,10 @@ class Function:
     """A function, of angles in degrees or giving them where that is said, by an exponent or a table
     where it needs one. With a `branch` it is that curve of several alone."""
 
-    name: Name
+    name: FunctionName
     in_degrees: bool = False
     exponent: Fraction = ZERO
-    table: Table | None = None
+    table: CurveTable | None = None
     branch: int | None = None
 
     @property
@@ -103,7 +103,7 @@ class Function:
 
     def dimension_of(self, argument: Dimension) -> Dimension:
         """The dimension of its values. Raises MixedUnits where there are none of this argument."""
-        if self.name is Name.POWER:
+        if self.name is FunctionName.POWER:
             return to_power(argument, self.exponent)
         wanted, given = BARE, BARE
         if self.table is not None:
@@ -132,7 +132,7 @@ class Shape:
     joins: tuple[Join, ...] = ()
     is_inverse: bool = False
 
-    def bounds(self, argument: Ends) -> Ends:
+    def bounds(self, argument: EnclosingEnds) -> EnclosingEnds:
         """Between what its values lie, where the argument lies there."""
         if self.is_inverse:
             [curve] = self.curves
@@ -142,7 +142,7 @@ class Shape:
         return min(ends), max(ends)
 
 
-def range_of(curve: Curve, argument: Ends) -> Ends:
+def range_of(curve: Curve, argument: EnclosingEnds) -> EnclosingEnds:
     """Between what the values of a curve lie, which goes on level beyond its ends."""
     ends = [end for at in argument for end in curve.value(clipped(curve, at))]
     return min(ends), max(ends)
@@ -155,31 +155,31 @@ def clipped(curve: Curve, at: Fraction) -> Fraction:
     return at if high is None else min(at, high)
 
 
-def shape_of(function: Function, argument: Ends) -> Shape:
+def shape_of(function: Function, argument: EnclosingEnds) -> Shape:
     """The curves of a function where its argument may be. Raises Undefined, which says where it has
     no value."""
     low, high = argument
     name, in_degrees = function.name, function.in_degrees
-    if name in (Name.EXP, Name.EXP10):
+    if name in (FunctionName.EXP, FunctionName.EXP10):
         if high > MOST_EXPONENT:
             raise Undefined(f"can't be told for {{}} above {MOST_EXPONENT}{_MAY_BE}")
-        return Shape((Exponential(10 if name is Name.EXP10 else None),))
-    if name in (Name.LN, Name.LOG10):
+        return Shape((Exponential(10 if name is FunctionName.EXP10 else None),))
+    if name in (FunctionName.LN, FunctionName.LOG10):
         _check(low > 0, "where that is 0 or less")
-        return Shape((Exponential(10 if name is Name.LOG10 else None),), is_inverse=True)
-    if name is Name.POWER:
+        return Shape((Exponential(10 if name is FunctionName.LOG10 else None),), is_inverse=True)
+    if name is FunctionName.POWER:
         _check(low >= 0, "where that is less than 0")
         exponent = function.exponent
         is_root = exponent < 1
         return Shape((Power(1 / exponent if is_root else exponent),), is_inverse=is_root)
-    if name is Name.TAN:
+    if name is FunctionName.TAN:
         return Shape((Tangent(_branch_of_tangent(argument, in_degrees), in_degrees),))
-    if name is Name.ATAN:
+    if name is FunctionName.ATAN:
         return Shape((Tangent(0, in_degrees),), is_inverse=True)
-    if name in (Name.ASIN, Name.ACOS):
+    if name in (FunctionName.ASIN, FunctionName.ACOS):
         _check(-1 <= low and high <= 1, "beyond -1..1")
-        return Shape((Wave(name is Name.ACOS, 0, in_degrees),), is_inverse=True)
-    if name is Name.TABLE:
+        return Shape((Wave(name is FunctionName.ACOS, 0, in_degrees),), is_inverse=True)
+    if name is FunctionName.TABLE:
         assert function.table is not None
         return _table(function, argument)
     return _wave(function, argument)
@@ -190,7 +190,7 @@ def _check(is_there: bool, where: str) -> None:
         raise Undefined(f"has no value for {{}} {where}{_MAY_BE}")
 
 
-def _branch_of_tangent(argument: Ends, in_degrees: bool) -> int:
+def _branch_of_tangent(argument: EnclosingEnds, in_degrees: bool) -> int:
     """Between which poles an argument lies."""
     half = half_turn(in_degrees)[0]
     branch = floor((argument[0] + argument[1]) / 2 / half + HALF)
@@ -202,9 +202,9 @@ def _branch_of_tangent(argument: Ends, in_degrees: bool) -> int:
     return branch
 
 
-def _wave(function: Function, argument: Ends) -> Shape:
+def _wave(function: Function, argument: EnclosingEnds) -> Shape:
     """The curves of a sine or cosine where its argument may be."""
-    is_cosine = function.name is Name.COS
+    is_cosine = function.name is FunctionName.COS
     half, shift = half_turn(function.in_degrees)[0], ZERO if is_cosine else HALF
     first, last = (end / half + shift for end in argument)
     tiny = Fraction(1, 10**40)
@@ -219,7 +219,7 @@ def _wave(function: Function, argument: Ends) -> Shape:
     return Shape(curves, tuple(joins))
 
 
-def _table(function: Function, argument: Ends) -> Shape:
+def _table(function: Function, argument: EnclosingEnds) -> Shape:
     """The curves of a table: from each of its turns to the next."""
     assert function.table is not None
     points = function.table.points
@@ -236,7 +236,7 @@ def _table(function: Function, argument: Ends) -> Shape:
     return Shape(tuple(curves), (Join.SUM,) * (len(curves) - 1))
 
 
-def _step(points: Points, place: int) -> int:
+def _step(points: CurvePoints, place: int) -> int:
     """Whether a point is higher than the one before, or lower (-1), or as high (0)."""
     before, now = points[place - 1][1], points[place][1]
     return (now > before) - (now < before)

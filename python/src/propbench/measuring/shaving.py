@@ -1,10 +1,10 @@
 """What follows for a quantity, as narrow as telling and forgetting makes it."""
 
-from collections.abc import Sequence
+from collections.abc import Mapping, Sequence
 from dataclasses import dataclass
 from typing import Protocol
 
-from propbench.measuring.narrowing import Impossible, Narrowing
+from propbench.measuring.narrowing import CantAllHold, Narrowing
 from propbench.measuring.quantities import MeasuredAnswer, Quantity, measured
 from propbench.model.answers import Answer
 from propbench.model.nodes import Declared
@@ -29,13 +29,14 @@ class Shaved(MeasuredAnswer):
 
     @property
     def certificate(self) -> Certificate:
-        """What anyone can ask the program again. Raises ValueError where there is nothing to show."""
+        """What anyone can ask the program again. Raises ValueError where there is nothing to
+        show."""
         if self._certificate is None:
             raise ValueError("there is nothing that a certificate could show")
         return self._certificate.finished()
 
 
-class Bench(Protocol):
+class ShavedBench(Protocol):
     """What is asked of a workbench."""
 
     @property
@@ -61,7 +62,7 @@ class Bench(Protocol):
 
 
 def find_shaved(
-    bench: Bench, quantity: Quantity, seconds: float | None, progress: Progress | None
+    bench: ShavedBench, quantity: Quantity, seconds: float | None, progress: Progress | None
 ) -> Shaved:
     """The narrowest that is found for a quantity."""
     model, name = bench.model, quantity.name
@@ -84,26 +85,35 @@ def find_shaved(
 
     def result() -> Shaved:
         if "room" not in state:
-            known = measured(bench._known(quantity.declared, clock))
-            return Shaved(**vars(known), complete=False)
+            return Shaved(**vars(measured(bench._known(quantity.declared, clock))), complete=False)
         room, begun = state["room"], state["begun"]
         because = [each for each in believed if trial.line[each] in narrowing.names]
         told = bench._told(quantity, room, because)
-        claims, evidence = [], Evidence.of(trial)
         line = trial.cell_line[name]
-        for outside in (Numbers(-MOST, room.low - 1), Numbers(room.high + 1, MOST)):
-            cases = _cases(outside, begun, slices)
-            evidence.add_tree(believed, [[line, str(outside)]], Fork(line, tuple(cases)))
-            given = evidence.lines_of(believed)
-            claims.append(("fails", {"given": given, "told": [[line, str(outside)]]}))
-        certificate = evidence.certificate(claims)
+        sides = {
+            str(outside): Fork(line, tuple(_cases(outside, begun, slices)))
+            for outside in (Numbers(-MOST, room.low - 1), Numbers(room.high + 1, MOST))
+        }
+        certificate = _shown_to_fail(trial, believed, line, sides)
         return Shaved(**vars(told), complete=not clock.is_over(), _certificate=certificate)
 
     try:
         return tried(trial, run, result)
-    except Impossible as impossible:
+    except CantAllHold as impossible:
         names = [each for each in believed if trial.line[each] in impossible.names]
         raise bench._conflict_of(names, clock.seconds_left()) from None
+
+
+def _shown_to_fail(
+    trial: Trial, believed: Sequence[str], line: str, sides: Mapping[str, Fork]
+) -> Certificate | None:
+    """What shows that the cell of a line has none of these values, each in its cases."""
+    claims, evidence = [], Evidence.of(trial)
+    for text, fork in sides.items():
+        evidence.add_tree(believed, [[line, text]], fork)
+        given = evidence.lines_of(believed)
+        claims.append(("fails", {"given": given, "told": [[line, text]]}))
+    return evidence.certificate(claims)
 
 
 def _cases(

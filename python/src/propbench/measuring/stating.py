@@ -7,12 +7,12 @@ from propbench.measuring.bends import Bend, Piece
 from propbench.measuring.bounds import BoundsOf
 from propbench.measuring.combining import combined
 from propbench.measuring.defining import Definitions, RootOf
-from propbench.measuring.forms import Form, forms_of
+from propbench.measuring.forms import SumForm, forms_of
 from propbench.measuring.logarithms import by_logarithm
 from propbench.measuring.polynomials import Polynomial, polynomial_of
 from propbench.measuring.readings import Reading
-from propbench.measuring.terms import Law, Real, Sort, text_of
-from propbench.measuring.translation import Told, TooCoarse, Translator
+from propbench.measuring.terms import Law, Real, RealSort, text_of
+from propbench.measuring.translation import LawInSteps, TooCoarse, Translator
 from propbench.model.events import CellMade, LawStated, Read
 from propbench.model.given import cells_of
 from propbench.model.kinds import Plain
@@ -24,12 +24,12 @@ _FINER = 10
 
 
 @dataclass(frozen=True)
-class Stated:
+class StatedLaw:
     """A law in whole numbers: the form as it was written, and a constraint that says this and what
     else follows from it and from other laws."""
 
     law: Law
-    written: Told
+    written: LawInSteps
     under: str | None
     constraint: Node
     # The law as a sum of products that is zero, where it is one.
@@ -40,7 +40,7 @@ class Stated:
 class LawTold(LawStated):
     """A law of the user's holds, and how it is told."""
 
-    stated: Stated = field(compare=False)
+    stated: StatedLaw = field(compare=False)
 
 
 @dataclass(frozen=True)
@@ -64,16 +64,16 @@ class RootMade(CellMade):
 
 @dataclass(frozen=True)
 class Defined:
-    """What a law needs beside it: the laws and the curves that say what the roots and functions in it
-    are."""
+    """What a law needs beside it: the laws and the curves that say what the roots and functions in
+    it are."""
 
-    laws: list[Stated]
+    laws: list[StatedLaw]
     bends: list[Bend]
 
 
 def stated(
     law: Law, before: Sequence[Polynomial], under: str | None, root_of: RootOf
-) -> tuple[Stated, Defined]:
+) -> tuple[StatedLaw, Defined]:
     """A law as it is told, and what says what the roots and functions in it are. `before` are
     equations that hold always as this one, with which it may be combined.
 
@@ -87,7 +87,7 @@ def stated(
 
 def _stated(
     law: Law, before: Sequence[Polynomial], under: str | None, root_of: RootOf
-) -> tuple[Stated, Defined]:
+) -> tuple[StatedLaw, Defined]:
     bounds = BoundsOf()
     defined = Definitions(root_of, bounds)
     translator = Translator(bounds, defined.quantity)
@@ -97,7 +97,7 @@ def _stated(
     if before and equation:
         forms += combined(before, equation)
     constraints = [written.constraint, *(_constraint(translator, form) for form in forms)]
-    found = Stated(law, written, under, all_of(constraints), equation)
+    found = StatedLaw(law, written, under, all_of(constraints), equation)
     laws, bends = [], list(defined.bends)
     for each in defined.laws:
         inner, more = _stated(each, (), under, root_of)
@@ -146,7 +146,7 @@ def _with(law: Law, quantity: Declared, other: Declared) -> Law:
     return replace(law, left=put(law.left), right=put(law.right))
 
 
-def _constraint(translator: Translator, form: Form) -> Node:
+def _constraint(translator: Translator, form: SumForm) -> Node:
     """The constraint of a form that follows anyway: none where it can't be told."""
     try:
         return translator.told(form.sum, form.is_equation).constraint
@@ -166,7 +166,7 @@ def quantities_in(law: Law) -> list[Declared]:
     waiting: list[Real] = [law.right, law.left]
     while waiting:
         each = waiting.pop()
-        if each.sort is Sort.QUANTITY:
+        if each.sort is RealSort.QUANTITY:
             found[each.quantity] = None
         waiting += reversed(each.args)
     return list(found)

@@ -12,7 +12,7 @@ from typing import NoReturn
 
 from propbench.measuring.exact import Exact, exact_of, is_number
 from propbench.measuring.readings import constant_of
-from propbench.measuring.shapes import Function, Name
+from propbench.measuring.shapes import Function, FunctionName
 from propbench.measuring.units import (
     BARE,
     Dimension,
@@ -27,7 +27,7 @@ from propbench.model.nodes import Declared
 from propbench.showing import printable
 
 
-class Sort(Enum):
+class RealSort(Enum):
     """What a real does with its arguments."""
 
     QUANTITY = "quantity"
@@ -53,7 +53,7 @@ class Real:
     how a constant was written, and `is_temperature` says that its unit has a zero of its own.
     `function` is what is taken of the argument."""
 
-    sort: Sort
+    sort: RealSort
     args: tuple["Real", ...]
     dimension: Dimension
     number: Fraction = Fraction(0)
@@ -77,7 +77,7 @@ class Real:
 
 def constant(number: Fraction, dimension: Dimension = BARE, text: str = "") -> Real:
     """A constant, in base units."""
-    return Real(Sort.CONSTANT, (), dimension, number, None, text)
+    return Real(RealSort.CONSTANT, (), dimension, number, None, text)
 
 
 ONE = constant(Fraction(1))
@@ -114,19 +114,19 @@ class Term:
         return Made(power_of(self.real, Fraction(1, 2)))
 
     def __add__(self, other: "Term | Exact | str") -> "Term":
-        return Made(_added(Sort.SUM, self, other))
+        return Made(_added(RealSort.SUM, self, other))
 
     def __radd__(self, other: "Exact | str") -> "Term":
         if other == 0 and not isinstance(other, str):
             # (so `sum(terms)` begins)
             return self
-        return Made(_added(Sort.SUM, other, self))
+        return Made(_added(RealSort.SUM, other, self))
 
     def __sub__(self, other: "Term | Exact | str") -> "Term":
-        return Made(_added(Sort.DIFFERENCE, self, other))
+        return Made(_added(RealSort.DIFFERENCE, self, other))
 
     def __rsub__(self, other: "Exact | str") -> "Term":
-        return Made(_added(Sort.DIFFERENCE, other, self))
+        return Made(_added(RealSort.DIFFERENCE, other, self))
 
     def __mul__(self, other: "Term | Exact | str") -> "Term":
         return Made(_multiplied(real_of(self), real_of(other)))
@@ -144,13 +144,13 @@ class Term:
         return Made(power_of(self.real, exact_of(power)))
 
     def __neg__(self) -> "Term":
-        return Made(Real(Sort.NEGATIVE, (self.real,), self.real.dimension))
+        return Made(Real(RealSort.NEGATIVE, (self.real,), self.real.dimension))
 
     def __pos__(self) -> "Term":
         return self
 
     def __abs__(self) -> "Term":
-        return Made(Real(Sort.ABSOLUTE, (self.real,), self.real.dimension))
+        return Made(Real(RealSort.ABSOLUTE, (self.real,), self.real.dimension))
 
     # (object's `==` gives a bool; here it makes a law, which is the point of the class)
     def __eq__(self, other: "Term | Exact | str") -> "Law":  # type: ignore[override]
@@ -192,6 +192,10 @@ class Made(Term):
         return self._real
 
 
+# A term, or a constant beside terms, as a text or a number.
+Operand = Term | Exact | str
+
+
 @dataclass(frozen=True)
 class Law:
     """Two terms and what holds between them: `==`, or `<=` of the first and the second. A law with
@@ -228,13 +232,13 @@ def real_of(value: object) -> Real:
     )
 
 
-def mean(*terms: "Term | Exact | str | Iterable[Term]") -> Term:
+def mean(*terms: Operand | Iterable[Term]) -> Term:
     """The mean of these terms, given one by one or as one list."""
     reals = reals_of(terms)
-    return Made(Real(Sort.MEAN, tuple(reals), _common(reals)))
+    return Made(Real(RealSort.MEAN, tuple(reals), _common(reals)))
 
 
-def extreme(sort: Sort, terms: "Iterable[object]") -> Term:
+def extreme(sort: RealSort, terms: "Iterable[object]") -> Term:
     """The greatest or the least of these terms, given one by one or as one list."""
     reals = reals_of(terms)
     return Made(Real(sort, tuple(dict.fromkeys(reals)), _common(reals)))
@@ -243,7 +247,7 @@ def extreme(sort: Sort, terms: "Iterable[object]") -> Term:
 def sum_of(terms: "Iterable[object]") -> Term:
     """The sum of these terms."""
     reals = reals_of(terms)
-    return Made(reals[0] if len(reals) == 1 else Real(Sort.SUM, tuple(reals), _common(reals)))
+    return Made(reals[0] if len(reals) == 1 else Real(RealSort.SUM, tuple(reals), _common(reals)))
 
 
 def reals_of(terms: Iterable[object]) -> list[Real]:
@@ -266,7 +270,7 @@ _MOST_POWER, _MOST_ROOT = 1000, 1000
 def power_of(base: Real, power: Fraction) -> Real:
     """A power by a whole number, the square root, or another fraction."""
     if power == Fraction(1, 2):
-        return Real(Sort.ROOT, (base,), to_power(base.dimension, power))
+        return Real(RealSort.ROOT, (base,), to_power(base.dimension, power))
     if power.denominator > _MOST_ROOT:
         raise ValueError(
             f"a power is by a whole number, or by a fraction of {_MOST_ROOT}ths at the most as "
@@ -281,10 +285,10 @@ def power_of(base: Real, power: Fraction) -> Real:
     if power == 1:
         return base
     if power.denominator != 1:
-        return function_of(Function(Name.POWER, exponent=power), base)
-    if base.sort is Sort.POWER:
+        return function_of(Function(FunctionName.POWER, exponent=power), base)
+    if base.sort is RealSort.POWER:
         return power_of(base.args[0], base.number * power)
-    return Real(Sort.POWER, (base,), to_power(base.dimension, power), power)
+    return Real(RealSort.POWER, (base,), to_power(base.dimension, power), power)
 
 
 def function_of(function: Function, argument: Real) -> Real:
@@ -293,24 +297,24 @@ def function_of(function: Function, argument: Real) -> Real:
         dimension = function.dimension_of(argument.dimension)
     except MixedUnits as mixed:
         raise MixedUnits(f"`{text_of(argument)}` is {_unit(argument)}, and {mixed}") from None
-    return Real(Sort.FUNCTION, (argument,), dimension, function=function)
+    return Real(RealSort.FUNCTION, (argument,), dimension, function=function)
 
 
 def _multiplied(left: Real, right: Real) -> Real:
-    return Real(Sort.PRODUCT, (left, right), times(left.dimension, right.dimension))
+    return Real(RealSort.PRODUCT, (left, right), times(left.dimension, right.dimension))
 
 
 def _divided(left: Real, right: Real) -> Real:
-    if right.sort is Sort.CONSTANT and right.number == 0:
+    if right.sort is RealSort.CONSTANT and right.number == 0:
         raise ValueError(f"`{text_of(left)} / 0` has no value")
     dimension = times(left.dimension, right.dimension, Fraction(-1))
-    return Real(Sort.QUOTIENT, (left, right), dimension)
+    return Real(RealSort.QUOTIENT, (left, right), dimension)
 
 
-def _added(sort: Sort, left: object, right: object) -> Real:
+def _added(sort: RealSort, left: object, right: object) -> Real:
     reals = [real_of(left), real_of(right)]
     dimension = _common(reals)
-    if sort is Sort.SUM and reals[0].sort is Sort.SUM:
+    if sort is RealSort.SUM and reals[0].sort is RealSort.SUM:
         reals = [*reals[0].args, reals[1]]
     return Real(sort, tuple(reals), dimension)
 
@@ -327,7 +331,7 @@ def _compared(relation: str, left: Term, right: object) -> Law:
 def _common(reals: list[Real]) -> Dimension:
     """The dimension that all have; a bare zero has each. Raises MixedUnits, which names two that
     differ."""
-    kept = [real for real in reals if not (real.sort is Sort.CONSTANT and real.number == 0)]
+    kept = [real for real in reals if not (real.sort is RealSort.CONSTANT and real.number == 0)]
     first, *others = kept or reals
     for other in others:
         if other.dimension != first.dimension:
@@ -340,14 +344,19 @@ def _common(reals: list[Real]) -> Dimension:
 
 def _unit(real: Real) -> str:
     """In what a term is told: a quantity in its own unit, others in base units."""
-    if real.sort is Sort.QUANTITY and real.quantity.measure is not None:
+    if real.sort is RealSort.QUANTITY and real.quantity.measure is not None:
         return f"in {real.quantity.measure.unit}"
     return f"in {dimension_text(real.dimension)}" if real.dimension else "a bare number"
 
 
 # How tightly a text holds together: from `mean(..)`, which always does, down to `+`.
 _WHOLE, _POWER, _UNARY, _TIMES, _PLUS = 5, 4, 3, 2, 1
-_BETWEEN = {Sort.SUM: _PLUS, Sort.DIFFERENCE: _PLUS, Sort.PRODUCT: _TIMES, Sort.QUOTIENT: _TIMES}
+_BETWEEN = {
+    RealSort.SUM: _PLUS,
+    RealSort.DIFFERENCE: _PLUS,
+    RealSort.PRODUCT: _TIMES,
+    RealSort.QUOTIENT: _TIMES,
+}
 
 
 def text_of(real: Real) -> str:
@@ -356,23 +365,23 @@ def text_of(real: Real) -> str:
 
 
 def _text(real: Real) -> tuple[str, int]:
-    if real.sort is Sort.QUANTITY:
+    if real.sort is RealSort.QUANTITY:
         return printable(real.quantity.name), _WHOLE
-    if real.sort is Sort.CONSTANT:
+    if real.sort is RealSort.CONSTANT:
         return real.text or text_of_number(real.number), _WHOLE if real.number >= 0 else _UNARY
     if real.sort in _BETWEEN:
         tight = _BETWEEN[real.sort]
         parts = [_held(real.args[0], tight), *(_held(arg, tight + 1) for arg in real.args[1:])]
         return f" {real.sort.value} ".join(parts), tight
-    if real.sort is Sort.NEGATIVE:
+    if real.sort is RealSort.NEGATIVE:
         return f"-{_held(real.args[0], _UNARY)}", _UNARY
-    if real.sort is Sort.POWER:
+    if real.sort is RealSort.POWER:
         return f"{_held(real.args[0], _WHOLE)}**{real.number}", _POWER
-    if real.sort is Sort.PI:
+    if real.sort is RealSort.PI:
         return "pi", _WHOLE
-    if real.sort is Sort.FUNCTION and real.applied.name is Name.POWER:
+    if real.sort is RealSort.FUNCTION and real.applied.name is FunctionName.POWER:
         return f"{_held(real.args[0], _WHOLE)}**({real.applied.exponent})", _POWER
-    if real.sort is Sort.FUNCTION:
+    if real.sort is RealSort.FUNCTION:
         return f"{real.applied}({text_of(real.args[0])})", _WHOLE
     return f"{real.sort.value}({', '.join(text_of(arg) for arg in real.args)})", _WHOLE
 

@@ -36,7 +36,7 @@ _DIGITS = re.compile(r"digits?|dgts?|counts?|lsd", re.IGNORECASE)
 _PLUS = re.compile(r"(?<![\d.][eE])\+")
 
 
-class Sort(Enum):
+class ToleranceSort(Enum):
     """Of what a part of a tolerance is so much."""
 
     ABSOLUTE = "a unit"
@@ -47,12 +47,12 @@ class Sort(Enum):
 
 
 @dataclass(frozen=True)
-class Part:
+class TolerancePart:
     """A part of a tolerance: so much of what its sort says, a share counted already. `unit` is
     that of an absolute part, or one that stands behind a share and is the value's; "" for none."""
 
     number: Fraction
-    sort: Sort
+    sort: ToleranceSort
     unit: str = ""
     share: str = ""
     whole: Amount | None = None
@@ -63,7 +63,7 @@ class Part:
         return [each for each in (self.unit, self.whole.unit if self.whole else "") if each]
 
 
-def parts_of(tolerance: str, text: str) -> list[Part]:
+def parts_of(tolerance: str, text: str) -> list[TolerancePart]:
     """The parts of a tolerance: groups with `+-` between, each with `+` in it, in brackets or not.
     Raises NoReading, which names the whole text."""
     parts = []
@@ -75,7 +75,7 @@ def parts_of(tolerance: str, text: str) -> list[Part]:
     return parts
 
 
-def _part(written: str, text: str) -> Part:
+def _part(written: str, text: str) -> TolerancePart:
     if written.startswith("-"):
         raise NoReading(f"{short(text)!r} has a tolerance of less than nothing")
     matched = _PART.fullmatch(written)
@@ -84,30 +84,30 @@ def _part(written: str, text: str) -> Part:
     amount = Amount(matched[1], matched[2].strip())
     check_length(amount)
     if _DIGITS.fullmatch(amount.unit):
-        return Part(amount.value, Sort.DIGITS)
+        return TolerancePart(amount.value, ToleranceSort.DIGITS)
     share = _SHARE.fullmatch(amount.unit)
     if share and not share[2].startswith(("/", "*", "·", "^")):
         return _share(amount.value, share[1], share[2], text)
-    return Part(amount.value, Sort.ABSOLUTE, amount.unit)
+    return TolerancePart(amount.value, ToleranceSort.ABSOLUTE, amount.unit)
 
 
-def _share(number: Fraction, name: str, behind: str, text: str) -> Part:
+def _share(number: Fraction, name: str, behind: str, text: str) -> TolerancePart:
     """A share, and what stands behind it."""
     size = number * unit_of(name).factor
     if not behind:
-        return Part(size, Sort.SHARE, share=name)
+        return TolerancePart(size, ToleranceSort.SHARE, share=name)
     if _OF_READING.fullmatch(behind):
-        return Part(size, Sort.READING, share=name)
+        return TolerancePart(size, ToleranceSort.READING, share=name)
     if _OF_RANGE.fullmatch(behind):
         raise NoReading(
             f"{short(text)!r}: how much is all of it? Write `0.1 % of 10 V`, as an example"
         )
     of = _OF.fullmatch(behind)
     if of:
-        return Part(size, Sort.AMOUNT, share=name, whole=amount_of(of[1], text))
+        return TolerancePart(size, ToleranceSort.AMOUNT, share=name, whole=amount_of(of[1], text))
     if not _UNIT.fullmatch(behind):
         raise _not_understood(behind, text)
-    return Part(size, Sort.READING, behind, name)
+    return TolerancePart(size, ToleranceSort.READING, behind, name)
 
 
 def _not_understood(written: str, text: str) -> NoReading:
@@ -115,7 +115,7 @@ def _not_understood(written: str, text: str) -> NoReading:
     return NoReading(f"{short(text)!r} is no reading: {said}, as `1.2 ohm`, `5 %` and `2 digits`")
 
 
-def unit_in(amount: Amount, parts: Sequence[Part], unit: Unit, text: str) -> Unit:
+def unit_in(amount: Amount, parts: Sequence[TolerancePart], unit: Unit, text: str) -> Unit:
     """The unit of a value: where none stands behind it, the one of its tolerance, or the one at
     hand. Raises NoReading where that can't be told, and where a unit stands behind a share of a
     value that has one itself."""
@@ -137,27 +137,27 @@ def unit_in(amount: Amount, parts: Sequence[Part], unit: Unit, text: str) -> Uni
     return same(next(iter(names), ""), unit, text)
 
 
-def size_of(parts: Sequence[Part], amount: Amount, named: Unit, text: str) -> Fraction:
+def size_of(parts: Sequence[TolerancePart], amount: Amount, named: Unit, text: str) -> Fraction:
     """How far the real may be from what was read, in the unit in which that is named."""
     return sum((_size(part, amount, named, text) for part in parts), Fraction(0))
 
 
-def _size(part: Part, amount: Amount, named: Unit, text: str) -> Fraction:
-    if part.sort is Sort.DIGITS:
+def _size(part: TolerancePart, amount: Amount, named: Unit, text: str) -> Fraction:
+    if part.sort is ToleranceSort.DIGITS:
         return part.number * amount.digit
-    if part.sort is Sort.AMOUNT:
+    if part.sort is ToleranceSort.AMOUNT:
         assert part.whole is not None
         factor = same(part.whole.unit, named, text).factor / named.factor
         return part.number * abs(part.whole.value) * factor
-    if part.sort is Sort.ABSOLUTE:
+    if part.sort is ToleranceSort.ABSOLUTE:
         return part.number * same(part.unit, named, text).factor / named.factor
     return part.number * (abs(amount.value) if is_relative(part, named, text) else 1 / named.factor)
 
 
-def is_relative(part: Part, named: Unit, text: str) -> bool:
+def is_relative(part: TolerancePart, named: Unit, text: str) -> bool:
     """Whether a share is of what is read; else it is in points, as that is told in shares itself.
     Raises NoReading where nobody can tell."""
-    if part.sort is Sort.READING:
+    if part.sort is ToleranceSort.READING:
         return True
     if part.share != "%" and named.text == "1":
         raise NoReading(

@@ -1,7 +1,7 @@
 """Laws over real numbers as constraints over whole ones, so that no real solution is lost.
 
-Each operation makes parts of parts (`parts`), and a law asks that the sum of its parts is no farther
-from zero than all radii together. python/REALS.md has the proof of each rule.
+Each operation makes parts of parts (`parts`), and a law asks that the sum of its parts is no
+farther from zero than all radii together. python/REALS.md has the proof of each rule.
 """
 
 from collections.abc import Callable
@@ -24,7 +24,7 @@ from propbench.measuring.parts import (
     summed,
     within,
 )
-from propbench.measuring.terms import Real, Sort, text_of
+from propbench.measuring.terms import Real, RealSort, text_of
 from propbench.model.expressions import Number, maximum, minimum
 from propbench.model.measures import HALF
 from propbench.model.nodes import Node, cell, number
@@ -32,7 +32,8 @@ from propbench.model.nodes import Node, cell, number
 # A part that has more steps than this may be made coarser in a sum; a quotient has as many as make
 # its radius this.
 _FINE, _SMALL = 10**9, 30
-# A part of a sum may be made coarser by ten whose steps are so small a part of how far another is off.
+# A part of a sum may be made coarser by ten whose steps are so small a part of how far another is
+# off.
 _FINER = 50
 # A radius grows with a number that may be so many times as large as it is at least.
 _WIDE = 16
@@ -43,7 +44,7 @@ class TooCoarse(ValueError):
 
 
 @dataclass(frozen=True)
-class Told:
+class LawInSteps:
     """A law, or a form of it, as whole numbers: `node` lies within `radius` of zero, or not above
     it, where it is a bound. `step` is what they count."""
 
@@ -67,14 +68,14 @@ class Translator:
         self._hidden = hidden
         self._atoms: dict[Real, Part] = {}
 
-    def told(self, form: Linear, is_equation: bool) -> Told:
+    def told(self, form: Linear, is_equation: bool) -> LawInSteps:
         """The law that a sum is zero, or at most zero. Raises NoBound and TooCoarse."""
         whole = self._sum(form, MOST_WHOLE)
         ends = [product(self.bounds(atom), (each, each)) for atom, each in form.terms]
         largest = max((abs(end) for pair in ends for end in pair), default=Fraction(0))
         if form.terms and whole.radius.constant * whole.step >= largest + abs(form.constant):
             raise TooCoarse("the steps are too coarse for the law to tell anything")
-        return Told(whole.node, whole.radius, whole.step, is_equation)
+        return LawInSteps(whole.node, whole.radius, whole.step, is_equation)
 
     def part(self, real: Real) -> Part:
         """The part of a term, small enough to be multiplied."""
@@ -86,7 +87,7 @@ class Translator:
         return self._atoms[atom]
 
     def _made(self, atom: Real) -> Part:
-        if atom.sort is Sort.QUANTITY:
+        if atom.sort is RealSort.QUANTITY:
             measure = atom.quantity.measure
             assert measure is not None
             bounds = measure.low, measure.high
@@ -94,19 +95,19 @@ class Translator:
         bounds = self.bounds(atom)
         if _is_known(atom):
             return _known(bounds)
-        if atom.sort in (Sort.ROOT, Sort.FUNCTION):
+        if atom.sort in (RealSort.ROOT, RealSort.FUNCTION):
             return self._atom(self._hidden(atom))
-        if atom.sort is Sort.QUOTIENT:
+        if atom.sort is RealSort.QUOTIENT:
             above = self._sum(linear_of(atom.args[0]), MOST_DIVIDED)
             below = self._sum(linear_of(atom.args[1]), self._most_of_divisor(atom.args[1]))
             return divided(above, below, bounds, text_of(atom))
-        if atom.sort is Sort.PRODUCT:
+        if atom.sort is RealSort.PRODUCT:
             one, other = (self._sum(linear_of(arg), MOST_DIVIDED) for arg in atom.args)
             return multiplied(*fitted(one, other), bounds)
         parts = [self.part(arg) for arg in atom.args]
-        if atom.sort is Sort.POWER:
+        if atom.sort is RealSort.POWER:
             return self._powered(atom, parts[0])
-        if atom.sort is Sort.ABSOLUTE:
+        if atom.sort is RealSort.ABSOLUTE:
             [inner] = parts
             return Part(absolute(inner.node), inner.step, inner.radius, bounds)
         return extreme(atom.sort, parts, bounds)
@@ -205,7 +206,7 @@ def _spread(above: Part, below: Part, quotient: Node, factor: int, least: Fracti
     return Radius(Fraction(0), ((found, 1 / (2 * share)),))
 
 
-def extreme(sort: Sort, parts: list[Part], bounds: Bounds) -> Part:
+def extreme(sort: RealSort, parts: list[Part], bounds: Bounds) -> Part:
     """The greatest or the least, in steps that all have in common."""
     step, same = _common_step([(part, Fraction(1)) for part in parts], Fraction(0))
     numbers, radii = [], []
@@ -215,7 +216,7 @@ def extreme(sort: Sort, parts: list[Part], bounds: Bounds) -> Part:
         numbers.append(Number(part.node) * factor)
         off = _times_size(Radius(abs(exact - factor)), part)
         radii.append(part.radius.times(max(exact, Fraction(factor))).plus(off))
-    found = maximum(numbers) if sort is Sort.GREATEST else minimum(numbers)
+    found = maximum(numbers) if sort is RealSort.GREATEST else minimum(numbers)
     # (No farther than the farthest of them; where that can't be told, than all together.)
     if any(radius.terms for radius in radii):
         radius = radii[0].plus(*radii[1:])
@@ -226,7 +227,7 @@ def extreme(sort: Sort, parts: list[Part], bounds: Bounds) -> Part:
 
 def _is_known(atom: Real) -> bool:
     """Whether no quantity stands in a term, so that it is one number, which no fraction need be."""
-    return atom.sort is not Sort.QUANTITY and all(map(_is_known, atom.args))
+    return atom.sort is not RealSort.QUANTITY and all(map(_is_known, atom.args))
 
 
 def _known(bounds: Bounds) -> Part:

@@ -1,14 +1,14 @@
-"""Temperatures in units with a zero of their own, as degC, and levels, as dBm: what is one, and what
-is a difference.
+"""Temperatures in units with a zero of their own, as degC, and levels, as dBm: what is one, and
+what is a difference.
 
-In a law all temperatures are in kelvin, and levels above 1 W or 1 V. So `inside - outside` is a difference in kelvin, and to
-compare it with `5 degC`, which is 278.15 K, or to add `5 degC` to a temperature, is no law that
-anyone means. A temperature in K may be either.
+In a law all temperatures are in kelvin, and levels above 1 W or 1 V. So `inside - outside` is a
+difference in kelvin, and to compare it with `5 degC`, which is 278.15 K, or to add `5 degC` to a
+temperature, is no law that anyone means. A temperature in K may be either.
 """
 
 from collections.abc import Sequence
 
-from propbench.measuring.terms import Law, Real, Sort, text_of
+from propbench.measuring.terms import Law, Real, RealSort, text_of
 from propbench.measuring.units import MixedUnits
 
 # How many zeros of their own count in a term: one in a temperature, none in a difference of two;
@@ -17,33 +17,33 @@ Zeros = int | None
 
 
 def check_zeros(law: Law) -> None:
-    """Raises MixedUnits where temperatures, or levels, are compared with differences of them, or with
-    sums."""
+    """Raises MixedUnits where temperatures, or levels, are compared with differences of them, or
+    with sums."""
     sides = [law.left, law.right]
     _alike(sides, [_zeros(side) for side in sides])
 
 
 def _zeros(real: Real) -> Zeros:
     """How many zeros of their own count in a term. Raises MixedUnits."""
-    if real.sort is Sort.QUANTITY:
+    if real.sort is RealSort.QUANTITY:
         return 1 if real.quantity.measure and real.quantity.measure.offset else None
-    if real.sort is Sort.CONSTANT:
+    if real.sort is RealSort.CONSTANT:
         return 1 if real.is_temperature else None
     of_args = [_zeros(arg) for arg in real.args]
-    if real.sort is Sort.SUM:
+    if real.sort is RealSort.SUM:
         known = [each for each in of_args if each is not None]
         return sum(known) if known else None
-    if real.sort is Sort.DIFFERENCE:
+    if real.sort is RealSort.DIFFERENCE:
         one, other = of_args
         return None if one is None or other is None else one - other
-    if real.sort is Sort.NEGATIVE:
+    if real.sort is RealSort.NEGATIVE:
         [inner] = of_args
         return None if inner is None else -inner
-    if real.sort in (Sort.MEAN, Sort.GREATEST, Sort.LEAST):
+    if real.sort in (RealSort.MEAN, RealSort.GREATEST, RealSort.LEAST):
         return _alike(real.args, of_args)
-    if real.sort is Sort.ABSOLUTE:
+    if real.sort is RealSort.ABSOLUTE:
         return of_args[0]
-    if real.sort in (Sort.PRODUCT, Sort.QUOTIENT) and 0 in of_args:
+    if real.sort in (RealSort.PRODUCT, RealSort.QUOTIENT) and 0 in of_args:
         return _of_difference(real)
     return None
 
@@ -80,7 +80,7 @@ def _is_level(real: Real) -> bool:
 
 
 def _is_bare_zero(real: Real) -> bool:
-    return real.sort is Sort.CONSTANT and real.number == 0 and not real.dimension
+    return real.sort is RealSort.CONSTANT and real.number == 0 and not real.dimension
 
 
 def _told(real: Real, zeros: int) -> str:

@@ -12,7 +12,7 @@ if TYPE_CHECKING:
     from propbench.watching import Claim
 
 
-class Asked(Protocol):
+class Answerer(Protocol):
     """Who answers for a cell: a workbench."""
 
     def answer(
@@ -30,7 +30,7 @@ class Asked(Protocol):
 class Cell(Expression):
     """A cell: it has a name, and can be asked what follows for it."""
 
-    def __init__(self, declared: Declared, workbench: Asked) -> None:
+    def __init__(self, declared: Declared, workbench: Answerer) -> None:
         super().__init__(cell(declared))
         self._declared = declared
         self._workbench = workbench

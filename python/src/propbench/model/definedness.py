@@ -1,6 +1,7 @@
 """Where an expression has a value: everywhere, but where it divides by zero.
 
-What it needs is a truth of its own, told as nodes, so that it can be stated or negated as any other.
+What it needs is a truth of its own, told as nodes, so that it can be stated or negated as any
+other.
 """
 
 from weakref import WeakKeyDictionary

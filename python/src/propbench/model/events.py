@@ -4,7 +4,7 @@ from dataclasses import dataclass
 from typing import TYPE_CHECKING
 
 from propbench.model.kinds import MOST, Domain, Plain, Point, point_text
-from propbench.model.meaning import Points, holds
+from propbench.model.meaning import PointsOf, holds
 from propbench.model.measures import text_of_number
 from propbench.model.nodes import Declared, Node
 from propbench.model.writing import text_of
@@ -15,7 +15,7 @@ if TYPE_CHECKING:
 
 # What is stated of a cell, or an alternative of it: numbers from a low to a high, some elements of
 # a domain, or one truth or symbol.
-Values = tuple[Point, ...]
+AlternativeValues = tuple[Point, ...]
 
 
 @dataclass(frozen=True)
@@ -34,7 +34,7 @@ class DomainMade:
         """What is stated."""
         return f"{self.domain.name} is a domain"
 
-    def is_met(self, points: Points) -> bool:
+    def is_met(self, points: PointsOf) -> bool:
         """Whether the points fit it: any do."""
         return True
 
@@ -55,7 +55,7 @@ class CellMade:
         """What is stated, as it reads where a point doesn't fit it."""
         return f"{self.cell.name} is not what it was declared as"
 
-    def is_met(self, points: Points) -> bool:
+    def is_met(self, points: PointsOf) -> bool:
         """Whether the point of the cell, where there is one, is one that it may have."""
         value, cell = points.get(self.cell), self.cell
         if value is None:
@@ -83,7 +83,7 @@ class Required:
         """What is stated, as somebody reads it who asks what a premise says."""
         return self.text
 
-    def is_met(self, points: Points) -> bool:
+    def is_met(self, points: PointsOf) -> bool:
         """Whether the points fit it. Raises Beyond."""
         return holds(self.constraint, points)
 
@@ -93,7 +93,7 @@ class Told:
     """A cell has a value, always or under a premise."""
 
     cell: Declared
-    values: Values
+    values: AlternativeValues
     premise: str | None
 
     @property
@@ -106,7 +106,7 @@ class Told:
         """What is stated, as somebody reads it who asks what a premise says."""
         return self.text
 
-    def is_met(self, points: Points) -> bool:
+    def is_met(self, points: PointsOf) -> bool:
         """Whether the point of the cell is one of the values."""
         return is_among(points[self.cell], self.cell, self.values)
 
@@ -143,7 +143,7 @@ class ValueChoice:
 
     name: str
     cell: Declared
-    alternatives: tuple[Values, ...]
+    alternatives: tuple[AlternativeValues, ...]
 
     @property
     def premise(self) -> None:
@@ -165,11 +165,11 @@ class ValueChoice:
         values = self.alternatives[side]
         return plain_values(self.cell, values)
 
-    def is_met(self, points: Points) -> bool:
+    def is_met(self, points: PointsOf) -> bool:
         """Whether the point is one that an alternative gives."""
         return self.side_at(points) is not None
 
-    def side_at(self, points: Points) -> int | None:
+    def side_at(self, points: PointsOf) -> int | None:
         """The first alternative that gives the point, None where none does."""
         met = (is_among(points[self.cell], self.cell, each) for each in self.alternatives)
         return next((side for side, is_it in enumerate(met) if is_it), None)
@@ -201,11 +201,11 @@ class ConstraintChoice:
         """What an alternative is called."""
         return self.alternatives[side][0]
 
-    def is_met(self, points: Points) -> bool:
+    def is_met(self, points: PointsOf) -> bool:
         """Whether all constraints of some alternative fit the points. Raises Beyond."""
         return self.side_at(points) is not None
 
-    def side_at(self, points: Points) -> int | None:
+    def side_at(self, points: PointsOf) -> int | None:
         """The first alternative of which all constraints fit the points. Raises Beyond."""
         met = (all(holds(each, points) for each in nodes) for _, nodes in self.alternatives)
         return next((side for side, is_it in enumerate(met) if is_it), None)
@@ -216,7 +216,7 @@ Event = DomainMade | CellMade | Required | Told | ValueChoice | ConstraintChoice
 Statement = Required | Told | ValueChoice | ConstraintChoice
 
 
-def values_text(cell: Declared, values: Values) -> str:
+def values_text(cell: Declared, values: AlternativeValues) -> str:
     """What is stated of a cell, for people."""
     if cell.measure is not None:
         return str(cell.measure.interval(*cell.measure.reals(int(values[0]), int(values[1]))))
@@ -231,7 +231,7 @@ def _end(number: Point) -> str:
     return "" if abs(int(number)) == MOST else str(number)
 
 
-def plain_values(cell: Declared, values: Values) -> object:
+def plain_values(cell: Declared, values: AlternativeValues) -> object:
     """What is stated of a cell, as a user gives it to `choose`; of a quantity as text."""
     if cell.measure is not None:
         return values_text(cell, values)
@@ -241,7 +241,7 @@ def plain_values(cell: Declared, values: Values) -> object:
     return values[0] if len(values) == 1 else values
 
 
-def is_among(point: Point, cell: Declared, values: Values) -> bool:
+def is_among(point: Point, cell: Declared, values: AlternativeValues) -> bool:
     """Whether a point is one of the values that are stated."""
     if cell.kind is Plain.NUMBER:
         low, high = values

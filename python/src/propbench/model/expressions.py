@@ -150,8 +150,8 @@ class Number(Expression):
     def __ge__(self, other: "Number | int") -> "Truth":
         return _compared(Op.AT_LEAST, self, other)
 
-    # (object's `==` gives a bool; here and in the classes below it states a constraint, which is what
-    # they are there for)
+    # (object's `==` gives a bool; here and in the classes below it states a constraint, which is
+    # what they are there for)
     def __eq__(self, other: "Number | int") -> "Truth":  # type: ignore[override]
         return _compared(Op.EQUAL, self, other)
 
@@ -297,7 +297,8 @@ def _checked_element(value: str, domain: Domain) -> str:
 
 
 def _folded(op: Op, args: Iterable[Node], kind: Kind | None = None) -> Node:
-    """The node, or the constant that it is, where it has a value and all arguments are constants."""
+    """The node, or the constant that it is, where it has a value and all arguments are
+    constants."""
     made = node(op, args, kind=kind)
     is_partial = op in (Op.QUOTIENT, Op.REMAINDER)
     if is_partial or any(arg.op is not Op.CONSTANT for arg in made.args):
@@ -336,16 +337,16 @@ def implies(condition: "Truth | bool", consequence: "Truth | bool") -> Truth:
     return Truth(_folded(Op.IMPLIES, (first, second)))
 
 
-Some = TypeVar("Some", Number, Truth, Element, Symbol)
+_Kind = TypeVar("_Kind", Number, Truth, Element, Symbol)
 
 
 @overload
-def if_else(test: "Truth | bool", first: Some, second: "Some | Point") -> Some:
+def if_else(test: "Truth | bool", first: _Kind, second: "_Kind | Point") -> _Kind:
     ...
 
 
 @overload
-def if_else(test: "Truth | bool", first: Point, second: Some) -> Some:
+def if_else(test: "Truth | bool", first: Point, second: _Kind) -> _Kind:
     ...
 
 

@@ -4,7 +4,7 @@ from collections.abc import Iterable, Sequence
 from typing import TYPE_CHECKING, Any
 
 from propbench.given import names_given
-from propbench.model.events import Values
+from propbench.model.events import AlternativeValues
 from propbench.model.expressions import point_of
 from propbench.model.kinds import MOST, Domain, Plain
 from propbench.model.measures import Measure
@@ -14,10 +14,10 @@ if TYPE_CHECKING:
     from propbench.measuring.readings import Reading
 
 # A number, a truth, a name, or several names of which one is it.
-Given = int | bool | str | Sequence[str]
+GivenValue = int | bool | str | Sequence[str]
 
 
-def values_of(cell: Declared, value: object, high: object = None) -> Values:
+def values_of(cell: Declared, value: object, high: object = None) -> AlternativeValues:
     """What is stated of a cell: a value, the numbers up to `high`, or some elements.
 
     Raises TypeError where a value is of another kind than the cell, and ValueError for an empty one
@@ -57,7 +57,7 @@ def given_of(value: object, high: object = None) -> Any:
     return value if high is None else (value, high)
 
 
-def alternative_of(cell: Declared, value: object) -> Values:
+def alternative_of(cell: Declared, value: object) -> AlternativeValues:
     """What an alternative of a choice states of a cell: a pair of numbers is from one to other."""
     if cell.measure is not None:
         return values_of(cell, tuple(value) if isinstance(value, list) else value)

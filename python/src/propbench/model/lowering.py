@@ -2,8 +2,8 @@
 
 What is stated by sums, differences and the greatest of some gives bounds: a number is no less than
 others and a number more. They are raised from the lowest until all hold. What is stated otherwise
-keeps the numbers in it as they are. Whether all holds at the numbers that come of it has to be looked
-at once more.
+keeps the numbers in it as they are. Whether all holds at the numbers that come of it has to be
+looked at once more.
 """
 
 from collections.abc import Iterable, Sequence
@@ -12,7 +12,7 @@ from weakref import WeakKeyDictionary
 
 from propbench.model.events import ConstraintChoice, Event, Required, Told, ValueChoice
 from propbench.model.kinds import Plain, Point
-from propbench.model.meaning import Plan, holds
+from propbench.model.meaning import PlanPoints, holds
 from propbench.model.nodes import Declared, Node, Op, cells_in, node
 
 
@@ -36,7 +36,7 @@ class Bound:
 
 
 @dataclass(frozen=True)
-class Way:
+class BoundsWay:
     """A truth, whether it has to hold, and the bounds where it does; by one `alone` it does, where
     there is such a one."""
 
@@ -45,7 +45,7 @@ class Way:
     bounds: tuple[Bound, ...]
     alone: Bound | None
 
-    def is_taken(self, points: Plan, at: dict[Declared, int]) -> bool:
+    def is_taken(self, points: PlanPoints, at: dict[Declared, int]) -> bool:
         """Whether points go this way, with these numbers among them."""
         if self.alone is not None:
             return self.alone.least(at) <= at[self.alone.of]
@@ -53,21 +53,22 @@ class Way:
 
 
 @dataclass(frozen=True)
-class Shape:
-    """Bounds that a constraint gives, and ways of which one has to be taken, where there are some."""
+class BoundsAndWays:
+    """Bounds that a constraint gives, and ways of which one has to be taken, where there are
+    some."""
 
     bounds: tuple[Bound, ...] = ()
-    ways: tuple[Way, ...] = ()
+    ways: tuple[BoundsWay, ...] = ()
 
 
 # What is not known yet.
-_UNKNOWN = Shape()
-_known: "WeakKeyDictionary[Node, Shape | None]" = WeakKeyDictionary()
+_UNKNOWN = BoundsAndWays()
+_known: "WeakKeyDictionary[Node, BoundsAndWays | None]" = WeakKeyDictionary()
 _choosing: "WeakKeyDictionary[Node, bool]" = WeakKeyDictionary()
 
 
 def lowered(
-    events: Iterable[Event], points: Plan, kept: Iterable[Declared]
+    events: Iterable[Event], points: PlanPoints, kept: Iterable[Declared]
 ) -> dict[Declared, Point]:
     """The points with numbers as low as these events allow, but for the cells that are kept."""
     at = {cell: int(value) for cell, value in points.items() if cell.kind is Plain.NUMBER}
@@ -105,7 +106,7 @@ def _raise(bounds: Sequence[Bound], at: dict[Declared, int]) -> bool:
     return False
 
 
-def _bounds_of(event: Event, points: Plan, at: dict[Declared, int]) -> Sequence[Bound] | None:
+def _bounds_of(event: Event, points: PlanPoints, at: dict[Declared, int]) -> Sequence[Bound] | None:
     """The bounds that something stated gives in the ways that points take; None where it gives
     others."""
     if isinstance(event, Required):
@@ -131,7 +132,7 @@ def _cells_of(event: Event) -> list[Declared]:
     return [event.cell] if isinstance(event, (Told, ValueChoice)) else []
 
 
-def _taken(constraint: Node, points: Plan, at: dict[Declared, int]) -> Sequence[Bound] | None:
+def _taken(constraint: Node, points: PlanPoints, at: dict[Declared, int]) -> Sequence[Bound] | None:
     """The bounds of a constraint in the first way that points take, None where it has others."""
     said = _decided(constraint, points)
     shape = _known.get(said, _UNKNOWN)
@@ -147,7 +148,7 @@ def _taken(constraint: Node, points: Plan, at: dict[Declared, int]) -> Sequence[
     return None
 
 
-def _decided(each: Node, points: Plan) -> Node:
+def _decided(each: Node, points: PlanPoints) -> Node:
     """The same with the side that points take of each choice between two, where it is by truths."""
     if not _chooses(each):
         return each
@@ -165,7 +166,7 @@ def _chooses(each: Node) -> bool:
     return found
 
 
-def _shape(truth: Node, is_held: bool) -> Shape | None:
+def _shape(truth: Node, is_held: bool) -> BoundsAndWays | None:
     """The shape of a truth that holds, or doesn't; None where it has none."""
     op, args = truth.op, truth.args
     if op is Op.NOT:
@@ -181,30 +182,30 @@ def _shape(truth: Node, is_held: bool) -> Shape | None:
         return _order(left, right, gap) if is_held else _order(right, left, 1 - gap)
     if op is Op.EQUAL and is_held and args[0].kind is Plain.NUMBER:
         return _all([_order(args[0], args[1], 0), _order(args[1], args[0], 0)])
-    return None if any(it.kind is Plain.NUMBER for it in cells_in(truth)) else Shape()
+    return None if any(it.kind is Plain.NUMBER for it in cells_in(truth)) else BoundsAndWays()
 
 
-def _all(parts: Sequence[Shape | None]) -> Shape | None:
+def _all(parts: Sequence[BoundsAndWays | None]) -> BoundsAndWays | None:
     """The shape of what holds together, of which one may have several ways."""
     there = [part for part in parts if part is not None]
     ways = [part.ways for part in there if part.ways]
     if len(there) < len(parts) or len(ways) > 1:
         return None
-    return Shape(tuple(it for part in there for it in part.bounds), *ways)
+    return BoundsAndWays(tuple(it for part in there for it in part.bounds), *ways)
 
 
-def _any(parts: Sequence[tuple[Node, bool, Shape | None]]) -> Shape | None:
+def _any(parts: Sequence[tuple[Node, bool, BoundsAndWays | None]]) -> BoundsAndWays | None:
     """The shape of what holds in one of several ways."""
     ways = []
     for it, held, shape in parts:
         if shape is None or shape.ways:
             return None
         is_alone = it.op in _ORDERS and len(shape.bounds) == 1
-        ways.append(Way(it, held, shape.bounds, shape.bounds[0] if is_alone else None))
-    return Shape(ways=tuple(ways))
+        ways.append(BoundsWay(it, held, shape.bounds, shape.bounds[0] if is_alone else None))
+    return BoundsAndWays(ways=tuple(ways))
 
 
-def _order(left: Node, right: Node, gap: int) -> Shape | None:
+def _order(left: Node, right: Node, gap: int) -> BoundsAndWays | None:
     """The shape of one number being no more than another less a gap."""
     if left.op is Op.MAXIMUM:
         return _all([_order(arg, right, gap) for arg in left.args])
@@ -220,8 +221,8 @@ def _order(left: Node, right: Node, gap: int) -> Shape | None:
     above = [cell for cell, each in times.items() if each > 0]
     below = tuple(cell for cell, each in times.items() if each < 0)
     if not above:
-        return Shape()
-    return Shape((Bound(above[0], below, tuple(above[1:]), gap + low[1] - high[1]),))
+        return BoundsAndWays()
+    return BoundsAndWays((Bound(above[0], below, tuple(above[1:]), gap + low[1] - high[1]),))
 
 
 def _linear(number: Node) -> tuple[dict[Declared, int], int] | None:

@@ -19,29 +19,29 @@ class Beyond(Exception):
         self.node = node
 
 
-class Undefined(Exception):
+class NoValueThere(Exception):
     """A value by zero: there is none."""
 
 
-Points = Mapping[Declared, Point]
+PointsOf = Mapping[Declared, Point]
 
 
-def value_of(node: Node, points: Points) -> Point:
+def value_of(node: Node, points: PointsOf) -> Point:
     """The value of an expression where each cell has its point. Raises Undefined and Beyond."""
-    reading = points.reading if isinstance(points, Plan) else _Reading(points)
+    reading = points.reading if isinstance(points, PlanPoints) else _Reading(points)
     return reading.value(node)
 
 
-def holds(node: Node, points: Points) -> bool:
+def holds(node: Node, points: PointsOf) -> bool:
     """Whether a constraint holds at these points. Raises Beyond."""
-    reading = points.reading if isinstance(points, Plan) else _Reading(points)
+    reading = points.reading if isinstance(points, PlanPoints) else _Reading(points)
     return bool(reading.value(node))
 
 
 class _Reading:
     """Values by node, so that what several expressions share is worked out once."""
 
-    def __init__(self, points: Points) -> None:
+    def __init__(self, points: PointsOf) -> None:
         self.points = points
         self.found: dict[Node, Point] = {}
 
@@ -59,15 +59,15 @@ class _Reading:
             found = self.found.get(arg)
             try:
                 values.append(self.value(arg) if found is None else found)
-            except Undefined:
+            except NoValueThere:
                 pass
         return values if len(values) == len(node.args) else None
 
 
-class Plan(dict[Declared, Point]):
+class PlanPoints(dict[Declared, Point]):
     """The points of a plan, at which many expressions are looked at. It is not to be changed."""
 
-    def __init__(self, points: Points) -> None:
+    def __init__(self, points: PointsOf) -> None:
         super().__init__(points)
         self.reading = _Reading(self)
 
@@ -84,7 +84,7 @@ def _sum(node: Node, numbers: list[int]) -> int:
 def _quotient(node: Node, numbers: list[int]) -> int:
     left, right = numbers
     if right == 0:
-        raise Undefined
+        raise NoValueThere
     if abs(left // right * right) > MOST:
         raise Beyond(node)
     return left // right
@@ -148,7 +148,7 @@ def _ordered(compare: Callable[[Point, Point], bool]) -> Callable[[_Reading, Nod
         left, right = node.args
         try:
             return compare(reading.value(left), reading.value(right))
-        except Undefined:
+        except NoValueThere:
             # (the other one may lie beyond)
             reading.all_values(node)
             return False

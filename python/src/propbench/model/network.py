@@ -15,7 +15,7 @@ from propbench.model.first import First
 from propbench.model.kinds import Domain
 from propbench.model.kit import offered, written
 from propbench.model.nodes import Declared, Node
-from propbench.model.premises import Premises
+from propbench.model.premises import PremisesInOrder
 from propbench.model.record import Index, Record
 from propbench.model.script import Owner, Script
 from propbench.model.vocabulary import Vocabulary
@@ -24,7 +24,7 @@ from propbench.refusals import LimitReached, LineTooLong, NotAName, Refused
 from propbench.session import Session
 
 
-Found = TypeVar("Found")
+_Found = TypeVar("_Found")
 
 
 @dataclass
@@ -90,7 +90,7 @@ class Network:
         return self._now().domains
 
     @property
-    def premises(self) -> Premises:
+    def premises(self) -> PremisesInOrder:
         """The premises and choices."""
         return self._now().premises
 
@@ -130,7 +130,7 @@ class Network:
         """
         self.whole(lambda: self._add(events))
 
-    def whole(self, state: Callable[[], Found]) -> Found:
+    def whole(self, state: Callable[[], _Found]) -> _Found:
         """Has all events that a function carries out be told at once in the end, or none: where one
         is refused, or it ends by another exception, Ctrl-C included, all is as it was before.
         Within another it is a part of that."""
@@ -146,7 +146,7 @@ class Network:
         finally:
             self._is_stating = False
 
-    def restate(self, events: Iterable[Event], state: Callable[[], Found]) -> Found:
+    def restate(self, events: Iterable[Event], state: Callable[[], _Found]) -> _Found:
         """Has these events take the place of all that is stated, and then what a function states;
         or all is as it was before. The premises stay as they are."""
         before = self._record

@@ -34,7 +34,7 @@ _ROOT = 10**9
 _MOST_COUNTED = 8
 
 
-class Numbers:
+class NumberWriter:
     """Writes what a cell holds that is no truth."""
 
     def __init__(self, translation: "Translation") -> None:

@@ -7,7 +7,7 @@ from propbench.model.nodes import Declared
 from propbench.nearby import near_names
 
 
-class Premises:
+class PremisesInOrder:
     """Premises and choices by name, in the order of their first mention."""
 
     def __init__(self) -> None:
@@ -16,9 +16,9 @@ class Premises:
         self.statements: dict[str, list[Statement]] = {}
         self.always: dict[Declared, list[tuple[Fraction, Fraction]]] = {}
 
-    def copy(self) -> "Premises":
+    def copy(self) -> "PremisesInOrder":
         """The same, which changes by itself."""
-        made = Premises()
+        made = PremisesInOrder()
         made.believed, made.choices = dict(self.believed), dict(self.choices)
         made.statements = {name: list(stated) for name, stated in self.statements.items()}
         made.always = {cell: list(ends) for cell, ends in self.always.items()}

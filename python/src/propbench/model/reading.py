@@ -8,7 +8,7 @@ from propbench.model.kinds import MOST, Domain
 from propbench.model.measured import MeasuredAnswer, interval_of
 from propbench.model.measures import Interval, Measure
 from propbench.model.nodes import Declared
-from propbench.model.premises import Premises
+from propbench.model.premises import PremisesInOrder
 from propbench.model.vocabulary import Vocabulary
 from propbench.replies import Value
 from propbench.showing import printable
@@ -18,7 +18,7 @@ from propbench.values import Elements, Held, Impossible, Nothing, Span, Symbol
 class Reader:
     """Reads replies of a workbench's program."""
 
-    def __init__(self, vocabulary: Vocabulary, premises: Premises) -> None:
+    def __init__(self, vocabulary: Vocabulary, premises: PremisesInOrder) -> None:
         self._vocabulary = vocabulary
         self._premises = premises
 

@@ -19,7 +19,7 @@ from propbench.model.events import (
 from propbench.model.first import First
 from propbench.model.kinds import Domain
 from propbench.model.nodes import Declared
-from propbench.model.premises import Premises
+from propbench.model.premises import PremisesInOrder
 
 
 @dataclass(frozen=True, eq=False)
@@ -52,7 +52,7 @@ class Index:
         self.events: list[Event] = []
         self.cells: dict[str, Declared] = {}
         self.domains: dict[str, Domain] = {}
-        self.premises = Premises()
+        self.premises = PremisesInOrder()
         for event in record.events[: record.count]:
             self.add(event)
         for premise in record.kicked:

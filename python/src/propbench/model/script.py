@@ -13,7 +13,7 @@ from propbench.model.events import (
     Required,
     Told,
     ValueChoice,
-    Values,
+    AlternativeValues,
 )
 from propbench.model.kinds import MOST, Domain, Plain
 from propbench.model.nodes import Declared
@@ -150,7 +150,7 @@ class Script:
         self.writer.line(f"choose {name} {cell} {' or '.join(values)}")
 
 
-def values_line(vocabulary: Vocabulary, cell: Declared, values: Values) -> str:
+def values_line(vocabulary: Vocabulary, cell: Declared, values: AlternativeValues) -> str:
     """What is stated of a cell, as a line has it."""
     if cell.kind is Plain.NUMBER:
         low, high = values

@@ -12,7 +12,7 @@ from propbench.model.first import First
 from propbench.model.given import values_of
 from propbench.model.kinds import Domain, Plain, Point
 from propbench.model.lowering import lowered
-from propbench.model.meaning import Beyond, Plan
+from propbench.model.meaning import Beyond, PlanPoints
 from propbench.model.network import Network
 from propbench.model.nodes import Declared
 from propbench.model.script import values_line
@@ -32,7 +32,7 @@ class BenchModel:
 
     def __init__(self, network: Network, scheduling: Scheduling | None = None) -> None:
         self._network, self._scheduling = network, scheduling
-        self._last = Plan({})
+        self._last = PlanPoints({})
 
     @property
     def session(self) -> Session:
@@ -141,8 +141,8 @@ class BenchModel:
     def lowered(
         self, plan: Mapping[str, Point], believed: Sequence[str], kept: Sequence[str]
     ) -> dict[str, Point]:
-        """The plan with numbers as low as they can be in the alternatives that it takes, but for the
-        cells that are kept; it is to be looked at whether all holds there."""
+        """The plan with numbers as low as they can be in the alternatives that it takes, but for
+        the cells that are kept; it is to be looked at whether all holds there."""
         cells, holding = self._network.cells, {None, *believed}
         events = [each for each in self._network.events if each.premise in holding]
         found = lowered(events, self._points(plan), [cells[name] for name in kept])
@@ -186,16 +186,16 @@ class BenchModel:
         """All that the premise states, by its cells."""
         return self._network.premises.exactly(premise)
 
-    def _points(self, plan: Mapping[str, Point]) -> Plan:
+    def _points(self, plan: Mapping[str, Point]) -> PlanPoints:
         """The points of a plan; of the one that was looked at last, with what was worked out."""
         cells = self._network.cells
         points = {cells[name]: _point(cells[name], value) for name, value in plan.items()}
         if self._last != points:
-            self._last = Plan(points)
+            self._last = PlanPoints(points)
         return self._last
 
 
-def _is_met(event: Statement, points: Plan) -> bool:
+def _is_met(event: Statement, points: PlanPoints) -> bool:
     """Whether what is stated holds at these points."""
     try:
         return event.is_met(points)

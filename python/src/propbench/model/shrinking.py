@@ -12,8 +12,8 @@ from propbench.session import Session
 def shrunk(
     session: Session, believed: Sequence[str], found: Iterable[str], seconds: float | None = None
 ) -> tuple[str, ...]:
-    """Of premises that contradict each other, some that do, of which none can be left out; as far as
-    that is found out in these seconds.
+    """Of premises that contradict each other, some that do, of which none can be left out; as far
+    as that is found out in these seconds.
 
     `believed` are those that are believed, by their names on lines, and are so again in the end,
     unless the session lasts no longer. What a run that isn't settled leaves open counts as no
@@ -26,8 +26,8 @@ def shrunk(
 
 
 def shrink(session: Session, believed: Sequence[str], kept: list[str], clock: Clock) -> None:
-    """The same in place, of those that are kept. Raises OutOfTime where there was none to have those
-    that are believed be so again."""
+    """The same in place, of those that are kept. Raises OutOfTime where there was none to have
+    those that are believed be so again."""
     if clock.is_over():
         return
     try:

@@ -33,8 +33,8 @@ BEGINS, GOES_ON = "#: ", "#+ "
 _LONGEST = 4000
 # A number that is saved, of so many digits at the most.
 _FRACTION = re.compile(r"-?[0-9]{1,2000}(/[0-9]{1,2000})?", re.ASCII)
-# What JSON gives may be anything: its parts are read by what stands there, and what has another form
-# than an event raises.
+# What JSON gives may be anything: its parts are read by what stands there, and what has another
+# form than an event raises.
 JsonRecord = Mapping[str, Any]
 Nested = Sequence[Any]
 

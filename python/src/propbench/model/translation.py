@@ -10,7 +10,7 @@ from propbench.model.either import Either
 from propbench.model.harmless import is_harmless
 from propbench.model.kinds import MOST, Domain, Plain, domain_of
 from propbench.model.nodes import FALSE, TRUE, Node, Op, negated
-from propbench.model.numbers import Numbers
+from propbench.model.numbers import NumberWriter
 from propbench.model.truths import Truths
 from propbench.model.vocabulary import Vocabulary
 from propbench.model.writer import YES, Writer, span_text
@@ -22,7 +22,7 @@ class Translation:
     def __init__(self, writer: Writer) -> None:
         self.writer = writer
         self.root = writer.root
-        self._numbers = Numbers(self)
+        self._numbers = NumberWriter(self)
         self._truths = Truths(self)
         # The cells of an expression within gates, and the one that joins them.
         self._gated: dict[Node, list[tuple[Context, str]]] = {}

@@ -31,7 +31,7 @@ from propbench.clock import on_terminal, show_by
 from propbench.finding import find_for
 from propbench.grammar import ASKING
 from propbench.journal import Journal, left
-from propbench.notebook.bar import Bar
+from propbench.notebook.bar import ProgressBar
 from propbench.overview import UNPROVED
 from propbench.pictures import Film, Picture, film_of, picture_of
 from propbench.refusals import Refused
@@ -113,7 +113,8 @@ def _named(line: str) -> tuple[bool, str]:
     name = " ".join(words[1:] if is_new else words) or "session"
     if not name.isidentifier():
         raise ValueError(
-            f"behind %%propbench stands the name of a variable, before it maybe {_NEW}, not {name!r}"
+            f"behind %%propbench stands the name of a variable, before it maybe {_NEW}, not"
+            f" {name!r}"
         )
     return is_new, name
 
@@ -122,7 +123,7 @@ def carried_out(session: Session, text: str) -> Replies:
     """What comes of the lines of a text, up to the first that is refused. A stop shows what came by
     then, and raises KeyboardInterrupt."""
     found = Replies(session.proved)
-    bar = Bar()
+    bar = ProgressBar()
     try:
         for number, line in enumerate(text.removesuffix("\n").split("\n"), 1):
             try:
@@ -205,7 +206,7 @@ def load_ipython_extension(shell: Any) -> None:
         return carried_out(session, cell)
 
     shell.register_magic_function(propbench, "cell", "propbench")
-    show_by(Bar().tell)
+    show_by(ProgressBar().tell)
     for each in left("notebook")[:1]:
         print(f"{shown(str(each))} {_OFFERED}")
 

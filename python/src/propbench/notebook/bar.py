@@ -13,7 +13,7 @@ _GONE = "<span></span>"
 _HOW = "the stop button ends it, and the session goes on"
 
 
-class Bar:
+class ProgressBar:
     """A bar, which is shown where what it tells of takes long."""
 
     def __init__(self) -> None:

@@ -20,9 +20,9 @@ from propbench.session import SessionInUse
 from propbench.showing import printable, quoted, said_of, shown
 from propbench.watching import (
     Frame,
-    Network,
-    Seen,
-    Shown,
+    NetworkSeen,
+    SeenNow,
+    ValueSeen,
     Steps,
     Use,
     Watched,
@@ -67,8 +67,8 @@ class Asking:
         self._changes = False
         # How often something may have changed; what was seen last, and the network as it was then.
         self._version = 1
-        self._seen: Seen | None = None
-        self._shape: Network | None = None
+        self._seen: SeenNow | None = None
+        self._shape: NetworkSeen | None = None
         self._shapes = 0
         self._steps: Steps | None = None
         self._does: dict[str, Callable[[Mapping[str, object]], dict[str, object]]] = {
@@ -286,7 +286,7 @@ class Asking:
             "lines": [printable(line) for line in watched.lines()],
         }
 
-    def _look(self) -> Seen:
+    def _look(self) -> SeenNow:
         if self._seen is None:
             try:
                 self._seen = self._watched.see(self._progress)
@@ -397,7 +397,7 @@ def _text(asked: Mapping[str, object], key: str) -> str:
     return value
 
 
-def _same(before: Seen, after: Seen) -> bool:
+def _same(before: SeenNow, after: SeenNow) -> bool:
     """Whether the same was seen, whichever reasons were named."""
     if before.clash or after.clash:
         return bool(before.clash) == bool(after.clash)
@@ -406,7 +406,7 @@ def _same(before: Seen, after: Seen) -> bool:
     }
 
 
-def _network(network: Network) -> dict[str, object]:
+def _network(network: NetworkSeen) -> dict[str, object]:
     return {
         "cells": [vars(cell) for cell in network.cells],
         "uses": [_use(use) for use in network.uses],
@@ -435,7 +435,7 @@ def _use(use: Use) -> dict[str, object]:
     }
 
 
-def _seen(seen: Seen) -> dict[str, object]:
+def _seen(seen: SeenNow) -> dict[str, object]:
     return {
         "values": [_briefly(each) for each in seen.values.values()],
         "settled": seen.settled,
@@ -444,7 +444,7 @@ def _seen(seen: Seen) -> dict[str, object]:
     }
 
 
-def _briefly(shown: Shown) -> dict[str, object]:
+def _briefly(shown: ValueSeen) -> dict[str, object]:
     """What is shown of each cell at once: of many reasons the first, and how many more there are."""
     return {
         "cell": shown.cell,
@@ -456,7 +456,7 @@ def _briefly(shown: Shown) -> dict[str, object]:
     }
 
 
-def _shown(shown: Shown) -> dict[str, object]:
+def _shown(shown: ValueSeen) -> dict[str, object]:
     return {
         "cell": shown.cell,
         "text": shown.text,

@@ -11,7 +11,7 @@ from propbench.pictures.dot import Look, dot_of
 from propbench.pictures.film import Film
 from propbench.pictures.graphviz import NoGraphviz, svgs_of
 from propbench.showing import printable, quoted
-from propbench.watching import Frame, Shown, Watched, bears
+from propbench.watching import Frame, ValueSeen, Watched, bears
 
 # A film looks at so many steps at the most.
 _MOST_STEPS = 5000
@@ -62,7 +62,7 @@ def picture_of(watched: Watched, cell: str | None = None, parts: bool | None = N
     if shown is None:
         raise ValueError(f"nothing follows for {quoted(cell)}: what is believed can't all hold")
     lit = bears(watched, seen, shown)
-    inner = {name: Shown(name, text, ()) for name, text in lit.says.items()}
+    inner = {name: ValueSeen(name, text, ()) for name, text in lit.says.items()}
     known = replace(seen, values={**inner, **seen.values})
     return Picture(dot_of(network, known, Look(lit=lit, only_lit=True, is_open=parts)))
 

@@ -9,7 +9,7 @@ from dataclasses import dataclass, field, replace
 
 from propbench.pictures.folding import MOST_CELLS, MOST_INSTANCES, folded
 from propbench.showing import printable
-from propbench.watching import NOTHING_SEEN, Bearing, Network, Premise, Seen, Use
+from propbench.watching import NOTHING_SEEN, Bearing, NetworkSeen, Premise, SeenNow, Use
 
 # A text in a picture has so many letters at the most.
 _LONGEST = 44
@@ -37,9 +37,9 @@ _HEAD = (
 
 @dataclass(frozen=True)
 class Look:
-    """How a picture is drawn: what is `lit` (what bears on a cell), which cells are `changed`, which
-    use is `called`, whether all that isn't lit is left out, and how wide cells are at least, in
-    letters."""
+    """How a picture is drawn: what is `lit` (what bears on a cell), which cells are `changed`,
+    which use is `called`, whether all that isn't lit is left out, and how wide cells are at least,
+    in letters."""
 
     lit: Bearing | None = None
     changed: frozenset[str] = frozenset()
@@ -49,7 +49,7 @@ class Look:
     is_open: bool | None = None
 
 
-def dot_of(network: Network, seen: Seen = NOTHING_SEEN, look: Look = Look()) -> str:
+def dot_of(network: NetworkSeen, seen: SeenNow = NOTHING_SEEN, look: Look = Look()) -> str:
     """The picture of a network as it is seen."""
     shown = restricted(network, look.lit) if look.only_lit and look.lit else network
     inner = sum(1 for use in shown.uses for _ in use.inner_cells())
@@ -64,11 +64,11 @@ def dot_of(network: Network, seen: Seen = NOTHING_SEEN, look: Look = Look()) -> 
     return "\n".join(["digraph {", *(f"  {line}" for line in drawn.lines()), "}", ""])
 
 
-def restricted(network: Network, lit: Bearing) -> Network:
+def restricted(network: NetworkSeen, lit: Bearing) -> NetworkSeen:
     """What is lit of a network, with the premises and choices that speak of it."""
     uses = [use for use in network.uses if use.name in lit.uses]
     drawn = lit.cells.union(cell.name for use in uses for cell in use.inner_cells())
-    return Network(
+    return NetworkSeen(
         tuple(cell for cell in network.cells if cell.name in lit.cells),
         tuple(_among(use, drawn) for use in uses),
         tuple(premise for premise in network.premises if premise.name in lit.premises),
@@ -98,8 +98,8 @@ class _Drawn:
 
     def __init__(
         self,
-        network: Network,
-        seen: Seen,
+        network: NetworkSeen,
+        seen: SeenNow,
         look: Look,
         is_open: bool,
         counts: Mapping[str, int],
@@ -127,7 +127,8 @@ class _Drawn:
             sides = [
                 f"{'* ' if at == stands else ''}{side}" for at, side in enumerate(choice.sides)
             ]
-            yield f'h{place} [{_label(choice.text, *sides)}, shape=note, style=filled, fillcolor="#e8f3e8"]'
+            label = _label(choice.text, *sides)
+            yield f'h{place} [{label}, shape=note, style=filled, fillcolor="#e8f3e8"]'
             yield from self._dashes(f"h{place}", choice.cells, False)
 
     def _cell(self, name: str, text: str) -> str:
@@ -156,7 +157,8 @@ class _Drawn:
             return
         edges: list[str] = []
         yield f"subgraph cluster_{own} {{"
-        yield f'  {_label(_told(use))}; labeljust=l; color="#b8c4d0"; style="rounded,filled"; fillcolor="#f8fafc"'
+        look = 'color="#b8c4d0"; style="rounded,filled"; fillcolor="#f8fafc"'
+        yield f"  {_label(_told(use))}; labeljust=l; {look}"
         for cell in use.locals:
             yield f"  {self._cell(cell.name, cell.text)}"
         for part in use.parts:

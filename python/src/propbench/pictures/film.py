@@ -1,4 +1,5 @@
-"""A film: the steps of a run as a strip of small pictures, or as a table where there are many cells."""
+"""A film: the steps of a run as a strip of small pictures, or as a table where there are many
+cells."""
 
 from collections.abc import Sequence
 from html import escape
@@ -7,7 +8,7 @@ from propbench.pictures.dot import Look, dot_of
 from propbench.pictures.graphviz import NoGraphviz, svgs_of
 from propbench.showing import printable
 from propbench.tables import table
-from propbench.watching import Frame, Network, Seen, Shown
+from propbench.watching import Frame, NetworkSeen, SeenNow, ValueSeen
 
 # So many cells are drawn in each picture of a strip at the most; of more there is a table.
 _MOST_DRAWN = 16
@@ -17,7 +18,7 @@ class Film:
     """The first steps of a run that change something. `frames` has what each changed, with the
     number of the step; frame 0 is what is known before the first."""
 
-    def __init__(self, network: Network, frames: Sequence[Frame]) -> None:
+    def __init__(self, network: NetworkSeen, frames: Sequence[Frame]) -> None:
         self.network, self.frames = network, list(frames)
         self._texts = {cell.name: cell.text for cell in network.cells}
         self._tells = any(frame.does for frame in frames)
@@ -78,7 +79,7 @@ class Film:
 
     def _dots(self) -> list[str]:
         """The pictures in DOT, with cells as wide as what they hold in any step."""
-        values: dict[str, Shown] = {}
+        values: dict[str, ValueSeen] = {}
         widths = {name: len(text) for name, text in self._texts.items()}
         for frame in self.frames:
             for each in frame.changes:
@@ -86,8 +87,8 @@ class Film:
         texts = []
         for frame in self.frames:
             for each in frame.changes:
-                values[each.cell] = Shown(each.cell, each.after, each.because)
+                values[each.cell] = ValueSeen(each.cell, each.after, each.because)
             changed = frozenset(each.cell for each in frame.changes)
             look = Look(changed=changed, called=frame.use, widths=widths, is_open=False)
-            texts.append(dot_of(self.network, Seen(dict(values)), look))
+            texts.append(dot_of(self.network, SeenNow(dict(values)), look))
         return texts

@@ -9,7 +9,7 @@ same folds. A fold has no value: it stands for several cells.
 from collections.abc import Callable, Mapping, Sequence
 from dataclasses import dataclass
 
-from propbench.watching import Cell, Choice, Network, Premise, Said, Use
+from propbench.watching import CellSeen, ChoiceSeen, NetworkSeen, Premise, StatedSeen, Use
 
 # A picture has so many cells at the most before it is folded, and so many instances drawn apart.
 MOST_CELLS, MOST_INSTANCES = 60, 30
@@ -23,31 +23,31 @@ _NAMED = 2
 class Folded:
     """A network of folds, and how many cells each stands for, by its name."""
 
-    network: Network
+    network: NetworkSeen
     counts: Mapping[str, int]
 
 
 # What part a cell plays: the same for the same part.
-Part = Callable[[Cell], object]
+Grouping = Callable[[CellSeen], object]
 
 
-def folded(network: Network) -> Folded:
+def folded(network: NetworkSeen) -> Folded:
     """The network with cells of the same part as one, and equal uses of those as one."""
     groups = _groups(network)
     of = {cell.name: group[0].name for group in groups for cell in group}
     return Folded(
-        Network(
-            tuple(Cell(group[0].name, _named(group), group[0].kind) for group in groups),
+        NetworkSeen(
+            tuple(CellSeen(group[0].name, _named(group), group[0].kind) for group in groups),
             tuple(_uses(network.uses, of)),
             tuple(_premises(network.premises, of)),
             tuple(_choices(network.choices, of)),
-            tuple(Said(said.text, of.get(said.cell, "")) for said in network.fixed),
+            tuple(StatedSeen(said.text, of.get(said.cell, "")) for said in network.fixed),
         ),
         {group[0].name: len(group) for group in groups},
     )
 
 
-def _groups(network: Network) -> list[list[Cell]]:
+def _groups(network: NetworkSeen) -> list[list[CellSeen]]:
     """The cells by their part, told as far apart as there is room for."""
     places: dict[str, set[object]] = {cell.name: set() for cell in network.cells}
     sources: dict[str, set[object]] = {cell.name: set() for cell in network.cells}
@@ -57,12 +57,12 @@ def _groups(network: Network) -> list[list[Cell]]:
             places[cell].add((text, use.given, place if use.one_way or use.parts else 0))
         sources[use.cells[-1]].add(text)
     stated = _stated(network)
-    parts: list[Part] = [
+    parts: list[Grouping] = [
         lambda cell: (cell.kind, stated[cell.name], frozenset(places[cell.name])),
         lambda cell: (cell.kind, stated[cell.name], frozenset(sources[cell.name])),
         lambda cell: cell.kind,
     ]
-    found: dict[object, list[Cell]]
+    found: dict[object, list[CellSeen]]
     for part in parts:
         found = {}
         for each in network.cells:
@@ -72,7 +72,7 @@ def _groups(network: Network) -> list[list[Cell]]:
     return list(found.values())
 
 
-def _stated(network: Network) -> dict[str, frozenset[str]]:
+def _stated(network: NetworkSeen) -> dict[str, frozenset[str]]:
     """In which ways something is stated of each cell."""
     ways: dict[str, set[str]] = {cell.name: set() for cell in network.cells}
     for said in network.fixed:
@@ -124,19 +124,19 @@ def _premises(premises: Sequence[Premise], of: Mapping[str, str]) -> list[Premis
 def _premise(group: list[Premise], of: Mapping[str, str]) -> Premise:
     first = group[0]
     if len(group) == 1:
-        says = tuple(Said(said.text, of.get(said.cell, "")) for said in first.says)
+        says = tuple(StatedSeen(said.text, of.get(said.cell, "")) for said in first.says)
         return Premise(first.name, first.text, says, first.is_believed)
     cells = dict.fromkeys(of[said.cell] for premise in group for said in premise.says)
-    says = tuple(Said("", cell) for cell in cells)
+    says = tuple(StatedSeen("", cell) for cell in cells)
     return Premise(first.name, _several("premises", group), says, first.is_believed)
 
 
-def _choices(choices: Sequence[Choice], of: Mapping[str, str]) -> list[Choice]:
-    groups: dict[object, list[Choice]] = {}
+def _choices(choices: Sequence[ChoiceSeen], of: Mapping[str, str]) -> list[ChoiceSeen]:
+    groups: dict[object, list[ChoiceSeen]] = {}
     for choice in choices:
         groups.setdefault(frozenset(of[cell] for cell in choice.cells), []).append(choice)
     return [
-        Choice(
+        ChoiceSeen(
             group[0].name,
             group[0].text if len(group) == 1 else _several("choices", group),
             group[0].sides if len(group) == 1 else (),
@@ -146,11 +146,11 @@ def _choices(choices: Sequence[Choice], of: Mapping[str, str]) -> list[Choice]:
     ]
 
 
-def _named(group: list[Cell]) -> str:
+def _named(group: list[CellSeen]) -> str:
     return (
         ", ".join(cell.text for cell in group) if len(group) <= _NAMED else _several("cells", group)
     )
 
 
-def _several(what: str, group: Sequence[Cell | Premise | Choice]) -> str:
+def _several(what: str, group: Sequence[CellSeen | Premise | ChoiceSeen]) -> str:
     return f"{len(group)} {what}: {group[0].text} .. {group[-1].text}"

@@ -6,7 +6,8 @@ from dataclasses import dataclass
 from html import escape
 from typing import TYPE_CHECKING
 
-from propbench.planning.exports import ENDINGS, written
+from propbench.outputs import write_as
+from propbench.planning.exports import ENDINGS
 from propbench.planning.schedule import Entry, Schedule
 from propbench.planning.tasks import Away
 from propbench.questions.asking import tried
@@ -43,7 +44,7 @@ class Chart:
     def save(self, path: str | os.PathLike[str]) -> None:
         """Writes the chart to a file, as SVG, whole or not at all. Raises OSError, and ValueError
         for a name that ends as if it were something else."""
-        written(f"{self.svg}\n", path, ENDINGS["svg"])
+        write_as(f"{self.svg}\n", path, ENDINGS["svg"])
 
 
 def chart_of(

@@ -5,7 +5,8 @@ from dataclasses import dataclass, field
 from pathlib import Path
 
 from propbench.planning.brief import Given
-from propbench.planning.exports import ENDINGS, check_ending
+from propbench.outputs import check_ending
+from propbench.planning.exports import ENDINGS
 from propbench.planning.planner import Plan, best_of, plan_of, trade_off_of
 from propbench.planning.project import Project
 from propbench.planning.reading import brief_of

@@ -4,13 +4,11 @@
 import csv
 import hashlib
 import io
-import os
-from collections.abc import Iterator, Sequence
+from collections.abc import Iterator
 from datetime import date, datetime, timedelta, timezone
 
-from propbench.files import write_file
-from propbench.given import path_given
 from propbench.nearby import near_names
+from propbench.outputs import no_formula
 from propbench.planning.schedule import Entry, Schedule
 from propbench.questions.shown import said
 from propbench.showing import printable
@@ -19,25 +17,7 @@ from propbench.showing import printable
 ENDINGS = {"csv": (".csv",), "ics": (".ics",), "html": (".html", ".htm"), "svg": (".svg",)}
 # A line of a calendar has so many bytes at the most, its end not counted.
 _LINE = 75
-# A cell that begins so is a formula to a spreadsheet.
-_FORMULA = ("=", "+", "-", "@", "\t", "\r")
 _ESCAPES = str.maketrans({"\\": "\\\\", ";": "\\;", ",": "\\,", "\n": "\\n"})
-
-
-def written(text: str, path: str | os.PathLike[str] | None, endings: Sequence[str]) -> str:
-    """The text, written to a file where one is named, whole or not at all. Raises OSError, and
-    ValueError for a name that ends as if it were something else."""
-    if path is not None:
-        check_ending(path, endings)
-        write_file(path, text)
-    return text
-
-
-def check_ending(path: str | os.PathLike[str], endings: Sequence[str]) -> None:
-    """Raises ValueError for the name of a file that ends as if it were something else."""
-    ending = os.path.splitext(path_given(path))[1]
-    if ending and ending.lower() not in endings:
-        raise ValueError(f"this is written as {endings[0]}, and not as {printable(ending)}")
 
 
 # --- for spreadsheets ---
@@ -53,11 +33,11 @@ def csv_of(schedule: Schedule) -> str:
     for entry in schedule.by_date():
         rows.writerow(
             (
-                _as_text(entry.task),
-                _as_text(said(entry.people)),
+                no_formula(entry.task),
+                no_formula(said(entry.people)),
                 *_ends(schedule, entry),
                 entry.days,
-                _as_text(entry.way or ""),
+                no_formula(entry.way or ""),
                 "" if entry.cost is None else entry.cost,
             )
         )
@@ -69,11 +49,6 @@ def _ends(schedule: Schedule, entry: Entry) -> tuple[object, object]:
         return entry.start, entry.end
     first, last = schedule.dates(entry)
     return first.isoformat(), last.isoformat()
-
-
-def _as_text(text: str) -> str:
-    shown = printable(text)
-    return f"'{shown}" if shown.startswith(_FORMULA) else shown
 
 
 # --- for calendars ---

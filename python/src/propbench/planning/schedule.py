@@ -198,9 +198,10 @@ class Schedule(Shown):
     def to_csv(self, path: str | os.PathLike[str] | None = None) -> str:
         """The schedule for a spreadsheet, a row for each task, written to a file where one is named;
         and its text."""
-        from propbench.planning.exports import ENDINGS, csv_of, written
+        from propbench.outputs import write_as
+        from propbench.planning.exports import ENDINGS, csv_of
 
-        return written(csv_of(self), path, ENDINGS["csv"])
+        return write_as(csv_of(self), path, ENDINGS["csv"])
 
     def to_ics(
         self,
@@ -211,24 +212,27 @@ class Schedule(Shown):
     ) -> str:
         """The schedule for a calendar (iCalendar), all of it, or what one person does. Raises
         ValueError where the plan has no dates, and where nobody is called so."""
-        from propbench.planning.exports import ENDINGS, ics_of, written
+        from propbench.outputs import write_as
+        from propbench.planning.exports import ENDINGS, ics_of
 
-        return written(ics_of(self, who, now), path, ENDINGS["ics"])
+        return write_as(ics_of(self, who, now), path, ENDINGS["ics"])
 
     def to_html(self, path: str | os.PathLike[str] | None = None, title: str = "Schedule") -> str:
         """The schedule as one page for a browser and a printer: chart, days, people."""
-        from propbench.planning.exports import ENDINGS, written
+        from propbench.outputs import write_as
+        from propbench.planning.exports import ENDINGS
         from propbench.planning.paper import page_of
 
-        return written(page_of(self, title), path, ENDINGS["html"])
+        return write_as(page_of(self, title), path, ENDINGS["html"])
 
     def to_svg(self, path: str | os.PathLike[str] | None = None) -> str:
         """The schedule as a Gantt chart."""
         from propbench.planning.chart import drawn
-        from propbench.planning.exports import ENDINGS, written
+        from propbench.outputs import write_as
+        from propbench.planning.exports import ENDINGS
 
         days = min(self.end + _BEHIND, max(self.end, self.staff.days))
-        return written(f"{drawn(self, {}, days)}\n", path, ENDINGS["svg"])
+        return write_as(f"{drawn(self, {}, days)}\n", path, ENDINGS["svg"])
 
 
 def _said_of(entry: Entry) -> tuple[object, ...]:

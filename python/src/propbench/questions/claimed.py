@@ -72,10 +72,10 @@ def _conflicts(claim: Any, plans: Any) -> list[str]:
     if claim["full"] and not sets:
         said.append(f"{_with(given)} it fits{where}.")
     elif claim["full"]:
-        said.append(f"There is no other least conflict among {_some(given)}{where}.")
+        said.append(f"There is no other minimal conflict among {_some(given)}{where}.")
     if outs:
         ways = "; or ".join(_some(names) if names else "nothing" for names in outs)
-        others = ", and in no other least way" if claim["full"] else ""
+        others = ", and in no other minimal way" if claim["full"] else ""
         said.append(f"The rest of {_some(given)} fits{where} without {ways}{others}.")
     return said
 

@@ -4,7 +4,7 @@ from collections.abc import Iterable, Iterator, Sequence
 from dataclasses import dataclass
 
 from propbench.clock import Clock, Progress
-from propbench.listing import Statement, told_by
+from propbench.listing import CellStatement, told_by
 from propbench.questions.asking import CellLike, answered, cell_named, tried, whole_named
 from propbench.questions.bench import Bench
 from propbench.questions.bounding import Bounding, Optimum, bounding_in
@@ -103,7 +103,9 @@ def _value(row: Row, cell: str) -> object:
     return f"conflict: {row.conflict}" if row.conflict is not None else row[cell].value
 
 
-def _halves(model: Model, premise: str, told: Iterable[Statement]) -> Iterator[tuple[object, ...]]:
+def _halves(
+    model: Model, premise: str, told: Iterable[CellStatement]
+) -> Iterator[tuple[object, ...]]:
     """What a premise tells of the user's numbers, with ranges that are half as wide."""
     cells = {model.cell_name(cell): cell for cell in model.cells()}
     for stated in told:

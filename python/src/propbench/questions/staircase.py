@@ -3,13 +3,11 @@ the steps between them, below which nothing fits."""
 
 import csv
 import io
-import os
 from collections.abc import Callable, Iterable, Iterator, Sequence
 from dataclasses import dataclass
 from html import escape
 
-from propbench.files import write_file
-from propbench.given import path_given
+from propbench.outputs import no_formula
 from propbench.questions.shown import said
 from propbench.showing import printable
 
@@ -18,40 +16,22 @@ _WIDE, _HIGH, _LEFT, _RIGHT, _TOP, _BELOW = 640, 400, 84, 130, 24, 52
 _INK, _LINE, _EMPTY, _FITS = "#1d2733", "#3366aa", "#f3f4f6", "#e3edf8"
 # What is said in a corner is so wide.
 _SAID = 120
-# A cell that begins so is a formula to a spreadsheet.
-_FORMULA = ("=", "+", "-", "@", "\t", "\r")
 # So many marks stand on an axis at the most, and so many letters beside a point.
 _MARKS, _LETTERS = 6, 22
-
-
-def written(text: str, path: str | os.PathLike[str] | None, ending: str) -> str:
-    """The text, written to a file where one is named, whole or not at all. Raises OSError, and
-    ValueError for a name that ends as if it were something else."""
-    if path is not None:
-        own = os.path.splitext(path_given(path))[1]
-        if own and own.lower() != ending:
-            raise ValueError(f"this is written as {ending}, and not as {printable(own)}")
-        write_file(path, text)
-    return text
 
 
 def csv_of(heads: Sequence[str], rows: Iterable[Sequence[object]]) -> str:
     """A table for a spreadsheet. A text that one would take for a formula has an apostrophe in front."""
     out = io.StringIO()
     table = csv.writer(out, lineterminator="\r\n")
-    table.writerow([_as_text(head) for head in heads])
+    table.writerow([no_formula(head) for head in heads])
     table.writerows([[_plain(value) for value in row] for row in rows])
     return out.getvalue()
 
 
 def _plain(value: object) -> object:
     is_number = isinstance(value, int) and not isinstance(value, bool)
-    return value if is_number else _as_text(said(value))
-
-
-def _as_text(text: str) -> str:
-    shown = printable(text)
-    return f"'{shown}" if shown.startswith(_FORMULA) else shown
+    return value if is_number else no_formula(said(value))
 
 
 @dataclass(frozen=True)

@@ -108,9 +108,10 @@ class TradeOff(Shown, list[Optima]):
         >>> w.trade_off(x, y).to_csv().split()
         ['x,y', '0,2', '4,1', '8,0']
         """
-        from propbench.questions.staircase import csv_of, written
+        from propbench.outputs import write_as
+        from propbench.questions.staircase import csv_of
 
-        return written(csv_of(self.heads(), self.rows()), path, ".csv")
+        return write_as(csv_of(self.heads(), self.rows()), path, (".csv",))
 
     def to_svg(self, path: str | os.PathLike[str] | None = None) -> str:
         """A picture: a point for each plan, and the steps between, below which nothing fits. It is
@@ -122,10 +123,11 @@ class TradeOff(Shown, list[Optima]):
         >>> w.trade_off(x, y).to_svg().count("<circle")
         3
         """
-        from propbench.questions.staircase import Staircase, written
+        from propbench.outputs import write_as
+        from propbench.questions.staircase import Staircase
 
         drawn = Staircase(self.cells, self.pairs, self._said(), self._edge()).svg()
-        return written(drawn, path, ".svg")
+        return write_as(drawn, path, (".svg",))
 
     def _edge(self) -> int | None:
         """Up to which value of the first cell all is known, None where that is all there is."""

@@ -85,13 +85,7 @@ class Trial(Closing):
         # What asks for what is known of the user's cells, without a step.
         asks = [f"ask {line}" for line in self.cell_line.values()]
         self._asks = ["limit 0", *asks, f"limit {_STEPS}"]
-        first = [
-            (each.is_from_top, cell, place)
-            for place, each in enumerate(model.first())
-            for cell in each.cells
-        ]
-        self._turn = {cell: place for _, cell, place in reversed(first)}
-        self._from_top = {cell for is_from_top, cell, _ in first if is_from_top}
+        self._turn, self._from_top = _turns(model)
         # Whether the last look saw values: then the next one asks for them at once.
         self._expects_values = False
         # Until something is seen, all that a cell is declared to have is left for it.
@@ -358,6 +352,18 @@ class Trial(Closing):
         """What is left for cells by what is supposed; symbols are left out."""
         rooms = {cell: room for cell, room in self.rooms.items() if room is not None}
         return {**rooms, **dict(told)}
+
+
+def _turns(model: Model) -> tuple[dict[str, int], set[str]]:
+    """The places of the cells that come first, and those of them that are tried from their greatest
+    value."""
+    first = [
+        (each.is_from_top, cell, place)
+        for place, each in enumerate(model.first())
+        for cell in each.cells
+    ]
+    turn = {cell: place for _, cell, place in reversed(first)}
+    return turn, {cell for is_from_top, cell, _ in first if is_from_top}
 
 
 def _held_in(reply: Reply) -> Held:

@@ -14,26 +14,26 @@ from propbench.refusals import UnknownCommand
 from propbench.runs import RunProgress
 from propbench.session import Session
 from propbench.watching.bearing import Bearing, bearing, resting
-from propbench.watching.claims import Claim, Source, Way
+from propbench.watching.claims import Claim, Source, KnownBy
 from propbench.watching.mending import Mending
 from propbench.watching.network import (
     NOTHING_SEEN,
-    Cell,
-    Choice,
+    CellSeen,
+    ChoiceSeen,
     Clash,
-    Network,
+    NetworkSeen,
     Premise,
     Reason,
-    Said,
-    Seen,
-    Shown,
+    StatedSeen,
+    SeenNow,
+    ValueSeen,
     Use,
 )
-from propbench.watching.steps import Change, Frame, Steps
+from propbench.watching.steps import CellChange, Frame, Steps
 
 
 @dataclass(frozen=True)
-class Best:
+class BestPlan:
     """The least or greatest value of a cell in any plan, in a sentence, and that plan by cell.
     `says` is what holds of the plan."""
 
@@ -56,15 +56,15 @@ class Watched(Protocol):
         """Whether it is a workbench; else it takes lines of the language."""
         ...
 
-    def network(self) -> Network:
+    def network(self) -> NetworkSeen:
         """What was stated."""
         ...
 
-    def see(self, progress: RunProgress | None = None) -> Seen:
+    def see(self, progress: RunProgress | None = None) -> SeenNow:
         """What follows now, by a run."""
         ...
 
-    def known(self) -> Seen:
+    def known(self) -> SeenNow:
         """What is known now, without a step."""
         ...
 
@@ -73,7 +73,7 @@ class Watched(Protocol):
         program doesn't tell."""
         ...
 
-    def core(self, cell: str, progress: RunProgress | None = None) -> Shown | None:
+    def core(self, cell: str, progress: RunProgress | None = None) -> ValueSeen | None:
         """The value of a cell with reasons of which none can be left out, None at a conflict."""
         ...
 
@@ -94,13 +94,13 @@ class Watched(Protocol):
         """Conflicts among what is believed, and repairs."""
         ...
 
-    def without(self, premises: Sequence[str], progress: RunProgress | None = None) -> Seen:
+    def without(self, premises: Sequence[str], progress: RunProgress | None = None) -> SeenNow:
         """What would follow without these premises; nothing is changed."""
         ...
 
     def best(
         self, cell: str, sort: str, progress: Progress | None = None, seconds: float | None = None
-    ) -> Best:
+    ) -> BestPlan:
         """The "least" or "greatest" value of a cell in any plan. Raises ValueError where that can't
         be asked."""
         ...
@@ -122,8 +122,9 @@ class Watched(Protocol):
         ...
 
 
-def bears(watched: Watched, seen: Seen, shown: Shown) -> Bearing:
-    """What bears on what is seen of a cell: as the program tells it, or else as it is worked out."""
+def bears(watched: Watched, seen: SeenNow, shown: ValueSeen) -> Bearing:
+    """What bears on what is seen of a cell: as the program tells it, or else as it is worked
+    out."""
     try:
         claim = watched.how(shown.cell)
     except UnknownCommand:
@@ -134,24 +135,24 @@ def bears(watched: Watched, seen: Seen, shown: Shown) -> Bearing:
 __all__ = [
     "NOTHING_SEEN",
     "Bearing",
-    "Best",
-    "Cell",
-    "Change",
-    "Choice",
+    "BestPlan",
+    "CellChange",
+    "CellSeen",
+    "ChoiceSeen",
     "Claim",
     "Clash",
     "Frame",
+    "KnownBy",
     "Mending",
-    "Network",
+    "NetworkSeen",
     "Premise",
     "Reason",
-    "Said",
-    "Seen",
-    "Shown",
+    "SeenNow",
     "Source",
+    "StatedSeen",
     "Steps",
     "Use",
+    "ValueSeen",
     "Watched",
-    "Way",
     "bears",
 ]

@@ -10,7 +10,7 @@ from collections.abc import Iterable, Iterator, Sequence
 from dataclasses import dataclass
 
 from propbench.watching.claims import Claim
-from propbench.watching.network import Network, Said, Seen, Shown, Use
+from propbench.watching.network import NetworkSeen, StatedSeen, SeenNow, ValueSeen, Use
 
 # For so many cells it is looked what is reached without them; for others that of the last serves.
 _MOST_EXACT = 150
@@ -55,7 +55,7 @@ def resting(claim: Claim) -> Bearing:
     )
 
 
-def bearing(network: Network, seen: Seen, shown: Shown) -> Bearing:
+def bearing(network: NetworkSeen, seen: SeenNow, shown: ValueSeen) -> Bearing:
     """What may bear on what is shown of a cell."""
     premises = frozenset(reason.premise for reason in shown.because if reason.premise)
     choices = frozenset(reason.choice for reason in shown.because if reason.choice)
@@ -72,9 +72,9 @@ def _counts(use: Use, premises: frozenset[str]) -> bool:
     return not use.premise or use.premise in premises
 
 
-def _barred(seen: Seen, shown: Shown) -> set[str]:
-    """The cells of which nothing is known, or whose value has reasons beyond these. What the program
-    says nothing of, as the cells within a compound, is not barred."""
+def _barred(seen: SeenNow, shown: ValueSeen) -> set[str]:
+    """The cells of which nothing is known, or whose value has reasons beyond these. What the
+    program says nothing of, as the cells within a compound, is not barred."""
     reasons = set(shown.because)
     return {
         name
@@ -83,9 +83,11 @@ def _barred(seen: Seen, shown: Shown) -> set[str]:
     }
 
 
-def _stated(network: Network, premises: frozenset[str], choices: frozenset[str]) -> Iterator[str]:
+def _stated(
+    network: NetworkSeen, premises: frozenset[str], choices: frozenset[str]
+) -> Iterator[str]:
     """The cells of which something is stated always, under these premises, or by these choices."""
-    said: list[Said] = list(network.fixed)
+    said: list[StatedSeen] = list(network.fixed)
     for premise in network.premises:
         if premise.name in premises:
             said += premise.says

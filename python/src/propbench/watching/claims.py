@@ -38,7 +38,7 @@ class Source:
 
 
 @dataclass(frozen=True, eq=False)
-class Way:
+class KnownBy:
     """A way to know something of a cell: what it says, what it comes from, and what it counts of
     other cells."""
 
@@ -65,7 +65,7 @@ class Claim:
 
     cell: str
     says: str
-    ways: tuple[Way, ...]
+    ways: tuple[KnownBy, ...]
     place: int = -1
     cut: bool = False
 
@@ -154,19 +154,19 @@ class _Made:
             for cell, found in places.items()
         }
         self._claims: dict[tuple[str, int], Claim] = {}
-        self._ways: dict[int, Way] = {}
+        self._ways: dict[int, KnownBy] = {}
         for place in reversed(range(len(parts))):
             if not wording.is_inner(parts[place].cell):
                 self._ways[place] = self._way(place)
 
-    def ways_behind(self, cell: str, place: int) -> tuple[Way, ...]:
+    def ways_behind(self, cell: str, place: int) -> tuple[KnownBy, ...]:
         """The ways by the parts at a cell behind this place, as far as they are needed."""
         return tuple(self._ways[each] for each in self._behind(cell, place))
 
     def _behind(self, cell: str, place: int) -> list[int]:
         return self._at[cell].needed(place) if cell in self._at else []
 
-    def _way(self, place: int) -> Way:
+    def _way(self, place: int) -> KnownBy:
         """The way of a part: through all parts at inner cells that it counts."""
         part = self._parts[place]
         sources: list[Source] = []
@@ -185,7 +185,7 @@ class _Made:
                     inputs[self._claim(cell, behind)] = None
         says = self._wording.says(part.cell, part.value, part.because)
         strong = [source for source in sources if not source.weak] or sources
-        return Way(says, tuple(dict.fromkeys(strong)), tuple(inputs))
+        return KnownBy(says, tuple(dict.fromkeys(strong)), tuple(inputs))
 
     def _inputs(self, place: int) -> Iterator[tuple[str, list[int]]]:
         """The inputs of a call of which something is known, each with the parts that say it."""
@@ -210,13 +210,13 @@ class _Made:
 
 def _lines(root: Claim) -> Iterator[tuple[int, str]]:
     """The lines of a tree, each with its depth. What was told once is referred to."""
-    waiting: list[tuple[int, Claim | Way, str]] = [(0, root, root.cell)]
-    seen: set[Claim | Way] = set()
+    waiting: list[tuple[int, Claim | KnownBy, str]] = [(0, root, root.cell)]
+    seen: set[Claim | KnownBy] = set()
     while waiting:
         depth, each, name = waiting.pop()
         ways = each.ways if isinstance(each, Claim) else (each,)
         text = f"{name} = {each.says}"
-        below: list[tuple[int, Claim | Way, str]]
+        below: list[tuple[int, Claim | KnownBy, str]]
         if len(ways) > 1:
             below = [(depth + 1, way, name) for way in ways]
         else:

@@ -1,5 +1,5 @@
-"""Whose an instance is: by which `attach` it was made, and what its cells are called, as `list` tells
-where the program has that.
+"""Whose an instance is: by which `attach` it was made, and what its cells are called, as `list`
+tells where the program has that.
 """
 
 from dataclasses import replace

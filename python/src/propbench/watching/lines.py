@@ -10,12 +10,12 @@ from dataclasses import replace
 from propbench.grammar import Role, parsed
 from propbench.kit import KIT
 from propbench.known import Known
-from propbench.listing import Statement, Told
+from propbench.listing import CellStatement, ToldLines
 from propbench.replies import Instance, Listing
-from propbench.watching.network import Cell, Choice, Network, Premise, Said, Use
+from propbench.watching.network import CellSeen, ChoiceSeen, NetworkSeen, Premise, StatedSeen, Use
 
 
-class Lines:
+class SessionLines:
     """The lines of a session, read as they come."""
 
     def __init__(self, listing: Callable[[float | None], Listing | None]) -> None:
@@ -25,7 +25,7 @@ class Lines:
 
     def _begin(self) -> None:
         self._read: list[str] = []
-        self._told = Told()
+        self._told = ToldLines()
         self._uses: list[Use] = []
 
     def take(self, lines: Sequence[str], known: Known, until: float | None = None) -> None:
@@ -49,7 +49,7 @@ class Lines:
         self._read = list(lines)
 
     @property
-    def told(self) -> Told:
+    def told(self) -> ToldLines:
         """What was told."""
         return self._told
 
@@ -58,11 +58,11 @@ class Lines:
         """The uses, in the order in which they were attached."""
         return self._uses
 
-    def network(self, known: Known) -> Network:
+    def network(self, known: Known) -> NetworkSeen:
         """The network as it is now."""
         told = self._told
-        return Network(
-            tuple(Cell(name, name, kind) for name, kind in known.cells.items()),
+        return NetworkSeen(
+            tuple(CellSeen(name, name, kind) for name, kind in known.cells.items()),
             tuple(self._uses),
             tuple(
                 Premise(name, name, _said(stated), name not in told.kicked)
@@ -70,15 +70,15 @@ class Lines:
                 if name
             ),
             tuple(
-                Choice(name, name, tuple(map(str, sides)), (sides[0].cell,))
+                ChoiceSeen(name, name, tuple(map(str, sides)), (sides[0].cell,))
                 for name, sides in told.choices.items()
             ),
             _said(told.premises.get("", ())),
         )
 
 
-def _said(stated: Sequence[Statement]) -> tuple[Said, ...]:
-    return tuple(Said(str(each), each.cell) for each in stated)
+def _said(stated: Sequence[CellStatement]) -> tuple[StatedSeen, ...]:
+    return tuple(StatedSeen(str(each), each.cell) for each in stated)
 
 
 class _Parts:
@@ -105,7 +105,7 @@ class _Parts:
         if definition is None:
             return made if made.one_way else self._told(made)
         inner: dict[str, str] = dict(zip(definition.parameters, cells))
-        own: dict[str, Cell] = {}
+        own: dict[str, CellSeen] = {}
         parts: list[Use] = []
         for step in definition.steps:
             if step.procedure:
@@ -117,7 +117,7 @@ class _Parts:
                 inner[local] = f"{name}.{local}"
                 kind = step.kind or self._kinds[inner[step.like]]
                 self._kinds[inner[local]] = kind
-                own[local] = Cell(inner[local], local, kind)
+                own[local] = CellSeen(inner[local], local, kind)
         return replace(made, parts=tuple(parts), locals=tuple(own.values()))
 
     def _told(self, made: Use) -> Use:
@@ -126,13 +126,15 @@ class _Parts:
         listed = self._listed().get(begin.partition(".")[0], ())
         if any(each.part == made.name for each in listed):
             return replace(made, one_way=True)
-        own: dict[str, Cell] = {}
+        own: dict[str, CellSeen] = {}
         parts: list[Use] = []
         for each in listed:
             if each.part.startswith(begin):
                 cells = (*each.inputs, each.output)
                 fresh = (cell for cell in cells if cell not in made.cells)
-                own.update({it: Cell(it, it.removeprefix(begin), self._kinds[it]) for it in fresh})
+                own.update(
+                    {it: CellSeen(it, it.removeprefix(begin), self._kinds[it]) for it in fresh}
+                )
                 parts.append(Use(each.part, each.procedure, cells, each.given, one_way=True))
         return replace(made, parts=tuple(parts), locals=tuple(own.values()))
 

@@ -8,7 +8,7 @@ from dataclasses import dataclass, field
 
 
 @dataclass(frozen=True)
-class Cell:
+class CellSeen:
     """A cell, of a kind as the user reads it."""
 
     name: str
@@ -32,7 +32,7 @@ class Use:
     premise: str = ""
     one_way: bool = False
     parts: tuple["Use", ...] = ()
-    locals: tuple[Cell, ...] = ()
+    locals: tuple[CellSeen, ...] = ()
 
     def leaves(self) -> Iterator["Use"]:
         """The instances that it is made of: itself, where it has no parts."""
@@ -41,7 +41,7 @@ class Use:
         for part in self.parts:
             yield from part.leaves()
 
-    def inner_cells(self) -> Iterator[Cell]:
+    def inner_cells(self) -> Iterator[CellSeen]:
         """The cells that it and its parts have for themselves."""
         yield from self.locals
         for part in self.parts:
@@ -49,7 +49,7 @@ class Use:
 
 
 @dataclass(frozen=True)
-class Said:
+class StatedSeen:
     """What is stated: of a cell, or by a constraint, where `cell` is ""."""
 
     text: str
@@ -62,12 +62,12 @@ class Premise:
 
     name: str
     text: str
-    says: tuple[Said, ...]
+    says: tuple[StatedSeen, ...]
     is_believed: bool
 
 
 @dataclass(frozen=True)
-class Choice:
+class ChoiceSeen:
     """A choice, its sides as texts, and the cells that they speak of."""
 
     name: str
@@ -77,14 +77,14 @@ class Choice:
 
 
 @dataclass(frozen=True)
-class Network:
+class NetworkSeen:
     """All that was stated. `fixed` holds whatever is believed."""
 
-    cells: tuple[Cell, ...]
+    cells: tuple[CellSeen, ...]
     uses: tuple[Use, ...]
     premises: tuple[Premise, ...]
-    choices: tuple[Choice, ...]
-    fixed: tuple[Said, ...]
+    choices: tuple[ChoiceSeen, ...]
+    fixed: tuple[StatedSeen, ...]
 
 
 @dataclass(frozen=True)
@@ -97,7 +97,7 @@ class Reason:
 
 
 @dataclass(frozen=True)
-class Shown:
+class ValueSeen:
     """What a reply says of a cell. `reduced` is that of a `core`: whether no reason can be left
     out; None where none was asked for."""
 
@@ -119,14 +119,14 @@ class Clash:
 
 
 @dataclass(frozen=True)
-class Seen:
+class SeenNow:
     """What follows now: the values by cell, or what clashes. `plan` has for each choice the place
     of the side that it stands on, where that is known."""
 
-    values: Mapping[str, Shown] = field(default_factory=dict)
+    values: Mapping[str, ValueSeen] = field(default_factory=dict)
     settled: bool = True
     clash: Clash | None = None
     plan: Mapping[str, int] = field(default_factory=dict)
 
 
-NOTHING_SEEN = Seen(settled=False)
+NOTHING_SEEN = SeenNow(settled=False)

@@ -7,7 +7,7 @@ from propbench.clock import Clock
 from propbench.clock import Progress
 from propbench.grammar import ASKING
 from propbench.known import Known
-from propbench.listing import Told
+from propbench.listing import ToldLines
 from propbench.model.kinds import point_text
 from propbench.program import OutOfTime
 from propbench.questions.asking import so_far
@@ -17,14 +17,14 @@ from propbench.replies import Called, Contradiction, Stated, Value, Worldview
 from propbench.runs import RunProgress
 from propbench.session import Session
 from propbench.values import Nothing
-from propbench.watching import Best
+from propbench.watching import BestPlan
 from propbench.watching.claims import Claim, Source, Wording, claim_of
 from propbench.watching.instances import Instances, how_of, listing_of, named
-from propbench.watching.lines import Lines
+from propbench.watching.lines import SessionLines
 from propbench.watching.mending import NOT_MENDED, Mending, mended
-from propbench.watching.network import Clash, Network, Reason, Seen, Shown
+from propbench.watching.network import Clash, NetworkSeen, Reason, SeenNow, ValueSeen
 from propbench.watching.session_model import SessionModel
-from propbench.watching.steps import Call, Reading, Steps
+from propbench.watching.steps import CallInWords, RunReading, Steps
 
 # What is said of a plan: the program finds nothing against its values.
 SETTLES = "With one value for each cell the program settles."
@@ -33,7 +33,8 @@ _MOST_MENDS = 30
 
 
 class SessionWatched:
-    """A session of the language. Its lines may be sent by others too, between what is asked here."""
+    """A session of the language. Its lines may be sent by others too, between what is asked
+    here."""
 
     is_workbench = False
 
@@ -42,21 +43,21 @@ class SessionWatched:
         self.session = session
         self._source = list(source)
         self._since = len(session.lines)
-        self._lines = Lines(lambda until: listing_of(session, until))
+        self._lines = SessionLines(lambda until: listing_of(session, until))
         # The premises under which a side of a choice is wished for.
         self._wishes: dict[tuple[str, int], str] = {}
 
-    def network(self) -> Network:
+    def network(self) -> NetworkSeen:
         return self._read().network(self._known)
 
-    def see(self, progress: RunProgress | None = None) -> Seen:
+    def see(self, progress: RunProgress | None = None) -> SeenNow:
         self.session.send("settle", progress=progress)
         return self._known_in(self.session)
 
-    def known(self) -> Seen:
+    def known(self) -> SeenNow:
         return self._known_in(self.session)
 
-    def core(self, cell: str, progress: RunProgress | None = None) -> Shown | None:
+    def core(self, cell: str, progress: RunProgress | None = None) -> ValueSeen | None:
         reply = self.session.send(f"core {cell}", progress=progress)
         return self._shown(reply) if isinstance(reply, Value) else None
 
@@ -93,7 +94,7 @@ class SessionWatched:
                 return mended(other, believed, _MOST_MENDS, clock)
         return NOT_MENDED
 
-    def without(self, premises: Sequence[str], progress: RunProgress | None = None) -> Seen:
+    def without(self, premises: Sequence[str], progress: RunProgress | None = None) -> SeenNow:
         with self.session.fresh() as other:
             other.send_all([*self.lines(), *(f"kick {premise}" for premise in premises)])
             other.send("settle", progress=progress)
@@ -101,12 +102,12 @@ class SessionWatched:
 
     def best(
         self, cell: str, sort: str, progress: Progress | None = None, seconds: float | None = None
-    ) -> Best:
+    ) -> BestPlan:
         clock = Clock(seconds, progress)
         model = SessionModel(self.session, self.lines(), self._read(clock.last).told)
         left = clock.seconds_left()
         found = so_far(lambda: find_optimum(model, cell, sort, left, progress), Optimum)
-        return Best(
+        return BestPlan(
             found.headline(),
             tuple((name, point_text(value)) for name, value in (found.plan or {}).items()),
             found.proved,
@@ -132,7 +133,7 @@ class SessionWatched:
         )
 
     def steps(self) -> Steps:
-        reading = Reading(self._shown, self._named, self._call)
+        reading = RunReading(self._shown, self._named, self._call)
         return Steps(self.session.fresh(), self.lines(), list(self._known.cells), reading)
 
     def lines(self) -> list[str]:
@@ -150,27 +151,27 @@ class SessionWatched:
         return self.session.known
 
     @property
-    def _told(self) -> Told:
+    def _told(self) -> ToldLines:
         return self._read().told
 
-    def _read(self, until: float | None = None) -> Lines:
+    def _read(self, until: float | None = None) -> SessionLines:
         """What the lines say. Raises OutOfTime."""
         self._lines.take(self.session.lines, self._known, until)
         return self._lines
 
-    def _call(self, did: Called, instances: Instances) -> Call:
+    def _call(self, did: Called, instances: Instances) -> CallInWords:
         """A call, with the compound that it is a part of."""
         call = instances.named(did)
         own = " ".join((call.procedure, *call.inputs, call.output))
         attach = instances.attach_of(did)
         if not attach:
-            return Call(own, "")
+            return CallInWords(own, "")
         use = self._read().uses[attach - 1]
         whole = f", of {use.text} {' '.join(use.cells)}" if instances.is_part(did) else ""
         is_inner = call.output not in self._known.cells
-        return Call(f"{own}{whole}", use.name, call.output if is_inner else "")
+        return CallInWords(f"{own}{whole}", use.name, call.output if is_inner else "")
 
-    def _believed(self, told: Told | None = None) -> list[str]:
+    def _believed(self, told: ToldLines | None = None) -> list[str]:
         told = told or self._told
         return [each for each in told.premises if each and each not in told.kicked]
 
@@ -181,19 +182,19 @@ class SessionWatched:
             name += "_"
         return name
 
-    def _known_in(self, session: Session) -> Seen:
+    def _known_in(self, session: Session) -> SeenNow:
         """What is known in a session that has this one's cells and choices."""
         replies = session.look([*(f"why {cell}" for cell in session.known.cells), "worldview"])
         found = next((each for each in replies if isinstance(each, Contradiction)), None)
         if found:
-            return Seen(clash=self._clash(found))
+            return SeenNow(clash=self._clash(found))
         shown = [self._shown(reply) for reply in replies if isinstance(reply, Value)]
         plan: dict[str, int] = {}
         if isinstance(replies[-1], Worldview):
             sides = (each.partition("=") for each in replies[-1].inside)
             plan = {choice: int(place) - 1 for choice, mark, place in sides if mark}
         is_sure = isinstance(replies[-1], Worldview)
-        return Seen({each.cell: each for each in shown}, is_sure, None, plan)
+        return SeenNow({each.cell: each for each in shown}, is_sure, None, plan)
 
     def _clash(self, found: Contradiction) -> Clash:
         told = self._told.premises
@@ -203,10 +204,10 @@ class SessionWatched:
         }
         return Clash(found.premises, says, "" if says else "What is fixed can't all hold.")
 
-    def _shown(self, reply: Value) -> Shown:
+    def _shown(self, reply: Value) -> ValueSeen:
         reasons = tuple(map(self._reason, reply.because or ()))
         known = not isinstance(reply.value, Nothing)
-        return Shown(reply.cell, str(reply.value), reasons, reply.settled, reply.reduced, known)
+        return ValueSeen(reply.cell, str(reply.value), reasons, reply.settled, reply.reduced, known)
 
     def _reason(self, name: str) -> Reason:
         choice, mark, _ = name.partition("=")

@@ -29,31 +29,31 @@ from propbench.replies import Called, Contradiction, Value, Worldview
 from propbench.runs import RunProgress
 from propbench.session import Session
 from propbench.values import Nothing
-from propbench.watching import Best
+from propbench.watching import BestPlan
 from propbench.watching.claims import Claim, claim_of
 from propbench.watching.instances import Instances, how_of
 from propbench.watching.mending import FITS, Mending
 from propbench.watching.network import (
-    Cell,
-    Choice,
+    CellSeen,
+    ChoiceSeen,
     Clash,
-    Network,
+    NetworkSeen,
     Premise,
     Reason,
-    Said,
-    Seen,
-    Shown,
+    StatedSeen,
+    SeenNow,
+    ValueSeen,
     Use,
 )
 from propbench.watching.owned import Owned, is_use, wording_of
-from propbench.watching.steps import Call, Reading, Steps
+from propbench.watching.steps import CallInWords, RunReading, Steps
 
 # What is said of a plan.
 PLAN = "Each constraint was evaluated on this plan."
 # So many conflicts, and so many repairs, are looked for at the most.
 _MOST_MENDS = 30
 # Constraints between cells, and what is said of one cell by premise, "" for what always holds.
-_Stated = tuple[tuple[Use, ...], dict[str, tuple[Said, ...]]]
+_Stated = tuple[tuple[Use, ...], dict[str, tuple[StatedSeen, ...]]]
 
 
 class WorkbenchWatched:
@@ -71,7 +71,7 @@ class WorkbenchWatched:
     def session(self) -> Session:
         return self.workbench.session
 
-    def network(self) -> Network:
+    def network(self) -> NetworkSeen:
         made = self.workbench.network
         if self._events != made.events:
             self._events = list(made.events)
@@ -81,31 +81,33 @@ class WorkbenchWatched:
             Premise(name, name, says.get(name, ()), is_believed)
             for name, is_believed in made.premises.believed.items()
         )
-        return Network(
-            tuple(Cell(name, name, kind_text(cell.kind)) for name, cell in made.cells.items()),
+        return NetworkSeen(
+            tuple(CellSeen(name, name, kind_text(cell.kind)) for name, cell in made.cells.items()),
             uses,
             tuple(premises),
             tuple(map(_choice, made.premises.choices.values())),
             (*map(_declared, made.cells.values()), *says.get("", ())),
         )
 
-    def see(self, progress: RunProgress | None = None) -> Seen:
+    def see(self, progress: RunProgress | None = None) -> SeenNow:
         self.session.send("settle", progress=progress)
         return self.known()
 
-    def known(self) -> Seen:
+    def known(self) -> SeenNow:
         made = self.workbench.network
         names = [made.vocabulary.cells.line(cell) for cell in made.cells]
         replies = made.session.look([*(f"why {name}" for name in names), "worldview"])
         found = next((each for each in replies if isinstance(each, Contradiction)), None)
         if found:
-            return Seen(clash=self._clash(found))
+            return SeenNow(clash=self._clash(found))
         stands = replies[-1]
         plan = self._reader().plan(stands.inside) if isinstance(stands, Worldview) else {}
         shown = [self._shown(reply, plan) for reply in replies if isinstance(reply, Value)]
-        return Seen({each.cell: each for each in shown}, isinstance(stands, Worldview), None, plan)
+        return SeenNow(
+            {each.cell: each for each in shown}, isinstance(stands, Worldview), None, plan
+        )
 
-    def core(self, cell: str, progress: RunProgress | None = None) -> Shown | None:
+    def core(self, cell: str, progress: RunProgress | None = None) -> ValueSeen | None:
         made = self.workbench.network
         line = f"core {made.vocabulary.cells.line(cell)}"
         reply = made.session.send(line, progress=progress)
@@ -163,18 +165,18 @@ class WorkbenchWatched:
             FITS,
         )
 
-    def without(self, premises: Sequence[str], progress: RunProgress | None = None) -> Seen:
+    def without(self, premises: Sequence[str], progress: RunProgress | None = None) -> SeenNow:
         with self.workbench.what_if(kick=list(premises)):
             return self.see(progress)
 
     def best(
         self, cell: str, sort: str, progress: Progress | None = None, seconds: float | None = None
-    ) -> Best:
+    ) -> BestPlan:
         ask = self.workbench.least if sort == "least" else self.workbench.greatest
         found = so_far(lambda: ask(cell, seconds=seconds, progress=progress), Optimum)
         plan = found.plan or {}
         rows = tuple((name, point_text(value)) for name, value in plan.items())
-        return Best(found.headline(), rows, found.proved, PLAN)
+        return BestPlan(found.headline(), rows, found.proved, PLAN)
 
     def how(self, cell: str, until: float | None = None) -> Claim:
         made = self.workbench.network
@@ -188,13 +190,13 @@ class WorkbenchWatched:
         lines = made.base()
         owned = Owned(made, made.base_owners(), lines)
 
-        def call(did: Called, instances: Instances) -> Call:
+        def call(did: Called, instances: Instances) -> CallInWords:
             owner = owned.of_call(did, instances)
             if owner is None or isinstance(owner.event, DomainMade | CellMade):
-                return Call(did.procedure, "")
-            return Call(f"{did.procedure}, of {owner.event.text}", owned.use(owner.event))
+                return CallInWords(did.procedure, "")
+            return CallInWords(f"{did.procedure}, of {owner.event.text}", owned.use(owner.event))
 
-        reading = Reading(lambda reply: self._shown(reply, {}), self._named, call)
+        reading = RunReading(lambda reply: self._shown(reply, {}), self._named, call)
         return Steps(made.session.fresh(), lines, names, reading)
 
     def lines(self) -> list[str]:
@@ -223,14 +225,14 @@ class WorkbenchWatched:
         texts = "; ".join(always(made))
         return Clash((), {}, f"What always holds can't hold by itself: {texts or 'see the lines'}.")
 
-    def _shown(self, reply: Value, plan: dict[str, int]) -> Shown:
+    def _shown(self, reply: Value, plan: dict[str, int]) -> ValueSeen:
         made = self.workbench.network
         cell = made.cells[made.vocabulary.cells.text(reply.cell)]
         answer = self._reader().answer(cell, reply, plan)
         reasons = tuple(dict.fromkeys(self._reason(each, plan) for each in reply.because or ()))
         known = not isinstance(reply.value, Nothing)
         text = value_text(answer.value)
-        return Shown(cell.name, text, reasons, reply.settled, reply.reduced, known)
+        return ValueSeen(cell.name, text, reasons, reply.settled, reply.reduced, known)
 
     def _reason(self, line: str, plan: dict[str, int]) -> Reason:
         text = self._reader().premise(line, plan)
@@ -242,38 +244,38 @@ class WorkbenchWatched:
         )
 
 
-def _declared(cell: Declared) -> Said:
+def _declared(cell: Declared) -> StatedSeen:
     """What holds of a cell as it was declared; of a number without ends nothing."""
     if cell.kind is not Plain.NUMBER:
-        return Said(f"{cell.name} is {kind_text(cell.kind)}", cell.name)
+        return StatedSeen(f"{cell.name} is {kind_text(cell.kind)}", cell.name)
     if (cell.low, cell.high) == (None, None):
-        return Said(f"{cell.name} is a number")
+        return StatedSeen(f"{cell.name} is a number")
     low = -MOST if cell.low is None else cell.low
     high = MOST if cell.high is None else cell.high
-    return Said(f"{cell.name} = {values_text(cell, (low, high))}", cell.name)
+    return StatedSeen(f"{cell.name} = {values_text(cell, (low, high))}", cell.name)
 
 
 def _stated(events: Sequence[Event]) -> _Stated:
     """What events state. A constraint on a single cell is what is said of that."""
     uses: list[Use] = []
-    says: dict[str, list[Said]] = {}
+    says: dict[str, list[StatedSeen]] = {}
     for event in events:
         if isinstance(event, Required):
             cells = tuple(cell.name for cell in cells_in(event.constraint))
-            said = Said(event.text, cells[0] if len(cells) == 1 else "")
+            said = StatedSeen(event.text, cells[0] if len(cells) == 1 else "")
             if is_use(event):
                 uses.append(Use(str(len(uses) + 1), event.text, cells, "", event.premise or ""))
             if len(cells) < 2 or event.premise:
                 says.setdefault(event.premise or "", []).append(said)
         elif isinstance(event, Told):
-            says.setdefault(event.premise or "", []).append(Said(event.text, event.cell.name))
+            says.setdefault(event.premise or "", []).append(StatedSeen(event.text, event.cell.name))
     return tuple(uses), {name: tuple(said) for name, said in says.items()}
 
 
-def _choice(event: ValueChoice | ConstraintChoice) -> Choice:
+def _choice(event: ValueChoice | ConstraintChoice) -> ChoiceSeen:
     if isinstance(event, ValueChoice):
         cells: tuple[str, ...] = (event.cell.name,)
     else:
         nodes = [node for _, constraints in event.alternatives for node in constraints]
         cells = tuple(dict.fromkeys(cell.name for node in nodes for cell in cells_in(node)))
-    return Choice(event.name, event.name, event.sides, cells)
+    return ChoiceSeen(event.name, event.name, event.sides, cells)

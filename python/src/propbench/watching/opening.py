@@ -5,7 +5,7 @@ from collections.abc import Iterator, Sequence
 from contextlib import contextmanager
 
 from propbench.finding import SAVED
-from propbench.running import Way, lines_of
+from propbench.running import RunAs, lines_of
 from propbench.watching import Watched
 from propbench.watching.of_session import SessionWatched
 from propbench.watching.of_workbench import WorkbenchWatched
@@ -15,10 +15,11 @@ from propbench.workbench import Workbench
 
 @contextmanager
 def opened(
-    path: str, way: Way, program: str | None = None, instead: Sequence[str] | None = None
+    path: str, way: RunAs, program: str | None = None, instead: Sequence[str] | None = None
 ) -> Iterator[Watched]:
-    """What a file states, or what these lines state instead. Raises OSError, as a Session does, and the refusal of its first line that
-    is refused; for a workbench's file ValueError where its lines were changed."""
+    """What a file states, or what these lines state instead. Raises OSError, as a Session does, and
+    the refusal of its first line that is refused; for a workbench's file ValueError where its lines
+    were changed."""
     lines = lines_of(path) if instead is None else list(instead)
     if lines[:1] == [SAVED]:
         with _loaded(path if instead is None else "-", lines, program) as workbench:

@@ -6,7 +6,7 @@ with one value for each cell: the procedures find nothing against these values.
 
 from collections.abc import Mapping, Sequence
 
-from propbench.listing import Told
+from propbench.listing import ToldLines
 from propbench.model.first import First
 from propbench.questions.model import Point
 from propbench.session import Session
@@ -15,7 +15,7 @@ from propbench.session import Session
 class SessionModel:
     """The network that lines make, with all its premises and cells."""
 
-    def __init__(self, session: Session, lines: Sequence[str], told: Told) -> None:
+    def __init__(self, session: Session, lines: Sequence[str], told: ToldLines) -> None:
         self._session, self._lines, self._told = session, lines, told
 
     @property

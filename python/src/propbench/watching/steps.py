@@ -12,11 +12,11 @@ from propbench.refusals import Refused, UnknownCommand
 from propbench.replies import Called, Contradiction, Moved, Nogoods, Reply, Settled, Value
 from propbench.session import Session
 from propbench.watching.instances import Instances
-from propbench.watching.network import Reason, Shown
+from propbench.watching.network import Reason, ValueSeen
 
 
 @dataclass(frozen=True)
-class Change:
+class CellChange:
     """A cell that another value is known of after a step, or the same for other reasons."""
 
     cell: str
@@ -35,7 +35,7 @@ class Frame:
     """
 
     number: int
-    changes: tuple[Change, ...]
+    changes: tuple[CellChange, ...]
     nogoods: tuple[tuple[str, ...], ...] = ()
     end: str = ""
     does: str = ""
@@ -43,7 +43,7 @@ class Frame:
 
 
 @dataclass(frozen=True)
-class Call:
+class CallInWords:
     """A call in a user's words, the name of the use that it is of, "" where it is of none, and that
     of its output where this is a cell within a compound, else ""."""
 
@@ -53,20 +53,20 @@ class Call:
 
 
 @dataclass(frozen=True)
-class Reading:
+class RunReading:
     """How a run is read: how the reply about a cell is shown, what a premise of a line is called,
     and whose call it is that a step tells."""
 
-    shown: Callable[[Value], Shown]
+    shown: Callable[[Value], ValueSeen]
     named: Callable[[str], str]
-    call: Callable[[Called, Instances], Call]
+    call: Callable[[Called, Instances], CallInWords]
 
 
 class Steps:
     """The frames of a run, taken as far as they are looked at."""
 
     def __init__(
-        self, session: Session, lines: Sequence[str], cells: Sequence[str], reading: Reading
+        self, session: Session, lines: Sequence[str], cells: Sequence[str], reading: RunReading
     ) -> None:
         """The run of a fresh session, which is told these lines, over cells by their names on
         lines. The session is closed by `close`."""
@@ -75,7 +75,7 @@ class Steps:
         self._tells = True
         self._instances: Instances | None = None
         self._asks = [f"why {cell}" for cell in cells]
-        self._known: dict[str, Shown] = {}
+        self._known: dict[str, ValueSeen] = {}
         self._nogoods: set[frozenset[str]] = set()
         session.send_all(lines)
         session.drop_lines()
@@ -129,13 +129,13 @@ class Steps:
             return f"contradiction: {', '.join(map(self._named, reply.premises)) or 'no premise'}"
         return "settled" if isinstance(reply, Settled) else ""
 
-    def _changes(self) -> tuple[Change, ...]:
+    def _changes(self) -> tuple[CellChange, ...]:
         """The cells of which something else is known than before."""
         return self._among(self._looked(self._asks))
 
-    def _among(self, replies: Sequence[Reply | Refused]) -> tuple[Change, ...]:
+    def _among(self, replies: Sequence[Reply | Refused]) -> tuple[CellChange, ...]:
         """Those among the cells that are told of."""
-        found: list[Change] = []
+        found: list[CellChange] = []
         for reply in replies:
             if not isinstance(reply, Value):
                 continue
@@ -144,7 +144,7 @@ class Steps:
             is_new = before is None or (before.text, before.because) != (shown.text, shown.because)
             if is_new and (before or shown.is_known):
                 text = before.text if before else ""
-                found.append(Change(shown.cell, text, shown.text, shown.because))
+                found.append(CellChange(shown.cell, text, shown.text, shown.because))
             self._known[shown.cell] = shown
         return tuple(found)
 

@@ -391,7 +391,7 @@ function showMending(told) {
   });
   const none = "Nothing that is believed can be given up to mend this.";
   at("mending").replaceChildren(
-    made("h3", {}, conflicts.length === 1 ? "The conflict, made least" : "The least conflicts"),
+    made("h3", {}, conflicts.length === 1 ? "The conflict, made minimal" : "The minimal conflicts"),
     made("ul", {}, ...conflicts),
     made("h3", {}, "Repairs"),
     ...repairs,
