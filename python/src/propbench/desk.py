@@ -105,7 +105,10 @@ def parser() -> argparse.ArgumentParser:
         "--most", type=int, default=100, metavar="N", help="so many of each at the most (100)"
     )
     blame.add_argument("--seconds", type=_seconds, metavar="N", help="how long it may take")
-    blame.add_argument("--picture", metavar="FILE", help="draw the conflicts: .svg, .png or .dot")
+    blame.add_argument("--relax", metavar="FILE", help="write the model with the cheapest repair")
+    blame.add_argument(
+        "--picture", metavar="FILE", help="draw the conflicts: .svg, .png, .dot, or a page: .html"
+    )
     blame.add_argument("--certificate", metavar="FILE", help="save what `propdesk check` checks")
     plan = commands.add_parser(
         "plan",
@@ -332,6 +335,7 @@ def _blamed(options: argparse.Namespace) -> int:
         options.seconds,
         Path(options.picture) if options.picture else None,
         Path(options.certificate) if options.certificate else None,
+        Path(options.relax) if options.relax else None,
     )
     return blame_file(Path(options.file), list(map(Path, options.data)), asked, options.program)
 

@@ -3,6 +3,7 @@
 from collections.abc import Iterable, Iterator
 from dataclasses import dataclass, field
 from enum import Enum, auto
+from fractions import Fraction
 from typing import Union
 
 
@@ -81,7 +82,20 @@ class Numbers:
             yield before, behind
 
 
-Term = Union[bool, int, Name, Text, Call, Numbers, tuple["Term", ...]]
+@dataclass(frozen=True)
+class Reals:
+    """The real numbers from one to another, None where there is no end."""
+
+    low: Fraction | None
+    high: Fraction | None
+
+    @property
+    def value(self) -> Fraction | None:
+        """The only one, where there is only one."""
+        return self.low if self.low == self.high else None
+
+
+Term = Union[bool, int, Fraction, Name, Text, Call, Numbers, Reals, tuple["Term", ...]]
 
 
 class Sort(Enum):
@@ -90,12 +104,13 @@ class Sort(Enum):
     TRUTH = auto()
     NUMBER = auto()
     SET = auto()
+    FLOAT = auto()
 
 
 @dataclass(frozen=True)
 class Variable:
-    """A variable: for truths, for whole numbers, of which `values` are the possible ones, or for sets
-    of these."""
+    """A variable: for truths, for whole numbers, of which `values` are the possible ones, for sets of
+    these, or for real numbers, which are then the `values`."""
 
     name: str
     sort: Sort
@@ -103,6 +118,7 @@ class Variable:
     annotations: tuple[Term, ...]
     value: Term | None
     line: int
+    reals: Reals = Reals(None, None)
 
     @property
     def is_truth(self) -> bool:
@@ -113,6 +129,11 @@ class Variable:
     def is_set(self) -> bool:
         """Whether it is for sets."""
         return self.sort is Sort.SET
+
+    @property
+    def is_float(self) -> bool:
+        """Whether it is for real numbers."""
+        return self.sort is Sort.FLOAT
 
     def has(self, annotation: str) -> bool:
         """Whether it is annotated by this name."""
