@@ -14,6 +14,7 @@ from propbench.clock import Clock
 from propbench.files import write_file
 from propbench.flatzinc.building import Built
 from propbench.flatzinc.compiling import Compiled, compiled
+from propbench.flatzinc.floats import EXACT
 from propbench.flatzinc.picture import dot_of, draw
 from propbench.flatzinc.webpage import page_of
 from propbench.flatzinc.solving import Wanted, solve
@@ -81,12 +82,17 @@ def blamed(built: Built, made: Compiled, asked: Asked) -> tuple[Conflicts, Repai
     keep = [name for name in built.workbench.premises if _is_kept(name, asked.keep)]
     model = built.workbench.model
     seconds = None if asked.seconds is None else asked.seconds * _SHARE
-    clock = Clock(seconds, None)
+    clock, is_stepwise = Clock(seconds, None), EXACT in built.workbench.premises
+    if is_stepwise:
+        # (what can't hold of real numbers is asked for)
+        built.workbench.kick(EXACT)
     conflicts, repairs = find_both(model, made.texts, keep, asked.most, seconds)
     weights = {name: it for name, it in made.weights.items() if name in built.workbench.premises}
     if weights:
         left = clock.seconds_left()
         repairs = find_repairs(model, weights, keep, asked.most, left, None)
+    if is_stepwise:
+        built.workbench.bring(EXACT)
     return conflicts, repairs
 
 

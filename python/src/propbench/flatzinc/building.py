@@ -120,13 +120,19 @@ class Built:
         floats = {cell.name for name, cell in self.cells.items() if name in is_float}
         return [cell for cell in self.own if cell.name not in floats]
 
+    @property
+    def seeks_float(self) -> bool:
+        """Whether the best value of a float is sought."""
+        goal = self.flat.goal.objective
+        return isinstance(goal, Name) and self.flat.variables[goal.text].is_float
+
     def better_than(self, value: int) -> tuple[Truth, Fraction | None]:
         """That the objective is better than a value, of a float by more than a margin, and that."""
         goal = self.flat.goal
         assert isinstance(goal.objective, Name)
         cell, margin, least = self.cells[goal.objective.text], None, 1
         assert isinstance(cell, NumberCell)
-        if self.flat.variables[goal.objective.text].is_float and self.floats is not None:
+        if self.seeks_float and self.floats is not None:
             unit = self.floats.per_unit
             least = max(abs(value), unit) // _MARGIN + 1
             margin = Fraction(least, unit)

@@ -97,8 +97,12 @@ class Floats:
 
     def step(self, value: Fraction) -> int:
         """The step that is nearest to a number."""
-        steps = abs(value) * self.per_unit
-        return floor(steps + _HALF) * (1 if value >= 0 else -1)
+        return self._step(value, self.per_unit)
+
+    @staticmethod
+    def _step(value: Fraction, per_unit: int) -> int:
+        size = floor(abs(value) * per_unit + _HALF)
+        return size if value >= 0 else -size
 
     def said(self, values: Values, constraint: Constraint) -> Said:
         """What a constraint on floats says. Raises NotSupported."""
@@ -113,9 +117,9 @@ class Floats:
     def _has_room(self, per_unit: int) -> bool:
         """Whether numbers stay small enough for the program by so many steps."""
         ends = [it for room in self.rooms.values() for it in (room.low, room.high) if it]
-        most = max((max(it, -it) for it in ends), default=Fraction(1)) * per_unit
+        most = max([per_unit, *(abs(self._step(it, per_unit)) for it in ends)])
         is_product = any(each.name in _PRODUCTS for each in self._flat.constraints)
-        return max(most, per_unit) ** 2 <= _GREATEST if is_product else most <= _GREATEST // 10**3
+        return most * most <= _GREATEST if is_product else most <= _GREATEST // 10**3
 
 
 def _switched(said: Said, truth: Truth, is_same: bool) -> Said:

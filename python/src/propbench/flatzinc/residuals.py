@@ -85,6 +85,30 @@ def _quotient(reading: _Reading, args: Sequence[Term]) -> Fraction:
     return _far(whole / by, value) if by else Fraction(10**9)
 
 
+def _same(value: Fraction) -> Fraction:
+    return value
+
+
+def _added(one: Fraction, other: Fraction) -> Fraction:
+    return one + other
+
+
+def _multiplied(one: Fraction, other: Fraction) -> Fraction:
+    return one * other
+
+
+def _size(value: Fraction) -> Fraction:
+    return max(value, -value)
+
+
+def _greater(one: Fraction, other: Fraction) -> Fraction:
+    return max(one, other)
+
+
+def _lesser(one: Fraction, other: Fraction) -> Fraction:
+    return min(one, other)
+
+
 def _root(squared: Fraction) -> Fraction:
     return Fraction(sqrt(max(squared, _NONE)))
 
@@ -103,7 +127,7 @@ def _extreme(choose: Callable[[list[Fraction]], Fraction]) -> _Off:
 
 
 _OFF: dict[str, _Off] = {
-    "float_eq": _value(lambda x: x),
+    "float_eq": _value(_same),
     "float_ne": lambda reading, args: _NONE,
     "float_le": lambda reading, args: _positive(reading.of(args[0]) - reading.of(args[1])),
     "float_lt": lambda reading, args: _positive(reading.of(args[0]) - reading.of(args[1])),
@@ -111,19 +135,19 @@ _OFF: dict[str, _Off] = {
     "float_lin_ne": lambda reading, args: _NONE,
     "float_lin_le": lambda reading, args: _positive(reading.above(args)),
     "float_lin_lt": lambda reading, args: _positive(reading.above(args)),
-    "float_plus": _value(lambda x, y: x + y),
-    "float_times": _value(lambda x, y: x * y),
+    "float_plus": _value(_added),
+    "float_times": _value(_multiplied),
     "float_div": _quotient,
     "float_sqrt": _value(_root),
     "float_pow": _value(_power),
-    "float_abs": _value(lambda x: max(x, -x)),
-    "float_max": _value(lambda x, y: max(x, y)),
-    "float_min": _value(lambda x, y: min(x, y)),
+    "float_abs": _value(_size),
+    "float_max": _value(_greater),
+    "float_min": _value(_lesser),
     "array_float_maximum": _extreme(max),
     "array_float_minimum": _extreme(min),
     "array_float_element": _element,
     "array_var_float_element": _element,
-    "int2float": _value(lambda x: x),
+    "int2float": _value(_same),
 }
 # By how much what is told not to hold does so.
 _OPPOSITE: dict[str, _Off] = {
@@ -131,6 +155,6 @@ _OPPOSITE: dict[str, _Off] = {
     "float_lt": lambda reading, args: _positive(reading.of(args[1]) - reading.of(args[0])),
     "float_lin_le": lambda reading, args: _positive(-reading.above(args)),
     "float_lin_lt": lambda reading, args: _positive(-reading.above(args)),
-    "float_ne": _value(lambda x: x),
+    "float_ne": _value(_same),
     "float_lin_ne": lambda reading, args: _far(reading.above(args), _NONE),
 }

@@ -25,6 +25,8 @@ from propbench.questions.seeking import Unlike, seeks
 ALL = 10**9
 # So many seconds it goes by cases first, where the greatest values are to be tried first.
 _FROM_TOP = 0.5
+# So many seconds bounds on the best float close in first.
+_BY_BOUNDS = 10.0
 # Of a turn so much goes to the cases, and so much where a solution was found already.
 _SHARE, _SMALL_SHARE = 0.5, 0.125
 # The premise that an objective is better than the best in steps.
@@ -168,7 +170,10 @@ class _Search:
         """Has the program search, and goes by cases, in turns."""
         asked, clock = self._asked, self._clock
         first = self._built.workbench.model.first()
-        if any(each.is_from_top for each in first) and clock.seconds_left() != 0:
+        if self._built.seeks_float and clock.seconds_left() != 0:
+            # (the program itself would better it step by step)
+            asked.go_by_cases(clock.turn(_BY_BOUNDS))
+        elif any(each.is_from_top for each in first) and clock.seconds_left() != 0:
             # (the program itself tries the least ones)
             asked.go_by_cases(clock.turn(_FROM_TOP))
         for seconds in clock.turns():

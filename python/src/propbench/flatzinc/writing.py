@@ -63,10 +63,7 @@ def statistics(built: Built, found: Solutions, times: Mapping[str, float]) -> It
 
 def _objective(built: Built, value: int) -> str:
     """The value of the objective, of a float as the number that its steps make."""
-    goal = built.flat.goal.objective
-    if built.floats is None or not (
-        isinstance(goal, Name) and built.flat.variables[goal.text].is_float
-    ):
+    if built.floats is None or not built.seeks_float:
         return str(value)
     return _float(Fraction(value, built.floats.per_unit))
 
