@@ -103,7 +103,9 @@ def test_an_array_has_the_least_and_the_greatest(
 ) -> None:
     text = "var 1..3: i :: output_var;\nvar float: x :: output_var;\nvar float: m :: output_var;\n"
     text += "constraint array_float_element(i,[0.1,2.75,-4.5],x);\n"
-    text += "constraint array_float_maximum(m,[x,1.5]);\nconstraint float_lt(1.5,m);\nsolve satisfy;\n"
+    text += (
+        "constraint array_float_maximum(m,[x,1.5]);\nconstraint float_lt(1.5,m);\nsolve satisfy;\n"
+    )
     told = said(program, tmp_path, capsys, text)
     assert (value("i", told), value("x", told), value("m", told)) == (2, 2.75, 2.75)
 
@@ -168,8 +170,6 @@ def solved(program: str, text: str) -> Solutions:
 
 @settings(max_examples=25)
 @given(met())
-def test_what_holds_at_real_numbers_is_never_denied(
-    program: str, drawn: tuple[str, Point]
-) -> None:
+def test_what_holds_at_real_numbers_is_never_denied(program: str, drawn: tuple[str, Point]) -> None:
     found = solved(program, drawn[0])
     assert found.plans or not found.is_complete

@@ -50,10 +50,10 @@ def compiled(model: Path, data: Sequence[Path]) -> Compiled:
     for place, each in enumerate(flat.constraints):
         if each.name == BLAMED and isinstance(each.args[1], Text):
             mark = each.args[1].text
-            label, found = label_of(with_marks, mark)
-            made.texts[label], made.marks[label] = found.text, mark
-            if found.weight != 1:
-                made.weights[label] = found.weight
+            label, written = label_of(with_marks, mark)
+            made.texts[label], made.marks[label] = written, mark
+            if with_marks.of(mark).weight != 1:
+                made.weights[label] = with_marks.of(mark).weight
             flat.constraints[place] = replace(each, args=(each.args[0], Text(label)))
     return made
 

@@ -66,6 +66,10 @@ class Model:
     text: str
     constraints: tuple[Marked, ...]
 
+    def of(self, mark: str) -> Marked:
+        """The constraint of a mark."""
+        return self.constraints[int(mark.partition("|")[0])]
+
 
 def marked(text: str) -> Model:
     """The model with a mark at each constraint."""
@@ -76,11 +80,9 @@ def marked(text: str) -> Model:
     return marking.model()
 
 
-def label_of(model: Model, mark: str) -> tuple[str, Marked]:
-    """What the constraint of a mark is called, and the constraint."""
-    number, _, within = mark.partition("|")
-    found = model.constraints[int(number)]
-    return found.label(within), found
+def label_of(model: Model, mark: str) -> tuple[str, str]:
+    """What the constraint of a mark is called, and how it is written."""
+    return model.of(mark).label(mark.partition("|")[2]), model.of(mark).text
 
 
 def relaxed(text: str, model: Model, given_up: Iterable[str]) -> str:

@@ -38,6 +38,9 @@ class _Rooms:
         self._flat = flat
         floats = [each for each in flat.variables.values() if each.is_float]
         self.ends: dict[str, Ends] = {it.name: (it.reals.low, it.reals.high) for it in floats}
+        # Which are whole numbers.
+        whole = (each.args[1] for each in flat.constraints if each.name == "int2float")
+        self._whole = {each.text for each in whole if isinstance(each, Name)}
         self._same = [(Name(it.name), it.value) for it in floats if it.value is not None]
         self._is_new = False
 
@@ -122,6 +125,11 @@ class _Rooms:
 
     def _quotient(self, args: Sequence[Term]) -> None:
         self._product((args[2], args[1], args[0]))
+        by, (low, high) = args[1], self.of(args[0])
+        if isinstance(by, Name) and by.text in self._whole and low is not None and high is not None:
+            # (which isn't zero, and so no less than one either way)
+            most = max(-low, high, Fraction(0))
+            self.narrow(args[2], -most, most)
 
     def _greatest(self, args: Sequence[Term]) -> None:
         self._extreme(args[2], [self.of(each) for each in args[:2]], max)

@@ -46,8 +46,7 @@ def _model(made: Compiled, conflicts: Conflicts, repairs: Repairs) -> Iterator[s
         for label in conflict:
             mark = made.marks.get(label, "")
             if mark:
-                place = made.model.constraints[int(mark.partition("|")[0])].place
-                found.setdefault(place, []).append((label, number))
+                found.setdefault(made.model.of(mark).place, []).append((label, number))
     since = 0
     for begin, end in sorted(found):
         here = found[begin, end]
