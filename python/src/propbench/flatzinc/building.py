@@ -15,6 +15,7 @@ from propbench.flatzinc.meaning import differing
 from propbench.flatzinc.sets import Members, elements_of, is_same, places_of
 from propbench.flatzinc.terms import (
     BLAMED,
+    TABLE,
     Call,
     Constraint,
     Flat,
@@ -33,6 +34,7 @@ from propbench.model.expressions import (
     count,
     domain_of_element,
     element,
+    pairs,
 )
 from propbench.model.kinds import Domain, Point
 from propbench.model.meaning import Plan as Points
@@ -45,6 +47,8 @@ _INTRODUCED = "var_is_introduced"
 _DEEPEST = 30
 # By this part of it a float is looked for that is better than the best in steps.
 _MARGIN = 10**4
+# An element says of so many rows at the most which it is.
+_MOST_ROWS = 64
 
 
 class Built:
@@ -78,6 +82,8 @@ class Built:
             and each.defined not in kept
         }
         self._done: set[int] = set()
+        # How many tables have a cell for their row.
+        self._rows = 0
         try:
             self._state_all(flat)
         except RecursionError:
@@ -224,6 +230,8 @@ class Built:
         if len(elements) < len(compared) or not any(isinstance(each, Element) for each in elements):
             return None
         name = constraint.name.removesuffix("_reif")
+        if name == TABLE:
+            return self._is_row(elements, self.constants(constraint.args[1]))
         if name == "set_in":
             return self._is_in(elements[0], constraint.args[1])
         if name == "array_set_element":
@@ -233,6 +241,40 @@ class Built:
         first, second = sorted(elements, key=lambda each: isinstance(each, str))
         assert isinstance(first, Element)
         return first == second if name.endswith("eq") else first != second
+
+    def _is_row(self, columns: list[Element | str], cells: list[int]) -> Truth | None:
+        """That these are a row of a table: pairs of a relation, of more than two with the row; None
+        where there are too many rows for that."""
+        open_ones = [each for each in columns if isinstance(each, Element)]
+        rows = [tuple(map(str, row)) for row in meaning.rows_of(cells, len(columns))]
+        rows = [row for row in rows if all(map(_may_be, columns, row))]
+        places = [place for place, each in enumerate(columns) if isinstance(each, Element)]
+        kept = list(dict.fromkeys(tuple(row[place] for place in places) for row in rows))
+        if not kept:
+            return NO
+        if len(open_ones) == 1:
+            return open_ones[0].among(*(value for (value,) in kept))
+        if len(open_ones) == 2:
+            return pairs(open_ones[0], open_ones[1], [(one, other) for one, other in kept])
+        if len(kept) > _MOST_ROWS:
+            return None
+        row = self._fresh_element(len(kept))
+        return every(
+            [
+                pairs(row, column, [(str(n), values[place]) for n, values in enumerate(kept, 1)])
+                for place, column in enumerate(open_ones)
+            ]
+        )
+
+    def fresh(self, high: int) -> Number:
+        """A number from 1 on that no variable has."""
+        self._rows += 1
+        return self.workbench.number(f"row of table {self._rows}", 1, high)
+
+    def _fresh_element(self, count: int) -> Element:
+        self._rows += 1
+        domain = self._domain(tuple(range(1, count + 1)))
+        return self.workbench.element(f"row of table {self._rows}", domain)
 
     def _is_in(self, made: Element | str, term: Term) -> Truth:
         """That an element's number is in a set."""
@@ -402,6 +444,13 @@ class Built:
     def _require(self, truth: Truth, under: str | None = None) -> None:
         if truth.node is not YES.node or under is not None:
             self.workbench.require(truth, under=under)
+
+
+def _may_be(column: Element | str, value: str) -> bool:
+    """Whether a column may have a value at all."""
+    if isinstance(column, str):
+        return column == value
+    return value in domain_of_element(column).elements
 
 
 def _is_plain(truth: Truth) -> bool:

@@ -10,6 +10,7 @@ from math import prod
 
 from propbench.flatzinc.terms import (
     BLAMED,
+    TABLE,
     Array,
     Constraint,
     Flat,
@@ -51,6 +52,7 @@ _TAKES = {
     "set_card": "mv",
     "set_in": "vm",
     BLAMED: "vs",
+    TABLE: "VC",
 }
 _TAKES |= {f"int_{each}": "vv" for each in ("eq", "ne", "le", "lt", "ge", "gt")}
 _TAKES |= {f"bool_{each}": "vv" for each in ("eq", "ne", "le", "lt")}
@@ -80,7 +82,7 @@ _SORTS = {
     "D": "an array of constants",
 }
 # What a constraint is called that no file of a user's has by itself.
-_OWN = {BLAMED: "the mark of a constraint", "propbench_count": "a count"}
+_OWN = {BLAMED: "the mark of a constraint", "propbench_count": "a count", TABLE: "a table"}
 
 
 def check(flat: Flat) -> None:
@@ -155,12 +157,20 @@ def _check_constraint(flat: Flat, constraint: Constraint) -> None:
             for one in [found] if sort == "m" else map(flat.resolved, _elements(found)):
                 if isinstance(one, Numbers):
                     _check_size(one, constraint.line)
+    if constraint.name == TABLE:
+        _check_rows(flat, constraint)
     if takes.startswith(("CV", "DF")) and len(_of_array(flat, args[0])) != len(
         _of_array(flat, args[1])
     ):
         raise NotSupported(
             constraint.line, f"{called(constraint.name)} has as many factors as variables"
         )
+
+
+def _check_rows(flat: Flat, constraint: Constraint) -> None:
+    wide, cells = (len(_of_array(flat, each)) for each in constraint.args)
+    if cells % wide if wide else cells:
+        raise NotSupported(constraint.line, "a table has as many columns as variables")
 
 
 def _takes(constraint: Constraint) -> str:

@@ -6,7 +6,7 @@ variable is compared by `=`, `!=` and `all_different` alone, it is an element.
 
 from collections.abc import Iterable
 
-from propbench.flatzinc.terms import Constraint, Flat, Name, Term
+from propbench.flatzinc.terms import TABLE, Constraint, Flat, Name, Term
 
 # A domain has so many elements at the most.
 _MOST = 64
@@ -18,7 +18,7 @@ def compared(flat: Flat, constraint: Constraint) -> list[Term] | None:
     name, args = constraint.name.removesuffix("_reif"), constraint.args
     if name in ("int_eq", "int_ne"):
         return list(args[:2])
-    if name == "fzn_all_different_int":
+    if name in ("fzn_all_different_int", TABLE):
         return list(_array(flat, args[0]))
     if name in ("set_in", "array_set_element"):
         return [args[0]]
@@ -36,6 +36,10 @@ def domains(flat: Flat) -> dict[str, tuple[int, ...]]:
         values = compared(flat, constraint)
         if values is None:
             counted.update(_names(flat, constraint.args))
+        elif constraint.name == TABLE:
+            # (columns are not compared with one another)
+            for each in values:
+                groups.join([flat.resolved(each)])
         else:
             groups.join([flat.resolved(each) for each in values])
     for variable in flat.variables.values():

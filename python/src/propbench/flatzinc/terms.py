@@ -9,6 +9,8 @@ from typing import Union
 
 # The constraint by which a model's own constraint has a name: it holds where that is believed.
 BLAMED = "propbench_blame"
+# That some numbers are a row of a table, which stands row by row.
+TABLE = "propbench_table"
 
 
 class NotSupported(ValueError):
