@@ -110,6 +110,16 @@ def test_an_array_has_the_least_and_the_greatest(
     assert (value("i", told), value("x", told), value("m", told)) == (2, 2.75, 2.75)
 
 
+def test_what_is_beyond_the_numbers_of_the_program_is_refused(
+    program: str, tmp_path: Path, capsys: pytest.CaptureFixture[str]
+) -> None:
+    file = tmp_path / "m.fzn"
+    text = "var 0.0..90000000.0: x;\nvar 0.0..9.0: y;\n"
+    file.write_text(f"{text}constraint float_lin_le([1e9,1.0],[x,y],1e17);\nsolve satisfy;\n")
+    assert main([str(file), "--program", program]) == 1
+    assert "line 3: float_lin_le: its numbers are too great" in capsys.readouterr().err
+
+
 # --- points that are drawn ---
 
 PLACES = ("p", "q", "r")

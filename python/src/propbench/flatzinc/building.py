@@ -129,8 +129,8 @@ class Built:
     @property
     def seeks_float(self) -> bool:
         """Whether the best value of a float is sought."""
-        goal = self.flat.goal.objective
-        return isinstance(goal, Name) and self.flat.variables[goal.text].is_float
+        goal, variables = self.flat.goal.objective, self.flat.variables
+        return isinstance(goal, Name) and goal.text in variables and variables[goal.text].is_float
 
     def better_than(self, value: int) -> tuple[Truth, Fraction | None]:
         """That the objective is better than a value, of a float by more than a margin, and that."""

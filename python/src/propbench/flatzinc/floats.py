@@ -207,6 +207,9 @@ class _Reading:
         target = (bound - fixed) * self.unit
         sizes = [self._most(each) for _, each in open_ones]
         total = abs(target) + sum(abs(it) * (size + 1) for (it, _), size in zip(open_ones, sizes))
+        if total > _GREATEST:
+            # (what is beyond the program's numbers would be refuted)
+            raise self.refused("its numbers are too great: floats need ends closer to zero")
         times = lcm(*(it.denominator for it, _ in open_ones))
         if times * total > _GREATEST:
             times = _largest(total)
