@@ -57,8 +57,8 @@ def used() -> float:
 
 
 def timed(words: list[str], text: str, most: float) -> tuple[str, float]:
-    """What a solver prints of a model in FlatZinc, and the seconds that it took. It is ended after so
-    many by the clock."""
+    """What a solver prints of a model in FlatZinc, and the seconds that it took. It is ended after
+    so many by the clock."""
     with tempfile.NamedTemporaryFile("w", suffix=".fzn") as file:
         file.write(text)
         file.flush()
@@ -73,8 +73,8 @@ def timed(words: list[str], text: str, most: float) -> tuple[str, float]:
 
 
 def compare(model: Path, is_one: bool, most: float) -> tuple[dict[str, object], bool]:
-    """What Gecode says of a model, and whether the answer here is the same; printed with times. Where
-    one is enough, of a model without an objective some solution is asked for."""
+    """What Gecode says of a model, and whether the answer here is the same; printed with times.
+    Where one is enough, of a model without an objective some solution is asked for."""
     ours = flattened(model, ["--solver", str(CONFIGURATION)])
     theirs = flattened(model, ["-G", "std"])
     goal = re.findall(r"(satisfy|minimize|maximize)", theirs)[-1]

@@ -2,7 +2,7 @@
 include "regular.mzn";
 include "global_cardinality.mzn";
 int: nurses = 7; int: days = 14;
-% 1 day, 2 night, 3 off: no more than four in a row at work, two nights at the most, off behind nights.
+% 1 day, 2 night, 3 off: four in a row at work at the most, two nights, off behind nights.
 array[1..7, 1..3] of int: step = [|
   2, 6, 1 | 3, 6, 1 | 4, 6, 1 | 5, 0, 1 | 0, 0, 1 | 0, 7, 1 | 0, 0, 1 |];
 array[1..nurses, 1..days] of var 1..3: shift;

@@ -40,8 +40,8 @@ Amount = Number | Fraction
 
 @dataclass(frozen=True)
 class Said:
-    """What a constraint says of steps: of themselves, of some real numbers next to them, and of some
-    for which it doesn't hold."""
+    """What a constraint says of steps: of themselves, of some real numbers next to them, and of
+    some for which it doesn't hold."""
 
     exact: Truth
     loose: Truth
@@ -132,7 +132,7 @@ def _switched(said: Said, truth: Truth, is_same: bool) -> Said:
 
 @dataclass(frozen=True)
 class _Sum:
-    """A sum by factors, all taken so many `times` that they are whole, and what it is compared with.
+    """A sum by factors, taken so many times that they are whole, and what it is compared with.
 
     So much it is off at the most, as factors were rounded (`rounded`), and as each float is off by
     half a step (`half`); by half a step of the `least` factor it may be off in steps themselves.

@@ -129,7 +129,7 @@ def _tokens(text: str) -> list[_Token]:
 
 @dataclass(frozen=True)
 class _Piece:
-    """A constraint that is marked: its words, its name, its loops, and what it costs to give it up."""
+    """A constraint that is marked: its words, name and loops, and what it costs to give it up."""
 
     tokens: list[_Token]
     name: str

@@ -1,6 +1,6 @@
 """Between which ends the floats of a model lie, as far as that is seen from its constraints.
 
-An end may be wider than what is possible, never narrower. Only ends that nobody told are looked for.
+An end may be wider than what is possible, never narrower. Ends that somebody told stay.
 """
 
 from collections.abc import Callable, Sequence

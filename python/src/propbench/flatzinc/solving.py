@@ -48,8 +48,8 @@ class Wanted:
 @dataclass
 class Solutions:
     """Solutions that were found; `is_complete` says that there are no others, or no better ones.
-    `steps` is how many propwide's own search took, and `objective` the best value; by so much as the
-    `margin`, where there is one, a real solution may be better."""
+    `steps` is how many propwide's own search took, and `objective` the best value; by so much as
+    the `margin`, where there is one, a real solution may be better."""
 
     plans: list[Plan] = field(default_factory=list)
     is_complete: bool = False

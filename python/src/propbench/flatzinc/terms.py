@@ -111,8 +111,8 @@ class Sort(Enum):
 
 @dataclass(frozen=True)
 class Variable:
-    """A variable: for truths, for whole numbers, of which `values` are the possible ones, for sets of
-    these, or for real numbers, which are then the `values`."""
+    """A variable: for truths, for whole numbers, of which `values` are the possible ones, for sets
+    of these, or for real numbers, of which `reals` are."""
 
     name: str
     sort: Sort

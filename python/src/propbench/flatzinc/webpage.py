@@ -34,8 +34,8 @@ def page_of(made: Compiled, conflicts: Conflicts, repairs: Repairs, lines: Seque
         parts += ["<h2>The model</h2>", f"<pre>{model}</pre>"]
     head = f'<meta charset="utf-8"><title>What is to blame</title><style>{_STYLE}</style>'
     meta = f'<meta http-equiv="Content-Security-Policy" content="{_POLICY}">'
-    body = "\n".join(parts)
-    return f'<!DOCTYPE html>\n<html lang="en"><head>{meta}{head}</head><body>\n{body}\n</body></html>\n'
+    begin = f'<!DOCTYPE html>\n<html lang="en"><head>{meta}{head}</head><body>'
+    return "\n".join([begin, *parts, "</body></html>", ""])
 
 
 def _model(made: Compiled, conflicts: Conflicts, repairs: Repairs) -> Iterator[str]:
