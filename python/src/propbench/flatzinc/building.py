@@ -4,7 +4,7 @@ A variable that MiniZinc brought in and that a constraint defines is no cell: wh
 stands in its place, and the other conditions of its definition hold always.
 """
 
-from collections.abc import Callable, Iterable
+from collections.abc import Callable, Iterable, Sequence
 from fractions import Fraction
 
 from propbench.flatzinc import meaning, symbolic
@@ -265,6 +265,17 @@ class Built:
                 for place, column in enumerate(open_ones)
             ]
         )
+
+    def looked_up(self, index: Term, row: Sequence[int]) -> tuple[Number, Truth] | None:
+        """The entry of a row by an index that is an element; None where it is none."""
+        found = self.flat.resolved(index)
+        made = self._value(found) if isinstance(found, Name) else None
+        if not isinstance(made, Element):
+            return None
+        names = domain_of_element(made).elements
+        is_there = {name: 1 <= int(name) <= len(row) for name in names}
+        table = {name: row[int(name) - 1] if is_there[name] else 0 for name in names}
+        return element(made, table), self._one_of(made, Numbers.span(1, len(row)))
 
     def fresh(self, high: int) -> Number:
         """A number from 1 on that no variable has."""

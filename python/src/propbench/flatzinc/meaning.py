@@ -62,7 +62,11 @@ class Terms(Protocol):
         """An array of sets."""
 
     def fresh(self, high: int) -> Number:
-        """A number from 1 on that no variable has, the same for the same constraint."""
+        """A number from 1 on that no variable has."""
+
+    def looked_up(self, index: Term, row: Sequence[int]) -> tuple[Number, Truth] | None:
+        """The entry of a row of constants by an index that is an element, and that there is one;
+        None where the index is none."""
 
 
 Args = tuple[Term, ...]
@@ -304,11 +308,19 @@ def _extreme(give: Callable[[list[Number]], Number]) -> Gives:
 
 
 def _number_at(terms: Terms, args: Args) -> tuple[Number, Truth]:
+    row = terms.constants(args[1])
+    found = terms.looked_up(args[0], row) if len(row) == len(terms.elements(args[1])) else None
+    if found is not None:
+        return found
     index, values = terms.number(args[0]), terms.numbers(args[1])
     return picked(index, 1, values), _is_index(index, len(values))
 
 
 def _truth_at(terms: Terms, args: Args) -> tuple[Truth, Truth]:
+    row = terms.constants(args[1])
+    found = terms.looked_up(args[0], row) if len(row) == len(terms.elements(args[1])) else None
+    if found is not None:
+        return found[0] >= 1, found[1]
     index, values = terms.number(args[0]), terms.truths(args[1])
     return picked(index, 1, values), _is_index(index, len(values))
 

@@ -10,6 +10,8 @@ from propbench.flatzinc.terms import TABLE, Constraint, Flat, Name, Term
 
 # A domain has so many elements at the most.
 _MOST = 64
+# What looks up an entry of a row of constants, by an index that may be only told apart.
+LOOKED_UP = ("array_int_element", "array_bool_element")
 _DIFFERENCE = {(1, -1), (-1, 1)}
 
 
@@ -34,8 +36,12 @@ def domains(flat: Flat) -> dict[str, tuple[int, ...]]:
     counted: set[str] = set(_names(flat, [flat.goal.objective] if flat.goal.objective else []))
     for constraint in flat.constraints:
         values = compared(flat, constraint)
-        if values is None:
+        if values is None and constraint.name not in LOOKED_UP:
             counted.update(_names(flat, constraint.args))
+        elif values is None:
+            # (of the index alone)
+            groups.join([flat.resolved(constraint.args[0])])
+            counted.update(_names(flat, constraint.args[1:]))
         elif constraint.name == TABLE:
             # (columns are not compared with one another)
             for each in values:
