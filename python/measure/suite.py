@@ -178,6 +178,10 @@ def plain(value: Any) -> Any:
         if value.tag == "Range":
             low, _, high = str(value.value).partition("..")
             return ("set", tuple(range(int(low), int(high) + 1)))
+        if value.tag == "Approx":
+            return float(value.value)
+        if value.tag == "set":
+            return plain(set(value.value))
         if value.tag == "Unordered":
             return ("unordered", tuple(sorted(map(repr, map(plain, value.value)))))
         return plain(value.value)

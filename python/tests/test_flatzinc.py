@@ -55,8 +55,11 @@ def test_the_grammar() -> None:
 @pytest.mark.parametrize(
     "text, line, said",
     [
-        ("var 1..2: x;\nvar float: y;\nsolve satisfy;", 2, "floats are not supported"),
-        ("var 1.5..2.5: y;\nsolve satisfy;", 1, "floats are not supported"),
+        ("var 1..2: x;\nvar float: y;\nsolve satisfy;", 2, "the float y has no ends"),
+        ("var 1.5..2: y;\nsolve satisfy;", 1, "a float is wanted"),
+        ("var 1..2: x;\nconstraint float_le(x,2.5);\nsolve satisfy;", 2, "has to be a float"),
+        ("var 1.0..2.0: x;\nconstraint int_le(x,2);\nsolve satisfy;", 2, "has to be a value"),
+        ("var 1.0..2.0: x;\nconstraint float_sin(x,x);\nsolve satisfy;", 2, "float_sin"),
         ("var 1..2: x;\n\nconstraint int_sqrt(x,x);\nsolve satisfy;", 3, "int_sqrt"),
         ("var 1..2: x\nsolve satisfy;", 2, "';' is wanted, and not 'solve'"),
         ("var 1..2: x;\nconstraint int_le(x,?);", 2, "no word of FlatZinc begins with '?'"),
@@ -101,7 +104,7 @@ def test_a_refusal_is_told(
     file.write_text("var 1..2: x;\nvar float: y;\nsolve satisfy;\n")
     assert main([str(file), "--program", program]) == 1
     told = capsys.readouterr()
-    assert told.out == "" and f"{file}, line 2: floats" in told.err
+    assert told.out == "" and f"{file}, line 2: the float y" in told.err
 
 
 THREE = """\

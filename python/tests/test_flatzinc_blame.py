@@ -1,6 +1,8 @@
 """Which constraints of a model are to blame: against brute force, and as `propdesk blame` tells."""
 
+import re
 import shutil
+import subprocess
 from itertools import chain, combinations
 from pathlib import Path
 
@@ -13,7 +15,7 @@ from propbench.desk import main
 from propbench.flatzinc.building import Built
 from propbench.flatzinc.compiling import compiled
 from propbench.flatzinc.grammar import read
-from propbench.flatzinc.marking import label_of, marked
+from propbench.flatzinc.marking import label_of, marked, relaxed
 from propbench.questions.conflicts import find_both
 
 Sets = set[frozenset[str]]
@@ -208,3 +210,58 @@ def test_labels_come_from_the_model(tmp_path: Path) -> None:
         "small (line 3, i=3)": "q[i] <= i",
         "line 4": "sum(q) > 9",
     }
+
+
+SOFT = """\
+annotation soft(int: cost);
+array[1..3] of var 1..9: q;
+constraint :: "up" forall(i in 1..2)(q[i] < q[i + 1]) :: soft(3);
+constraint q[1] >= 8 :: soft(2);
+constraint q[2] + q[3] <= 12 /\\ q[3] <= 9;
+solve satisfy;
+"""
+
+
+def test_what_is_soft_costs_so_much() -> None:
+    made = marked(SOFT)
+    after = made.text.split("\n")
+    mark = "\\(i)"
+    assert after[2] == (
+        'constraint :: "up" forall(i in 1..2)(' f'propbench_blame(q[i] < q[i + 1], "0|i={mark}"));'
+    )
+    assert after[3] == 'constraint propbench_blame(q[1] >= 8, "1|");'
+    assert [each.weight for each in made.constraints] == [3, 2, 1, 1]
+
+
+def test_a_model_is_relaxed_where_it_says_so() -> None:
+    made = marked(SOFT)
+    lines = relaxed(SOFT, made, ["2|", "0|i=2", "0|i=1"]).split("\n")
+    assert lines[2] == (
+        'constraint :: "up" forall(i in 1..2)('
+        "(not ((i=2) \\/ (i=1)) -> (q[i] < q[i + 1]))) :: soft(3);"
+    )
+    assert lines[3] == "constraint q[1] >= 8 :: soft(2);"
+    assert lines[4] == "constraint true /* given up: q[2] + q[3] <= 12 */ /\\ q[3] <= 9;"
+    assert relaxed(SOFT, made, []) == SOFT
+
+
+@pytest.mark.skipif(shutil.which("minizinc") is None, reason="MiniZinc isn't there")
+def test_the_cheapest_repair_is_written_as_a_model_and_a_page(
+    program: str, tmp_path: Path, capsys: pytest.CaptureFixture[str]
+) -> None:
+    model, cheaper, page = (tmp_path / name for name in ("m.mzn", "new.mzn", "m.html"))
+    model.write_text(SOFT)
+    words = ["--program", program, "--relax", str(cheaper), "--picture", str(page)]
+    assert main(["blame", str(model), *words]) == 0
+    said = capsys.readouterr().out
+    # (of 8, 9 and 10 the last is too much, so one of both `up` goes, or the least of q[1])
+    assert re.findall(r"^  ([0-9]) +(.*)$", said.partition("repairs")[2], re.M)[0] == (
+        "2",
+        "line 4",
+    )
+    assert "true /* given up: q[1] >= 8 */" in cheaper.read_text()
+    ran = subprocess.run(["minizinc", str(cheaper)], text=True, capture_output=True)
+    assert "----------" in ran.stdout
+    shown = page.read_text()
+    assert '<mark class="up" title="line 4: conflict 1' in shown and "q[1] &gt;= 8</mark>" in shown
+    assert "<script" not in shown and "The model" in shown

@@ -54,6 +54,6 @@ def test_minizinc_knows_it_then(home: Path, program: str) -> None:
     named = subprocess.run(
         ["minizinc", "--solvers"], env=environment, text=True, capture_output=True
     )
-    assert "propbench 1.0 (org.propbench.propbench, cp, int, set)" in named.stdout
+    assert "propbench 1.0 (org.propbench.propbench, cp, int, float, set)" in named.stdout
     ran = subprocess.run(words, env=environment, text=True, capture_output=True)
     assert ran.stdout.startswith("venue = uni;\ndays = 8;\ncost = 2300;\n")

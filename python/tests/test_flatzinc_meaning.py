@@ -1,11 +1,17 @@
 """What each constraint of FlatZinc says: at all points of a few variables, by plain numbers."""
 
-from itertools import count
+from itertools import count, product
 from typing import Any
 
 import pytest
 from drawn_flatzinc import ALL, Drawn
 from test_flatzinc_random import compare
+
+from propbench import Workbench
+from propbench.flatzinc.building import Built
+from propbench.flatzinc.grammar import read
+from propbench.flatzinc.solving import ALL as ALL_OF_THEM
+from propbench.flatzinc.solving import Wanted, solve
 
 # What stands in for constants, more than once where it matters: factors with their bound, a set.
 FACTORS = ([1, 1, 1], [1, -2, 1], [-1, -1, -1], [2, -1, -1])
@@ -40,3 +46,46 @@ def test_each_constraint_at_all_points(program: str, name: str) -> None:
     for factors in FACTORS if is_sum else FACTORS[:1]:
         for bound in BOUNDS if is_sum else BOUNDS[:1]:
             compare(program, case(name, factors, bound))
+
+
+ROWS = [(1, 2, 0), (1, 0, 2), (2, 2, 2), (0, 1, 1), (0, 1, 2), (2, 2, 2), (5, 0, 0)]
+
+
+@pytest.mark.parametrize("wide", (1, 2, 3))
+@pytest.mark.parametrize("is_counted", (False, True), ids=("told-apart", "counted"))
+def test_a_table_has_these_rows(program: str, wide: int, is_counted: bool) -> None:
+    names = ["x", "y", "z"][:wide]
+    rows = [row[:wide] for row in ROWS]
+    cells = ",".join(str(each) for row in rows for each in row)
+    lines = [f"var 0..2: {name} :: output_var;" for name in names]
+    lines.append(f"constraint propbench_table([{','.join(names)}],[{cells}]);")
+    right = set(product(range(3), repeat=wide)) & set(rows)
+    if is_counted:
+        lines.append("constraint int_lt(0,x);")
+        right = {row for row in right if row[0] > 0}
+    text = "\n".join([*lines, "solve satisfy;", ""])
+    with Workbench(program) as workbench:
+        found = solve(Built(read(text), workbench), Wanted(ALL_OF_THEM))
+    assert found.is_complete
+    assert sorted(tuple(plan[name] for name in names) for plan in found.plans) == sorted(right)
+
+
+def test_a_table_without_a_row_that_can_be(program: str) -> None:
+    for table in ("[7,7]", "[]"):
+        text = f"var 0..2: x;\nvar 0..2: y;\nconstraint propbench_table([x,y],{table});\n"
+        with Workbench(program) as workbench:
+            found = solve(Built(read(text + "solve satisfy;\n"), workbench), Wanted())
+        assert found.is_complete and not found.plans
+
+
+def test_a_table_of_many_rows_and_columns(program: str) -> None:
+    rows = [row for row in product(range(5), repeat=3) if sum(row) % 4 != 1]
+    cells = ",".join(str(each) for row in rows for each in row)
+    text = "".join(f"var 0..4: {name};\n" for name in "xyz")
+    text += f"constraint propbench_table([x,y,z],[{cells}]);\n"
+    text += "constraint int_eq(x,3);\nconstraint int_ne(y,z);\nsolve satisfy;\n"
+    with Workbench(program) as workbench:
+        found = solve(Built(read(text), workbench), Wanted(ALL_OF_THEM))
+    right = sorted(row for row in rows if row[0] == 3 and row[1] != row[2])
+    assert found.is_complete and len(rows) > 64
+    assert sorted(tuple(plan[name] for name in "xyz") for plan in found.plans) == right

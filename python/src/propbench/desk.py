@@ -105,7 +105,10 @@ def _add_blame(to: argparse.ArgumentParser) -> None:
         "--most", type=int, default=100, metavar="N", help="so many of each at the most (100)"
     )
     to.add_argument("--seconds", type=_seconds, metavar="N", help="how long it may take")
-    to.add_argument("--picture", metavar="FILE", help="draw the conflicts: .svg, .png or .dot")
+    to.add_argument("--relax", metavar="FILE", help="write the model with the cheapest repair")
+    to.add_argument(
+        "--picture", metavar="FILE", help="draw the conflicts: .svg, .png, .dot, or a page: .html"
+    )
     to.add_argument("--certificate", metavar="FILE", help="save what `propdesk check` checks")
 
 
@@ -371,6 +374,7 @@ def _blamed(options: argparse.Namespace) -> int:
         options.seconds,
         Path(options.picture) if options.picture else None,
         Path(options.certificate) if options.certificate else None,
+        Path(options.relax) if options.relax else None,
     )
     return blame_file(Path(options.file), list(map(Path, options.data)), asked, options.program)
 

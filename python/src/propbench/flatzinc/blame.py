@@ -11,13 +11,16 @@ from dataclasses import dataclass
 from pathlib import Path
 
 from propbench.clock import Clock
+from propbench.files import write_file
 from propbench.flatzinc.building import Built
 from propbench.flatzinc.compiling import Compiled, compiled
+from propbench.flatzinc.floats import EXACT
 from propbench.flatzinc.picture import dot_of, draw
+from propbench.flatzinc.webpage import page_of
 from propbench.flatzinc.solving import Wanted, solve
 from propbench.flatzinc.writing import solution
 from propbench.plain import PlainWorkbench
-from propbench.questions.conflicts import Conflicts, Repair, Repairs, find_both
+from propbench.questions.conflicts import Conflicts, Repair, Repairs, find_both, find_repairs
 from propbench.showing import printable, shown
 
 
@@ -34,6 +37,7 @@ class Asked:
     seconds: float | None = None
     picture: Path | None = None
     certificate: Path | None = None
+    relax: Path | None = None
 
 
 def blame_file(model: Path, data: Sequence[Path], asked: Asked, program: str | None) -> int:
@@ -45,9 +49,14 @@ def blame_file(model: Path, data: Sequence[Path], asked: Asked, program: str | N
         built = Built(made.flat, workbench)
         clock = Clock(asked.seconds, None)
         conflicts, repairs = blamed(built, made, asked)
-        for line in report(built, conflicts, repairs, clock.seconds_left()):
-            print(shown(line))
-    if asked.picture is not None:
+        lines = list(report(built, conflicts, repairs, clock.seconds_left()))
+    for line in lines:
+        print(shown(line))
+    if asked.relax is not None:
+        _relax(asked.relax, made, repairs)
+    if asked.picture is not None and asked.picture.suffix == ".html":
+        write_file(asked.picture, page_of(made, conflicts, repairs, lines))
+    elif asked.picture is not None:
         draw(asked.picture, dot_of(conflicts, repairs, made.texts))
     if asked.certificate is not None:
         try:
@@ -58,12 +67,33 @@ def blame_file(model: Path, data: Sequence[Path], asked: Asked, program: str | N
     return 0 if repairs.complete else 1
 
 
+def _relax(path: Path, made: Compiled, repairs: Repairs) -> None:
+    """Writes the model without what the cheapest repair gives up. Raises ValueError where there is
+    none, or no model but FlatZinc."""
+    if not made.source:
+        raise ValueError("what is FlatZinc already has no model that could be written anew")
+    if not repairs:
+        raise ValueError(f"no repair is known, so {path} isn't written")
+    write_file(path, made.without(repairs[0]))
+
+
 def blamed(built: Built, made: Compiled, asked: Asked) -> tuple[Conflicts, Repairs]:
     """The conflicts and repairs among the constraints of a model."""
     keep = [name for name in built.workbench.premises if _is_kept(name, asked.keep)]
     model = built.workbench.model
     seconds = None if asked.seconds is None else asked.seconds * _SHARE
-    return find_both(model, made.texts, keep, asked.most, seconds)
+    clock, is_stepwise = Clock(seconds, None), EXACT in built.workbench.premises
+    if is_stepwise:
+        # (what can't hold of real numbers is asked for)
+        built.workbench.kick(EXACT)
+    conflicts, repairs = find_both(model, made.texts, keep, asked.most, seconds)
+    weights = {name: it for name, it in made.weights.items() if name in built.workbench.premises}
+    if weights:
+        left = clock.seconds_left()
+        repairs = find_repairs(model, weights, keep, asked.most, left, None)
+    if is_stepwise:
+        built.workbench.bring(EXACT)
+    return conflicts, repairs
 
 
 def _is_kept(name: str, keep: Iterable[str]) -> bool:

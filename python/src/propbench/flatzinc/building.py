@@ -4,15 +4,18 @@ A variable that MiniZinc brought in and that a constraint defines is no cell: wh
 stands in its place, and the other conditions of its definition hold always.
 """
 
-from collections.abc import Iterable
+from collections.abc import Callable, Iterable, Sequence
+from fractions import Fraction
 
 from propbench.flatzinc import meaning, symbolic
 from propbench.flatzinc.arithmetic import NO, YES, constant, every, same_truth, some, within
+from propbench.flatzinc.floats import EXACT, Floats, is_of_floats
 from propbench.flatzinc.forms import check
 from propbench.flatzinc.meaning import differing
 from propbench.flatzinc.sets import Members, elements_of, is_same, places_of
 from propbench.flatzinc.terms import (
     BLAMED,
+    TABLE,
     Call,
     Constraint,
     Flat,
@@ -31,13 +34,21 @@ from propbench.model.expressions import (
     count,
     domain_of_element,
     element,
+    pairs,
 )
-from propbench.model.kinds import Domain
+from propbench.model.kinds import Domain, Point
+from propbench.model.meaning import Plan as Points
+from propbench.model.meaning import value_of
 from propbench.plain import PlainWorkbench
+from propbench.questions import Plan
 
 _INTRODUCED = "var_is_introduced"
 # Definitions lie so deep within one another at the most; then a cell has the value.
 _DEEPEST = 30
+# By this part of it a float is looked for that is better than the best in steps.
+_MARGIN = 10**4
+# An element says of so many rows at the most which it is.
+_MOST_ROWS = 64
 
 
 class Built:
@@ -47,6 +58,10 @@ class Built:
         """States all of the model. Raises NotSupported, and ValueError where there is no room."""
         check(flat)
         self.flat, self.workbench = flat, workbench
+        # What the floats are, where there are some.
+        has_floats = any(each.is_float for each in flat.variables.values())
+        has_floats = has_floats or any(is_of_floats(each.name) for each in flat.constraints)
+        self.floats = Floats(flat) if has_floats else None
         self.cells: dict[str, Cell] = {}
         # The truths of each set's elements.
         self.sets: dict[str, dict[int, TruthCell]] = {}
@@ -63,9 +78,12 @@ class Built:
             and each.defined in flat.variables
             and flat.variables[each.defined].has(_INTRODUCED)
             and not flat.variables[each.defined].is_set
+            and not flat.variables[each.defined].is_float
             and each.defined not in kept
         }
         self._done: set[int] = set()
+        # How many tables have a cell for their row.
+        self._rows = 0
         try:
             self._state_all(flat)
         except RecursionError:
@@ -82,6 +100,10 @@ class Built:
             if variable.value is not None:
                 given, told = self.members(Name(variable.name)), self.members(variable.value)
                 self._require(is_same(given, told))
+        for variable in flat.variables.values():
+            if variable.is_float and variable.value is not None:
+                same = (Name(variable.name), variable.value)
+                self._state(Constraint("float_eq", same, None, variable.line))
         for each in flat.constraints:
             if each.defined in self._definitions:
                 self._expression(str(each.defined))
@@ -98,6 +120,32 @@ class Built:
         return [cell for name in names for cell in self.cells_of(name)]
 
     @property
+    def told_apart_by(self) -> list[Cell]:
+        """The same without floats: between any two there are others."""
+        is_float = {n for n, it in self.flat.variables.items() if it.is_float}
+        floats = {cell.name for name, cell in self.cells.items() if name in is_float}
+        return [cell for cell in self.own if cell.name not in floats]
+
+    @property
+    def seeks_float(self) -> bool:
+        """Whether the best value of a float is sought."""
+        goal, variables = self.flat.goal.objective, self.flat.variables
+        return isinstance(goal, Name) and goal.text in variables and variables[goal.text].is_float
+
+    def better_than(self, value: int) -> tuple[Truth, Fraction | None]:
+        """That the objective is better than a value, of a float by more than a margin, and that."""
+        goal = self.flat.goal
+        assert isinstance(goal.objective, Name)
+        cell, margin, least = self.cells[goal.objective.text], None, 1
+        assert isinstance(cell, NumberCell)
+        if self.seeks_float and self.floats is not None:
+            unit = self.floats.per_unit
+            least = max(abs(value), unit) // _MARGIN + 1
+            margin = Fraction(least, unit)
+        is_less = goal.sort == "minimize"
+        return (cell <= value - least if is_less else cell >= value + least), margin
+
+    @property
     def count(self) -> int:
         """How many cells there are."""
         return len(self.cells) + sum(map(len, self.sets.values()))
@@ -107,6 +155,29 @@ class Built:
         if name in self.sets:
             return list(self.sets[name].values())
         return [self.cells[name]] if name in self.cells else []
+
+    def read(self, plan: Plan) -> Callable[[str], Point | Fraction]:
+        """What variables are in a plan: of a float the number itself, not its steps."""
+        cells = [*self.cells.values(), *(it for each in self.sets.values() for it in each.values())]
+        points = Points(
+            {
+                it.node.declared: str(plan[it.name])
+                if isinstance(it, ElementCell)
+                else plan[it.name]
+                for it in cells
+            }
+        )
+
+        def value(name: str) -> Point | Fraction:
+            if not self.flat.variables[name].is_float:
+                return value_of(self._expression(name).node, points)
+            assert self.floats is not None
+            fixed = self.floats.fixed(name)
+            if fixed is not None:
+                return fixed
+            return Fraction(int(plan[self.cells[name].name]), self.floats.per_unit)
+
+        return value
 
     # --- what terms stand for ---
 
@@ -124,6 +195,12 @@ class Built:
         """A truth: a number of 0 or 1 counts as one."""
         found = self._value(term)
         return found if isinstance(found, Truth) else self.number(term) >= 1
+
+    def steps(self, name: str) -> Number:
+        """How many steps a float is, which isn't fixed."""
+        found = self._expression(name)
+        assert isinstance(found, Number)
+        return found
 
     def elements(self, term: Term) -> list[Term]:
         """The elements of an array, as they stand."""
@@ -153,6 +230,8 @@ class Built:
         if len(elements) < len(compared) or not any(isinstance(each, Element) for each in elements):
             return None
         name = constraint.name.removesuffix("_reif")
+        if name == TABLE:
+            return self._is_row(elements, self.constants(constraint.args[1]))
         if name == "set_in":
             return self._is_in(elements[0], constraint.args[1])
         if name == "array_set_element":
@@ -162,6 +241,51 @@ class Built:
         first, second = sorted(elements, key=lambda each: isinstance(each, str))
         assert isinstance(first, Element)
         return first == second if name.endswith("eq") else first != second
+
+    def _is_row(self, columns: list[Element | str], cells: list[int]) -> Truth | None:
+        """That these are a row of a table: pairs of a relation, of more than two with the row; None
+        where there are too many rows for that."""
+        open_ones = [each for each in columns if isinstance(each, Element)]
+        rows = [tuple(map(str, row)) for row in meaning.rows_of(cells, len(columns))]
+        rows = [row for row in rows if all(map(_may_be, columns, row))]
+        places = [place for place, each in enumerate(columns) if isinstance(each, Element)]
+        kept = list(dict.fromkeys(tuple(row[place] for place in places) for row in rows))
+        if not kept:
+            return NO
+        if len(open_ones) == 1:
+            return open_ones[0].among(*(value for (value,) in kept))
+        if len(open_ones) == 2:
+            return pairs(open_ones[0], open_ones[1], [(one, other) for one, other in kept])
+        if len(kept) > _MOST_ROWS:
+            return None
+        row = self._fresh_element(len(kept))
+        return every(
+            [
+                pairs(row, column, [(str(n), values[place]) for n, values in enumerate(kept, 1)])
+                for place, column in enumerate(open_ones)
+            ]
+        )
+
+    def looked_up(self, index: Term, row: Sequence[int]) -> tuple[Number, Truth] | None:
+        """The entry of a row by an index that is an element; None where it is none."""
+        found = self.flat.resolved(index)
+        made = self._value(found) if isinstance(found, Name) else None
+        if not isinstance(made, Element):
+            return None
+        names = domain_of_element(made).elements
+        is_there = {name: 1 <= int(name) <= len(row) for name in names}
+        table = {name: row[int(name) - 1] if is_there[name] else 0 for name in names}
+        return element(made, table), self._one_of(made, Numbers.span(1, len(row)))
+
+    def fresh(self, high: int) -> Number:
+        """A number from 1 on that no variable has."""
+        self._rows += 1
+        return self.workbench.number(f"row of table {self._rows}", 1, high)
+
+    def _fresh_element(self, count: int) -> Element:
+        self._rows += 1
+        domain = self._domain(tuple(range(1, count + 1)))
+        return self.workbench.element(f"row of table {self._rows}", domain)
 
     def _is_in(self, made: Element | str, term: Term) -> Truth:
         """That an element's number is in a set."""
@@ -255,6 +379,8 @@ class Built:
         made: NumberCell | TruthCell | ElementCell
         if variable.is_truth:
             made = self.workbench.truth(title)
+        elif variable.is_float:
+            return self._float(variable, title)
         elif name in self._values:
             made = self.workbench.element(title, self._domain(self._values[name]))
         elif variable.values is not None and not variable.values.ranges:
@@ -267,6 +393,18 @@ class Built:
         self.cells[name] = made
         self._expressions[name] = made
         self._require(self._is_possible(variable, made))
+        return made
+
+    def _float(self, variable: Variable, title: str) -> Number:
+        """A cell for the steps of a float; a constant, where it is fixed."""
+        assert self.floats is not None
+        low, high = self.floats.ends(variable.name)
+        if self.floats.fixed(variable.name) is not None:
+            return constant(low)
+        made = self.workbench.number(title, low, max(low, high))
+        if low > high:
+            self._require(NO)
+        self.cells[variable.name] = made
         return made
 
     def _set(self, variable: Variable) -> None:
@@ -306,12 +444,24 @@ class Built:
             holds, label = constraint.args
             assert isinstance(label, Text)
             self._require(self.truth(holds), label.text)
+        elif self.floats is not None and is_of_floats(constraint.name):
+            said = self.floats.said(self, constraint)
+            self._require(said.loose)
+            if said.exact.node is not said.loose.node:
+                self._require(said.exact, EXACT)
         else:
             self._require(meaning.stated(self, constraint))
 
     def _require(self, truth: Truth, under: str | None = None) -> None:
         if truth.node is not YES.node or under is not None:
             self.workbench.require(truth, under=under)
+
+
+def _may_be(column: Element | str, value: str) -> bool:
+    """Whether a column may have a value at all."""
+    if isinstance(column, str):
+        return column == value
+    return value in domain_of_element(column).elements
 
 
 def _is_plain(truth: Truth) -> bool:

@@ -4,13 +4,13 @@ import re
 import shutil
 import subprocess
 import tempfile
-from collections.abc import Sequence
-from dataclasses import dataclass, replace
+from collections.abc import Iterable, Sequence
+from dataclasses import dataclass, field, replace
 from pathlib import Path
 
 from propbench.finding import NoProgram
 from propbench.flatzinc.grammar import read
-from propbench.flatzinc.marking import label_of, marked
+from propbench.flatzinc.marking import Model, label_of, marked, relaxed
 from propbench.flatzinc.terms import BLAMED, Flat, Text
 
 CONFIGURATION = Path(__file__).parent / "propbench.msc"
@@ -22,10 +22,20 @@ class NoMiniZinc(ValueError):
 
 @dataclass(frozen=True)
 class Compiled:
-    """A model in FlatZinc whose constraints have labels, and how each of these is written."""
+    """A model in FlatZinc whose constraints have labels, how each of these is written, and what it
+    costs to give one up, where that isn't 1; the model's text, and the marks of the labels in it.
+    """
 
     flat: Flat
     texts: dict[str, str]
+    weights: dict[str, float] = field(default_factory=dict)
+    source: str = ""
+    model: Model = Model("", ())
+    marks: dict[str, str] = field(default_factory=dict)
+
+    def without(self, labels: Iterable[str]) -> str:
+        """The model's text without the constraints of these labels."""
+        return relaxed(self.source, self.model, [self.marks[each] for each in labels])
 
 
 def compiled(model: Path, data: Sequence[Path]) -> Compiled:
@@ -36,13 +46,16 @@ def compiled(model: Path, data: Sequence[Path]) -> Compiled:
         return Compiled(read(text), {})
     with_marks = marked(text)
     flat = read(_flattened(model, with_marks.text, data))
-    texts: dict[str, str] = {}
+    made = Compiled(flat, {}, {}, text, with_marks)
     for place, each in enumerate(flat.constraints):
         if each.name == BLAMED and isinstance(each.args[1], Text):
-            label, written = label_of(with_marks, each.args[1].text)
-            texts[label] = written
+            mark = each.args[1].text
+            label, written = label_of(with_marks, mark)
+            made.texts[label], made.marks[label] = written, mark
+            if with_marks.of(mark).weight != 1:
+                made.weights[label] = with_marks.of(mark).weight
             flat.constraints[place] = replace(each, args=(each.args[0], Text(label)))
-    return Compiled(flat, texts)
+    return made
 
 
 def _flattened(model: Path, text: str, data: Sequence[Path]) -> str:

@@ -5,10 +5,12 @@ so, with the line.
 """
 
 from collections.abc import Iterable, Sequence
+from fractions import Fraction
 from math import prod
 
 from propbench.flatzinc.terms import (
     BLAMED,
+    TABLE,
     Array,
     Constraint,
     Flat,
@@ -26,7 +28,8 @@ from propbench.showing import quoted
 MOST = 10_000
 
 # What constraints take: `v` a value, `V` an array of them, `c` a constant, `C` an array of them,
-# `m` a set, `M` an array of sets, `s` a text.
+# `m` a set, `M` an array of sets, `s` a text; `f` a float, `F` an array of floats, `d` a constant
+# that may be one, `D` an array of these.
 _TAKES = {
     "array_bool_and": "Vv",
     "array_bool_element": "vVv",
@@ -49,6 +52,7 @@ _TAKES = {
     "set_card": "mv",
     "set_in": "vm",
     BLAMED: "vs",
+    TABLE: "VC",
 }
 _TAKES |= {f"int_{each}": "vv" for each in ("eq", "ne", "le", "lt", "ge", "gt")}
 _TAKES |= {f"bool_{each}": "vv" for each in ("eq", "ne", "le", "lt")}
@@ -59,6 +63,11 @@ _TAKES |= {f"set_{each}": "mm" for each in ("eq", "ne", "le", "lt", "subset", "s
 _TAKES |= {f"set_{each}": "mmm" for each in ("diff", "intersect", "symdiff", "union")}
 _TAKES |= {"int_pow_fixed": "vvv", "int_max": "vvv", "int_min": "vvv"}
 _TAKES |= {"bool_and": "vvv", "bool_or": "vvv", "bool_xor": "vvv"}
+_TAKES |= {f"float_{each}": "ff" for each in ("eq", "ne", "le", "lt", "abs", "sqrt")}
+_TAKES |= {f"float_lin_{each}": "DFd" for each in ("eq", "ne", "le", "lt")}
+_TAKES |= {f"float_{each}": "fff" for each in ("plus", "times", "div", "pow", "max", "min")}
+_TAKES |= {"array_float_maximum": "fF", "array_float_minimum": "fF", "int2float": "vf"}
+_TAKES |= {"array_float_element": "vDf", "array_var_float_element": "vFf"}
 _SORTS = {
     "v": "a value",
     "V": "an array",
@@ -67,9 +76,13 @@ _SORTS = {
     "m": "a set of numbers",
     "M": "an array of sets",
     "s": "a text",
+    "f": "a float",
+    "F": "an array of floats",
+    "d": "a constant",
+    "D": "an array of constants",
 }
 # What a constraint is called that no file of a user's has by itself.
-_OWN = {BLAMED: "the mark of a constraint", "propbench_count": "a count"}
+_OWN = {BLAMED: "the mark of a constraint", "propbench_count": "a count", TABLE: "a table"}
 
 
 def check(flat: Flat) -> None:
@@ -83,7 +96,7 @@ def check(flat: Flat) -> None:
         _check_constraint(flat, each)
     if flat.goal.objective is not None:
         _check_values(flat, [flat.goal.objective], flat.goal.line)
-        if not _is_number(flat, flat.resolved(flat.goal.objective)):
+        if not _is_number(flat, flat.resolved(flat.goal.objective), (Sort.NUMBER, Sort.FLOAT)):
             raise NotSupported(flat.goal.line, f"what to {flat.goal.sort} has to be a number")
 
 
@@ -101,7 +114,9 @@ def _check_variable(flat: Flat, variable: Variable) -> None:
         _check_size(variable.values, variable.line)
     if variable.value is not None:
         _check_values(flat, [variable.value], variable.line)
-        if _is_set(flat, flat.resolved(variable.value)) != variable.is_set:
+        is_float = _is_float(flat, flat.resolved(variable.value))
+        is_other = is_float != variable.is_float and not isinstance(variable.value, int)
+        if _is_set(flat, flat.resolved(variable.value)) != variable.is_set or is_other:
             raise NotSupported(variable.line, f"{variable.name} has a value of another kind")
 
 
@@ -131,8 +146,8 @@ def _check_constraint(flat: Flat, constraint: Constraint) -> None:
         )
     for place, (sort, each) in enumerate(zip(takes, args), 1):
         found = flat.resolved(each)
-        if sort in "vmVM":
-            _check_values(flat, [found] if sort in "vm" else _elements(found), constraint.line)
+        if sort in "vmfVMF":
+            _check_values(flat, [found] if sort in "vmf" else _elements(found), constraint.line)
         if not _is_of(sort, found, flat):
             raise NotSupported(
                 constraint.line,
@@ -142,10 +157,20 @@ def _check_constraint(flat: Flat, constraint: Constraint) -> None:
             for one in [found] if sort == "m" else map(flat.resolved, _elements(found)):
                 if isinstance(one, Numbers):
                     _check_size(one, constraint.line)
-    if takes.startswith("CV") and len(_of_array(flat, args[0])) != len(_of_array(flat, args[1])):
+    if constraint.name == TABLE:
+        _check_rows(flat, constraint)
+    if takes.startswith(("CV", "DF")) and len(_of_array(flat, args[0])) != len(
+        _of_array(flat, args[1])
+    ):
         raise NotSupported(
             constraint.line, f"{called(constraint.name)} has as many factors as variables"
         )
+
+
+def _check_rows(flat: Flat, constraint: Constraint) -> None:
+    wide, cells = (len(_of_array(flat, each)) for each in constraint.args)
+    if cells % wide if wide else cells:
+        raise NotSupported(constraint.line, "a table has as many columns as variables")
 
 
 def _takes(constraint: Constraint) -> str:
@@ -164,20 +189,30 @@ def _takes(constraint: Constraint) -> str:
 def _is_of(sort: str, found: Term, flat: Flat) -> bool:
     """Whether an argument is of a sort; names in it are looked at elsewhere."""
     if sort == "v":
-        return isinstance(found, int | Name) and not _is_set(flat, found)
+        is_other = _is_set(flat, found) or _is_float(flat, found)
+        return isinstance(found, int | Name) and not is_other
+    if sort == "f":
+        return isinstance(found, int) or _is_float(flat, found)
     if sort == "m":
         return _is_set(flat, found)
-    if sort in "VCM":
-        inner = {"V": "v", "C": "c", "M": "m"}[sort]
-        each_is = (_is_of(inner, flat.resolved(each), flat) for each in _elements(found))
+    if sort.isupper():
+        each_is = (_is_of(sort.lower(), flat.resolved(each), flat) for each in _elements(found))
         return isinstance(found, tuple) and all(each_is)
+    if sort == "d":
+        return isinstance(found, int | Fraction)
     return isinstance(found, int if sort == "c" else Text)
 
 
-def _is_number(flat: Flat, found: Term) -> bool:
+def _is_number(flat: Flat, found: Term, sorts: tuple[Sort, ...] = (Sort.NUMBER,)) -> bool:
     if isinstance(found, Name):
-        return flat.variables[found.text].sort is Sort.NUMBER
-    return isinstance(found, int)
+        return flat.variables[found.text].sort in sorts
+    return isinstance(found, int | Fraction)
+
+
+def _is_float(flat: Flat, found: Term) -> bool:
+    if isinstance(found, Name):
+        return found.text in flat.variables and flat.variables[found.text].is_float
+    return isinstance(found, Fraction)
 
 
 def _is_set(flat: Flat, found: Term) -> bool:
@@ -200,5 +235,5 @@ def _check_values(flat: Flat, terms: Iterable[Term], line: int) -> None:
         found = flat.resolved(each)
         if isinstance(found, Name) and found.text not in flat.variables:
             raise NotSupported(line, f"nothing is called {quoted(found.text)}")
-        if not isinstance(found, int | Name | Numbers):
+        if not isinstance(found, int | Fraction | Name | Numbers):
             raise NotSupported(line, "a variable or a constant is wanted here")

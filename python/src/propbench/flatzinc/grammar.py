@@ -1,11 +1,12 @@
 """FlatZinc read: words, and the items that they make.
 
-What is no FlatZinc, and floats, are refused by NotSupported, with the line.
+What is no FlatZinc is refused by NotSupported, with the line.
 """
 
 import re
 from collections.abc import Callable
 from dataclasses import dataclass
+from fractions import Fraction
 from typing import TypeVar
 
 from propbench.flatzinc.terms import (
@@ -17,6 +18,7 @@ from propbench.flatzinc.terms import (
     Name,
     NotSupported,
     Numbers,
+    Reals,
     Sort,
     Term,
     Text,
@@ -194,7 +196,10 @@ class _Reader:
         name = self._new_name()
         annotations = self._annotations()
         value = self._term() if self._is("=") else None
-        made = Variable(name, sort, values, annotations, value, line)
+        if isinstance(values, Reals):
+            made = Variable(name, sort, None, annotations, value, line, values)
+        else:
+            made = Variable(name, sort, values, annotations, value, line)
         self._flat.variables[name] = made
 
     def _parameter(self) -> None:
@@ -205,20 +210,22 @@ class _Reader:
         self._want("=")
         self._flat.parameters[name] = self._term()
 
-    def _kind(self) -> tuple[Sort, Numbers | None]:
+    def _kind(self) -> tuple[Sort, Numbers | Reals | None]:
         """What a kind is for, and what numbers it has, None for all."""
         if self._is("bool"):
             return Sort.TRUTH, None
         if self._is("int"):
             return Sort.NUMBER, None
-        if self._is("float") or self._next.sort == "float":
-            raise self._error("floats are not supported: the workbench has whole numbers")
+        if self._is("float"):
+            return Sort.FLOAT, None
         if self._is("set"):
             self._want("of")
             return Sort.SET, self._kind()[1]
         values = self._term()
+        if isinstance(values, Reals):
+            return Sort.FLOAT, values
         if not isinstance(values, Numbers):
-            raise self._error("a kind is bool, int, or a set of numbers")
+            raise self._error("a kind is bool, int, float, or a set of numbers")
         return Sort.NUMBER, values
 
     def _annotations(self) -> tuple[Term, ...]:
@@ -244,6 +251,9 @@ class _Reader:
         if word.sort == "number":
             low = int(word.text, 0) if word.text.lstrip("-")[:2] in ("0x", "0o") else int(word.text)
             return Numbers.span(low, self._number()) if self._is("..") else low
+        if word.sort == "float":
+            real = _fraction(word)
+            return Reals(real, self._real()) if self._is("..") else real
         if word.sort == "text":
             return Text(word.text[1:-1].replace('\\"', '"').replace("\\\\", "\\"))
         if word.text in ("true", "false"):
@@ -254,18 +264,30 @@ class _Reader:
             return tuple(self._list(self._term, "]"))
         if word.text == "{":
             return Numbers.of(self._list(self._number, "}"))
-        if word.sort == "float":
-            raise NotSupported(word.line, f"floats are not supported, as {word.text[:_SHOWN]} is")
         raise NotSupported(word.line, f"a value is wanted, and not {_said(word)}")
 
     def _args(self) -> tuple[Term, ...]:
         return tuple(self._list(self._term, ")"))
+
+    def _real(self) -> Fraction:
+        value = self._term()
+        if not isinstance(value, Fraction):
+            raise self._error("a float is wanted")
+        return value
 
     def _number(self) -> int:
         value = self._term()
         if isinstance(value, bool) or not isinstance(value, int):
             raise self._error("a whole number is wanted")
         return value
+
+
+def _fraction(word: _Word) -> Fraction:
+    """The number that a word with a point stands for, just as it is written."""
+    _, _, power = word.text.lower().partition("e")
+    if len(word.text) > _LONGEST or abs(int(power or 0)) > _LONGEST:
+        raise NotSupported(word.line, f"a float has more than {_LONGEST} digits")
+    return Fraction(word.text)
 
 
 def _said(word: _Word) -> str:

@@ -7,8 +7,8 @@ what stands in a `forall` once for each of its values. Lines stay as they are.
 """
 
 import re
-from collections.abc import Sequence
-from dataclasses import dataclass
+from collections.abc import Iterable, Sequence
+from dataclasses import dataclass, field
 
 from propbench.flatzinc.terms import BLAMED
 
@@ -21,6 +21,8 @@ _OPENING, _CLOSING = {"(", "[", "{", "if"}, {")", "]", "}", "endif"}
 # What binds less tightly than `/\`.
 _LOOSE = {"<->", "->", "<-", "\\/", "xor", "let"}
 _LONGEST = 200
+# The annotation that tells what it costs to give up a constraint.
+_SOFT = "soft"
 
 
 @dataclass(frozen=True)
@@ -37,12 +39,18 @@ class _Token:
 @dataclass(frozen=True)
 class Marked:
     """A constraint of the model: its line, its name where it has one, which part of the line's it
-    is where there are several, and how it is written."""
+    is where there are several, how it is written, and what it costs to give it up.
+
+    It stands from one place of the model's text to another, within loops of these names.
+    """
 
     line: int
     name: str
     part: int
     text: str
+    weight: int
+    place: tuple[int, int]
+    loops: tuple[str, ...]
 
     def label(self, within: str) -> str:
         """What it is called, for these values of what it is told for."""
@@ -58,6 +66,10 @@ class Model:
     text: str
     constraints: tuple[Marked, ...]
 
+    def of(self, mark: str) -> Marked:
+        """The constraint of a mark."""
+        return self.constraints[int(mark.partition("|")[0])]
+
 
 def marked(text: str) -> Model:
     """The model with a mark at each constraint."""
@@ -70,9 +82,32 @@ def marked(text: str) -> Model:
 
 def label_of(model: Model, mark: str) -> tuple[str, str]:
     """What the constraint of a mark is called, and how it is written."""
-    number, _, within = mark.partition("|")
-    found = model.constraints[int(number)]
-    return found.label(within), found.text
+    return model.of(mark).label(mark.partition("|")[2]), model.of(mark).text
+
+
+def relaxed(text: str, model: Model, given_up: Iterable[str]) -> str:
+    """The model's text without the constraints of some marks: in a loop without those of the values
+    that the marks tell. What is given up stands in a note behind it."""
+    without: dict[int, list[str]] = {}
+    for mark in given_up:
+        place, _, within = mark.partition("|")
+        without.setdefault(int(place), []).append(within)
+    parts, since = [], 0
+    for number in sorted(without, key=lambda each: model.constraints[each].place):
+        found = model.constraints[number]
+        begin, end = found.place
+        parts += [text[since:begin], _without(text[begin:end], without[number])]
+        since = end
+    return "".join([*parts, text[since:]])
+
+
+def _without(written: str, values: Sequence[str]) -> str:
+    """A constraint that needn't hold for these values of its loops; where it has none, at all."""
+    if not all(values):
+        return f"true /* given up: {written.replace('*/', '* /')} */"
+    cases = ["(" + " /\\ ".join(each.split(", ")) + ")" for each in values]
+    any_of = " \\/ ".join(cases)
+    return f"(not ({any_of}) -> ({written}))"
 
 
 def _items(text: str) -> list[list[_Token]]:
@@ -92,21 +127,37 @@ def _tokens(text: str) -> list[_Token]:
     return [token for token in found if token.sort != "silent"]
 
 
+@dataclass(frozen=True)
+class _Piece:
+    """A constraint that is marked: its words, name and loops, and what it costs to give it up."""
+
+    tokens: list[_Token]
+    name: str
+    loops: tuple[str, ...]
+    weight: int
+
+
 class _Marking:
     """What is put into a model, and where."""
 
+    _weight = 1
+
     def __init__(self, text: str) -> None:
         self._text = text
-        self._put: list[tuple[int, str]] = []
-        self._pieces: list[tuple[list[_Token], str]] = []
+        # What is put in at which place, and how much of the text it takes the place of.
+        self._put: list[tuple[int, str, int]] = []
+        self._pieces: list[_Piece] = []
 
     def mark_item(self, tokens: Sequence[_Token]) -> None:
         """Marks a constraint."""
         name = ""
         if [each.text for each in tokens[:1]] == ["::"] and tokens[1].sort == "text":
             name, tokens = tokens[1].text[1:-1], tokens[2:]
-        if tokens:
-            self._mark(list(tokens), name, [])
+        weight, kept = _soft(tokens)
+        if kept:
+            self._weight = weight
+            self._mark(list(kept), name, [])
+            self._put.append((kept[-1].end, "", tokens[-1].end - kept[-1].end))
 
     def _mark(self, tokens: list[_Token], name: str, loops: list[str]) -> None:
         """Marks an expression that has to hold, or the parts that all have to."""
@@ -130,27 +181,37 @@ class _Marking:
     def _put_call(self, tokens: list[_Token], name: str, loops: list[str]) -> None:
         within = ", ".join(f"{each}=\\({each})" for each in loops)
         mark = f'"{len(self._pieces)}|{within}"'
-        self._pieces.append((tokens, name))
-        self._put.append((tokens[0].start, f"{BLAMED}("))
-        self._put.append((tokens[-1].end, f", {mark})"))
+        self._pieces.append(_Piece(tokens, name, tuple(loops), self._weight))
+        self._put.append((tokens[0].start, f"{BLAMED}(", 0))
+        self._put.append((tokens[-1].end, f", {mark})", 0))
 
     def model(self) -> Model:
         """The model with all marks."""
         parts, since = [], 0
-        for place, text in self._put:
+        for place, text, length in self._put:
             parts += [self._text[since:place], text]
-            since = place
-        lines = [self._text.count("\n", 0, tokens[0].start) + 1 for tokens, _ in self._pieces]
+            since = place + length
+        lines = [self._text.count("\n", 0, it.tokens[0].start) + 1 for it in self._pieces]
         constraints = [
-            Marked(
-                line,
-                name,
-                lines[:number].count(line) + 1 if lines.count(line) > 1 else 0,
-                " ".join(self._text[tokens[0].start : tokens[-1].end].split())[:_LONGEST],
+            self._marked(
+                piece, line, lines[:number].count(line) + 1 if lines.count(line) > 1 else 0
             )
-            for number, ((tokens, name), line) in enumerate(zip(self._pieces, lines))
+            for number, (piece, line) in enumerate(zip(self._pieces, lines))
         ]
         return Model("".join([*parts, self._text[since:]]), tuple(constraints))
+
+    def _marked(self, piece: "_Piece", line: int, part: int) -> Marked:
+        place = piece.tokens[0].start, piece.tokens[-1].end
+        written = " ".join(self._text[slice(*place)].split())[:_LONGEST]
+        return Marked(line, piece.name, part, written, piece.weight, place, piece.loops)
+
+
+def _soft(tokens: Sequence[_Token]) -> tuple[int, Sequence[_Token]]:
+    """What it costs to give up a constraint that ends with `:: soft(3)`, and the rest of it."""
+    texts = [each.text for each in tokens[-5:]]
+    if texts[:3] != ["::", _SOFT, "("] or len(texts) < 5 or tokens[-2].sort != "number":
+        return 1, tokens
+    return int(float(texts[3])), tokens[:-5]
 
 
 def _depths(tokens: Sequence[_Token]) -> list[int]:

@@ -12,7 +12,7 @@ from propbench.flatzinc import arithmetic, sets
 from propbench.flatzinc.arithmetic import every, picked, same_truth, sides_of, some, sum_of
 from propbench.flatzinc.forms import called
 from propbench.flatzinc.sets import Members
-from propbench.flatzinc.terms import Constraint, Name, NotSupported, Numbers, Term
+from propbench.flatzinc.terms import TABLE, Constraint, Name, NotSupported, Numbers, Term
 from propbench.model.expressions import (
     Expression,
     Number,
@@ -60,6 +60,13 @@ class Terms(Protocol):
 
     def sets_of(self, term: Term) -> list[Members]:
         """An array of sets."""
+
+    def fresh(self, high: int) -> Number:
+        """A number from 1 on that no variable has."""
+
+    def looked_up(self, index: Term, row: Sequence[int]) -> tuple[Number, Truth] | None:
+        """The entry of a row of constants by an index that is an element, and that there is one;
+        None where the index is none."""
 
 
 Args = tuple[Term, ...]
@@ -180,6 +187,23 @@ def differing(values: Sequence[Expression | str]) -> Truth:
     return every([all_different(values), *map(all_different, groups)])
 
 
+def _is_row(terms: Terms, args: Args) -> Truth:
+    """A number says which row it is: each column is looked up by it."""
+    columns = terms.numbers(args[0])
+    rows = rows_of(terms.constants(args[1]), len(columns))
+    if not columns or not rows:
+        return arithmetic.NO if columns else arithmetic.YES
+    row = terms.fresh(len(rows))
+    places = (picked(row, 1, [*map(arithmetic.constant, each)]) for each in zip(*rows))
+    return every([found == column for found, column in zip(places, columns)])
+
+
+def rows_of(cells: Sequence[int], wide: int) -> list[tuple[int, ...]]:
+    """The rows of a table, each once."""
+    starts = range(0, len(cells), wide) if wide else ()
+    return list(dict.fromkeys(tuple(cells[each : each + wide]) for each in starts))
+
+
 def _either(first: Truth, second: Truth) -> Truth:
     return same_truth(first, ~second)
 
@@ -254,6 +278,7 @@ _SAYS: dict[str, Says] = {
     "bool_lt": _logic(_is_less),
     "bool_clause": _clause,
     "fzn_all_different_int": _different,
+    TABLE: _is_row,
     "propbench_count": lambda terms, args: count(terms.truths(args[0])) == terms.number(args[1]),
 }
 
@@ -283,11 +308,19 @@ def _extreme(give: Callable[[list[Number]], Number]) -> Gives:
 
 
 def _number_at(terms: Terms, args: Args) -> tuple[Number, Truth]:
+    row = terms.constants(args[1])
+    found = terms.looked_up(args[0], row) if len(row) == len(terms.elements(args[1])) else None
+    if found is not None:
+        return found
     index, values = terms.number(args[0]), terms.numbers(args[1])
     return picked(index, 1, values), _is_index(index, len(values))
 
 
 def _truth_at(terms: Terms, args: Args) -> tuple[Truth, Truth]:
+    row = terms.constants(args[1])
+    found = terms.looked_up(args[0], row) if len(row) == len(terms.elements(args[1])) else None
+    if found is not None:
+        return found[0] >= 1, found[1]
     index, values = terms.number(args[0]), terms.truths(args[1])
     return picked(index, 1, values), _is_index(index, len(values))
 

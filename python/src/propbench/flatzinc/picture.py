@@ -39,18 +39,27 @@ def draw(path: Path, dot: str) -> None:
     if path.suffix == ".dot":
         write_file(path, dot)
         return
-    program = shutil.which("dot")
-    if program is None:
+    found = drawn(dot, path.suffix[1:])
+    if found is None:
         raise ValueError(
             "a picture needs Graphviz (apt-get install graphviz): without it ask for a .dot"
         )
-    words: Sequence[str] = [program, f"-T{path.suffix[1:]}"]
-    ran = subprocess.run(words, input=dot.encode("utf-8", "backslashreplace"), capture_output=True)
+    write_file(path, found)
+
+
+def drawn(dot: str, sort: str) -> bytes | None:
+    """A picture of this sort, None where Graphviz isn't there. Raises ValueError where it can't."""
+    program = shutil.which("dot")
+    if program is None:
+        return None
+    ran = subprocess.run(
+        [program, f"-T{sort}"], input=dot.encode("utf-8", "backslashreplace"), capture_output=True
+    )
     if ran.returncode:
         raise ValueError(
-            f"Graphviz can't draw {path}: {ran.stderr.decode(errors='replace').strip()}"
+            f"Graphviz can't draw .{sort}: {ran.stderr.decode(errors='replace').strip()}"
         )
-    write_file(path, ran.stdout)
+    return ran.stdout
 
 
 def _wrapped(text: str) -> list[str]:

@@ -7,9 +7,11 @@ stands still, and over propbench, it goes by cases alone.
 from collections.abc import Callable
 from contextlib import closing, suppress
 from dataclasses import dataclass, field, replace
+from fractions import Fraction
 
 from propbench.flatzinc.asking import AnySolution, Asked, BestSolution, ManySolutions, Told
 from propbench.flatzinc.building import Built
+from propbench.flatzinc.floats import EXACT
 from propbench.flatzinc.order import order_of
 from propbench.flatzinc.seeking import Sought, Way
 from propbench.flatzinc.terms import Name
@@ -23,8 +25,12 @@ from propbench.questions.seeking import Unlike, seeks
 ALL = 10**9
 # So many seconds it goes by cases first, where the greatest values are to be tried first.
 _FROM_TOP = 0.5
+# So many seconds bounds on the best float close in first.
+_BY_BOUNDS = 10.0
 # Of a turn so much goes to the cases, and so much where a solution was found already.
 _SHARE, _SMALL_SHARE = 0.5, 0.125
+# The premise that an objective is better than the best in steps.
+_BETTER = "better"
 Tell = Callable[[Plan], None]
 
 
@@ -42,30 +48,66 @@ class Wanted:
 @dataclass
 class Solutions:
     """Solutions that were found; `is_complete` says that there are no others, or no better ones.
-    `steps` is how many propwide's own search took, and `objective` the best value."""
+    `steps` is how many propwide's own search took, and `objective` the best value; by so much as
+    the `margin`, where there is one, a real solution may be better."""
 
     plans: list[Plan] = field(default_factory=list)
     is_complete: bool = False
     steps: int = 0
     objective: int | None = None
+    margin: Fraction | None = None
 
 
 def solve(built: Built, wanted: Wanted, tell: Tell | None = None) -> Solutions:
     """So many solutions of the model at the most, or its best one; what was found in the time. Each is
     told when it is found, and of a best one those before it, where they are wanted. An interrupt ends
     the search as the end of its time does."""
-    groups = order_of(built, wanted.is_free)
+    groups, clock = order_of(built, wanted.is_free), Clock(wanted.seconds, None)
     built.workbench.try_first(*((group.cells, group.is_from_top) for group in groups))
-    search = _Search(built, wanted, tell)
+    found = _sought(built, wanted, tell)
+    if not found.is_complete or EXACT not in built.workbench.premises:
+        return found
+    return _of_reals(built, replace(wanted, seconds=clock.seconds_left()), found)
+
+
+def _sought(
+    built: Built, wanted: Wanted, tell: Tell | None = None, is_any: bool = False
+) -> Solutions:
+    """Solutions of a model, or some one."""
+    search = _Search(built, wanted, tell, is_any)
     with suppress(KeyboardInterrupt), closing(search):
         search.run()
     return search.found()
 
 
+def _of_reals(built: Built, wanted: Wanted, found: Solutions) -> Solutions:
+    """The same, where those in steps are known: complete where the real numbers leave no others."""
+    workbench, margin = built.workbench, None
+    workbench.kick(EXACT)
+    if not found.plans:
+        others = _sought(built, wanted, is_any=True)
+        is_complete = others.is_complete and not others.plans
+    elif found.objective is not None:
+        better, margin = built.better_than(found.objective)
+        workbench.require(better, under=_BETTER)
+        others = _sought(built, wanted, is_any=True)
+        workbench.forget(_BETTER)
+        is_complete = others.is_complete and not others.plans
+    else:
+        others = _sought(built, wanted)
+        shown = [cell.name for cell in built.told_apart_by]
+        known = {tuple(plan[name] for name in shown) for plan in found.plans}
+        is_known = all(tuple(plan[name] for name in shown) in known for plan in others.plans)
+        is_complete = others.is_complete and is_known
+    workbench.bring(EXACT)
+    steps = found.steps + others.steps
+    return replace(found, is_complete=is_complete, steps=steps, margin=margin)
+
+
 class _Search:
     """A search for solutions of a model."""
 
-    def __init__(self, built: Built, wanted: Wanted, tell: Tell | None) -> None:
+    def __init__(self, built: Built, wanted: Wanted, tell: Tell | None, is_any: bool) -> None:
         self._built, self._wanted, self._tell = built, wanted, tell
         self._clock = Clock(wanted.seconds, None)
         self._plans: list[Plan] = []
@@ -75,7 +117,7 @@ class _Search:
         cells = built.cells.values()
         self._elements = {cell.name for cell in cells if isinstance(cell, ElementCell)}
         self._told = Told(built.workbench.model, self._take)
-        self._asked = self._question()
+        self._asked = AnySolution(self._told) if is_any else self._question()
 
     def run(self) -> None:
         """Searches, as long as there is time."""
@@ -116,10 +158,11 @@ class _Search:
             is_least = goal.sort == "minimize"
             sort, sign = (LEAST, 1) if is_least else (GREATEST, -1)
             return BestSolution(self._told, cell.name, sort, sign)
-        show = [each.name for each in built.own]
+        show = [each.name for each in built.told_apart_by]
         # (an objective that is given leaves nothing that would be better)
-        is_all = goal.objective is not None or not show
-        if is_all or self._wanted.most == 1:
+        # (and what is only floats may have others beside them)
+        is_all = goal.objective is not None or not (show or built.own)
+        if is_all or not show or self._wanted.most == 1:
             return AnySolution(self._told, is_all)
         return ManySolutions(self._told, show, self._wanted.most)
 
@@ -127,7 +170,10 @@ class _Search:
         """Has the program search, and goes by cases, in turns."""
         asked, clock = self._asked, self._clock
         first = self._built.workbench.model.first()
-        if any(each.is_from_top for each in first) and clock.seconds_left() != 0:
+        if self._built.seeks_float and clock.seconds_left() != 0:
+            # (the program itself would better it step by step)
+            asked.go_by_cases(clock.turn(_BY_BOUNDS))
+        elif any(each.is_from_top for each in first) and clock.seconds_left() != 0:
             # (the program itself tries the least ones)
             asked.go_by_cases(clock.turn(_FROM_TOP))
         for seconds in clock.turns():

@@ -6,10 +6,12 @@ variable is compared by `=`, `!=` and `all_different` alone, it is an element.
 
 from collections.abc import Iterable
 
-from propbench.flatzinc.terms import Constraint, Flat, Name, Term
+from propbench.flatzinc.terms import TABLE, Constraint, Flat, Name, Term
 
 # A domain has so many elements at the most.
 _MOST = 64
+# What looks up an entry of a row of constants, by an index that may be only told apart.
+LOOKED_UP = ("array_int_element", "array_bool_element")
 _DIFFERENCE = {(1, -1), (-1, 1)}
 
 
@@ -18,7 +20,7 @@ def compared(flat: Flat, constraint: Constraint) -> list[Term] | None:
     name, args = constraint.name.removesuffix("_reif"), constraint.args
     if name in ("int_eq", "int_ne"):
         return list(args[:2])
-    if name == "fzn_all_different_int":
+    if name in ("fzn_all_different_int", TABLE):
         return list(_array(flat, args[0]))
     if name in ("set_in", "array_set_element"):
         return [args[0]]
@@ -34,8 +36,16 @@ def domains(flat: Flat) -> dict[str, tuple[int, ...]]:
     counted: set[str] = set(_names(flat, [flat.goal.objective] if flat.goal.objective else []))
     for constraint in flat.constraints:
         values = compared(flat, constraint)
-        if values is None:
+        if values is None and constraint.name not in LOOKED_UP:
             counted.update(_names(flat, constraint.args))
+        elif values is None:
+            # (of the index alone)
+            groups.join([flat.resolved(constraint.args[0])])
+            counted.update(_names(flat, constraint.args[1:]))
+        elif constraint.name == TABLE:
+            # (columns are not compared with one another)
+            for each in values:
+                groups.join([flat.resolved(each)])
         else:
             groups.join([flat.resolved(each) for each in values])
     for variable in flat.variables.values():

@@ -3,11 +3,14 @@
 from collections.abc import Iterable, Iterator
 from dataclasses import dataclass, field
 from enum import Enum, auto
+from fractions import Fraction
 from typing import Union
 
 
 # The constraint by which a model's own constraint has a name: it holds where that is believed.
 BLAMED = "propbench_blame"
+# That some numbers are a row of a table, which stands row by row.
+TABLE = "propbench_table"
 
 
 class NotSupported(ValueError):
@@ -81,7 +84,20 @@ class Numbers:
             yield before, behind
 
 
-Term = Union[bool, int, Name, Text, Call, Numbers, tuple["Term", ...]]
+@dataclass(frozen=True)
+class Reals:
+    """The real numbers from one to another, None where there is no end."""
+
+    low: Fraction | None
+    high: Fraction | None
+
+    @property
+    def value(self) -> Fraction | None:
+        """The only one, where there is only one."""
+        return self.low if self.low == self.high else None
+
+
+Term = Union[bool, int, Fraction, Name, Text, Call, Numbers, Reals, tuple["Term", ...]]
 
 
 class Sort(Enum):
@@ -90,12 +106,13 @@ class Sort(Enum):
     TRUTH = auto()
     NUMBER = auto()
     SET = auto()
+    FLOAT = auto()
 
 
 @dataclass(frozen=True)
 class Variable:
-    """A variable: for truths, for whole numbers, of which `values` are the possible ones, or for sets
-    of these."""
+    """A variable: for truths, for whole numbers, of which `values` are the possible ones, for sets
+    of these, or for real numbers, of which `reals` are."""
 
     name: str
     sort: Sort
@@ -103,6 +120,7 @@ class Variable:
     annotations: tuple[Term, ...]
     value: Term | None
     line: int
+    reals: Reals = Reals(None, None)
 
     @property
     def is_truth(self) -> bool:
@@ -113,6 +131,11 @@ class Variable:
     def is_set(self) -> bool:
         """Whether it is for sets."""
         return self.sort is Sort.SET
+
+    @property
+    def is_float(self) -> bool:
+        """Whether it is for real numbers."""
+        return self.sort is Sort.FLOAT
 
     def has(self, annotation: str) -> bool:
         """Whether it is annotated by this name."""

@@ -1,7 +1,4 @@
-% A number says which row it is: each column is looked up in it by `if` of the wide kit.
+% One of the rows is what the numbers are: told at once, by relations where these are told apart.
 predicate fzn_table_int(array[int] of var int: x, array[int, int] of int: t) =
-    let { var index_set_1of2(t): row } in
-    forall(j in index_set(x)) (
-        x[j] in {t[k, j] | k in index_set_1of2(t)} /\ x[j] = [t[k, j] | k in index_set_1of2(t)][
-            row - min(index_set_1of2(t)) + 1]
-    );
+    forall(j in index_set(x)) (x[j] in {t[k, j] | k in index_set_1of2(t)}) /\
+    propbench_table(x, array1d(t));

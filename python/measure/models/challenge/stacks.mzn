@@ -1,0 +1,18 @@
+% Ten products for eight customers: in an order in which few customers wait at any time.
+include "all_different.mzn";
+int: products = 10; int: customers = 8;
+array[1..customers, 1..products] of bool: wants =
+  array2d(1..customers, 1..products, [(c * c * 3 + p * p + c * p * 5) mod 4 = 0 | c in 1..customers, p in 1..products]);
+array[1..products] of var 1..products: at;
+constraint all_different(at);
+array[1..customers] of var 1..products: first;
+array[1..customers] of var 1..products: last;
+constraint forall(c in 1..customers where exists(p in 1..products)(wants[c, p]))(
+  first[c] = min([at[p] | p in 1..products where wants[c, p]]) /\
+  last[c] = max([at[p] | p in 1..products where wants[c, p]]));
+constraint forall(c in 1..customers where not exists(p in 1..products)(wants[c, p]))(
+  first[c] = 1 /\ last[c] = 1);
+var 0..customers: most;
+constraint forall(t in 1..products)(
+  most >= sum(c in 1..customers)(bool2int(first[c] <= t /\ t <= last[c])));
+solve :: int_search(at, first_fail, indomain_min, complete) minimize most;
