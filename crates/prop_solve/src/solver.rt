@@ -1,6 +1,6 @@
 //! The search: what is supposed, what follows, what was refuted.
 
-ghost use Rattle.std.specs.Prelude.{◌≡◌, ◌↔◌, ◌⊎◌, [], Some, IsTrue, IfOk, IfSome};
+ghost use Rattle.std.specs.Prelude.{◌≡◌, ◌↔◌, ◌⊎◌, [], List, Some, IsTrue, IfOk, IfSome};
 ghost use Rattle.std.specs.Prelude.{◌∷◌, All, Contains, OnOk, Ok, map, true, false};
 ghost use Rattle.prop_numbers.specs.Sets.{set_of, IsPart};
 ghost use Rattle.prop_premises.specs.Origins.{believed_in, choices_of};
@@ -12,7 +12,8 @@ ghost use Rattle.prop_refuting.specs.Nogoods.{Nogood as NogoodOf};
 ghost use Rattle.prop_learned.specs.Stores.{IsKeptIn};
 ghost use Rattle.prop_deriving.specs.Known.{IsKnown};
 ghost use Rattle.prop_lessons.specs.Lessons.{AreTaught};
-ghost use Rattle.prop_solve.specs.Questions.{Grow, Imply, excused_then, is_optimum};
+ghost use Rattle.prop_solve.specs.Questions.{AreExcusing, Grow, Imply, excused_then};
+ghost use Rattle.prop_solve.specs.Questions.{is_optimum};
 ghost use Rattle.prop_solve.specs.Searches.{IsSearch, IsProposed, bare};
 ghost use Rattle.prop_solve.specs.Answers.{AreSingle, AsksTheSame, IsAnswer, IsFound, IfFound};
 
@@ -162,6 +163,33 @@ fn dear<R: Guarded + Drop>(alloc: Global, network: &Network<R>) -> Result<Vec<bo
     Ok(dear)
 }
 
+/// What is woken where a place of the trail changes, and what waits: everything is to be called.
+fn woken<R: Guarded + Drop>(
+    alloc: Global,
+    network: &Network<R>,
+    trail: &Trail,
+) -> Result<(Wiring, Waiting), AllocError> {
+    let dear = dear(alloc, network)?;
+    let mut waiting = Waiting::new(alloc, dear)?;
+    waiting.wake_all();
+    let wiring = Wiring::new(alloc, network, trail)?;
+    Ok((wiring, waiting))
+}
+
+/// How many elements each of so many places may have, and a store of no nogoods about them.
+fn room_for<R: Rule + Drop>(
+    alloc: Global,
+    network: &Network<R>,
+    choices: &[Choice],
+    places: usize,
+) -> Result<(Vec<u8>, Store), AllocError>
+    ensures nogoods { IfOk result (λ made. (g : NogoodOf) → IsKeptIn made.1 g → ⊥) }
+{
+    let sizes = sizes(alloc, network.data(), choices)?;
+    let store = Store::new(alloc, places)?;
+    Ok((sizes, store))
+}
+
 /// Everything is to be called.
 fn spread_of<R: Guarded + Drop>(
     alloc: Global,
@@ -172,22 +200,22 @@ fn spread_of<R: Guarded + Drop>(
     ensures nogoods { IfOk result (λ s. (g : NogoodOf) → IsKeptIn s.nogoods g → ⊥) }
     ensures root { IfOk result (λ s. s.root ≡ root) }
 {
+    let sides = Sides::new(alloc, network, choices)?;
     let beliefs = beliefs(alloc, network, choices, &root)?;
+    let (sizes, store) = room_for(alloc, network, choices, beliefs.len())?;
     let present = Present::new(alloc, &beliefs)?;
     let trail = Trail::new(alloc, beliefs)?;
-    let wiring = Wiring::new(alloc, network, &trail)?;
-    let mut waiting = Waiting::new(alloc, dear(alloc, network)?)?;
-    waiting.wake_all();
+    let (wiring, waiting) = woken(alloc, network, &trail)?;
     Ok(Spread {
         alloc,
         root,
-        sides: Sides::new(alloc, network, choices)?,
-        store: Store::new(alloc, trail.places())?,
-        sizes: sizes(alloc, network.data(), choices)?,
+        sides,
         trail,
         present,
         wiring,
         waiting,
+        store,
+        sizes,
         clash: None,
         units: Vec::new(alloc),
         seen: 0,
@@ -711,21 +739,45 @@ impl Solver {
             (self.new.excuses ≡ self.old.excuses)) }
     {
         let values = Vec::from_slice(self.spread.alloc(), proposal.check.values())?;
-        let Some(facts) = self.question.facts(self.spread.alloc(), &values)? else {
-            self.is_lost = true;
+        if !self.excuse_values(network, premises, &values)? {
             return Ok(None);
+        }
+        let sides = proposal.into_sides();
+        Ok(Some(Plan { values, sides }))
+    }
+
+    /// From now on points are excused that are no better than these, or no other, unless any
+    /// points will do. False where they are excused already, or can't be.
+    fn excuse_values<'x, R: Guarded + Drop>(
+        &mut self,
+        network: &'x Network<R>,
+        premises: &'x Premises,
+        values: &[Info],
+    ) -> Result<bool, AllocError>
+        requires search { IsSearch (stored_of R.value_of network.now.library) network.now.cells
+            premises.now self.old }
+        ensures search { OnOk result (IsSearch (stored_of R.value_of network.now.library)
+            network.now.cells premises.now self.new) }
+        ensures asks { OnOk result (AsksTheSame self.old self.new) }
+        ensures excused { result ≡ Ok true → (facts : List Literal)
+            × AreExcusing self.old.goal self.old.named values.now facts
+            × (self.new.excuses ≡ excused_then self.old.goal self.old.excuses facts) }
+        ensures still { result ≡ Ok false → self.new.excuses ≡ self.old.excuses }
+    {
+        let Some(facts) = self.question.facts(self.spread.alloc(), values)? else {
+            self.is_lost = true;
+            return Ok(false);
         };
         if let Some(told) = self.told_before(&facts)? {
             self.begin_excused(network, premises, told)?;
-            return Ok(None);
+            return Ok(false);
         }
         if !self.excuse(&facts)? {
             self.is_lost = true;
-            return Ok(None);
+            return Ok(false);
         }
         self.begin_told(network, premises, facts)?;
-        let sides = proposal.into_sides();
-        Ok(Some(Plan { values, sides }))
+        Ok(true)
     }
 
     /// Begins a derivation with the facts of a plan, unless any points will do.
