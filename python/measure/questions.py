@@ -98,7 +98,7 @@ def main(words: list[str]) -> int:
         description=__doc__, formatter_class=argparse.RawTextHelpFormatter
     )
     read.add_argument("--seconds", type=float, default=60.0, help="for each question, by the clock")
-    read.add_argument("--premises", type=int, nargs="*", default=[12, 20, 40])
+    read.add_argument("--premises", type=int, nargs="*", default=[12, 20, 40, 80])
     read.add_argument("--seeds", type=int, default=3)
     options = read.parse_args(words)
     print(f"{'':26}{'here':>8}{'peer':>8}{'times':>8}")

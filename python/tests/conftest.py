@@ -23,6 +23,7 @@ REPOSITORY = Path(__file__).resolve().parents[2]
 sys.path.append(str(REPOSITORY / "tests"))
 
 OF_A_WORKBENCH = """
+test_blamed
 test_cases test_certificates test_chains test_flatzinc test_flatzinc_floats test_flatzinc_meaning
 test_flatzinc_models test_flatzinc_random test_flatzinc_search test_flatzinc_sets test_goals
 test_planning

@@ -199,3 +199,30 @@ def test_what_is_the_same_does_not_differ() -> None:
         other.tell("a takes 2", days, 2)
         other.require((end <= 3) | (start >= 5), under="ill")
         assert not w.compare(other)
+
+
+def test_a_chain_of_what_the_program_names() -> None:
+    """In short, without a question more: each task of the chain has its premises behind it."""
+    with Workbench() as w:
+        p = w.project(days=60, people="ana ben")
+        first = p.task("first", 3, who="ana")
+        second = p.task("second", 4, who="ana")
+        p.task("aside", 1, who="ben")
+        third = p.task("third", 2, who="ben", after=[first, second])
+        p.not_before(5, third, under="late")
+        best = w.least(p.end)
+        if not best.because:
+            return
+        asked: list[str] = []
+        found = p.how(best, progress=asked.append)
+        assert not asked and found.complete and found.premises == best.because
+        assert [link.entry.task for link in found.links][-1] == "third"
+        behind = found.behind("third")
+        assert "third takes 2" in behind and set(behind) <= set(best.because)
+        told = {name for link in found.links for name in found.behind(link.entry.task)}
+        assert set(found.others) == set(best.because) - told
+        assert f"no sooner by {len(best.because)} premises" in str(found)
+        with pytest.raises(KeyError):
+            found.behind("aside")
+        with pytest.raises(ValueError, match="ask for the least of it"):
+            p.how(w.greatest(p.end))

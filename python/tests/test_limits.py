@@ -226,7 +226,7 @@ def test_charts_and_reasons_tell_how_far_they_are(wide: str) -> None:
         told.clear()
         w.require(p.end >= 13, under="late")
         assert set(w.critical(p.end, progress=told.append)) == {"late"}
-        assert any("can't all hold" in each for each in told)
+        assert any("can't all hold" in it or "conflicts so far" in it for it in told)
         bare = p.chart(w.least(p.end).plan, seconds=0)
         assert not bare.complete and "in any plan from" not in bare.svg
         assert p.chart(w.least(p.end).plan, rooms=False, seconds=0).complete

@@ -19,6 +19,7 @@ from modelling import (
     names_in,
 )
 
+from propbench.model.events import Required
 from propbench.model.kinds import Plain
 from propbench.model.meaning import NoValueThere, value_of
 from propbench.model.ranges import range_of
@@ -90,6 +91,30 @@ def test_each_operation_at_all_points(made: Bench) -> None:
             except NoValueThere:
                 found = None  # type: ignore[assignment]
             assert found == value(recipe, at), (recipe, at)
+
+
+def orders() -> list[Recipe]:
+    """Comparisons of sums of a few cells, by themselves and of which one has to hold."""
+    sums = [("sum", X, Y), ("difference", X, Y), ("sum", X, ("constant", 2)), ("negative", Y), X]
+    alone = [
+        (name, one, other)
+        for name in ("less", "at most", "greater", "at least")
+        for one in sums
+        for other in (Y, Z, ("difference", Z, X), ("constant", 1))
+    ]
+    return [*alone, *(("or", one, other) for one in alone[::7] for other in alone[::9])]
+
+
+def test_what_is_stated_holds_where_its_bounds_say_so(made: Bench) -> None:
+    """Bounds are worked out in place of most comparisons, and say the same."""
+    declared, bounded = {name: each.declared for name, each in made.cells.items()}, 0
+    for recipe in [*orders(), *(each for each in recipes() if each[0] in COMPARISONS)]:
+        event = Required(built(recipe, made.cells).node, None)
+        bounded += event.orders is not None
+        for at in all_points(names_in(recipe)):
+            points = {declared[name]: point for name, point in at.items()}
+            assert event.is_met(points) == value(recipe, at), (recipe, at)
+    assert bounded > len(orders()) // 2
 
 
 def test_ranges_have_each_value(made: Bench) -> None:

@@ -13,7 +13,7 @@ import pytest
 from conftest import TIMES
 from judging import Judge
 from lines_model import LineModel
-from spoilt import HONEST, SPOILT, certificate, spoilt
+from spoilt import HONEST, PLAN, SPOILT, certificate, spoilt
 
 from propbench import Session, Workbench
 from propbench.desk import main
@@ -157,6 +157,7 @@ class Mutating:
                 [],
                 {},
                 "open",
+                "none",
                 "04",
                 "nothing",
                 10**30,
@@ -217,6 +218,31 @@ def test_spoilt_ones_are_refused() -> None:
     assert len(SPOILT) >= 100
     believed = [each for each in SPOILT if holds(spoilt(*each))]
     assert not believed
+
+
+# What a certificate has where the program finds by a search that nothing fits, and what is none.
+SEARCHED = [[[["cheap", "evil"], []], "none"]]
+NO_SEARCH: list[Any] = ["none ", "None", "no", "", "open", 0, 1, True, {}, [], ["none"]]
+NO_SEARCH += [["price", "none"], ["price", [["0..9", "None"]]], ["price", [["0..8", "none"]]]]
+NO_SEARCH += [["zz", [["0..9", "none"]]], {"none": None}, {**PLAN}, "none none"]
+
+
+def test_spoilt_ones_by_search_are_refused() -> None:
+    with Session() as session:
+        if not session.seeks:
+            pytest.skip("the program doesn't search")
+    trees = "evidence/trees"
+    changed: list[tuple[str, dict[str, Any]]] = []
+    for name, each in SPOILT:
+        if name in ("conflicts", "repairs", "kept"):
+            changed.append((name, {**each, trees: SEARCHED}))
+    changed += [("conflicts", {trees: [[SEARCHED[0][0], tree]]}) for tree in NO_SEARCH]
+    for names in (["Ana", "cheap"], ["Ana"], ["cheap"], [], ["cheap", "Bob"]):
+        sets = {"claims/0/1/sets": [names], trees: [[[names, []], "none"]]}
+        changed.append(("conflicts", sets))
+    assert len(changed) >= 30
+    assert all(spoilt(name, {trees: SEARCHED}).check() for name in ("conflicts", "repairs"))
+    assert not [each for each in changed if holds(spoilt(*each))]
 
 
 def test_mutated_ones_are_refused_or_true(honest: list[tuple[Judge, Certificate]]) -> None:

@@ -81,6 +81,8 @@ TOLD = tuple(
         ("least X [Y ..]", "the least that X can be at points that fit, and because of what"),
         ("greatest X [Y ..]", "the greatest that X can be at such points"),
         ("plans N X ..", "N points that fit, and differ at X .."),
+        ("conflicts N", "N minimal sets of premises that can't all hold"),
+        ("repairs N", "N minimal sets of premises without which the others can hold"),
     )
 )
 

@@ -10,7 +10,7 @@ the program is at work on it yet, it is `owed`, and can be taken in later.
 from dataclasses import dataclass
 
 from propbench.blame import blame_for
-from propbench.grammar import ASKING, SEEKING
+from propbench.grammar import ASKING, SEARCHING
 from propbench.known import Known
 from propbench.program import Program, ProgramEnded, StillAtWork
 from propbench.refusals import CLASSES, Refused
@@ -145,7 +145,7 @@ class Conversation:
             if owed.words[0] == "plans":
                 # (nobody is told of these: so they are told once more)
                 self.sought = ("", 0)
-            elif owed.words[0] not in SEEKING:
+            elif owed.words[0] not in SEARCHING:
                 self.cut(owed.line, owed.steps)
         self.in_step = True
 

@@ -7,6 +7,7 @@ that is believed, with one side of each choice; and the premises that it names r
 
 from collections.abc import Iterator, Mapping, Sequence
 from dataclasses import dataclass
+from functools import cached_property
 
 from propbench.grammar import SEEKING
 from propbench.values import Held, Span, value_of
@@ -40,24 +41,31 @@ class Points:
 
 
 class Values(Mapping[str, Held]):
-    """Values by the names of cells, of which each is read once somebody asks for it: a plan may
-    have thousands of cells, and few that anybody asks for.
+    """Values by the names of cells, which are read once somebody asks for them: a plan may have
+    thousands of cells, and few that anybody asks for; and of many plans so far one is looked at.
 
-    >>> print(Values({"x": "3", "t": "yes"}, {"x": "span", "t": "truth"}))
+    >>> print(Values(["x = 3", "t = yes"], {"x": "span", "t": "truth"}))
     {'x': Span(low=3, high=3), 't': Elements(names=('yes',))}
     """
 
-    def __init__(self, texts: Mapping[str, str], kinds: Kinds) -> None:
-        self._texts, self._kinds = texts, kinds
+    def __init__(self, lines: Sequence[str], kinds: Kinds) -> None:
+        """Those of lines; what else stands among these is none."""
+        self._lines, self._kinds = lines, kinds
+
+    @cached_property
+    def texts(self) -> dict[str, str]:
+        """The values as texts, by the names of cells."""
+        told = (line.split(" = ") for line in self._lines)
+        return {parts[0]: parts[1] for parts in told if len(parts) == 2}
 
     def __getitem__(self, cell: str) -> Held:
-        return value_of(self._texts[cell], self._kinds[cell])
+        return value_of(self.texts[cell], self._kinds[cell])
 
     def __iter__(self) -> Iterator[str]:
-        return iter(self._texts)
+        return iter(self.texts)
 
     def __len__(self) -> int:
-        return len(self._texts)
+        return len(self.texts)
 
     def __repr__(self) -> str:
         return repr(dict(self))
@@ -208,12 +216,11 @@ def _points(lines: Sequence[str], mark: str, kinds: Kinds) -> Points | None:
     """The points of these lines, where a mark stands behind the first."""
     if lines[0] != f"plan {len(lines) - 1}{mark}":
         return None
-    told = (line.split(" ") for line in lines[1:] if " = " in line)
-    texts = {cell: value for cell, _, value in told}
-    if not texts.keys() <= kinds.keys():
+    values = Values(lines[1:], kinds)
+    # (what is known so far is most often not looked at)
+    if not mark and not values.texts.keys() <= kinds.keys():
         return None
-    sides = tuple(line for line in lines[1:] if " = " not in line)
-    return Points(Values(texts, kinds), sides)
+    return Points(values, tuple(line for line in lines[1:] if " = " not in line))
 
 
 def _several(lines: Sequence[str], cells: Sequence[str], kinds: Kinds) -> Several | None:

@@ -12,6 +12,7 @@ import time
 from collections.abc import Callable
 from dataclasses import dataclass, replace
 
+from propbench.blamed import Blamed
 from propbench.conversation import Conversation
 from propbench.points import SoFar
 from propbench.program import OutOfTime, ProgramEnded, StillAtWork
@@ -92,6 +93,8 @@ def is_settled(reply: Reply) -> bool:
     """Whether a reply says all that a run under a higher limit would."""
     if isinstance(reply, Value):
         return reply.settled
+    if isinstance(reply, Blamed):
+        return reply.is_all
     return not isinstance(reply, Unsettled | SoFar)
 
 

@@ -7,6 +7,7 @@ tells others; behind any other line it begins anew.
 
 from dataclasses import dataclass
 
+from propbench.blamed import Blamed
 from propbench.conversation import Conversation
 from propbench.points import Several, SoFar
 from propbench.program import OutOfTime, ProgramEnded, StillAtWork
@@ -110,6 +111,9 @@ class Seeking:
             raise stopped from None
 
     def _is_done(self, reply: Reply) -> bool:
+        if isinstance(reply, Blamed):
+            minimal = len(reply.sets) - len(reply.unsettled)
+            return reply.is_all or minimal >= int(self.question.words[1])
         if not isinstance(reply, Several):
             return is_settled(reply)
         return reply.others is not None or len(reply.rows) >= int(self.question.words[1])

@@ -17,11 +17,12 @@ from typing import Literal, overload
 
 from propbench.batch import Batch, as_lines
 from propbench.beginning import MOST_SEED, ORDERS, STEPS
+from propbench.blamed import Blamed
 from propbench.closing import Closing
 from propbench.conversation import Conversation, WrongReply
 from propbench.finding import find_program
 from propbench.given import seconds_given
-from propbench.grammar import ASKING, FORMS, RUNNING, SEEKING
+from propbench.grammar import ASKING, BLAMING, FORMS, RUNNING, SEEKING
 from propbench.known import Known
 from propbench.points import Best, NoneFits, Points, Several, SoFar
 from propbench.program import OutOfTime, Program, ProgramEnded, StillAtWork
@@ -40,7 +41,7 @@ ReplyList = list[Reply]
 Outcomes = list[Reply | Refused]
 # With what most questions begin, and with what those for points do.
 _QUESTIONS = frozenset(("ask ", "why "))
-_SEEKING = tuple(SEEKING)
+_SEARCHING = (*SEEKING, *BLAMING)
 
 
 class SessionInUse(RuntimeError):
@@ -271,7 +272,7 @@ class Session(Closing):
             self._sent += 1
             if watch is None and text[:4] in _QUESTIONS:
                 return self._runner.ask(text, self._sent)
-            if watch is not None or "core" in text or text.startswith(_SEEKING):
+            if watch is not None or "core" in text or text.startswith(_SEARCHING):
                 return self._send_watched(text, watch or Watch())
             self._runner.tell(text)
             # What the line asks is looked at while the program is at work.
@@ -508,18 +509,60 @@ class Session(Closing):
         assert isinstance(reply, Several | NoneFits | Unsettled)
         return reply
 
+    def conflicts(
+        self, count: int, *, seconds: float | None = None, progress: RunProgress | None = None
+    ) -> Blamed:
+        """So many minimal sets of believed premises that can't all hold, at the most, and whether
+        there are others; where the program is propwide. Asked again it goes on. All else is as in
+        `solve`.
+
+            found = session.conflicts(10)
+            print(found.sets, found.is_all)
+
+        >>> with Session() as session:
+        ...     said = session.send_all(["cell x span", "tell ana x 1..5", "tell ben x 7"])
+        ...     print(session.conflicts(10).sets)
+        (('ana', 'ben'),)
+        """
+        return self._blamed("conflicts", count, seconds, progress)
+
+    def repairs(
+        self, count: int, *, seconds: float | None = None, progress: RunProgress | None = None
+    ) -> Blamed:
+        """So many minimal sets of believed premises to give up, so that the others can hold. All
+        else is as in `conflicts`.
+
+            found = session.repairs(10)
+            print(found.sets, found.is_all)
+
+        >>> with Session() as session:
+        ...     said = session.send_all(["cell x span", "tell ana x 1..5", "tell ben x 7"])
+        ...     print(sorted(session.repairs(10).sets))
+        [('ana',), ('ben',)]
+        """
+        return self._blamed("repairs", count, seconds, progress)
+
+    def _blamed(
+        self, command: str, count: int, seconds: float | None, progress: RunProgress | None
+    ) -> Blamed:
+        """Minimal sets of premises."""
+        reply = self.send(f"{command} {count}", seconds=seconds, progress=progress)
+        assert isinstance(reply, Blamed)
+        return reply
+
     @property
     def tells(self) -> tuple[str, ...]:
-        """Those of the commands `step`, `how` and `list`, `solve`, `least`, `greatest` and `plans`
-        that the program has. It is asked once.
+        """Those of the commands `step`, `how` and `list`, `solve`, `least`, `greatest` and `plans`,
+        `conflicts` and `repairs` that the program has. It is asked once.
 
         >>> with Session() as session:
         ...     print(session.tells)
-        ('step', 'how', 'list', 'solve', 'least', 'greatest', 'plans')
+        ('step', 'how', 'list', 'solve', 'least', 'greatest', 'plans', 'conflicts', 'repairs')
         """
         if self._tells is None:
             # (none of these is carried out but `list`)
-            asked = {"how _": ["step", "how"], "list": ["list"], "least": list(SEEKING)}
+            asked = {"how _": ["step", "how"], "list": ["list"]}
+            asked |= {"least": list(SEEKING), "repairs": list(BLAMING)}
             replies = zip(asked.values(), self.look(asked))
             found = [words for words, reply in replies if not isinstance(reply, UnknownCommand)]
             self._tells = tuple(word for words in found for word in words)
@@ -534,6 +577,16 @@ class Session(Closing):
         True
         """
         return "solve" in self.tells
+
+    @property
+    def blames(self) -> bool:
+        """Whether the program searches for minimal sets of premises.
+
+        >>> with Session() as session:
+        ...     print(session.blames == ("conflicts" in session.tells))
+        True
+        """
+        return "conflicts" in self.tells
 
     def replay(self, lines: Iterable[str] | None = None) -> Outcomes:
         """Begins the program anew with the lines that were carried out, or with these in their
@@ -690,12 +743,12 @@ class Session(Closing):
             turn.lock.release()
 
     def _send_watched(self, line: str, watch: Watch) -> Reply:
-        """The reply to a line that may be a question which is watched, a `core`, or one for
-        points."""
+        """The reply to a line that may be a question which is watched, a `core`, or one for points
+        or sets of premises."""
         words = line.split()
         if words and words[0] in RUNNING:
             return self._runner.watched(Question(line, words, self._sent), watch)
-        if words and words[0] in SEEKING:
+        if words and words[0] in _SEARCHING:
             question = Question(line, words, self._sent)
             return Seeking(self._talk, question, watch, self.steps_of_slice).reply()
         # (who is told that it came to nothing may send it again)

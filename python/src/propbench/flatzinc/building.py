@@ -37,7 +37,7 @@ from propbench.model.expressions import (
     pairs,
 )
 from propbench.model.kinds import Domain, Point
-from propbench.model.meaning import Plan as Points
+from propbench.model.meaning import PlanPoints as Points
 from propbench.model.meaning import value_of
 from propbench.plain import PlainWorkbench
 from propbench.questions import Plan

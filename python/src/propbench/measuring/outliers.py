@@ -1,6 +1,7 @@
 """Outliers: the minimal sets of readings to give up so that nothing speaks against the others."""
 
-from collections.abc import Iterable, Mapping, Sequence
+from collections.abc import Collection, Iterable, Mapping, Sequence
+from contextlib import suppress
 from dataclasses import dataclass
 from decimal import Decimal
 from fractions import Fraction
@@ -8,12 +9,15 @@ from fractions import Fraction
 from propbench.measuring.narrowing import CantAllHold, Narrowing
 from propbench.model.events import Read
 from propbench.model.measures import Interval, Measure, rounded
+from propbench.program import OutOfTime
 from propbench.questions.asking import tried
+from propbench.questions.blaming import BlamedSets, asked_by, evidence_of, refuting
 from propbench.questions.certificate import Certificate, Evidence
 from propbench.questions.clock import Clock
 from propbench.questions.conflicts import Premises
 from propbench.questions.hitting import Hitting, bits_of
 from propbench.questions.model import Model
+from propbench.questions.seeking import blames
 from propbench.questions.outcomes import Fork
 from propbench.questions.shown import NOT_REFUTED, Shown, shortened
 from propbench.questions.trial import Trial
@@ -149,28 +153,36 @@ class Weeding:
     def _outlier(self, hit: int) -> Outlier:
         """What is known of readings that are given up, against the others of which nothing
         speaks."""
-        # (named as the user first named them, in whatever order they are tried)
-        named = self.premises(hit)
-        made = Outlier(name for name in self.trial.premises if name in named)
-        rest = self.premises((1 << len(self.names)) - 1 & ~hit)
-        off: dict[str, Off] = {}
-        share = Fraction(0)
-        narrowing = Narrowing(self.trial, [*self.kept, *rest], ())
-        narrowing.begin()
-        for name in made:
-            for read in self.readings[name]:
-                room = narrowing.left(read.cell.name)
-                if room is not None and read.cell.measure is not None:
-                    measure = read.cell.measure
-                    ends = measure.reals(room.low, room.high)
-                    off[name], more = _off(read, measure, ends)
-                    share += more
-        made.off, made.share = off, share
-        return made
+        return _outlier_of(self.trial, self.readings, self.premises(hit))
 
 
 # A set of readings is tried in so many cases within one another.
 _DEPTH = 3
+# So many sets are asked for, so that the fewest are among them.
+_MOST_ASKED = 1000
+
+
+def _outlier_of(trial: Trial, readings: Readings, named: Collection[str]) -> Outlier:
+    """What is known of readings that are given up, where nothing speaks against the others; in a
+    trial that believes all that is no reading."""
+    # (named as the user first named them, in whatever order they are tried)
+    made = Outlier(name for name in trial.premises if name in named)
+    off: dict[str, Off] = {}
+    share = Fraction(0)
+    rest = [name for name in readings if name not in named]
+    narrowing = Narrowing(trial, [*trial.basis, *rest], ())
+    with suppress(OutOfTime):
+        narrowing.begin()
+    for name in made:
+        for read in readings[name]:
+            room = narrowing.left(read.cell.name)
+            if room is not None and read.cell.measure is not None:
+                measure = read.cell.measure
+                ends = measure.reals(room.low, room.high)
+                off[name], more = _off(read, measure, ends)
+                share += more
+    made.off, made.share = off, share
+    return made
 
 
 def _off(read: Read, measure: Measure, ends: tuple[Fraction, Fraction]) -> tuple[Off, Fraction]:
@@ -197,6 +209,11 @@ def find_outliers(
 ) -> Outliers:
     """The minimal sets of readings to give up, so many at the most."""
     kept = [name for name in model.believed() if name not in readings]
+    if blames(model):
+        wanted = [("repairs", max(most, _MOST_ASKED))]
+        return asked_by(
+            model, kept, clock, wanted, lambda _, told: _told(model, readings, told, most, clock)
+        )
     trial = Trial(model, kept, clock)
     weeding = Weeding(trial, readings, related)
 
@@ -212,12 +229,27 @@ def find_outliers(
             claims.append(("fails", {"given": evidence.lines_of(premises), "told": []}))
         certificate = evidence.certificate(claims)
         texts = {name: model.text(name) for name in readings}
-        # (where two are as good, in the order of the user's premises, however they were tried)
-        place = {name: number for number, name in enumerate(trial.premises)}
-        ordered = sorted(
-            weeding.found,
-            key=lambda each: (len(each), -each.share, [place[name] for name in each]),
-        )
-        return Outliers(ordered, weeding.complete, texts, certificate)
+        return Outliers(_ordered(model, weeding.found), weeding.complete, texts, certificate)
 
     return tried(trial, run, result)
+
+
+def _ordered(model: Model, found: Iterable[Outlier]) -> list[Outlier]:
+    """The fewest first, of as many those that are off by more. Where two are as good, it is by the
+    order of the user's premises, however they were tried."""
+    place = {name: number for number, name in enumerate(model.premises())}
+    return sorted(found, key=lambda it: (len(it), -it.share, [place[name] for name in it]))
+
+
+def _told(model: Model, readings: Readings, told: BlamedSets, most: int, clock: Clock) -> Outliers:
+    """The outliers that a program has told as repairs, so many at the most."""
+    lines = {model.line_name(name): name for name in readings}
+    sets = sorted([[lines[line] for line in each] for each in told.repairs], key=len)
+    longest = len(sets[:most][-1]) if sets else 0
+    kept = [name for name in model.believed() if name not in readings]
+    with Trial(model, kept, clock) as trial:
+        found = [_outlier_of(trial, readings, each) for each in sets if len(each) <= longest]
+    is_all = told.complete and len(sets) <= most
+    texts = {name: model.text(name) for name in readings}
+    certificate = refuting(evidence_of(model), told) if told.conflicts else None
+    return Outliers(_ordered(model, found)[:most], is_all, texts, certificate)

@@ -1,12 +1,15 @@
 """What a user states, one event a call: all that a workbench is, in order."""
 
+from collections.abc import Mapping
 from dataclasses import dataclass
-from typing import TYPE_CHECKING
+from functools import cached_property
+from typing import TYPE_CHECKING, cast
 
 from propbench.model.kinds import MOST, Domain, Plain, Point, point_text
 from propbench.model.meaning import PointsOf, holds
 from propbench.model.measures import text_of_number
 from propbench.model.nodes import Declared, Node
+from propbench.model.orders import Bound, first_held, orders_of
 from propbench.model.writing import text_of
 from propbench.showing import printable
 
@@ -83,9 +86,17 @@ class Required:
         """What is stated, as somebody reads it who asks what a premise says."""
         return self.text
 
+    @cached_property
+    def orders(self) -> tuple[Bound, ...] | None:
+        """Bounds of numbers of which one has to hold, and it holds then; None where it says more,
+        or something else."""
+        return orders_of(self.constraint)
+
     def is_met(self, points: PointsOf) -> bool:
         """Whether the points fit it. Raises Beyond."""
-        return holds(self.constraint, points)
+        if self.orders is None:
+            return holds(self.constraint, points)
+        return first_held(self.orders, cast("Mapping[Declared, int]", points)) is not None
 
 
 @dataclass(frozen=True)

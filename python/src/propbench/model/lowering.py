@@ -14,25 +14,7 @@ from propbench.model.events import ConstraintChoice, Event, Required, Told, Valu
 from propbench.model.kinds import Plain, Point
 from propbench.model.meaning import PlanPoints, holds
 from propbench.model.nodes import Declared, Node, Op, cells_in, node
-
-
-@dataclass(frozen=True)
-class Bound:
-    """A number is no less than others together, but for some that keep their values, and `more`."""
-
-    of: Declared
-    others: tuple[Declared, ...]
-    without: tuple[Declared, ...]
-    more: int
-
-    def least(self, at: dict[Declared, int]) -> int:
-        """The least that the number may be where the others are these."""
-        found = self.more
-        for cell in self.others:
-            found += at[cell]
-        for cell in self.without:
-            found -= at[cell]
-        return found
+from propbench.model.orders import ORDERS, Bound, bounds_of, first_held
 
 
 @dataclass(frozen=True)
@@ -110,7 +92,10 @@ def _bounds_of(event: Event, points: PlanPoints, at: dict[Declared, int]) -> Seq
     """The bounds that something stated gives in the ways that points take; None where it gives
     others."""
     if isinstance(event, Required):
-        return _taken(event.constraint, points, at)
+        if event.orders is None:
+            return _taken(event.constraint, points, at)
+        taken = first_held(event.orders, at)
+        return None if taken is None else [taken]
     if isinstance(event, Told):
         is_number = event.cell.kind is Plain.NUMBER
         return [Bound(event.cell, (), (), int(event.values[0]))] if is_number else []
@@ -176,8 +161,8 @@ def _shape(truth: Node, is_held: bool) -> BoundsAndWays | None:
         return _all([it for _, _, it in parts]) if (op is Op.AND) is is_held else _any(parts)
     if op is Op.IMPLIES and is_held:
         return _any([(arg, held, _shape(arg, held)) for arg, held in zip(args, (False, True))])
-    if op in _ORDERS:
-        first, second, gap = _ORDERS[op]
+    if op in ORDERS:
+        first, second, gap = ORDERS[op]
         left, right = args[first], args[second]
         return _order(left, right, gap) if is_held else _order(right, left, 1 - gap)
     if op is Op.EQUAL and is_held and args[0].kind is Plain.NUMBER:
@@ -200,7 +185,7 @@ def _any(parts: Sequence[tuple[Node, bool, BoundsAndWays | None]]) -> BoundsAndW
     for it, held, shape in parts:
         if shape is None or shape.ways:
             return None
-        is_alone = it.op in _ORDERS and len(shape.bounds) == 1
+        is_alone = it.op in ORDERS and len(shape.bounds) == 1
         ways.append(BoundsWay(it, held, shape.bounds, shape.bounds[0] if is_alone else None))
     return BoundsAndWays(ways=tuple(ways))
 
@@ -212,45 +197,5 @@ def _order(left: Node, right: Node, gap: int) -> BoundsAndWays | None:
     if right.op is Op.MAXIMUM:
         sort = Op.LESS if gap else Op.AT_MOST
         return _any([(node(sort, (left, it)), True, _order(left, it, gap)) for it in right.args])
-    high, low = _linear(right), _linear(left)
-    if high is None or low is None:
-        return None
-    times = {cell: high[0].get(cell, 0) - low[0].get(cell, 0) for cell in high[0] | low[0]}
-    if any(abs(each) > 1 for each in times.values()):
-        return None
-    above = [cell for cell, each in times.items() if each > 0]
-    below = tuple(cell for cell, each in times.items() if each < 0)
-    if not above:
-        return BoundsAndWays()
-    return BoundsAndWays((Bound(above[0], below, tuple(above[1:]), gap + low[1] - high[1]),))
-
-
-def _linear(number: Node) -> tuple[dict[Declared, int], int] | None:
-    """A number as cells, each so many times, and a constant; None where it is no such sum."""
-    if number.op is Op.CONSTANT:
-        return {}, int(number.constant)
-    if number.op is Op.CELL:
-        cell = number.declared
-        is_single = cell.low is not None and cell.low == cell.high
-        return ({}, cell.low or 0) if is_single else ({cell: 1}, 0)
-    if number.op not in (Op.SUM, Op.DIFFERENCE, Op.NEGATIVE):
-        return None
-    times, total = dict[Declared, int](), 0
-    for place, arg in enumerate(number.args):
-        sign = -1 if number.op is Op.NEGATIVE or (number.op is Op.DIFFERENCE and place) else 1
-        part = _linear(arg)
-        if part is None:
-            return None
-        total += sign * part[1]
-        for cell, each in part[0].items():
-            times[cell] = times.get(cell, 0) + sign * each
-    return times, total
-
-
-# Which argument is no more than which, and by how much less.
-_ORDERS = {
-    Op.LESS: (0, 1, 1),
-    Op.AT_MOST: (0, 1, 0),
-    Op.GREATER: (1, 0, 1),
-    Op.AT_LEAST: (1, 0, 0),
-}
+    bounds = bounds_of(left, right, gap)
+    return None if bounds is None else BoundsAndWays(bounds)

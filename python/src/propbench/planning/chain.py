@@ -22,6 +22,7 @@ from propbench.planning.tasks import (
 from propbench.questions.bounding import Optimum
 from propbench.questions.clock import Clock
 from propbench.questions.outcomes import NothingFits
+from propbench.questions.seeking import blames
 from propbench.questions.shown import NOT_REFUTED, Shown, listed
 from propbench.showing import printable
 from propbench.tables import table
@@ -136,7 +137,7 @@ def chain_of(project: "Project", schedule: Schedule, clock: Clock) -> Chain:
     w, left = project.workbench, clock.seconds_left()
     half = Clock(None if left is None else left / 2, clock.progress)
     reasons = reasons_of(project, schedule.end, half)
-    links = list(_Walk(w.network, project, schedule, reasons.premises).links())
+    links = list(Walk(w.network, project, schedule, reasons.premises).links())
     on_it = {link.entry.task for link in links}
     others = [entry.task for entry in schedule.entries if entry.task not in on_it]
     rooms = _rooms(project, others, schedule.end, clock)
@@ -145,12 +146,18 @@ def chain_of(project: "Project", schedule: Schedule, clock: Clock) -> Chain:
 
 
 def reasons_of(project: "Project", value: int, clock: Clock) -> Reasons:
-    """Premises because of which nothing ends before a day: each is tried to be left out in turn, as
-    far as there is time. Raises ValueError where something does."""
+    """Premises because of which nothing ends before a day, by one question for a conflict; or each
+    is tried to be left out in turn, as far as there is time. Raises ValueError where something
+    does."""
     if value == 0:
         return Reasons(value, (), True)
     w, name = project.workbench, project.unused("all ends sooner")
     with w.what_if(tell=[(name, project.end, 0, value - 1)]):
+        if blames(w.model):
+            found = w.conflicts(most=1, seconds=clock.seconds_left(), progress=clock.progress)
+            if found:
+                names = tuple(it for it in found[0].names if it != name)
+                return Reasons(value, names, found[0].least)
         kept, is_least = _clash(project, clock, w.believed), True
         if kept is None:
             raise ValueError(f"there is a plan that ends before day {value}: ask why of that")
@@ -159,12 +166,12 @@ def reasons_of(project: "Project", value: int, clock: Clock) -> Reasons:
             if premise not in w.believed or premise == name:
                 continue
             w.kick(premise)
-            found = _clash(project, clock, ())
-            if found:
-                _keep(project, found)
+            fewer = _clash(project, clock, ())
+            if fewer:
+                _keep(project, fewer)
             else:
                 w.bring(premise)
-                is_least = is_least and found is None
+                is_least = is_least and fewer is None
         return Reasons(value, tuple(it for it in w.believed if it != name), is_least)
 
 
@@ -212,7 +219,7 @@ def _is_own(network: Network, project: "Project", premise: str) -> bool:
     return all(isinstance(each, kinds) and each.project is project for each in stated)
 
 
-class _Walk:
+class Walk:
     """The way back from the end of a schedule, from each task to what ends when it starts, by what
     these premises say."""
 

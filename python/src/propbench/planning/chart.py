@@ -10,13 +10,15 @@ from propbench.outputs import write_as
 from propbench.planning.exports import ENDINGS
 from propbench.planning.schedule import Entry, Schedule
 from propbench.planning.tasks import Away
-from propbench.questions.asking import tried
+from propbench.questions.asking import tried, tried_by
 from propbench.questions.bounding import LEAST, GREATEST, Bounding, Optimum
 from propbench.questions.clock import Clock, Progress
+from propbench.questions.ends import Ending
 from propbench.questions.model import Plan
 from propbench.questions.planned import Planned
 from propbench.questions.shown import listed
 from propbench.questions.outcomes import Fits, NothingFits
+from propbench.questions.seeking import Seeker, seeks
 from propbench.questions.trial import Trial
 from propbench.showing import printable
 
@@ -101,6 +103,9 @@ def rooms_of(
     """For each of these tasks the first day on which it starts in any plan, and the last on which it ends, as
     far as there is time to find both."""
     model = project.workbench.model
+    if seeks(model):
+        with Seeker(model, clock) as seeker:
+            return _rooms_by(seeker, project, tasks)
     rooms: dict[str, tuple[int, int]] = {}
     plans: list[Fits] = []
 
@@ -122,6 +127,30 @@ def rooms_of(
 
     trial = Trial(model, model.believed(), clock)
     return tried(trial, lambda: run(trial), lambda: rooms)
+
+
+def _rooms_by(
+    seeker: Seeker, project: "Project", tasks: Collection[str]
+) -> dict[str, tuple[int, int]]:
+    """The same by a program that searches for the ends itself."""
+    rooms: dict[str, tuple[int, int]] = {}
+
+    def end(cell: str, sort: str) -> int | None:
+        ending = Ending(seeker, cell, sort)
+        ending.run()
+        return ending.value
+
+    def run() -> None:
+        for name in tasks:
+            task = project.tasks[name]
+            ends = end(task.start.name, LEAST), end(task.end.name, GREATEST)
+            if ends[0] is not None and ends[1] is not None:
+                rooms[name] = ends[0], ends[1]
+            if seeker.clock.is_over():
+                break
+            seeker.clock.tell(f"the rooms of {len(rooms)} of {len(tasks)} tasks")
+
+    return tried_by(seeker.clock, run, lambda: rooms)
 
 
 def _days(schedule: Schedule, days: int, height: int) -> list[str]:

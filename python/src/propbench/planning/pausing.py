@@ -161,3 +161,12 @@ def days_worked(project: "Project", task: Task, start: int, end: int) -> int:
         if each.premise in believed and each.person in task.people and task.pauses
     ]
     return end - start - sum(last - first for first, last in days_off(aways, start, end))
+
+
+def pauses_by_task(events: Iterable[Event]) -> dict[Task, list[Paused]]:
+    """The pauses of all tasks that may make some."""
+    found: dict[Task, list[Paused]] = {}
+    for each in events:
+        if isinstance(each, Paused):
+            found.setdefault(each.task, []).append(each)
+    return found

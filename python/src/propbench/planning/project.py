@@ -22,7 +22,7 @@ from propbench.planning.order import (
     state_setups,
     times_given,
 )
-from propbench.planning.pausing import keep_off, pauses_of, state_pauses
+from propbench.planning.pausing import keep_off, pauses_by_task, state_pauses
 from propbench.planning.tasks import (
     Away,
     KeptApart,
@@ -49,6 +49,7 @@ from propbench.showing import printable
 
 if TYPE_CHECKING:
     from propbench.planning.chain import Chain
+    from propbench.planning.folded import FoldedChain
     from propbench.planning.chart import Chart
     from propbench.planning.schedule import Schedule
     from propbench.workbench import Workbench
@@ -503,6 +504,28 @@ class Project:
         shown = self._soonest(clock) if plan is None else plan
         return chain_of(self, self.schedule(shown), clock)
 
+    def how(
+        self,
+        plan: Planned | None = None,
+        *,
+        seconds: float | None = None,
+        progress: Progress | None = None,
+    ) -> "FoldedChain":
+        """Why all ends no sooner, in short: the chain of tasks that makes the end, by the premises
+        that the program names, and behind each task those that speak of it. Nothing more is asked
+        of a plan that is given; `critical` finds out which of the premises are needed. Raises as
+        that.
+
+        >>> w = Workbench()
+        >>> p = w.project(days=30, start="2026-03-02", off="sat sun", people="ana")
+        >>> venue, review = p.task("venue", 3, who="ana"), p.task("review", 5, who="ana")
+        >>> print(p.how().headline())
+        All is done on Wed 11 Mar 2026, and no sooner by 3 premises. What makes the end:
+        """
+        from propbench.planning.folded import folded_of
+
+        return folded_of(self, self._soonest(Clock(seconds, progress)) if plan is None else plan)
+
     def _soonest(self, clock: Clock) -> Planned:
         """A plan that ends as soon as can be. Raises NothingFits."""
         left = clock.seconds_left()
@@ -574,10 +597,11 @@ class Project:
         True
         """
         cells: list[Cell] = [cell for cell in (self._end, self._total) if cell is not None]
+        pauses = pauses_by_task(self.workbench.network.events)
         for task in tasks:
             cells += [task.start, task.end, task.days, *([] if task.cost is None else [task.cost])]
             cells += task.may.values()
-            cells += [it.cell for it in pauses_of(self.workbench.network.events, task)]
+            cells += [it.cell for it in pauses.get(task, ())]
         return frozenset([*(cell.name for cell in cells), *(task.name for task in tasks)])
 
     def _said(self, day: Day) -> str:

@@ -9,7 +9,7 @@ from typing import TYPE_CHECKING, TypeVar
 
 from propbench.model.network import Network
 from propbench.planning.calendar import Calendar, date_said, dates_said
-from propbench.planning.pausing import Paused, days_off, pauses_of
+from propbench.planning.pausing import Paused, days_off, pauses_by_task
 from propbench.planning.tasks import Away, Task, TaskMade, aways_of
 from propbench.questions.bounding import Optimum
 from propbench.questions.goals import Optima
@@ -262,9 +262,8 @@ def schedule_of(
         for each in network.events
         if isinstance(each, TaskMade) and each.project is project
     ]
-    entries = [
-        _entry(task, plan, ways.get(task.name), pauses_of(network.events, task)) for task in tasks
-    ]
+    pauses = pauses_by_task(network.events)
+    entries = [_entry(task, plan, ways.get(task.name), pauses.get(task, ())) for task in tasks]
     believed = set(network.premises.in_force)
     aways = [away for away in aways_of(project, network.events) if away.premise in believed]
     staff = Staff(project.people, project.days, project.calendar, tuple(aways))

@@ -72,8 +72,8 @@ SomeBench = TypeVar("SomeBench", bound=Bench)
 
 class Questions:
     """The questions of a workbench. Each tries things in a second session, so the workbench is as it
-    was afterwards. That of questions for plans is kept, where the program searches for them itself:
-    what one has found out serves the next.
+    was afterwards. That of questions for plans, conflicts and repairs is kept, where the program
+    searches for them itself: what one has found out serves the next.
 
     `seconds` ends a question early, with what is known by then; Ctrl-C does so by `Interrupted`,
     which has that as `so_far`. `progress` is called with a line of text now and then; where it is
@@ -127,10 +127,12 @@ class Questions:
         seconds: float | None = None,
         progress: Progress | None = None,
     ) -> Repairs:
-        """All minimal sets of believed premises to give up so that the others fit, cheapest first.
+        """All minimal sets of believed premises to give up so that the others fit, cheapest first,
+        `most` of them at the most.
 
         `weight` says what it costs to give up a premise, 1 where it says nothing of it. Those that
-        are to `keep` are not given up.
+        are to `keep` are not given up. Where there are more than `most`, over propwide these are
+        any of them, unless there is a weight: then all are found first.
 
         >>> w = Workbench()
         >>> x = w.number("x", 0, 9)

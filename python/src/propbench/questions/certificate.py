@@ -18,7 +18,7 @@ from propbench.refusals import LimitReached
 from propbench.words import is_silent
 
 # What is said where a plan can't be shown.
-_OPEN = (
+OPEN = (
     "there is no certificate of this: a plan leaves open cells that you never see, and no values "
     "were found for these"
 )
@@ -210,18 +210,23 @@ class Evidence:
             return Certificate((), partial(self._with_whole_plans, claims))
         return Certificate(self._lines(claims, []))
 
+    def finished(self, claims: Sequence[tuple[str, dict[str, object]]]) -> list[str]:
+        """The lines of the certificate of claims, of which the plans were found. Raises
+        ValueError."""
+        return self._with_whole_plans(claims) if self.plans else self._lines(claims, [])
+
     def _with_whole_plans(self, claims: Sequence[tuple[str, dict[str, object]]]) -> list[str]:
         """The lines of a certificate in which each plan has a value for each cell of the network.
         Raises ValueError where none are found, or there is no room to name them."""
         try:
             completing = Completing(self.program, self.base, self.mark)
         except LimitReached:
-            raise ValueError(_OPEN) from None
+            raise ValueError(OPEN) from None
 
         def whole(names: Iterable[str], values: Mapping[str, str]) -> dict[str, str]:
             found = completing.whole(names, values)
             if found is None:
-                raise ValueError(_OPEN)
+                raise ValueError(OPEN)
             return found
 
         with completing:

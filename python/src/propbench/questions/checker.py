@@ -211,6 +211,8 @@ class Checker:
             tree, told = waiting.pop()
             if tree is None:
                 self.tell(self.tries, told, [("settle", CONTRADICTS)])
+            elif tree == "none":
+                self.tell(self.tries, told, [("solve", REFUTED)])
             elif isinstance(tree, list):
                 cell, cases = tree
                 parts = [self.room(cell, part) for part, _ in items(cases)]

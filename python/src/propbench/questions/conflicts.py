@@ -1,15 +1,17 @@
 """Conflicts, minimal sets of premises that can't all hold, and repairs, minimal sets to give up."""
 
 from collections.abc import Callable, Iterable, Iterator, Mapping, Sequence
-from dataclasses import dataclass
+from dataclasses import dataclass, replace
 from numbers import Real
 
 from propbench.clock import Clock, Progress
 from propbench.questions.asking import Result, premises_named, tried
+from propbench.questions.blaming import ALL, BlamedSets, asked_by, certificate_of, evidence_of
 from propbench.questions.certificate import Certificate, Evidence
 from propbench.questions.exploring import Exploring, Refuted
 from propbench.questions.hitting import bits_of
 from propbench.questions.model import Model
+from propbench.questions.seeking import Seeker, blames
 from propbench.questions.shown import NOT_REFUTED, Shown, listed, shortened
 from propbench.questions.trial import Trial
 
@@ -153,6 +155,11 @@ def find_conflicts(
     """The minimal sets of believed premises that can't all hold beside those that are kept, so many
     at the most."""
     clock, texts = Clock(seconds, progress), _texts(model)
+    if blames(model):
+        wanted = [("conflicts", most)]
+        return asked_by(
+            model, keep, clock, wanted, lambda by, told: _told_conflicts(by, told, texts, most)
+        )
     return _searched(
         model,
         _explore(model, {}, keep, clock),
@@ -172,6 +179,18 @@ def find_both(
     """The minimal conflicts and the minimal repairs, so many of each at the most, from one search.
     What premises say is told by these texts, where they have one."""
     clock, said = Clock(seconds, progress), {**_texts(model), **texts}
+    if blames(model):
+        wanted = [("conflicts", most), ("repairs", most)]
+        return asked_by(
+            model,
+            keep,
+            clock,
+            wanted,
+            lambda by, told: (
+                _told_conflicts(by, told, said, most),
+                _told_repairs(by, told, {}, most),
+            ),
+        )
     return _searched(
         model,
         _explore(model, {}, keep, clock),
@@ -191,12 +210,54 @@ def find_repairs(
     """The minimal sets of believed premises without which the others have a plan, by their cost;
     nothing is given up of what is kept."""
     _check_weight(model, weight)
+    if blames(model):
+        clock, wanted = Clock(seconds, progress), [("repairs", ALL if weight else most)]
+        return asked_by(
+            model, keep, clock, wanted, lambda by, told: _told_repairs(by, told, weight, most)
+        )
     return _searched(
         model,
         _explore(model, weight, keep, Clock(seconds, progress)),
         lambda explored: len(explored.repairs) < most,
         lambda explored: _repairs(explored, weight, most),
     )
+
+
+def _told_conflicts(
+    seeker: Seeker, told: BlamedSets, texts: Mapping[str, str], most: int
+) -> Conflicts:
+    """The conflicts that a program has told, so many at the most."""
+    found = []
+    for names in [*told.conflicts, *told.unsettled][:most]:
+        found.append(Conflicting(seeker.premises(names)))
+        found[-1].least = names in told.conflicts
+    complete = told.complete and len(told.conflicts) <= most
+    shown = replace(told, conflicts=told.conflicts[:most], whole=complete and told.whole)
+    kept = [name for name in seeker.model.believed() if seeker.model.line_name(name) in told.kept]
+    certificate = certificate_of(evidence_of(seeker.model), shown, [], [])
+    return Conflicts(found, complete, texts, kept, certificate)
+
+
+def _told_repairs(
+    seeker: Seeker, told: BlamedSets, weight: Mapping[str, float], most: int
+) -> Repairs:
+    """The repairs that a program has told, so many at the most and the cheapest first, those of the
+    same cost in the order of their premises."""
+    model = seeker.model
+    place = {name: number for number, name in enumerate(model.premises())}
+    found = []
+    for names in told.repairs:
+        found.append(Repair(seeker.premises(names)))
+        found[-1].cost = sum(weight.get(premise, 1) for premise in found[-1])
+    found.sort(key=lambda each: (each.cost, [place[name] for name in each]))
+    del found[most:]
+    complete = told.complete and len(told.repairs) <= most
+    outs = [tuple(map(model.line_name, each)) for each in found]
+    kept = [name for name in model.believed() if model.line_name(name) in told.kept]
+    if not (complete and told.whole):
+        told = replace(told, conflicts=(), unsettled=(), repairs=tuple(outs), whole=False)
+    certificate = certificate_of(evidence_of(model), told, outs, [])
+    return Repairs(found, complete, kept, certificate)
 
 
 def _check_weight(model: Model, weight: Mapping[str, float]) -> None:

@@ -21,9 +21,13 @@ from propbench.replies import UNSETTLED, Reply
 class Ending:
     """The question for an end of a number, put to a program that searches."""
 
-    def __init__(self, seeker: Seeker, cell: str, sort: str) -> None:
-        """Raises ValueError where the cell is not for numbers."""
+    def __init__(
+        self, seeker: Seeker, cell: str, sort: str, believed: Sequence[str] | None = None
+    ) -> None:
+        """With these premises believed, or those of the model. Raises ValueError where the cell is
+        not for numbers."""
         self._seeker, self._cell, self._sort = seeker, cell, sort
+        self._believed = seeker.model.believed() if believed is None else believed
         self._line = seeker.lines[cell]
         check_numbers(cell, seeker.is_number(cell), sort)
         self._reply: Reply = UNSETTLED
@@ -40,6 +44,11 @@ class Ending:
             self._reply = seeker.reply
         return seeker.is_settled
 
+    @property
+    def value(self) -> int | None:
+        """The end, once it is found."""
+        return self._reply.value if isinstance(self._reply, Best) else None
+
     def known(self) -> tuple[Optimum, Claims, list[Fits]]:
         """What is known by now, with what is claimed of it, and the plan that shows it. Raises
         Unlike."""
@@ -50,8 +59,8 @@ class Ending:
         points = points_of(reply)
         if points is None:
             return self._optimum(None, self._bound(), False, ()), [], []
-        fits = seeker.lowest(points, self._cell)
-        claim = dict[str, object](given=seeker.given())
+        fits = seeker.lowest(points, self._cell, self._believed)
+        claim = dict[str, object](given=seeker.given(self._believed))
         if not isinstance(reply, Best):
             claim["told"] = [[self._line, fits.values[self._cell]]]
             return self._optimum(fits, self._bound(), False, ()), [("fits", claim)], [fits]

@@ -19,8 +19,8 @@ from propbench.words import MOST_STEPS, is_silent
 
 # What has a run go on for as long as it takes.
 WITHOUT_END = f"limit {MOST_STEPS}"
-# Where the session of a model keeps it.
-_NAME = "asked for plans"
+# Where the session of a model keeps it, and the one in which some premises always hold.
+_NAME, _HOLDING = "asked for plans", "asked beside what is kept"
 # What names begin with that the base hasn't, as numbered: of premises, and of symbols.
 _MARK, _OTHER = "_q{}_", "other{}_"
 
@@ -101,6 +101,8 @@ class Kept(Closing):
     base: Base = field(default_factory=Base)
     # Whether it was told just that, and nothing is half done.
     is_whole: bool = True
+    # Where the session of a model keeps it.
+    name: str = _NAME
 
     def goes_on(self, base: Base, until: float | None) -> bool:
         """Has it told what has changed, and last until a time of the monotonic clock; where lines
@@ -140,27 +142,42 @@ class Kept(Closing):
         self.let_go()
         self.session.end_by(None)
         self.session.steps_of_slice = None
-        model.session.keep(_NAME, self)
+        model.session.keep(self.name, self)
 
     def close(self) -> None:
         """Ends the session."""
         self.session.close()
 
 
-def kept_for(model: Model, until: float | None) -> Kept:
-    """A session of a model that was told its base, and lasts until a time of the monotonic clock: the
-    one that is kept, or one that begins anew. It is the caller's until it is put back. Raises as
-    `Session` does."""
-    kept = model.session.kept.pop(_NAME, None)
+def kept_for(model: Model, until: float | None, holding: frozenset[str] = frozenset()) -> Kept:
+    """A session of a model that was told its base, and lasts until a time of the monotonic clock:
+    the one that is kept, or one that begins anew. What some premises of lines say holds always in
+    it. It is the caller's until it is put back. Raises as `Session` does."""
+    name = _HOLDING if holding else _NAME
+    kept = model.session.kept.pop(name, None)
     before = kept.base if isinstance(kept, Kept) else Base()
-    base = before.followed_by(model.base())
+    base = before.followed_by(holding_always(model.base(), holding))
     if isinstance(kept, Kept) and kept.goes_on(base, until):
         return kept
-    return begun(model.session.fresh(), base, until)
+    return begun(model.session.fresh(), base, until, name)
 
 
-def begun(session: Session, base: Base, until: float | None) -> Kept:
+def holding_always(lines: Sequence[str], premises: frozenset[str]) -> Sequence[str]:
+    """The lines, where what these premises say, which are believed in the end, always holds."""
+    if not premises:
+        return lines
+    made = []
+    for line in lines:
+        command, *words = line.split(None, 2) or [""]
+        if not words or words[0] not in premises or command not in ("tell", "kick", "bring"):
+            made.append(line)
+        elif command == "tell":
+            made.append(f"fix {words[1]}")
+    return made
+
+
+def begun(session: Session, base: Base, until: float | None, name: str = _NAME) -> Kept:
     """A session that was told nothing as yet, and is told a base. Raises as `send_all` does."""
-    made = Kept(session)
+    made = Kept(session, name=name)
     made.tell(base.lines, base, until)
     return made

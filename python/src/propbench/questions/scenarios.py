@@ -11,14 +11,16 @@ from typing import TYPE_CHECKING
 
 from propbench.clock import Clock, Progress
 from propbench.model.answers import Answer
-from propbench.model.shrinking import shrunk
+from propbench.model.shrinking import minimal
 from propbench.program import OutOfTime
 from propbench.questions.asking import CellLike, answered, cell_named, cells_given
 from propbench.questions.bench import Bench
+from propbench.questions.blaming import BY_SEARCH
 from propbench.questions.certificate import Certificate, Evidence
 from propbench.questions.changes import Change, resolved
 from propbench.questions.conflicts import Premises
 from propbench.questions.model import Model
+from propbench.questions.seeking import blames
 from propbench.questions.shown import Shown
 from propbench.questions.trial import mark_for
 from propbench.replies import Contradiction, Value, Worldview, reply_of
@@ -74,7 +76,7 @@ def _heard(session: Session, job: Job, clock: Clock) -> Heard:
     session.send_all([*job.base, *job.lines])
     end = session.send("settle", seconds=clock.seconds_left())
     if isinstance(end, Contradiction):
-        conflict = shrunk(session, job.believed, end.premises, clock.seconds_left())
+        conflict = minimal(session, job.believed, end.premises, clock.seconds_left())
         return Heard(conflict=conflict, is_cut=clock.is_over())
     replies = session.look([*(f"why {cell}" for cell in job.cells), "worldview"])
     world = replies.pop()
@@ -246,6 +248,8 @@ class Asking:
             given: dict[str, object] = {"given": sorted(known & set(believed)), "told": told}
             if heard.conflict is not None:
                 claims.append(("fails", given))
+                if blames(self._model):
+                    evidence.trees.append(([given["given"], told], BY_SEARCH))
             for reply in _replies(self._model, self.columns, heard):
                 if reply.settled:
                     said = f"{reply.cell} = {reply.value}"

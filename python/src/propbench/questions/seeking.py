@@ -10,6 +10,7 @@ import time
 from collections.abc import Callable, Iterable, Iterator, Mapping, Sequence
 from contextlib import contextmanager, suppress
 
+from propbench.blamed import Blamed
 from propbench.clock import Clock
 from propbench.closing import Closing
 from propbench.points import Best, Points, Several, SoFar
@@ -25,8 +26,8 @@ from propbench.session import Session
 from propbench.values import Held, Nothing, Span
 from propbench.words import MOST_NUMBER, is_well_encoded
 
-# Where a session keeps whether its program searches.
-_SEEKS = "seeks"
+# Where a session keeps what its program searches for.
+_TELLS = "tells"
 # The program lists so many plans at the most.
 _MOST = 10**9
 # So many cells are said to come first.
@@ -43,25 +44,46 @@ class Unlike(Exception):
 
 def seeks(model: Model) -> bool:
     """Whether the program of a model searches for points that fit. It is asked once."""
+    return "solve" in _told_by(model)
+
+
+def blames(model: Model) -> bool:
+    """Whether it searches for minimal sets of premises. It is asked once."""
+    return "conflicts" in _told_by(model)
+
+
+def _told_by(model: Model) -> tuple[str, ...]:
+    """Which of the commands that propwide alone has the program of a model has."""
     kept = model.session.kept
-    if _SEEKS not in kept:
-        first = Kept(model.session.fresh())
-        kept[_SEEKS] = first.session.seeks
-        first.put_back(model) if kept[_SEEKS] else first.close()
-    return kept[_SEEKS] is True
+    found = kept.get(_TELLS)
+    if isinstance(found, tuple):
+        return found
+    first = Kept(model.session.fresh())
+    tells = first.session.tells
+    kept[_TELLS] = tells
+    first.put_back(model) if "solve" in tells else first.close()
+    return tells
 
 
 class Seeker(Closing):
     """A second session of a model's network, whose program is asked for points. Where its clock has
     an end, it lasts no longer for this question."""
 
-    def __init__(self, model: Model, clock: Clock, session: Session | None = None) -> None:
+    def __init__(
+        self,
+        model: Model,
+        clock: Clock,
+        session: Session | None = None,
+        holding: Iterable[str] = (),
+    ) -> None:
         """A session in which what is believed is that of the model: the one that is kept for its
-        questions, or this one, which is empty as yet. Raises as `Session` does."""
+        questions, or this one, which is empty as yet. What the premises say that are `holding`
+        always holds in it. Raises as `Session` does."""
         self.model, self.clock = model, clock
         self._is_kept = session is None
         if session is None:
-            self._asked = kept_for(model, clock.latest)
+            always = frozenset(map(model.line_name, holding))
+            self._asked = kept_for(model, clock.latest, always)
         else:
             self._asked = begun(session, Base().followed_by(model.base()), clock.latest)
         self.session, base = self._asked.session, self._asked.base
@@ -109,25 +131,30 @@ class Seeker(Closing):
             return self.reply.others is not None
         return is_settled(self.reply)
 
-    def lowest(self, points: Points, cell: str | None = None) -> Fits:
+    def lowest(
+        self, points: Points, cell: str | None = None, premises: Sequence[str] | None = None
+    ) -> Fits:
         """The plan of these points with numbers as low as they can be in the alternatives that it
-        takes, but for a cell, where that is one, as far as that is seen soon. Raises Unlike."""
+        takes, but for a cell, where that is one, as far as that is seen soon; with these premises
+        believed, or those of the model. Raises Unlike."""
+        believed = self.model.believed() if premises is None else premises
         held, kept = self._held(points), [] if cell is None else [cell]
         plan = self._plan(held)
-        low = self.model.lowered(plan, self.model.believed(), kept)
+        low = self.model.lowered(plan, believed, kept)
         moved = {cell: Span(int(v), int(v)) for cell, v in low.items() if v != plan[cell]}
         with suppress(Unlike):
-            return self.plan_of({**held, **moved})
-        return self.plan_of(held)
+            return self.plan_of({**held, **moved}, believed)
+        return self.plan_of(held, believed)
 
     def fits(self, points: Points) -> Fits:
         """The plan of the user's cells at points. Raises Unlike where it doesn't hold."""
         return self.plan_of(self._held(points))
 
-    def plan_of(self, values: Mapping[str, Held]) -> Fits:
-        """The plan of these values of all of the user's cells. Raises Unlike."""
+    def plan_of(self, values: Mapping[str, Held], premises: Sequence[str] | None = None) -> Fits:
+        """The plan of these values of all of the user's cells, with these premises believed, or
+        those of the model. Raises Unlike."""
         plan = self._plan(values)
-        if self.model.violated(plan, self.model.believed()):
+        if self.model.violated(plan, self.model.believed() if premises is None else premises):
             raise Unlike
         return Fits(plan, {cell: self._text(held) for cell, held in values.items()})
 
@@ -142,13 +169,23 @@ class Seeker(Closing):
         return self._other if isinstance(held, Nothing) else str(held)
 
     @contextmanager
-    def _row(self, told: Mapping[str, Held]) -> Iterator[None]:
+    def supposing(self, told: Mapping[str, Held]) -> Iterator[None]:
         """Values of cells count within the block, and are forgotten then. Raises OutOfTime."""
         row = f"{self.mark}row"
         self._asked.is_whole = False
         self.session.send_all(f"tell {row} {line} {held}" for line, held in told.items())
         yield
         self.session.send_all([f"forget {row}"] if told else [])
+        self._asked.is_whole = True
+
+    @contextmanager
+    def without(self, premises: Iterable[str]) -> Iterator[None]:
+        """Premises of lines don't count within the block. Raises OutOfTime."""
+        names = list(premises)
+        self._asked.is_whole = False
+        self.session.send_all(f"kick {name}" for name in names)
+        yield
+        self.session.send_all(f"bring {name}" for name in names)
         self._asked.is_whole = True
 
     def premises(self, names: Iterable[str]) -> tuple[str, ...]:
@@ -173,7 +210,7 @@ class Seeker(Closing):
         cells = {line: cell for cell, line in self.lines.items()}
         if len(row) == len(cells):
             return self.plan_of({cells[line]: held for line, held in row.items()})
-        with self._row(row):
+        with self.supposing(row):
             reply = self.session.send("solve", seconds=self.clock.seconds_left())
         self._asked.let_go()
         return self.fits(reply) if isinstance(reply, Points) else None
@@ -227,9 +264,10 @@ class Seeker(Closing):
         cells = [cell for each in self.model.first() for cell in each.cells]
         return [self.lines[cell] for cell in dict.fromkeys(cells)][:_FIRST]
 
-    def given(self) -> list[str]:
-        """The premises that are believed, by their names on lines, as a certificate has them."""
-        return sorted(map(self.model.line_name, self.model.believed()))
+    def given(self, premises: Sequence[str] | None = None) -> list[str]:
+        """Premises by their names on lines, as a certificate has them; or all that are believed."""
+        believed = self.model.believed() if premises is None else premises
+        return sorted(map(self.model.line_name, believed))
 
     def certificate(self, claims: Claims, plans: Iterable[Fits]) -> Certificate | None:
         """The certificate of claims, with these plans."""
@@ -255,6 +293,8 @@ def _told(reply: Reply) -> str:
     """What is told of a question that goes on."""
     if isinstance(reply, Several):
         return f"{len(reply.rows)} plans so far"
+    if isinstance(reply, Blamed):
+        return f"{len(reply.sets)} {reply.command} so far"
     return "searching; a plan was found" if isinstance(reply, SoFar) else "searching"
 
 

@@ -1,18 +1,22 @@
 """What each premise is worth: what becomes of a cell where it is left out, or says half as much."""
 
 from collections.abc import Iterable, Iterator, Sequence
+from contextlib import suppress
 from dataclasses import dataclass
 
 from propbench.clock import Clock, Progress
 from propbench.listing import CellStatement, told_by
-from propbench.questions.asking import CellLike, answered, cell_named, tried, whole_named
+from propbench.questions.asking import CellLike, answered, cell_named, tried, tried_by, whole_named
 from propbench.questions.bench import Bench
 from propbench.questions.bounding import Bounding, Optimum, bounding_in
 from propbench.questions.certificate import Certificate, Evidence
 from propbench.questions.changes import Change
 from propbench.questions.checker import MOST
+from propbench.questions.ends import Ending
 from propbench.questions.model import Model
+from propbench.questions.outcomes import Fits
 from propbench.questions.scenarios import Asking, Row
+from propbench.questions.seeking import Claims, Seeker, Unlike, seeks
 from propbench.questions.shown import Shown, shortened
 from propbench.questions.trial import Trial
 from propbench.values import Span, value_of
@@ -122,7 +126,11 @@ def of_optimum(
 ) -> Sensitivity:
     """What becomes of the least or greatest value of a cell in any plan."""
     name, believed = whole_named(model, cell), list(model.believed())
-    trial = Trial(model, (), Clock(seconds, progress))
+    clock = Clock(seconds, progress)
+    if seeks(model):
+        with suppress(Unlike), Seeker(model, clock) as seeker:
+            return _of_optimum_by(seeker, name, sort)
+    trial = Trial(model, (), clock)
     found: dict[str, Bounding] = {}
 
     def run() -> None:
@@ -143,6 +151,40 @@ def of_optimum(
         return Sensitivity(name, values.get(""), worths, proved, certificate)
 
     return tried(trial, run, result)
+
+
+def _of_optimum_by(seeker: Seeker, cell: str, sort: str) -> Sensitivity:
+    """The same by a program that searches for the ends itself. Raises Unlike."""
+    model, believed = seeker.model, list(seeker.model.believed())
+    found: dict[str, tuple[Optimum, Claims]] = {}
+    plans: list[tuple[Sequence[str], Fits]] = []
+
+    def run() -> None:
+        for premise in ("", *believed):
+            if seeker.clock.is_over():
+                break
+            others = [each for each in believed if each != premise]
+            with seeker.without([model.line_name(premise)] if premise else []):
+                ending = Ending(seeker, cell, sort, others)
+                ending.run()
+                optimum, claims, fits = ending.known()
+            found[premise] = optimum, claims
+            plans.extend((others, each) for each in fits)
+
+    def result() -> Sensitivity:
+        evidence = seeker.evidence()
+        for premises, fits in plans:
+            evidence.add_plan(premises, fits)
+        claims = [claim for _, told in found.values() for claim in told]
+        worths = [
+            Worth(each, model.text(each), _best(found[each][0]) if each in found else None)
+            for each in believed
+        ]
+        proved = len(found) == len(believed) + 1 and all(it.proved for it, _ in found.values())
+        now = _best(found[""][0]) if found else None
+        return Sensitivity(cell, now, worths, proved, evidence.certificate(claims))
+
+    return tried_by(seeker.clock, run, result)
 
 
 def _best(optimum: Optimum) -> object:

@@ -1,8 +1,9 @@
 """Conflicts and repairs of a session: which premises contradict each other, what to give up.
 
-They are found in a session of its own, by replies alone. A conflict is a contradiction of which no
-premise can be left out. A repair is what can be given up so that the program settles, which says
-that it finds nothing against the rest, and not that single values fit.
+propwide is asked for them by a line each. Over propbench they are found in a session of its own, by
+replies alone: there a conflict is a contradiction of which no premise can be left out, and a repair
+is what can be given up so that the program settles, which says that it finds nothing against the
+rest, and not that single values fit.
 """
 
 from collections.abc import Sequence
@@ -13,7 +14,7 @@ from propbench.clock import Clock
 from propbench.model.shrinking import shrunk
 from propbench.program import OutOfTime
 from propbench.questions.hitting import Hitting
-from propbench.replies import Contradiction, Settled
+from propbench.replies import Contradiction, Blamed, Reply, Settled
 from propbench.session import Session
 
 
@@ -30,7 +31,29 @@ class Mending:
 
 SETTLES = "The program finds nothing against the rest."
 NOT_MENDED = Mending((), (), False, SETTLES)
-FITS = "For the rest a plan was found, and each constraint evaluated on it."
+FITS = "The rest can hold: the program has found values that fit."
+
+
+def told(session: Session, most: int, clock: Clock) -> Mending:
+    """The conflicts and repairs of a session of which this is the only use, and whose program is
+    asked for them; so many of each at the most, and as far as there is time."""
+    found: dict[str, Blamed] = {}
+
+    def hear(_: int, reply: Reply) -> None:
+        if isinstance(reply, Blamed):
+            found[reply.command] = reply
+            known = ", ".join(f"{len(each.sets)} {name}" for name, each in found.items())
+            clock.tell(f"{known} so far")
+
+    with suppress(OutOfTime):
+        for command in ("conflicts", "repairs"):
+            line = f"{command} {most}"
+            hear(0, session.send(line, seconds=clock.seconds_left(), progress=hear))
+    complete = len(found) == 2 and all(each.is_all for each in found.values())
+    conflicts, repairs = found.get("conflicts"), found.get("repairs")
+    return Mending(
+        conflicts.sets if conflicts else (), repairs.sets if repairs else (), complete, FITS
+    )
 
 
 def mended(session: Session, premises: Sequence[str], most: int, clock: Clock) -> Mending:

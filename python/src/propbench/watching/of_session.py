@@ -21,7 +21,7 @@ from propbench.watching import BestPlan
 from propbench.watching.claims import Claim, Source, Wording, claim_of
 from propbench.watching.instances import Instances, how_of, listing_of, named
 from propbench.watching.lines import SessionLines
-from propbench.watching.mending import NOT_MENDED, Mending, mended
+from propbench.watching.mending import NOT_MENDED, Mending, mended, told
 from propbench.watching.network import Clash, NetworkSeen, Reason, SeenNow, ValueSeen
 from propbench.watching.session_model import SessionModel
 from propbench.watching.steps import CallInWords, RunReading, Steps
@@ -90,6 +90,8 @@ class SessionWatched:
             other.end_by(clock.latest)
             with suppress(OutOfTime):
                 other.send_all(self.lines())
+                if other.blames:
+                    return told(other, _MOST_MENDS, clock)
                 believed = self._believed(self._read(clock.last).told)
                 return mended(other, believed, _MOST_MENDS, clock)
         return NOT_MENDED

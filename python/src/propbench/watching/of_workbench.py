@@ -24,7 +24,7 @@ from propbench.model.saving import saved
 from propbench.plain import PlainWorkbench
 from propbench.questions.asking import so_far
 from propbench.questions.bounding import Optimum
-from propbench.questions.conflicts import Conflicts, Repairs, find_conflicts, find_repairs
+from propbench.questions.conflicts import find_both
 from propbench.replies import Called, Contradiction, Value, Worldview
 from propbench.runs import RunProgress
 from propbench.session import Session
@@ -152,12 +152,10 @@ class WorkbenchWatched:
         return {choice: side for (choice, side), each in self._wishes.items() if believed.get(each)}
 
     def mend(self, progress: Progress | None = None, seconds: float | None = None) -> Mending:
-        model, clock = self.workbench.model, Clock(seconds, progress)
-        conflicts = so_far(
-            lambda: find_conflicts(model, (), _MOST_MENDS, seconds, progress), Conflicts
+        model = self.workbench.model
+        conflicts, repairs = so_far(
+            lambda: find_both(model, {}, (), _MOST_MENDS, seconds, progress), tuple
         )
-        left = clock.seconds_left()
-        repairs = so_far(lambda: find_repairs(model, {}, (), _MOST_MENDS, left, progress), Repairs)
         return Mending(
             tuple(each.names for each in conflicts),
             tuple(each.names for each in repairs),
