@@ -38,16 +38,15 @@ solve satisfy;
 
 
 @pytest.mark.parametrize(
-    "low, high, is_there", [("0.0", "9.0", True), ("0.0", "1.4142", False), ("-3.0", "-1.0", True)]
+    "case", [("0.0", "9.0", True), ("0.0", "1.4142", False), ("-3.0", "-1.0", True)]
 )
 def test_the_root_of_two(
     program: str,
     tmp_path: Path,
     capsys: pytest.CaptureFixture[str],
-    low: str,
-    high: str,
-    is_there: bool,
+    case: tuple[str, str, bool],
 ) -> None:
+    low, high, is_there = case
     told = said(program, tmp_path, capsys, ROOT.format(low=low, high=high))
     if is_there:
         assert abs(abs(value("x", told)) - 2**0.5) < 1e-5 and "% within" in told
