@@ -90,6 +90,8 @@ constant_forth lexicon made kinded (steps.Symbol n) a place suits h e =
 constant_forth lexicon made kinded (steps.One op x) a place suits h e = tt
 constant_forth lexicon made kinded (steps.Two op x y) a place suits h e = tt
 constant_forth lexicon made kinded (steps.Choice t x y) a place suits h e = tt
+constant_forth lexicon made kinded (steps.Quotient x y) a place suits h e = tt
+constant_forth lexicon made kinded (steps.Left x p y) a place suits h e = tt
 
 symbol_held : (n : ℕ) (p : Point) → Holds (Sym n) p → p ≡ Symbol n
 symbol_held n (Symbol m) h = ap Symbol (sym h)

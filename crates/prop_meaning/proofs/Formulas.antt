@@ -11,10 +11,12 @@ use Rattle.prop_lattice.specs.declared.info.Kind.TheVariants.{Span as SpanKind, 
 use Rattle.prop_procedures.specs.declared.shape.Kinded.{Kinded}
 use Rattle.prop_terms.specs.declared.operators.Infix.{Infix}
 use Rattle.prop_terms.specs.declared.operators.Infix.TheVariants as between
-use Rattle.prop_terms.specs.Meaning.{Value, holds, truth, is_same, is_equal, combined}
+use Rattle.std.specs.Option.{option_map}
+use Rattle.std.proofs.Common.{Option, None}
+use Rattle.prop_terms.specs.Meaning.{Value, Whole, holds, truth, is_same, is_equal, combined, computed, quotient}
 use Rattle.prop_meaning.specs.Words.{Lexicon, IsLexicon, value_as}
 use Rattle.prop_meaning.specs.inner.Drafts.{IsProper, number_kind, truth_kind}
-use Rattle.prop_meaning.specs.inner.Steps.{truth_point, same_point}
+use Rattle.prop_meaning.specs.inner.Steps.{truth_point, same_point, number_or}
 use Rattle.prop_meaning.specs.inner.Formulas.{Takes, kind_of, formula}
 
 -- ---- truths
@@ -140,6 +142,27 @@ numbers_mean lexicon op f kinded k p q h i =
     let P : Kinded → Type 0 = λ n. IsProper lexicon n p → IsProper lexicon n q → Means lexicon op n p q in
     subst P (sym k) (λ h i. on_numbers 0 (λ p q. Means lexicon op number_kind p q) f p q h.of_kind i.of_kind) h i
 
+-- where what a division makes is a number, this is its value
+divisions_mean : (lexicon : Lexicon) (op : Infix) (f : ℤ → ℤ → Option ℤ)
+    → ((x y : ℤ) (k : Kinded) → combined op (Some (value_as lexicon k (Number x)))
+    (Some (value_as lexicon k (Number y)))
+    ≡ option_map Whole (f x y))
+    → ((x y : ℤ) → formula op (Number x) (Number y) ≡ number_or (f x y)) → kind_of op ≡ number_kind
+    → (kinded : Kinded) → kinded ≡ number_kind → (p q : Point) → IsProper lexicon kinded p → IsProper lexicon kinded q
+    → IsProper lexicon (kind_of op) (formula op p q) → Means lexicon op kinded p q
+divisions_mean lexicon op f e g n kinded k p q h i j =
+    let P : Kinded → Type 0 = λ n. IsProper lexicon n p → IsProper lexicon n q → Means lexicon op n p q in
+    let R : Kinded → Type 0 = λ n. IsPointOf n.kind n.size (formula op p q) in
+    subst P (sym k) (λ h i. on_numbers 0
+    (λ p q. IsPointOf SpanKind 0 (formula op p q) → Means lexicon op number_kind p q)
+    (λ x y j. e x y number_kind ∙ (is_whole (f x y) (formula op (Number x) (Number y)) (g x y) j)) p q
+    h.of_kind i.of_kind (subst R n j.of_kind)) h i
+  where
+    is_whole : (o : Option ℤ) (s : Point) → s ≡ number_or o → IsPointOf SpanKind 0 s
+        → option_map Whole o ≡ Some (value_as lexicon (kind_of op) s)
+    is_whole None s e j = absurd (let Q : Point → Type 0 = λ s. IsPointOf SpanKind 0 s in subst Q e j)
+    is_whole (Some z) s e j = ap (λ s. Some (value_as lexicon (kind_of op) s)) (sym e)
+
 pub untold : (b : Bool) → not (cond b 0 1 == 0) ≡ not b
 untold true = refl
 untold false = refl
@@ -148,33 +171,38 @@ pub le_not_lt : (x y : ℤ) → int_le y x ≡ not (int_lt x y)
 le_not_lt x y = grind (arith, ints)
 
 pub formula_means : (lexicon : Lexicon) → IsLexicon lexicon → (op : Infix) (kinded : Kinded) (p q : Point)
-    → Takes op kinded → IsProper lexicon kinded p → IsProper lexicon kinded q → Means lexicon op kinded p q
-formula_means lexicon law between.Plus kinded p q t h i =
+    → Takes op kinded → IsProper lexicon kinded p → IsProper lexicon kinded q
+    → IsProper lexicon (kind_of op) (formula op p q) → Means lexicon op kinded p q
+formula_means lexicon law between.Plus kinded p q t h i j =
     numbers_mean lexicon between.Plus (λ x y. refl) kinded t p q h i
-formula_means lexicon law between.Minus kinded p q t h i =
+formula_means lexicon law between.Minus kinded p q t h i j =
     numbers_mean lexicon between.Minus (λ x y. refl) kinded t p q h i
-formula_means lexicon law between.Times kinded p q t h i =
+formula_means lexicon law between.Times kinded p q t h i j =
     numbers_mean lexicon between.Times (λ x y. refl) kinded t p q h i
-formula_means lexicon law between.Less kinded p q t h i = numbers_mean lexicon between.Less
+formula_means lexicon law between.Over kinded p q t h i j = divisions_mean lexicon between.Over (λ x y. quotient x y)
+    (λ x y k. refl) (λ x y. refl) refl kinded t p q h i j
+formula_means lexicon law between.Remainder kinded p q t h i j = divisions_mean lexicon between.Remainder
+    (λ x y. computed between.Remainder x y) (λ x y k. refl) (λ x y. refl) refl kinded t p q h i j
+formula_means lexicon law between.Less kinded p q t h i j = numbers_mean lexicon between.Less
     (λ x y. told lexicon law (int_lt x y) (int_lt x y) refl) kinded t p q h i
-formula_means lexicon law between.Greater kinded p q t h i = numbers_mean lexicon between.Greater
+formula_means lexicon law between.Greater kinded p q t h i j = numbers_mean lexicon between.Greater
     (λ x y. told lexicon law (int_lt y x) (int_lt y x) refl) kinded t p q h i
-formula_means lexicon law between.AtLeast kinded p q t h i = numbers_mean lexicon between.AtLeast
+formula_means lexicon law between.AtLeast kinded p q t h i j = numbers_mean lexicon between.AtLeast
     (λ x y. told lexicon law (int_le y x) _ (le_not_lt x y ∙ sym (untold (int_lt x y)))) kinded t p q h i
-formula_means lexicon law between.AtMost kinded p q t h i = numbers_mean lexicon between.AtMost
+formula_means lexicon law between.AtMost kinded p q t h i j = numbers_mean lexicon between.AtMost
     (λ x y. told lexicon law (int_le x y) _ (le_not_lt y x ∙ sym (untold (int_lt y x)))) kinded t p q h i
-formula_means lexicon law between.Equal kinded p q t h i =
+formula_means lexicon law between.Equal kinded p q t h i j =
     told lexicon law _ (same_point p q) (values_same lexicon law kinded p q h i)
-formula_means lexicon law between.Unequal kinded p q t h i =
+formula_means lexicon law between.Unequal kinded p q t h i j =
     told lexicon law _ _ (ap not (values_same lexicon law kinded p q h i) ∙ sym (untold (same_point p q)))
-formula_means lexicon law between.And kinded p q t h i = truths_mean lexicon law between.And (λ b c. b && c)
+formula_means lexicon law between.And kinded p q t h i j = truths_mean lexicon law between.And (λ b c. b && c)
     (λ v w. refl) (both _ refl refl refl refl) kinded t p q h i
-formula_means lexicon law between.Or kinded p q t h i = truths_mean lexicon law between.Or (λ b c. b || c)
+formula_means lexicon law between.Or kinded p q t h i j = truths_mean lexicon law between.Or (λ b c. b || c)
     (λ v w. refl) (both _ refl refl refl refl) kinded t p q h i
-formula_means lexicon law between.Xor kinded p q t h i = truths_mean lexicon law between.Xor
+formula_means lexicon law between.Xor kinded p q t h i j = truths_mean lexicon law between.Xor
     (λ b c. not (is_equal b c)) (λ v w. refl) (both _ refl refl refl refl) kinded t p q h i
-formula_means lexicon law between.Iff kinded p q t h i = truths_mean lexicon law between.Iff is_equal
+formula_means lexicon law between.Iff kinded p q t h i j = truths_mean lexicon law between.Iff is_equal
     (λ v w. refl) (both _ refl refl refl refl) kinded t p q h i
-formula_means lexicon law between.Implies kinded p q t h i = truths_mean lexicon law between.Implies
+formula_means lexicon law between.Implies kinded p q t h i j = truths_mean lexicon law between.Implies
     (λ b c. not b || c) (λ v w. refl) (both _ refl refl refl refl) kinded t p q h i
-formula_means lexicon law op kinded p q t h i = absurd t
+formula_means lexicon law op kinded p q t h i j = absurd t

@@ -81,6 +81,14 @@ suits_grows lexicon olds news kinded (steps.Choice t x y) g h = (
   has_grows lexicon
       olds news y _ g h.2,
 )
+suits_grows lexicon olds news kinded (steps.Quotient x y) g h =
+    (has_grows lexicon olds news x _ g h.0, has_grows lexicon olds news y _ g h.1, h.2)
+suits_grows lexicon olds news kinded (steps.Left x p y) g h = (
+  has_grows lexicon olds news x _ g h.0,
+  has_grows lexicon olds news p _ g h.1,
+  has_grows lexicon olds news y _ g h.2,
+  h.3,
+)
 suits_grows lexicon olds news kinded s g h = tt
 
 -- ---- growing

@@ -2,10 +2,15 @@ pub mod Growing
 pub mod Products
 pub mod Formulas
 pub mod Ways
+pub mod Quotients
 pub mod StepLemmas
 pub mod ConstantLemmas
 pub mod Solving
 pub mod PostingLemmas
 pub mod Showing
+pub mod Lists
+pub mod BraceLemmas
+pub mod PowerLemmas
 pub mod Goodness
+pub mod DividingLemmas
 pub mod Naming

@@ -1,6 +1,6 @@
 -- Cells show what terms are worth.
 use Rattle.std.proofs.Common.{◌≡◌, ◌∙◌, ℕ, ℤ, pos, neg_ℤ, ◌-ℤ◌, List, Bool, true, false, cond, not}
-use Rattle.std.proofs.Common.{◌==◌, Some, refl, ap, sym, Option}
+use Rattle.std.proofs.Common.{◌==◌, Some, refl, ap, sym, subst, Option}
 use Rattle.std.proofs.Common.{arith, int_le, int_lt, ◌&&◌, [], ◌∷◌}
 use Rattle.std.proofs.lemmas.Int.{ints}
 use Rattle.prop_lattice.specs.Points.{Point, Number, IsPointOf}
@@ -14,7 +14,7 @@ use Rattle.prop_terms.specs.Terms.{Term, One, Two}
 use Rattle.prop_meaning.specs.Words.{Lexicon, IsLexicon, names_at, value_as}
 use Rattle.prop_meaning.specs.declared.draft.Made.{Made}
 use Rattle.prop_meaning.specs.declared.steps.Single.TheVariants.{Abs, Not}
-use Rattle.prop_meaning.specs.inner.Drafts.{Grown, Makes, Shows, number_kind, truth_kind}
+use Rattle.prop_meaning.specs.inner.Drafts.{Grown, IsProper, Makes, Shows, number_kind, truth_kind}
 use Rattle.prop_meaning.specs.inner.Formulas.{Takes, kind_of, formula, is_taken, kind_before}
 use Rattle.prop_meaning.specs.inner.Formulas.{formula_before, is_list, within}
 use Rattle.prop_meaning.specs.inner.Steps.{truth_point, negative, of_one, chosen}
@@ -29,6 +29,8 @@ worth_two : (names : Names) (op : Infix) (t u : Term) (kinded : Kinded) → Take
 worth_two names between.Plus t u kinded k = refl
 worth_two names between.Minus t u kinded k = refl
 worth_two names between.Times t u kinded k = refl
+worth_two names between.Over t u kinded k = refl
+worth_two names between.Remainder t u kinded k = refl
 worth_two names between.Less t u kinded k = refl
 worth_two names between.AtMost t u kinded k = refl
 worth_two names between.Greater t u kinded k = refl
@@ -59,6 +61,7 @@ shows_two lexicon op both t u x y place first second third k ft g fu h m = recor
       ∙ (ap (combined op (Some (value_as lexicon both (a x)))) (right.worth_is a related r)
       ∙ (formula_means lexicon r.words op both (a x) (a y) k
       (is_proper lexicon third x both a h.sound r left.has) (is_proper lexicon third y both a h.sound r right.has)
+      (subst (IsProper lexicon (kind_of op)) (m.is a r) (is_proper lexicon third place (kind_of op) a h.sound r m.has))
       ∙ ap (λ p. Some (value p)) (sym (m.is a r)))));
 }
 
@@ -196,7 +199,7 @@ shows_choice lexicon kinded test left right t x y place first second third fourt
 
 -- ---- a range
 
-each_single : (names : Names) (t : Term) (v : Option Value) → is_list t ≡ false → each names t v ≡ v ∷ []
+pub each_single : (names : Names) (t : Term) (v : Option Value) → is_list t ≡ false → each names t v ≡ v ∷ []
 each_single names (Two between.Comma t u) v e = absurd (cc)
 each_single names t v e = refl
 

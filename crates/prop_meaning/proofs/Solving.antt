@@ -16,6 +16,8 @@ use Rattle.prop_meaning.specs.declared.steps.Step.TheVariants as steps
 use Rattle.prop_meaning.specs.inner.Drafts.{Has, Suits, Follows, IsSound}
 use Rattle.prop_meaning.specs.inner.Expanding.{acts_of, constants_of, all_acts, all_constants}
 use Rattle.prop_meaning.specs.inner.Steps.{made_by, IsBehind, of_one, of_two, chosen}
+use Rattle.prop_meaning.specs.inner.Steps.{quotient_point, left_point}
+use Rattle.prop_meaning.proofs.Quotients.{quotient_forth, quotient_back, left_forth, left_back}
 use Rattle.prop_meaning.proofs.StepLemmas.{pair_forth, pair_back, single_forth, single_back, choice_forth, choice_back}
 use Rattle.prop_meaning.proofs.ConstantLemmas.{constant_forth, number_back, element_back, symbol_back}
 
@@ -114,6 +116,10 @@ made_alike (steps.Two op x y) place a b h e =
     ap (λ p. of_two op p (a y)) (e x h.0) ∙ ap (of_two op (b x)) (e y h.1)
 made_alike (steps.Choice t x y) place a b h e = ap (λ p. chosen p (a x) (a y)) (e t h.0)
     ∙ (ap (λ p. chosen (b t) p (a y)) (e x h.1) ∙ ap (chosen (b t) (b x)) (e y h.2))
+made_alike (steps.Quotient x y) place a b h e =
+    ap (λ p. quotient_point p (a y)) (e x h.0) ∙ ap (quotient_point (b x)) (e y h.1)
+made_alike (steps.Left x p y) place a b h e = ap (λ q. left_point q (a p) (a y)) (e x h.0)
+    ∙ (ap (λ q. left_point (b x) q (a y)) (e p h.1) ∙ ap (left_point (b x) (b p)) (e y h.2))
 
 pub made_follows : (n : ℕ) (made : List Made) (a : ℕ → Point)
     → ((k : ℕ) (m : Made) → slice_get made k ≡ Some m → IsBehind (n + k) m.step)
@@ -178,17 +184,28 @@ of_kind lexicon made a place kinded fits kinds h =
 -- ---- a step
 
 step_forth : (lexicon : Lexicon) (made : List Made) (a : ℕ → Point) → Fits lexicon a → AreOfKinds lexicon made a
-    → (s : Step) (kinded : Kinded) (place : ℕ) → Suits lexicon made kinded s → a place ≡ made_by s a
+    → (s : Step) (kinded : Kinded) (place : ℕ) → Suits lexicon made kinded s
+    → IsPointOf kinded.kind kinded.size (a place) → a place ≡ made_by s a
     → AllByRecursion (HoldsAt RelatedBy a) (acts_of s place)
-step_forth lexicon made a fits kinds (steps.Number z) kinded place suits e = tt
-step_forth lexicon made a fits kinds (steps.Element i) kinded place suits e = tt
-step_forth lexicon made a fits kinds (steps.Symbol n) kinded place suits e = tt
-step_forth lexicon made a fits kinds (steps.One op x) kinded place suits e =
+step_forth lexicon made a fits kinds (steps.Number z) kinded place suits j e = tt
+step_forth lexicon made a fits kinds (steps.Element i) kinded place suits j e = tt
+step_forth lexicon made a fits kinds (steps.Symbol n) kinded place suits j e = tt
+step_forth lexicon made a fits kinds (steps.One op x) kinded place suits j e =
     single_forth a op x place (of_kind lexicon made a x _ fits kinds suits.0) e
-step_forth lexicon made a fits kinds (steps.Two op x y) kinded place suits e = pair_forth a op x y place suits.0 suits.1
+step_forth lexicon made a fits kinds (steps.Two op x y) kinded place suits j e =
+    pair_forth a op x y place suits.0 suits.1
     (of_kind lexicon made a x _ fits kinds suits.2) (of_kind lexicon made a y _ fits kinds suits.3) e
-step_forth lexicon made a fits kinds (steps.Choice t x y) kinded place suits e =
+step_forth lexicon made a fits kinds (steps.Choice t x y) kinded place suits j e =
     choice_forth a t x y place (of_kind lexicon made a t _ fits kinds suits.0) e
+step_forth lexicon made a fits kinds (steps.Quotient x y) kinded place suits j e =
+    let P : Kinded → Type 0 = λ n. IsPointOf n.kind n.size (a place) in
+    quotient_forth a x y place (of_kind lexicon made a x _ fits kinds suits.0)
+    (of_kind lexicon made a y _ fits kinds suits.1) (subst P suits.2 j) e
+step_forth lexicon made a fits kinds (steps.Left x p y) kinded place suits j e =
+    let P : Kinded → Type 0 = λ n. IsPointOf n.kind n.size (a place) in
+    left_forth a x p y place (of_kind lexicon made a x _ fits kinds suits.0)
+    (of_kind lexicon made a p _ fits kinds suits.1) (of_kind lexicon made a y _ fits kinds suits.2)
+    (subst P suits.3 j) e
 
 step_back : (lexicon : Lexicon) (made : List Made) (a : ℕ → Point) → Fits lexicon a → AreOfKinds lexicon made a
     → (s : Step) (kinded : Kinded) (place : ℕ) → Suits lexicon made kinded s
@@ -206,6 +223,15 @@ step_back lexicon made a fits kinds (steps.Two op x y) kinded place suits j h g 
     (of_kind lexicon made a y _ fits kinds suits.3) (subst P suits.4 j) h
 step_back lexicon made a fits kinds (steps.Choice t x y) kinded place suits j h g =
     choice_back a t x y place (of_kind lexicon made a t _ fits kinds suits.0) h
+step_back lexicon made a fits kinds (steps.Quotient x y) kinded place suits j h g =
+    let P : Kinded → Type 0 = λ n. IsPointOf n.kind n.size (a place) in
+    quotient_back a x y place (of_kind lexicon made a x _ fits kinds suits.0)
+    (of_kind lexicon made a y _ fits kinds suits.1) (subst P suits.2 j) h
+step_back lexicon made a fits kinds (steps.Left x p y) kinded place suits j h g =
+    let P : Kinded → Type 0 = λ n. IsPointOf n.kind n.size (a place) in
+    left_back a x p y place (of_kind lexicon made a x _ fits kinds suits.0)
+    (of_kind lexicon made a p _ fits kinds suits.1) (of_kind lexicon made a y _ fits kinds suits.2)
+    (subst P suits.3 j) h
 
 -- ---- all steps
 
@@ -215,7 +241,7 @@ pub all_acts_forth : (lexicon : Lexicon) (made : List Made) (a : ℕ → Point) 
 all_acts_forth lexicon made a sound fits kinds follows =
     gather (HoldsAt RelatedBy a) acts_of all_acts (λ n. refl) (λ n m made. refl) lexicon.count made
     (λ k m e. step_forth lexicon made a fits kinds m.step m.known.kinded (lexicon.count + k)
-    (sound k m e).suits (follows k m e))
+    (sound k m e).suits (kinds k m e) (follows k m e))
 
 pub all_constants_forth : (lexicon : Lexicon) (made : List Made) (a : ℕ → Point) → IsSound lexicon made
     → AreOfKinds lexicon made a → Follows lexicon.count made a

@@ -2,4 +2,5 @@ pub mod Steps
 pub mod Drafts
 pub mod Spans
 pub mod Formulas
+pub mod Lists
 pub mod Expanding

@@ -13,6 +13,7 @@ ghost use Rattle.prop_meaning.specs.declared.steps.Single.TheVariants.{Not};
 ghost use Rattle.prop_meaning.specs.declared.steps.Pair.TheVariants.{Or};
 
 use crate::constants::number;
+use crate::dividing::{quotient_of, remainder_of};
 use crate::draft::Made;
 use crate::fault::Why;
 use crate::making::{NUMBER, TRUTH, one, two};
@@ -26,7 +27,7 @@ pub(crate) fn kind_of(op: Infix) -> Kinded
     ensures { result ≡ kind_of op }
 {
     match op {
-        Infix::Plus | Infix::Minus | Infix::Times => NUMBER,
+        Infix::Plus | Infix::Minus | Infix::Times | Infix::Over | Infix::Remainder => NUMBER,
         _ => TRUTH,
     }
 }
@@ -139,6 +140,8 @@ pub(crate) fn combined<W: Words>(
         Infix::Plus => two(words, made, Pair::Sum, x, y),
         Infix::Minus => two(words, made, Pair::Difference, x, y),
         Infix::Times => two(words, made, Pair::Product, x, y),
+        Infix::Over => quotient_of(words, made, x, y),
+        Infix::Remainder => remainder_of(words, made, x, y),
         Infix::Equal | Infix::Iff => two(words, made, Pair::Same, x, y),
         Infix::Less => two(words, made, Pair::Less, x, y),
         Infix::Greater => two(words, made, Pair::Less, y, x),
@@ -157,6 +160,13 @@ pub(crate) fn is_range(op: Infix, to: Infix) -> bool
     ensures { IsTrue result → (op ≡ In) × (to ≡ UpTo) }
 {
     matches!((op, to), (Infix::In, Infix::UpTo))
+}
+
+/// Whether the operator is `in`.
+pub(crate) fn is_in(op: Infix) -> bool
+    ensures { IsTrue result → (op ≡ In) }
+{
+    matches!(op, Infix::In)
 }
 
 /// Whether the term is several between commas.

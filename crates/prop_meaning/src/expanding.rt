@@ -2,7 +2,8 @@
 ghost use Rattle.std.specs.Prelude.{◌≡◌, ◌++◌, ◌+◌, ◌<◌, ◌^◌, cond, nat_lt, OnOk, length};
 ghost use Rattle.prop_meaning.specs.inner.Expanding.{act, all_ways, rules, rules_of, alike_acts};
 ghost use Rattle.prop_meaning.specs.inner.Expanding.{square_acts, pair_acts, single_acts};
-ghost use Rattle.prop_meaning.specs.inner.Expanding.{choice_acts, acts_of};
+ghost use Rattle.prop_meaning.specs.inner.Expanding.{choice_acts, quotient_acts, left_acts};
+ghost use Rattle.prop_meaning.specs.inner.Expanding.{acts_of};
 ghost use Rattle.prop_meaning.specs.inner.Expanding.{constant_of, constants_of};
 
 use crate::acts::{Act, Inputs, Rule};
@@ -172,6 +173,32 @@ fn put_choice(acts: &mut Vec<Act>, t: usize, x: usize, y: usize, z: usize) -> Re
     )
 }
 
+/// Writes the instances of what is left of `x` where `p`, a multiple of `y`, is taken away.
+fn put_left(acts: &mut Vec<Act>, x: usize, p: usize, y: usize, z: usize) -> Result<(), AllocError>
+    ensures { OnOk result (acts.new.items ≡ acts.old.items ++ left_acts x p y z) }
+{
+    put(
+        acts,
+        &[
+            act(Rule::OfKit(Kit::Add), Inputs::Two(p, z), x),
+            act(Rule::OfKit(Kit::Sub), Inputs::Two(x, z), p),
+            act(Rule::OfKit(Kit::Sub), Inputs::Two(x, p), z),
+            act(Rule::OfWide(Wide::Remainder), Inputs::One(y), z),
+            act(Rule::OfWide(Wide::Divisor), Inputs::Two(z, y), y),
+        ],
+    )
+}
+
+/// Writes the instance of a quotient.
+fn put_quotient(acts: &mut Vec<Act>, x: usize, y: usize, z: usize) -> Result<(), AllocError>
+    ensures { OnOk result (acts.new.items ≡ acts.old.items ++ quotient_acts x y z) }
+{
+    put(
+        acts,
+        &[act(Rule::OfWide(Wide::Quotient), Inputs::Two(x, y), z)],
+    )
+}
+
 /// Writes the instances that make a step's cell.
 pub(crate) fn put_acts(acts: &mut Vec<Act>, step: Step, place: usize) -> Result<(), AllocError>
     ensures { OnOk result (acts.new.items ≡ acts.old.items ++ acts_of step place) }
@@ -180,6 +207,8 @@ pub(crate) fn put_acts(acts: &mut Vec<Act>, step: Step, place: usize) -> Result<
         Step::One(op, x) => put_single(acts, op, x, place),
         Step::Two(op, x, y) => put_pair(acts, op, x, y, place),
         Step::Choice(t, x, y) => put_choice(acts, t, x, y, place),
+        Step::Quotient(x, y) => put_quotient(acts, x, y, place),
+        Step::Left(x, p, y) => put_left(acts, x, p, y, place),
         _ => Ok(()),
     }
 }

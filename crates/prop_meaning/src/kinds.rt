@@ -1,16 +1,20 @@
 //! Of which kind a part of a term is, as far as that shows.
-ghost use Rattle.std.specs.Prelude.{IfOk};
+ghost use Rattle.std.specs.Prelude.{◌≡◌, IfOk, IfSome, IsTrue};
+ghost use Rattle.prop_terms.specs.Terms.{term_of};
+ghost use Rattle.prop_meaning.specs.Kinds.{kind_shown, made_kind};
 ghost use Rattle.prop_meaning.specs.inner.Formulas.{Takes};
 
 use crate::fault::Why;
-use crate::making::{NUMBER, TRUTH};
+use crate::making::{NUMBER, TRUTH, is_same_kind};
 use crate::words::Words;
 use prop_procedures::Kinded;
 use prop_terms::{Infix, Prefix, Term};
 
 /// The kind of what a term is worth, as far as it shows by itself: a word that names no cell may be
-/// of any. No contract says so: who goes by a wrong one refuses the term.
-pub fn kind_of_term<W: Words>(words: &W, term: &Term<'_>) -> Option<Kinded> {
+/// of any. What `compute` makes of the term is of no other kind.
+pub fn kind_of_term<W: Words>(words: &W, term: &Term<'_>) -> Option<Kinded>
+    ensures { result ≡ kind_shown (W.lexicon words.now) (term_of term.now) }
+{
     match term {
         Term::Number(_) => Some(NUMBER),
         Term::Name(word) => match words.cell(word) {
@@ -32,7 +36,9 @@ pub fn kind_of_term<W: Words>(words: &W, term: &Term<'_>) -> Option<Kinded> {
 }
 
 /// The kind of what an operator makes.
-fn kind_made(op: Infix) -> Option<Kinded> {
+fn kind_made(op: Infix) -> Option<Kinded>
+    ensures { result ≡ made_kind op }
+{
     match op {
         Infix::Plus | Infix::Minus | Infix::Times | Infix::Over | Infix::Remainder | Infix::Power =>
             Some(NUMBER),
@@ -49,6 +55,17 @@ fn kind_made(op: Infix) -> Option<Kinded> {
         | Infix::AtLeast
         | Infix::In => Some(TRUTH),
         _ => None,
+    }
+}
+
+/// Whether a term may be of a kind: it shows no other.
+pub(crate) fn may_be<W: Words>(words: &W, term: &Term<'_>, kinded: Kinded) -> bool
+    ensures { IsTrue result
+        → IfSome (kind_shown (W.lexicon words.now) (term_of term.now)) (λ k. k ≡ kinded) }
+{
+    match kind_of_term(words, term) {
+        Some(shown) => is_same_kind(shown, kinded),
+        None => true,
     }
 }
 
@@ -76,6 +93,8 @@ pub(crate) fn sides<W: Words>(
         Infix::Plus
         | Infix::Minus
         | Infix::Times
+        | Infix::Over
+        | Infix::Remainder
         | Infix::Less
         | Infix::AtMost
         | Infix::Greater

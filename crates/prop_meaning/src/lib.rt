@@ -5,23 +5,27 @@
 //! of the result is `yes` just where the term holds. `compute` is the same of a value of any kind.
 //! `flat` makes the instances those of a program's procedures.
 //!
-//! Each fresh cell is made of cells before it, and what is made of the same is one cell. Numbers,
-//! names, `+`, `-`, `*`, `abs`, comparisons, truths, `if` and `in A..B` are posted so far; another
-//! term is refused (`Why::NotYet`), and so is a part whose value may lie beyond 10^18. No program
-//! uses this crate yet.
+//! Each fresh cell is made of cells before it, and what is made of the same is one cell. Refused
+//! are a part whose value may lie beyond 10^18, a division by what may be zero (`Why::MayBeZero`),
+//! and what can't be posted yet (`Why::NotYet`): `different`, `element`, and what belongs to a
+//! relation. No program uses this crate yet.
 #![tactic(auto)]
 
 pub mod acts;
+mod braces;
 mod combining;
 mod constants;
+mod dividing;
 mod draft;
 mod expanding;
 pub mod fault;
+mod gathering;
 pub mod kinds;
 pub mod known;
 mod making;
 pub mod palette;
 pub mod posting;
+mod powers;
 mod spans;
 mod steps;
 mod translating;

@@ -41,7 +41,7 @@ pub(crate) fn is_same_kind(kinded: Kinded, other: Kinded) -> bool
 }
 
 /// A number, of which this is known.
-fn number_in(span: Option<Span>) -> Result<Known, Why>
+pub(crate) fn number_in(span: Option<Span>) -> Result<Known, Why>
     ensures { IfOk result (λ k. (k.kinded ≡ number_kind) × (span ≡ Some k.span)) }
 {
     match span {

@@ -1,6 +1,7 @@
 //! What a term becomes.
-ghost use Rattle.std.specs.Prelude.{◌≡◌, ◌+◌, ◌≤◌, map, length, IfOk, OnOk};
+ghost use Rattle.std.specs.Prelude.{◌≡◌, ◌+◌, ◌≤◌, map, length, IfOk, IfSome, OnOk};
 ghost use Rattle.prop_terms.specs.Terms.{term_of};
+ghost use Rattle.prop_meaning.specs.Kinds.{kind_shown};
 ghost use Rattle.prop_meaning.specs.Posting.{SaysSame, IsValue};
 ghost use Rattle.prop_meaning.specs.inner.Expanding.{all_acts, all_constants, ArePosted};
 
@@ -8,6 +9,7 @@ use crate::acts::Act;
 use crate::draft::Made;
 use crate::expanding::{put_acts, put_constant};
 use crate::fault::{Fault, Why};
+use crate::kinds::may_be;
 use crate::making::TRUTH;
 use crate::translating::translated;
 use crate::words::Words;
@@ -86,18 +88,27 @@ fn put_together(
     })
 }
 
-/// What gives the value of a term, which is to be of a kind.
+/// What gives the value of a term, which is to be of a kind. It is refused where the term shows
+/// another one.
 pub fn compute<'t, 'a, W: Words>(
     alloc: Global,
     words: &W,
     term: &'t Term<'a>,
     kinded: Kinded,
 ) -> Result<Posted, Fault<'t, 'a>>
-    ensures { IfOk result
+    ensures value { IfOk result
         (λ posted. IsValue (W.lexicon words.now) posted kinded (term_of term.now)) }
+    ensures kind { OnOk result
+        (IfSome (kind_shown (W.lexicon words.now) (term_of term.now)) (λ k. k ≡ kinded)) }
 {
     let mut made = Vec::new(alloc);
     let place = translated(words, &mut made, term, kinded)?;
+    if !may_be(words, term, kinded) {
+        return Err(Fault {
+            why: Why::WrongKind,
+            part: term,
+        });
+    }
     match put_together(alloc, words.count(), &made, place) {
         Ok(posted) => Ok(posted),
         Err(_) => Err(Fault {

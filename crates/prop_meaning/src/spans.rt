@@ -1,11 +1,16 @@
 //! Spans of what is made of numbers of spans, where they are in range.
 ghost use Rattle.std.specs.Prelude.{◌≡◌, neg_ℤ, pos, ◌^◌, ◌≤ℤ◌, ◌+ℤ◌, ◌-ℤ◌, ◌*ℤ◌, IfSome};
+ghost use Rattle.std.specs.Prelude.{ℤ, IsTrue};
 ghost use Rattle.std.specs.Int.{int_max, int_min};
 ghost use Rattle.prop_intervals.specs.Spans.{least_product, greatest_product};
-ghost use Rattle.prop_meaning.specs.inner.Spans.{HoldsOne, HoldsTwo};
+ghost use Rattle.prop_lattice.specs.declared.span.TheConstants.{B};
+ghost use Rattle.prop_meaning.specs.Words.{Lies};
+ghost use Rattle.prop_meaning.specs.inner.Spans.{HoldsOne, HoldsTwo, HoldsQuotients, HoldsLeft};
+ghost use Rattle.prop_meaning.specs.inner.Spans.{HoldsMultiples};
 
-use prop_lattice::Span;
 use prop_lattice::span::B;
+use prop_lattice::{Info, Span};
+use prop_wide::quotienter;
 
 /// The span between two numbers, where it is in range.
 fn between(lo: i128, hi: i128) -> Option<Span>
@@ -82,6 +87,47 @@ fn largest_product(x: Span, y: Span) -> i128
     let low = multiplied(x.lo(), y.lo()).max(multiplied(x.lo(), y.hi()));
     let high = multiplied(x.hi(), y.lo()).max(multiplied(x.hi(), y.hi()));
     low.max(high)
+}
+
+/// What divisions by the numbers of a span may leave.
+pub(crate) fn left_by(y: Span) -> Option<Span>
+    ensures { IfSome result (HoldsLeft y) }
+{
+    Span::new((y.lo() + 1).min(0), (y.hi() - 1).max(0))
+}
+
+/// What is as far from zero as a number may be.
+fn farthest() -> Option<Span>
+    ensures { IfSome result (λ s. (s.lo ≡ neg_ℤ B) × (s.hi ≡ B)) }
+{
+    Span::new(-B, B)
+}
+
+/// The quotients of numbers of `x` by those of `y`.
+pub(crate) fn quotient(x: Span, y: Span) -> Option<Span>
+    ensures { IfSome result (HoldsQuotients x y) }
+{
+    match quotienter(Info::Span(x), Info::Span(y)) {
+        Info::Span(span) => Some(span),
+        _ => farthest(),
+    }
+}
+
+/// What these quotients are times the numbers of `y`.
+pub(crate) fn multiple(x: Span, y: Span) -> Option<Span>
+    ensures { IfSome result (HoldsMultiples x y) }
+{
+    match left_by(y) {
+        Some(left) => difference(x, left),
+        None => None,
+    }
+}
+
+/// Whether zero is none of the numbers.
+pub(crate) fn is_without_zero(y: Span) -> bool
+    ensures { IsTrue result → (v : ℤ) → Lies y v → v ≡ pos 0 → ⊥ }
+{
+    y.hi() < 0 || 0 < y.lo()
 }
 
 pub(crate) fn product(x: Span, y: Span) -> Option<Span>

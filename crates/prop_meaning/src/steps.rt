@@ -35,4 +35,8 @@ pub enum Step {
     Two(Pair, usize, usize),
     /// The second where the first is `yes`, and else the third.
     Choice(usize, usize, usize),
+    /// The first by the second, rounded down.
+    Quotient(usize, usize),
+    /// What is left of the first where the second is taken away, a multiple of the third.
+    Left(usize, usize, usize),
 }

@@ -1,17 +1,22 @@
 //! The cell that shows what a term is worth.
-ghost use Rattle.std.specs.Prelude.{◌≡◌, IfOk, OnOk};
+ghost use Rattle.std.specs.Prelude.{◌≡◌, IfOk, OnOk, IsTrue};
 ghost use Rattle.prop_terms.specs.Terms as terms;
 ghost use Rattle.prop_terms.specs.Terms.{term_of};
-ghost use Rattle.prop_meaning.specs.inner.Drafts.{IsSound, Grown, Shows};
+ghost use Rattle.prop_meaning.specs.inner.Drafts.{IsSound, Grown, Shows, number_kind};
+ghost use Rattle.prop_meaning.specs.inner.Lists.{is_gathering};
 
+use crate::braces::among;
 use crate::combining::{
-    between, combined, is_choice, is_list, is_range, is_taken, kind_before, kind_of, prefixed,
+    between, combined, is_choice, is_in, is_list, is_range, is_taken, kind_before, kind_of,
+    prefixed,
 };
 use crate::constants::{name, number};
 use crate::draft::Made;
 use crate::fault::{Fault, Why};
-use crate::kinds::sides;
+use crate::gathering::{alone, gathered, is_gathering, kind_within};
+use crate::kinds::{kind_of_term, sides};
 use crate::making::{NUMBER, TRUTH, choice, is_same_kind};
+use crate::powers::{is_power, power};
 use crate::words::Words;
 use prop_procedures::Kinded;
 use prop_terms::{Infix, Prefix, Term};
@@ -78,7 +83,13 @@ fn between_two<'t, 'a, W: Words>(
         });
     };
     if matches!(*op, Infix::In) {
-        return in_range(words, made, term, kinded);
+        return match &**right {
+            Term::Braces(_) => in_words(words, made, term, kinded),
+            _ => in_range(words, made, term, kinded),
+        };
+    }
+    if matches!(*op, Infix::Power) {
+        return to_power(words, made, term, kinded);
     }
     let both = match sides(words, *op, left, right) {
         Ok(both) => both,
@@ -119,6 +130,9 @@ fn before_one<'t, 'a, W: Words>(
     };
     if matches!(*op, Prefix::If) {
         return chosen_way(words, made, term, kinded);
+    }
+    if is_gathering(*op) {
+        return of_list(words, made, term, kinded);
     }
     if !is_taken(*op) {
         return Err(Fault {
@@ -215,5 +229,155 @@ fn in_range<'t, 'a, W: Words>(
     match between(words, made, x, from, end) {
         Ok(place) => Ok(place),
         Err(why) => Err(Fault { why, part: term }),
+    }
+}
+
+/// The same of what is one of the words in braces.
+#[cycle(translating)]
+fn in_words<'t, 'a, W: Words>(
+    words: &W,
+    made: &mut Vec<Made>,
+    term: &'t Term<'a>,
+    kinded: Kinded,
+) -> Result<usize, Fault<'t, 'a>>
+    requires sound { IsSound (W.lexicon words.now) made.old.items }
+    ensures grown { OnOk result (Grown (W.lexicon words.now) made.old.items made.new.items) }
+    ensures shows { IfOk result
+        (Shows (W.lexicon words.now) made.new.items kinded (term_of term.now)) }
+{
+    let wrong = Fault {
+        why: Why::WrongForm,
+        part: term,
+    };
+    let Term::Two(op, item, range) = term else {
+        return Err(wrong);
+    };
+    let Term::Braces(labels) = &**range else {
+        return Err(wrong);
+    };
+    if !is_in(*op) || is_list(item) {
+        return Err(wrong);
+    }
+    if !is_same_kind(TRUTH, kinded) {
+        return Err(Fault {
+            why: Why::WrongKind,
+            part: term,
+        });
+    }
+    let Some(both) = kind_of_term(words, item) else {
+        return Err(Fault {
+            why: Why::NoSuchCell,
+            part: item,
+        });
+    };
+    let x = translated(words, made, item, both)?;
+    among(words, made, x, both, labels)
+}
+
+/// The same of a power.
+#[cycle(translating)]
+fn to_power<'t, 'a, W: Words>(
+    words: &W,
+    made: &mut Vec<Made>,
+    term: &'t Term<'a>,
+    kinded: Kinded,
+) -> Result<usize, Fault<'t, 'a>>
+    requires sound { IsSound (W.lexicon words.now) made.old.items }
+    ensures grown { OnOk result (Grown (W.lexicon words.now) made.old.items made.new.items) }
+    ensures shows { IfOk result
+        (Shows (W.lexicon words.now) made.new.items kinded (term_of term.now)) }
+{
+    let wrong = Fault {
+        why: Why::WrongForm,
+        part: term,
+    };
+    let Term::Two(op, base, exponent) = term else {
+        return Err(wrong);
+    };
+    let Term::Number(n) = &**exponent else {
+        return Err(wrong);
+    };
+    if !is_power(*op) {
+        return Err(wrong);
+    }
+    if !is_same_kind(NUMBER, kinded) {
+        return Err(Fault {
+            why: Why::WrongKind,
+            part: term,
+        });
+    }
+    let x = translated(words, made, base, NUMBER)?;
+    match power(words, made, x, *n) {
+        Ok(place) => Ok(place),
+        Err(why) => Err(Fault { why, part: term }),
+    }
+}
+
+/// The same of what an operator makes of a list.
+#[cycle(translating)]
+fn of_list<'t, 'a, W: Words>(
+    words: &W,
+    made: &mut Vec<Made>,
+    term: &'t Term<'a>,
+    kinded: Kinded,
+) -> Result<usize, Fault<'t, 'a>>
+    requires sound { IsSound (W.lexicon words.now) made.old.items }
+    ensures grown { OnOk result (Grown (W.lexicon words.now) made.old.items made.new.items) }
+    ensures shows { IfOk result
+        (Shows (W.lexicon words.now) made.new.items kinded (term_of term.now)) }
+{
+    let Term::One(op, list) = term else {
+        return Err(Fault {
+            why: Why::WrongForm,
+            part: term,
+        });
+    };
+    if !is_gathering(*op) {
+        return Err(Fault {
+            why: Why::NotYet,
+            part: term,
+        });
+    }
+    if !is_same_kind(NUMBER, kinded) {
+        return Err(Fault {
+            why: Why::WrongKind,
+            part: term,
+        });
+    }
+    listed(words, made, *op, list)
+}
+
+/// The cell of what an operator makes of the terms between commas, or of the one that there is.
+#[cycle(translating)]
+fn listed<'t, 'a, W: Words>(
+    words: &W,
+    made: &mut Vec<Made>,
+    op: Prefix,
+    list: &'t Term<'a>,
+) -> Result<usize, Fault<'t, 'a>>
+    requires sound { IsSound (W.lexicon words.now) made.old.items }
+    requires gathers { IsTrue (is_gathering op) }
+    ensures grown { OnOk result (Grown (W.lexicon words.now) made.old.items made.new.items) }
+    ensures shows { IfOk result (Shows (W.lexicon words.now) made.new.items number_kind
+        (terms.One op (term_of list.now))) }
+{
+    if !is_list(list) {
+        let x = translated(words, made, list, kind_within(op))?;
+        return match alone(words, made, op, x) {
+            Ok(place) => Ok(place),
+            Err(why) => Err(Fault { why, part: list }),
+        };
+    }
+    let Term::Two(_comma, others, last) = list else {
+        return Err(Fault {
+            why: Why::WrongForm,
+            part: list,
+        });
+    };
+    let x = listed(words, made, op, others)?;
+    let y = translated(words, made, last, kind_within(op))?;
+    match gathered(words, made, op, x, y) {
+        Ok(place) => Ok(place),
+        Err(why) => Err(Fault { why, part: list }),
     }
 }

@@ -1,14 +1,16 @@
 -- Fresh cells, each made of given ones and those before it.
 use Rattle.std.specs.Prelude.{◌≡◌, ℕ, ◌+◌, ◌-◌, ◌<◌, List, cond, nat_lt, Option, Some, ⊤, Bool}
+use Rattle.std.specs.Prelude.{pos}
 use Rattle.std.specs.Prelude.{slice_get}
 use Rattle.std.specs.Option.{option_map}
-use Rattle.prop_lattice.specs.Points.{Point, Element, IsPointOf}
+use Rattle.prop_lattice.specs.Points.{Point, Element, Number, IsPointOf}
 use Rattle.prop_lattice.specs.declared.info.Kind.TheVariants as kinds
 use Rattle.prop_procedures.specs.declared.shape.Kinded.{Kinded}
 use Rattle.prop_terms.specs.Meaning.{Value, Text, worth}
 use Rattle.prop_terms.specs.Terms.{Term}
 use Rattle.prop_meaning.specs.Words.{Lexicon, IsLexicon, Fits, IsWithin, names_at, value_as}
-use Rattle.prop_meaning.specs.Words.{domain_of}
+use Rattle.prop_meaning.specs.Words.{domain_of, LiesIn}
+use Rattle.prop_lattice.specs.declared.span.Span as spans
 use Rattle.prop_meaning.specs.inner.Steps.{made_by, IsBehind}
 use Rattle.prop_meaning.specs.declared.draft.Made.{Made}
 use Rattle.prop_meaning.specs.declared.known.Known.{Known}
@@ -76,6 +78,10 @@ Suits lexicon made kinded (steps.Two op x y) = (both : Kinded) × TakesTwo op bo
     × Has lexicon made x both × Has lexicon made y both × (kinded ≡ kind_between op)
 Suits lexicon made kinded (steps.Choice t x y) =
     Has lexicon made t truth_kind × Has lexicon made x kinded × Has lexicon made y kinded
+Suits lexicon made kinded (steps.Quotient x y) =
+    Has lexicon made x number_kind × Has lexicon made y number_kind × (kinded ≡ number_kind)
+Suits lexicon made kinded (steps.Left x p y) = Has lexicon made x number_kind
+    × Has lexicon made p number_kind × Has lexicon made y number_kind × (kinded ≡ number_kind)
 Suits lexicon made kinded s = ⊤
 
 -- each fresh cell's point is what its step makes
@@ -88,6 +94,14 @@ pub record Runs (lexicon : Lexicon) (made : List Made) (a : ℕ → Point) : Typ
   pub words : IsLexicon lexicon
   pub given : Fits lexicon a
   pub fresh : Follows lexicon.count made a
+
+-- the cell's number is never zero
+abbrev pub NeverZero : Lexicon → List Made → ℕ → Type 0
+NeverZero lexicon made y = (a : ℕ → Point) → Runs lexicon made a → a y ≡ Number (pos 0) → ⊥
+
+-- and, where it is one, lies in the span
+abbrev pub LiesAt : Lexicon → List Made → ℕ → spans.Span → Type 0
+LiesAt lexicon made x s = (a : ℕ → Point) → Runs lexicon made a → LiesIn s (a x)
 
 -- what stood stands
 abbrev pub Grows : List Made → List Made → Type 0

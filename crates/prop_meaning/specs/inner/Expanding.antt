@@ -79,10 +79,22 @@ choice_acts t x y z = act (OfWide wides.Choose) (inputs.Three t x y) z
     ∷ act (OfWide wides.Decide) (inputs.Three x y z) t ∷ act (OfKit kits.Switch) (inputs.Two t z) x
     ∷ act (OfWide wides.Choose) (inputs.Three t y z) y ∷ []
 
+abbrev pub quotient_acts : ℕ → ℕ → ℕ → List Act
+quotient_acts x y z = act (OfWide wides.Quotient) (inputs.Two x y) z ∷ []
+
+-- what is taken away and what is left make the first, and a division by y may leave what is left
+abbrev pub left_acts : ℕ → ℕ → ℕ → ℕ → List Act
+left_acts x p y z = act (OfKit kits.Add) (inputs.Two p z) x
+    ∷ act (OfKit kits.Sub) (inputs.Two x z) p ∷ act (OfKit kits.Sub) (inputs.Two x p) z
+    ∷ act (OfWide wides.Remainder) (inputs.One y) z
+    ∷ act (OfWide wides.Divisor) (inputs.Two z y) y ∷ []
+
 abbrev pub acts_of : Step → ℕ → List Act
 acts_of (steps.One op x) place = single_acts op x place
 acts_of (steps.Two op x y) place = pair_acts op x y place
 acts_of (steps.Choice t x y) place = choice_acts t x y place
+acts_of (steps.Quotient x y) place = quotient_acts x y place
+acts_of (steps.Left x p y) place = left_acts x p y place
 acts_of s place = []
 
 -- what a constant's cell is

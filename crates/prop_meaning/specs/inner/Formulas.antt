@@ -1,6 +1,8 @@
 -- What operators are made of.
 use Rattle.std.specs.Prelude.{◌≡◌, ℕ, List, Bool, true, false, ⊤}
 use Rattle.prop_lattice.specs.Points.{Point}
+use Rattle.prop_lattice.specs.Points as points
+use Rattle.prop_terms.specs.Meaning.{power}
 use Rattle.prop_procedures.specs.declared.shape.Kinded.{Kinded}
 use Rattle.prop_terms.specs.Terms.{Term, Two}
 use Rattle.prop_terms.specs.declared.operators.Infix.{Infix}
@@ -8,11 +10,13 @@ use Rattle.prop_terms.specs.declared.operators.Infix.TheVariants.{Comma}
 use Rattle.prop_terms.specs.declared.operators.Infix.TheVariants.{Iff, Implies, Xor, Or, And, Equal}
 use Rattle.prop_terms.specs.declared.operators.Infix.TheVariants.{Unequal, Less, AtMost, Greater}
 use Rattle.prop_terms.specs.declared.operators.Infix.TheVariants.{AtLeast, Plus, Minus, Times}
+use Rattle.prop_terms.specs.declared.operators.Infix.TheVariants.{Over, Remainder}
 use Rattle.prop_terms.specs.declared.operators.Prefix.{Prefix}
 use Rattle.prop_terms.specs.declared.operators.Prefix.TheVariants as before
 use Rattle.prop_meaning.specs.declared.steps.Single.TheVariants.{Abs, Not}
 use Rattle.prop_meaning.specs.declared.steps.Pair.TheVariants as pairs
-use Rattle.prop_meaning.specs.inner.Steps.{of_one, of_two, negative}
+use Rattle.prop_meaning.specs.inner.Steps.{of_one, of_two, negative, quotient_point}
+use Rattle.prop_meaning.specs.inner.Steps.{remainder_point}
 use Rattle.prop_meaning.specs.Words.{Lexicon}
 use Rattle.prop_meaning.specs.declared.draft.Made.{Made}
 use Rattle.prop_meaning.specs.inner.Drafts.{Has, number_kind, truth_kind}
@@ -33,6 +37,8 @@ Takes AtLeast kinded = kinded ≡ number_kind
 Takes Plus kinded = kinded ≡ number_kind
 Takes Minus kinded = kinded ≡ number_kind
 Takes Times kinded = kinded ≡ number_kind
+Takes Over kinded = kinded ≡ number_kind
+Takes Remainder kinded = kinded ≡ number_kind
 Takes op kinded = ⊥
 
 -- both cells are of a kind that the operator takes
@@ -44,12 +50,16 @@ abbrev pub kind_of : Infix → Kinded
 kind_of Plus = number_kind
 kind_of Minus = number_kind
 kind_of Times = number_kind
+kind_of Over = number_kind
+kind_of Remainder = number_kind
 kind_of op = truth_kind
 
 abbrev pub formula : Infix → Point → Point → Point
 formula Plus p q = of_two pairs.Sum p q
 formula Minus p q = of_two pairs.Difference p q
 formula Times p q = of_two pairs.Product p q
+formula Over p q = quotient_point p q
+formula Remainder p q = remainder_point p q
 formula Equal p q = of_two pairs.Same p q
 formula Unequal p q = of_one Not (of_two pairs.Same p q)
 formula Less p q = of_two pairs.Less p q
@@ -62,6 +72,10 @@ formula Iff p q = of_two pairs.Same p q
 formula Xor p q = of_one Not (of_two pairs.Same p q)
 formula Implies p q = of_two pairs.Or (of_one Not p) q
 formula op p q = p
+
+abbrev pub power_point : ℕ → Point → Point
+power_point n (points.Number x) = points.Number (power x n)
+power_point n p = p
 
 -- ---- operators before one term
 

@@ -1,8 +1,10 @@
 -- Spans that hold what a function makes of numbers of spans.
-use Rattle.std.specs.Prelude.{ℤ}
+use Rattle.std.specs.Prelude.{◌≡◌, ℤ, ◌*ℤ◌, Some, IsTrue}
 use Rattle.prop_lattice.specs.Points.{Point}
 use Rattle.prop_lattice.specs.declared.span.Span as spans
 use Rattle.prop_meaning.specs.Words.{Lies, IsWithin}
+use Rattle.prop_terms.specs.Meaning.{quotient}
+use Rattle.prop_meaning.specs.inner.Steps.{may_leave}
 use Rattle.prop_meaning.specs.declared.known.Known.{Known}
 
 abbrev pub HoldsOne : (ℤ → ℤ) → spans.Span → spans.Span → Type 0
@@ -10,6 +12,18 @@ HoldsOne f x s = (u : ℤ) → Lies x u → Lies s (f u)
 
 abbrev pub HoldsTwo : (ℤ → ℤ → ℤ) → spans.Span → spans.Span → spans.Span → Type 0
 HoldsTwo f x y s = (u v : ℤ) → Lies x u → Lies y v → Lies s (f u v)
+
+-- quotients of numbers of the two, and what they are times the second
+abbrev pub HoldsQuotients : spans.Span → spans.Span → spans.Span → Type 0
+HoldsQuotients x y s = (u v q : ℤ) → Lies x u → Lies y v → quotient u v ≡ Some q → Lies s q
+
+abbrev pub HoldsMultiples : spans.Span → spans.Span → spans.Span → Type 0
+HoldsMultiples x y s =
+    (u v q : ℤ) → Lies x u → Lies y v → quotient u v ≡ Some q → Lies s (q *ℤ v)
+
+-- what divisions by the numbers may leave
+abbrev pub HoldsLeft : spans.Span → spans.Span → Type 0
+HoldsLeft y s = (v r : ℤ) → Lies y v → IsTrue (may_leave v r) → Lies s r
 
 -- what is known of the points of two cells gives what is known of what f makes of them
 abbrev pub Tells : (Point → Point → Point) → Known → Known → Known → Type 0

@@ -1,9 +1,12 @@
 -- What a step makes of points.
-use Rattle.std.specs.Prelude.{ℕ, pos, neg_ℤ, ◌+ℤ◌, ◌-ℤ◌, ◌*ℤ◌, int_le, int_lt}
-use Rattle.std.specs.Prelude.{Bool, false, cond, not, ◌&&◌, ◌||◌, ◌==◌, ◌<◌, ⊤}
+use Rattle.std.specs.Prelude.{ℕ, ℤ, pos, neg_ℤ, ◌+ℤ◌, ◌-ℤ◌, ◌*ℤ◌, int_le, int_lt}
+use Rattle.std.specs.Prelude.{Bool, false, cond, not, ◌&&◌, ◌||◌, ◌==◌, ◌<◌, ⊤, IsTrue}
+use Rattle.std.specs.Prelude.{Option, Some, None}
 use Rattle.std.specs.Int.{int_max, int_min}
 use Rattle.prop_lattice.specs.Points.{Point, Element, Symbol}
 use Rattle.prop_lattice.specs.Points as points
+use Rattle.prop_terms.specs.declared.operators.Infix.TheVariants.{Remainder}
+use Rattle.prop_terms.specs.Meaning.{quotient, computed}
 use Rattle.prop_meaning.specs.declared.steps.Single as singles
 use Rattle.prop_meaning.specs.declared.steps.Single.TheVariants.{Abs, Not}
 use Rattle.prop_meaning.specs.declared.steps.Pair as pairs
@@ -46,6 +49,37 @@ chosen t p q = q
 abbrev pub negative : Point → Point
 negative p = of_two Difference (points.Number (pos 0)) p
 
+-- ---- divisions
+
+-- the number, or a point that is none
+abbrev pub number_or : Option ℤ → Point
+number_or None = Symbol 0
+number_or (Some z) = points.Number z
+
+abbrev pub quotient_point : Point → Point → Point
+quotient_point (points.Number x) (points.Number y) = number_or (quotient x y)
+quotient_point p q = p
+
+abbrev pub remainder_point : Point → Point → Point
+remainder_point (points.Number x) (points.Number y) = number_or (computed Remainder x y)
+remainder_point p q = p
+
+-- r lies from zero to y, and is not y
+abbrev pub may_leave : ℤ → ℤ → Bool
+may_leave y r = (int_le (pos 0) r && int_lt r y) || (int_lt y r && int_le r (pos 0))
+
+-- what is left of x where p is taken away, if a division by y may leave it
+abbrev pub left_point : Point → Point → Point → Point
+left_point (points.Number x) (points.Number p) (points.Number y) =
+    number_or (cond (may_leave y (x -ℤ p)) (Some (x -ℤ p)) None)
+left_point p q r = p
+
+abbrev pub IsLeft : Point → Point → Point → Type 0
+IsLeft (points.Number x) (points.Number p) (points.Number y) = IsTrue (may_leave y (x -ℤ p))
+IsLeft p q r = ⊤
+
+-- ---- steps
+
 -- the point of a step's cell, by those of the cells before it
 abbrev pub made_by : Step → (ℕ → Point) → Point
 made_by (steps.Number z) a = points.Number z
@@ -54,10 +88,14 @@ made_by (steps.Symbol n) a = Symbol n
 made_by (steps.One op x) a = of_one op (a x)
 made_by (steps.Two op x y) a = of_two op (a x) (a y)
 made_by (steps.Choice t x y) a = chosen (a t) (a x) (a y)
+made_by (steps.Quotient x y) a = quotient_point (a x) (a y)
+made_by (steps.Left x p y) a = left_point (a x) (a p) (a y)
 
 -- the cells of which it is made stand before this place
 abbrev pub IsBehind : ℕ → Step → Type 0
 IsBehind place (steps.One op x) = x < place
 IsBehind place (steps.Two op x y) = (x < place) × (y < place)
 IsBehind place (steps.Choice t x y) = (t < place) × (x < place) × (y < place)
+IsBehind place (steps.Quotient x y) = (x < place) × (y < place)
+IsBehind place (steps.Left x p y) = (x < place) × (p < place) × (y < place)
 IsBehind place s = ⊤

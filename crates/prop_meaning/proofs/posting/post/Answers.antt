@@ -5,4 +5,5 @@ use Rattle.prop_meaning.proofs.posting.post.Goals as goal
 
 pub returns : goal.returns
 returns g c = IfOk-weaker c.compute.result _ _
-    (λ posted v. says_same (g.W.Words.lexicon c.args.words.now) posted (term_of c.args.term.now) v) c.compute.ensures
+    (λ posted v. says_same (g.W.Words.lexicon c.args.words.now) posted (term_of c.args.term.now) v)
+    c.compute.ensures.value

@@ -1,10 +1,13 @@
 use Rattle.std.proofs.Common.{◌≡◌, ◌∙◌, true, false, ap, sym, subst}
-use Rattle.prop_terms.specs.Terms.{One, Two, term_of}
+use Rattle.prop_terms.specs.Terms.{Number, One, Two, Braces, term_of}
 use Rattle.prop_terms.specs.declared.operators.Prefix.TheVariants.{If}
-use Rattle.prop_terms.specs.declared.operators.Infix.TheVariants.{Then, Else, In, UpTo}
+use Rattle.prop_terms.specs.declared.operators.Infix.TheVariants.{Then, Else, In, UpTo, Power}
 use Rattle.prop_meaning.specs.inner.Drafts.{Shows, number_kind, truth_kind}
 use Rattle.prop_meaning.specs.inner.Formulas as formulas
-use Rattle.prop_meaning.proofs.Growing.{grown_trans, has_grows}
+use Rattle.prop_meaning.proofs.Growing.{both_ok, grown_trans, has_grows, on_ok}
+use Rattle.prop_meaning.proofs.BraceLemmas.{shows_words}
+use Rattle.prop_meaning.proofs.Lists.{is_comma, shows_alone, shows_gathered}
+use Rattle.prop_meaning.proofs.PowerLemmas.{shows_power}
 use Rattle.prop_meaning.proofs.Showing.{shows_one, shows_two, shows_choice, shows_range}
 use Rattle.prop_meaning.proofs.translating.+translating.Goals as goal
 
@@ -30,8 +33,8 @@ pub between_two-returns-in-Ok-combined-clause-shows : goal.between_two-returns-i
 between_two-returns-in-Ok-combined-clause-shows g t c =
     let lexicon = g.W.Words.lexicon c.args.words.now in
     let op = c.in-Two.op in
-    let left = term_of c.deref-3.result.now in
-    let right = term_of c.deref-4.result.now in
+    let left = term_of c.deref-4.result.now in
+    let right = term_of c.deref-5.result.now in
     let first = c.translated.new.made.items in
     let second = c.translated-2.new.made.items in
     let third = c.combined.new.made.items in
@@ -39,8 +42,8 @@ between_two-returns-in-Ok-combined-clause-shows g t c =
     let kind : formulas.kind_of op ≡ c.args.kinded =
     sym c.kind_of.ensures ∙ c.is_same_kind.ensures c.if-not-is_same_kind.false in
     let whole : term_of c.args.term.now ≡ Two op left right = ap term_of c.in-Two.is
-    ∙ (ap (λ u. Two op (term_of u) (term_of c.in-Two.right.value)) (sym c.deref-3.ensures)
-    ∙ ap (λ u. Two op left (term_of u)) (sym c.deref-4.ensures)) in
+    ∙ (ap (λ u. Two op (term_of u) (term_of c.in-Two.right.value)) (sym c.deref-4.ensures)
+    ∙ ap (λ u. Two op left (term_of u)) (sym c.deref-5.ensures)) in
     let all = shows_two lexicon op c.in-Ok.both left right c.in_ok-x.x c.in_ok-y.y place first
     second third c.in-Ok.ensures
     c.in_ok-x.ensures.shows c.in_ok-y.ensures.grown c.in_ok-y.ensures.shows c.in-Ok-combined.ensures.grown
@@ -144,3 +147,85 @@ in_range-returns-in-Ok-clause-shows g t c =
     c.in_ok-end.ensures.grown c.in_ok-end.ensures.shows c.in-Ok.ensures.grown c.in-Ok.ensures.makes in
     subst (λ k. Shows lexicon fourth k (term_of c.args.term.now) c.in-Ok.place) kind
     (subst (λ u. Shows lexicon fourth truth_kind u c.in-Ok.place) (sym whole) all)
+
+pub to_power-returns-in-Ok-clause-shows : goal.to_power-returns-in-Ok-clause-shows
+to_power-returns-in-Ok-clause-shows g t c =
+    let lexicon = g.W.Words.lexicon c.args.words.now in
+    let outer = c.in-Two in
+    let inner = c.in-Number in
+    let base = term_of c.deref-2.result.now in
+    let first = c.translated.new.made.items in
+    let second = c.power.new.made.items in
+    let which = c.is_power.ensures c.if-not-is_power.false in
+    let exponent : term_of c.deref.result.now ≡ Number inner.n = ap term_of inner.is in
+    let whole : term_of c.args.term.now ≡ Two Power base (Number inner.n) = ap term_of outer.is
+    ∙ (ap (λ o. Two o (term_of outer.base.value) (term_of outer.exponent.value)) which
+    ∙ (ap (λ u. Two Power (term_of u) (term_of outer.exponent.value)) (sym c.deref-2.ensures)
+    ∙ (ap (λ u. Two Power base (term_of u)) (sym c.deref.ensures) ∙ ap (Two Power base) exponent))) in
+    let kind : number_kind ≡ c.args.kinded = c.is_same_kind.ensures c.if-not-is_same_kind.false in
+    let all = shows_power lexicon base inner.n c.in_ok-x.x c.in-Ok.place first second c.in_ok-x.ensures.shows
+    c.in-Ok.ensures.grown c.in-Ok.ensures.makes in
+    subst (λ k. Shows lexicon second k (term_of c.args.term.now) c.in-Ok.place) kind
+    (subst (λ u. Shows lexicon second number_kind u c.in-Ok.place) (sym whole) all)
+
+pub in_words-returns-clause-shows : goal.in_words-returns-clause-shows
+in_words-returns-clause-shows g t c =
+    let lexicon = g.W.Words.lexicon c.args.words.now in
+    let outer = c.in-Two in
+    let inner = c.in-Braces in
+    let both = c.in-Some.both in
+    let item = term_of c.deref-3.result.now in
+    let labels = term_of c.deref-4.result.now in
+    let first = c.translated.new.made.items in
+    let second = c.among.new.made.items in
+    let which = c.is_in.ensures c.if-not-is_in.false in
+    let range : term_of c.deref.result.now ≡ Braces labels = ap term_of inner.is
+    ∙ ap (λ u. Braces (term_of u)) (sym c.deref-4.ensures) in
+    let whole : term_of c.args.term.now ≡ Two In item (Braces labels) = ap term_of outer.is
+    ∙ (ap (λ o. Two o (term_of outer.item.value) (term_of outer.range.value)) which
+    ∙ (ap (λ u. Two In (term_of u) (term_of outer.range.value)) (sym c.deref-3.ensures)
+    ∙ (ap (λ u. Two In item (term_of u)) (sym c.deref.ensures) ∙ ap (Two In item) range))) in
+    let single : formulas.is_list item ≡ false =
+    ap (λ u. formulas.is_list (term_of u)) (c.deref-3.ensures ∙ sym c.deref-else-not-is_in.ensures)
+    ∙ (sym c.is_list.ensures ∙ c.if-is_list.false) in
+    let kind : truth_kind ≡ c.args.kinded = c.is_same_kind.ensures c.if-not-is_same_kind.false in
+    both_ok c.among.result _ _ _ c.among.ensures.grown c.among.ensures.makes
+    (λ place grown m.
+    subst (λ k. Shows lexicon second k (term_of c.args.term.now) place) kind
+    (subst (λ u. Shows lexicon second truth_kind u place) (sym whole)
+    (shows_words lexicon both item labels c.in_ok-x.x place first second single c.in_ok-x.ensures.shows grown m)))
+
+pub in_words-returns-clause-grown : goal.in_words-returns-clause-grown
+in_words-returns-clause-grown g t c = on_ok c.among.result _ _ c.among.ensures.grown (λ grown.
+    grown_trans (g.W.Words.lexicon c.args.words.now) c.args.made.now.items c.translated.new.made.items
+    c.among.new.made.items c.in_ok-x.ensures.grown grown)
+
+pub listed-returns-in-Ok-clause-shows : goal.listed-returns-in-Ok-clause-shows
+listed-returns-in-Ok-clause-shows g t c =
+    let lexicon = g.W.Words.lexicon c.args.words.now in
+    shows_alone lexicon c.args.op (term_of c.args.list.now) c.in_ok-x.x c.in-Ok.place c.translated.new.made.items
+    c.alone.new.made.items c.requires.gathers (sym c.is_list.ensures ∙ c.if-not-is_list.true)
+    (subst (λ k. Shows lexicon c.translated.new.made.items k (term_of c.args.list.now) c.in_ok-x.x)
+    c.kind_within.ensures c.in_ok-x.ensures.shows) c.in-Ok.ensures.grown c.in-Ok.ensures.makes
+
+pub listed-returns-in-Ok-gathered-clause-shows : goal.listed-returns-in-Ok-gathered-clause-shows
+listed-returns-in-Ok-gathered-clause-shows g t c =
+    let lexicon = g.W.Words.lexicon c.args.words.now in
+    let outer = c.in-Two in
+    let op = c.args.op in
+    let others = term_of c.deref.result.now in
+    let last = term_of c.deref-2.result.now in
+    let first = c.listed.new.made.items in
+    let second = c.translated-2.new.made.items in
+    let third = c.gathered.new.made.items in
+    let parts : term_of c.args.list.now ≡ Two outer._comma others last = ap term_of outer.is
+    ∙ (ap (λ u. Two outer._comma (term_of u) (term_of outer.last.value)) (sym c.deref.ensures)
+    ∙ ap (λ u. Two outer._comma others (term_of u)) (sym c.deref-2.ensures)) in
+    let comma = is_comma outer._comma others last
+    (ap formulas.is_list (sym parts) ∙ (sym c.is_list.ensures ∙ c.if-not-is_list.false)) in
+    subst (λ u. Shows lexicon third number_kind (One op u) c.in-Ok-gathered.place)
+    (sym (parts ∙ ap (λ o. Two o others last) comma))
+    (shows_gathered lexicon op others last c.in_ok-x-2.x c.in_ok-y.y c.in-Ok-gathered.place first second third
+    c.requires.gathers c.in_ok-x-2.ensures.shows c.in_ok-y.ensures.grown
+    (subst (λ k. Shows lexicon second k last c.in_ok-y.y) c.kind_within-2.ensures c.in_ok-y.ensures.shows)
+    c.in-Ok-gathered.ensures.grown c.in-Ok-gathered.ensures.makes)

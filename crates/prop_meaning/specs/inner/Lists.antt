@@ -1,0 +1,61 @@
+-- What operators make of lists, and of words in braces.
+use Rattle.std.specs.Prelude.{◌≡◌, ℕ, pos, List, Bool, true, false, Option, Some}
+use Rattle.std.specs.List.{list_any}
+use Rattle.prop_lattice.specs.Points.{Point, Number}
+use Rattle.prop_procedures.specs.declared.shape.Kinded.{Kinded}
+use Rattle.prop_terms.specs.Meaning.{Value, comparison, label}
+use Rattle.prop_terms.specs.Terms.{Term}
+use Rattle.prop_terms.specs.declared.operators.Infix.TheVariants.{Equal}
+use Rattle.prop_terms.specs.declared.operators.Prefix.{Prefix}
+use Rattle.prop_terms.specs.declared.operators.Prefix.TheVariants.{Max, Min, Sum, Count}
+use Rattle.prop_meaning.specs.Words.{Lexicon, value_as}
+use Rattle.prop_meaning.specs.declared.draft.Made.{Made}
+use Rattle.prop_meaning.specs.declared.steps.Pair as pairs
+use Rattle.prop_meaning.specs.declared.steps.Pair.TheVariants as two
+use Rattle.prop_meaning.specs.inner.Drafts.{Has, Runs, number_kind, truth_kind}
+use Rattle.prop_meaning.specs.inner.Steps.{of_two, chosen}
+
+-- ---- lists
+
+-- which go through a list, one term after another
+abbrev pub is_gathering : Prefix → Bool
+is_gathering Max = true
+is_gathering Min = true
+is_gathering Sum = true
+is_gathering Count = true
+is_gathering op = false
+
+abbrev pub kind_within : Prefix → Kinded
+kind_within Count = truth_kind
+kind_within op = number_kind
+
+abbrev pub pair_of : Prefix → pairs.Pair
+pair_of Max = two.Max
+pair_of Min = two.Min
+pair_of op = two.Sum
+
+-- one for a truth that is `yes`
+abbrev pub counted : Point → Point
+counted p = chosen p (Number (pos 1)) (Number (pos 0))
+
+-- what an operator makes of a list of one
+abbrev pub alone : Prefix → Point → Point
+alone Count p = counted p
+alone op p = p
+
+-- of those before, of which it made p, and of one more
+abbrev pub gathered : Prefix → Point → Point → Point
+gathered op p q = of_two (pair_of op) p (alone op q)
+
+-- ---- words in braces
+
+-- the point of a kind is one of the labels
+abbrev pub is_among : Lexicon → Kinded → Point → List (Option Value) → Bool
+is_among lexicon kinded p ls = list_any (comparison Equal (Some (value_as lexicon kinded p))) ls
+
+-- the cell at the place is of the kind, and is what the label says
+pub record Labels (lexicon : Lexicon) (made : List Made) (kinded : Kinded) (t : Term)
+    (place : ℕ) : Type 0 where
+  pub has : Has lexicon made place kinded
+  pub is : (a : ℕ → Point) → Runs lexicon made a
+      → label t ≡ Some (value_as lexicon kinded (a place))
