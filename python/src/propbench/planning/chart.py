@@ -144,7 +144,7 @@ def _row(schedule: Schedule, entry: Entry, room: tuple[int, int] | None, top: in
     parts += [
         _bar(away.first, away.last, top + 2, 20, "#eeddcc", _said_of(schedule, away))
         for away in schedule.staff.aways
-        if away.person in entry.people and away.last <= schedule.staff.days
+        if away.person in entry.needs and away.last <= schedule.staff.days
     ]
     if room is not None:
         within = schedule.days_said(*room)
@@ -153,7 +153,7 @@ def _row(schedule: Schedule, entry: Entry, room: tuple[int, int] | None, top: in
     if back := [
         away.person
         for away in schedule.staff.aways
-        if away.last == entry.start and away.person in entry.people
+        if away.last == entry.start and away.person in entry.needs
     ]:
         says += f"; it starts when {escape(listed(back))} is back"
     colour = "#555555"
