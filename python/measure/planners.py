@@ -3,11 +3,12 @@ absences, talks in a hall, and nurses' rosters with rules of rest and wishes tha
 
 usage: python3 planners.py [SEEDS] [SECONDS] [skills|absences|halls|rosters ..]
 
-Each line tells how long it took to state it, to find the best, the best with its bound, and what is
-proved. The program is the one that a workbench finds.
+Each line tells the best that was found, whether that is proved, and what it took. The program is the
+one that a workbench finds.
 """
 
 import random
+import resource
 import sys
 import time
 from collections.abc import Callable
@@ -133,16 +134,23 @@ CASES: dict[str, Callable[[int], Asked]] = {
 }
 
 
+def used() -> float:
+    """The seconds of one processor that this process used so far, and its programs that ended."""
+    spent = [resource.getrusage(who) for who in (resource.RUSAGE_SELF, resource.RUSAGE_CHILDREN)]
+    return sum(each.ru_utime + each.ru_stime for each in spent)
+
+
 def told(name: str, seed: int, seconds: float) -> str:
     """What became of a case."""
-    began = time.monotonic()
+    before, began = used(), time.monotonic()
     asked = CASES[name](seed)
-    stated = time.monotonic()
+    stated = used() - before
     with asked.workbench as w:
         best = w.least(asked.least, seconds=seconds)
-        took = time.monotonic() - stated
+        took = time.monotonic() - began
     is_best = "proved" if best.proved else f"bound {best.bound}"
-    return f"{name} {seed}: {best.value} {is_best}, {stated - began:.2f} s to state, {took:.2f} s"
+    spent = f"{used() - before:.2f} s of one processor, {stated:.2f} of them to state it"
+    return f"{name} {seed}: {best.value} {is_best}; {spent}; {took:.1f} s by the clock"
 
 
 def main(words: list[str]) -> None:

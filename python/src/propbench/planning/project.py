@@ -445,8 +445,9 @@ class Project:
         task: Task,
         first: Day,
         end: Day,
-        who: str | Sequence[str] | None = None,
         under: str | None = None,
+        *,
+        who: str | Sequence[str] | None = None,
     ) -> str:
         """A task was done, from the beginning of one day to that of another, however long it was to
         take, and by these of whom who might; the premise of that, which is one of `facts`, and named
@@ -474,8 +475,9 @@ class Project:
         task: Task,
         left: int,
         began: Day | None = None,
-        who: str | Sequence[str] | None = None,
         under: str | None = None,
+        *,
+        who: str | Sequence[str] | None = None,
     ) -> str:
         """A task is under way, and so many days of work are left of it from today on, which has to
         be said before; in place of what was said of it earlier. The premise of that, which is one of

@@ -261,10 +261,9 @@ class _Reader:
         if started is None or finished is None:
             told = started or finished
             if told is not None:
-                other = "finished" if started else "started"
-                raise told.wrong(
-                    f"say `{other}` too; a task under way has its days left, and neither"
-                )
+                if started:
+                    raise told.wrong("say `finished` too, or how many days are `left`")
+                raise told.wrong("say `started` too")
             return None
         first, back = self._day(started), self._day(finished, True)
         if back < first:
