@@ -11,6 +11,7 @@ from collections.abc import Iterator, Sequence
 from dataclasses import dataclass, field, replace
 from datetime import date, timedelta
 from itertools import combinations, product
+from tempfile import TemporaryDirectory
 
 from propbench import NothingFits, Workbench, any_of, skilled
 from propbench.planning import Project, Task
@@ -530,9 +531,9 @@ class Held:
         if is_so != wanted:
             self.found.append(f"{self.seed}: {what} is {is_so}, and by a search {wanted}")
 
-    def hold(self, w: Workbench) -> None:
+    def hold(self, p: Project) -> None:
         """All that is asked of a project."""
-        p = project_of(w, self.made)
+        w = p.workbench
         if not self.known.fits:
             self.hold_conflicts(w, p)
         self.hold_ends(w, p)
@@ -622,8 +623,24 @@ def faults(seed: int, counts: dict[str, int] | None = None) -> list[str]:
     """In what the answers of a drawn project differ from a search of all its plans."""
     held = Held(seed, {} if counts is None else counts)
     with Workbench() as w:
-        held.hold(w)
+        p = project_of(w, held.made)
+        if seed % 3:
+            held.hold(p)
+            return held.found
+        with TemporaryDirectory() as folder:
+            w.save(f"{folder}/plan.prop")
+            with Workbench.load(f"{folder}/plan.prop") as other:
+                [again] = other.projects
+                held.check("what is kept", known_of(again), known_of(p))
+                held.hold(again)
     return held.found
+
+
+def known_of(p: Project) -> list[object]:
+    """What a project knows of itself."""
+    tasks = [(str(it), it.kind, it.pauses, dict(it.uses)) for it in p.tasks.values()]
+    said = [(name, p.workbench.model.text(name)) for name in p.workbench.premises]
+    return [p.people, p.days, p.calendar, p.facts, p.limits, p.resources, tasks, said]
 
 
 def plan_in(made: Drawn, p: Project, found: object) -> object:

@@ -533,6 +533,30 @@ class Project:
         """
         self.state(Wished(self.workbench.constraint_of(constraint), under, says))
 
+    @property
+    def goals_made(self) -> list[str | None]:
+        """The cells of the end and of the total cost, where these are there.
+
+        >>> w = Workbench()
+        >>> p = w.project(days=30)
+        >>> venue = p.task("venue", 3)
+        >>> p.end.name, p.goals_made
+        ('end', ['end', None])
+        """
+        cells = self._end, self._total
+        return [it.name if it is not None and self._has(it) else None for it in cells]
+
+    def goals_are(self, cells: Sequence[NumberCell | None]) -> None:
+        """Takes in which cells these are, of a file.
+
+        >>> w = Workbench()
+        >>> p = w.project(days=30)
+        >>> p.goals_are([w.number("end", 0, 30), None])
+        >>> p.end.ask().value
+        Span(low=0, high=30)
+        """
+        self._end, self._total = cells
+
     def given_up(self, weights: "Weights" = None, name: str = "given up") -> NumberCell:
         """A goal: the weight of what is given up of these premises, which are kicked out for that; of
         all wishes, at 1 each, where none are named. The least of it is a best plan over all repairs.
