@@ -2,10 +2,11 @@
 beside what one counts by hand, and trying all starts."""
 
 from itertools import product
+from pathlib import Path
 
 import pytest
 
-from propbench import Workbench, any_of, skilled
+from propbench import NotAWorkbench, Workbench, any_of, skilled
 
 
 @pytest.fixture(autouse=True)
@@ -214,6 +215,41 @@ def test_the_load_of_each_day() -> None:
         assert [each.free for each in loads] == [(), ("ben",), ()]
         assert [each.away for each in loads] == [("ben",), (), ()]
         assert "Mon 2 Mar 2026  wall  away  2 of 2" in str(loads)
+
+
+def test_a_project_is_saved_whole(tmp_path: Path) -> None:
+    path = tmp_path / "plan.prop"
+    with Workbench() as w:
+        off, skills = ["sat", "sun", "2026-03-17"], {"ana": "weld wire", "ben": "weld"}
+        p = w.project(days=40, people="ana ben", start="2026-03-02", off=off, skills=skills)
+        p.resource("lift")
+        wall = p.task("wall", 3, who=skilled("weld"), uses="lift", kind="red")
+        p.task("roof", {"ana": 3, "ben": 6}, who=any_of("ana", "ben"), after=[wall], kind="blue")
+        p.setup("ben", {("red", "blue"): 1})
+        p.away("ana", "2026-03-04", "2026-03-06")
+        p.done_by("2026-03-20", "soon")
+        best = w.least([p.end, p.total_cost])
+        p.today("2026-03-03")
+        p.progress(wall, 4, "2026-03-02", who="ben")
+        now = w.least(p.end)
+        w.save(path)
+        with Workbench.load(path) as other:
+            [again] = other.projects
+            assert again.calendar == p.calendar and again.facts == p.facts
+            assert again.limits == p.limits and again.staffing.skills == p.staffing.skills
+            found = other.least(again.end)
+            assert (found.value, str(found)) == (now.value, str(now))
+            moved = again.schedule(found).since(p.schedule(best))
+            assert [each.task for each in moved] == ["wall", "roof"]
+            again.done(again.tasks["wall"], "2026-03-02", "2026-03-05", who="ben")
+            assert "wall done 2026-03-02 to 2026-03-05" in again.facts
+            with pytest.raises(ValueError, match="add tasks before the end"):
+                again.task("door", 1)
+    text = path.read_text()
+    for old, new in (('"is": "task"', '"is": "tasks"'), ('"task": "wall"', '"task": "hall"')):
+        path.write_text(text.replace(old, new))
+        with pytest.raises(NotAWorkbench):
+            Workbench.load(path)
 
 
 @pytest.mark.parametrize(

@@ -11,9 +11,10 @@ from typing import TYPE_CHECKING
 from propbench.model.cells import NumberCell
 from propbench.model.events import Event
 from propbench.model.expressions import Number, if_else, maximum, minimum, total
+from propbench.model.nodes import TRUE, cells_in
 from propbench.planning.pausing import pieces
 from propbench.planning.resources import KeptWithin, kept_within, work_of
-from propbench.planning.tasks import Away, KeptApart, KeptOff, Task, aways_of
+from propbench.planning.tasks import Away, KeptApart, KeptOff, NotYet, Task, aways_of
 
 if TYPE_CHECKING:
     from propbench.planning.project import Project
@@ -24,6 +25,13 @@ class DaysLost(KeptOff):
     """So many of the days on which somebody is away lie before the end."""
 
     days: tuple[int, int]
+    cell: NumberCell
+
+
+@dataclass(frozen=True)
+class DaysBefore(NotYet):
+    """So many days lie before today, in which nothing is done of what isn't done yet."""
+
     cell: NumberCell
 
 
@@ -40,6 +48,9 @@ def state_end(project: "Project", end: NumberCell) -> None:
         state_bound(project, name, end)
     if any(task.may for task in tasks):
         _state_shares(project, list(tasks))
+    for each in list(project.workbench.network.events):
+        if isinstance(each, NotYet) and each.project is project and each.constraint is TRUE:
+            state_bounds_from(project, each)
 
 
 def state_bounds(project: "Project", names: Iterable[str], end: NumberCell) -> None:
@@ -51,9 +62,45 @@ def state_bounds(project: "Project", names: Iterable[str], end: NumberCell) -> N
 def state_bound(project: "Project", name: str, end: NumberCell) -> None:
     """The work of somebody, or what is used of a resource, with the days off, is done by the end."""
     tasks = [task for task in project.tasks.values() if name in task.needs]
-    if len(tasks) < 2:
+    if len(tasks) > 1:
+        lost = [_lost(project, name, days, end) for days in _days_off(project, name)]
+        _state_work(project, name, (tasks, lost), end)
+
+
+def state_bounds_from(project: "Project", said: NotYet) -> None:
+    """The work of tasks that begin on a day or later is done between that and the end, where there is
+    an end yet."""
+    end, day, events = project.end_made, said.first, project.workbench.network.events
+    if end is None:
         return
-    lost = [_lost(project, name, days, end) for days in _days_off(project, name)]
+    later = [
+        it
+        for each in events
+        if isinstance(each, NotYet)
+        for it in cells_in(each.constraint)
+        if each.project is project and each.premise == said.premise
+    ]
+    made = f"the days before day {day}"
+    while made in project.workbench.network.cells:
+        made += "'"
+    before = project.workbench.number(made, 0, project.days)
+    project.state(
+        DaysBefore((before >= day).node, said.premise, project, said.written, day, before)
+    )
+    tasks = [task for task in project.tasks.values() if task.start.declared in later]
+    for name in (*project.people, *project.resources):
+        own = [task for task in tasks if name in task.needs]
+        if len(own) > 1:
+            off = [it for it in _days_off(project, name) if it[0][0] >= day]
+            lost = [before, *(_lost(project, name, days, end) for days in off)]
+            _state_work(project, name, (own, lost), end)
+
+
+def _state_work(
+    project: "Project", name: str, parts: tuple[Sequence[Task], Sequence[Number]], end: NumberCell
+) -> None:
+    """The work of tasks, and the days in which nothing of it is done, are no more than there are."""
+    tasks, lost = parts
     work = total([_work(task, name) for task in tasks])
     if name in project.people:
         bound = (total([work, *lost]) <= end).node
@@ -66,8 +113,9 @@ def state_bound(project: "Project", name: str, end: NumberCell) -> None:
 
 
 def cells_lost(project: object, events: Iterable[Event]) -> list[NumberCell]:
-    """The cells that count the days off before the end."""
-    found = (each for each in events if isinstance(each, DaysLost) and each.project is project)
+    """The cells that count the days off before the end, and those before today."""
+    kinds = DaysLost, DaysBefore
+    found = (each for each in events if isinstance(each, kinds) and each.project is project)
     return list({each.cell.name: each.cell for each in found}.values())
 
 

@@ -9,7 +9,7 @@ from propbench.model.cells import NumberCell, TruthCell
 from propbench.model.events import Event, Required, Told
 from propbench.model.kinds import Plain
 from propbench.model.nodes import Declared
-from propbench.planning.bounds import DaysLost
+from propbench.planning.bounds import DaysBefore, DaysLost
 from propbench.planning.calendar import Calendar
 from propbench.planning.order import SetUp, TaskLagged
 from propbench.planning.pausing import Paused, TaskSpan
@@ -115,7 +115,8 @@ def _order_parts(event: Event) -> dict[str, object] | None:
     if isinstance(event, TaskBy):
         return {"is": "by", "task": event.task.name, "days": event.days, "says": event.written}
     if isinstance(event, NotYet):
-        return {"is": "today", "says": event.written, "first": event.first}
+        more = {"cell": event.cell.name} if isinstance(event, DaysBefore) else {}
+        return {"is": "today", "says": event.written, "first": event.first, **more}
     return None
 
 
@@ -174,9 +175,7 @@ class Restored:
             "by": lambda it, note: TaskBy(
                 *_of(it), self._own(note), self._named(note), note["days"], note["says"]
             ),
-            "today": lambda it, note: NotYet(
-                *_of(it), self._own(note), note["says"], note["first"]
-            ),
+            "today": self._today,
         }
 
     def event(self, event: Event, note: Note | None) -> Event:
@@ -252,6 +251,10 @@ class Restored:
         first, last = note["days"]
         away, cell = Away(*note["away"]), self._number(note["cell"])
         return DaysLost(*_of(event), away, self._own(note), (first, last), cell)
+
+    def _today(self, event: Required, note: Note) -> Required:
+        own = *_of(event), self._own(note), note["says"], note["first"]
+        return DaysBefore(*own, self._number(note["cell"])) if "cell" in note else NotYet(*own)
 
     def _paused(self, event: Required, note: Note) -> Required:
         away, cell = Away(*note["away"]), self._truth(note["cell"])

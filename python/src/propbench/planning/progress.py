@@ -6,6 +6,7 @@ from typing import TYPE_CHECKING, SupportsIndex
 from propbench.model.cells import Cell, NumberCell
 from propbench.model.given import values_of
 from propbench.model.nodes import TRUE
+from propbench.planning.bounds import state_bounds_from
 from propbench.planning.pausing import days_worked
 from propbench.planning.tasks import (
     NotYet,
@@ -158,11 +159,13 @@ def state_today(project: "Project", day: int, premise: str) -> None:
 
     def state() -> None:
         # (where all is done or under way, it is known what day it is)
-        w.network.do(NotYet(TRUE, premise, project, written, day))
+        said = NotYet(TRUE, premise, project, written, day)
+        w.network.do(said)
         for name, task in project.tasks.items():
             if name not in done:
                 node = (task.start >= day).node
                 w.network.do(NotYet(node, premise, project, written, day))
+        state_bounds_from(project, said)
 
     if before is not None and before[1] == premise:
         w.forget(premise)

@@ -543,8 +543,18 @@ class Project:
         >>> p.end.name, p.goals_made
         ('end', ['end', None])
         """
-        cells = self._end, self._total
+        cells = self.end_made, self._total
         return [it.name if it is not None and self._has(it) else None for it in cells]
+
+    @property
+    def end_made(self) -> NumberCell | None:
+        """The cell of the end, None where it wasn't asked for.
+
+        >>> w = Workbench()
+        >>> w.project(days=30).end_made is None
+        True
+        """
+        return self._end if self._end is not None and self._has(self._end) else None
 
     def goals_are(self, cells: Sequence[NumberCell | None]) -> None:
         """Takes in which cells these are, of a file.
@@ -902,8 +912,8 @@ class Project:
                 self.state(KeptOff(TRUE, away.premise, away, self))
 
         def bound() -> None:
-            if self._end is not None and self._has(self._end):
-                state_bounds(self, [away.person for away in aways], self._end)
+            if self.end_made is not None:
+                state_bounds(self, [away.person for away in aways], self.end_made)
 
         if theirs:
             keep_off(self, theirs, aways, bound)
@@ -919,7 +929,7 @@ class Project:
         return made
 
     def _made_end(self) -> NumberCell:
-        made = self.workbench.number("end", 0, self.days)
+        self._end = made = self.workbench.number("end", 0, self.days)
         if self.tasks:
             state_end(self, made)
         return made
