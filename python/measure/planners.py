@@ -3,8 +3,8 @@ absences, talks in a hall, and nurses' rosters with rules of rest and wishes tha
 
 usage: python3 planners.py [SEEDS] [SECONDS] [skills|absences|halls|rosters ..]
 
-Each line tells the best that was found, whether that is proved, and what it took. The program is the
-one that a workbench finds.
+Each line tells the best that was found, whether that is proved, and what it took. The program is
+the one that a workbench finds.
 """
 
 import random
@@ -108,8 +108,8 @@ def roster_of(seed: int, nurses: int = 10, days: int = 14) -> Asked:
 
 
 def _rests(w: Workbench, row: list[ElementCell]) -> None:
-    """Behind a late shift there is no early one, and behind a night one nothing but a night or a day
-    off; of seven days five are worked at the most, and three nights."""
+    """Behind a late shift there is no early one, and behind a night one nothing but a night or a
+    day off; of seven days five are worked at the most, and three nights."""
     may = [(one, other) for one in SHIFTS for other in SHIFTS if _may_follow(one, other)]
     for one, other in zip(row, row[1:]):
         w.require(pairs(one, other, may))

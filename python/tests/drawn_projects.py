@@ -1,6 +1,6 @@
 """Small projects that are drawn with all that a plan may have, beside a plain search of all starts,
-ways, people and pauses: absences, calendars, order, lags, setups, groups, resources, pay by the day,
-what was done and what is left of it, wishes with weights, and plans with few changes.
+ways, people and pauses: absences, calendars, order, lags, setups, groups, resources, pay by the
+day, what was done and what is left of it, wishes with weights, and plans with few changes.
 
 By hand: python3 tests/drawn_projects.py FIRST COUNT, which tells each project that differs.
 """
@@ -27,8 +27,8 @@ _KINDS = ("red", "blue")
 
 @dataclass(frozen=True)
 class DrawnTask:
-    """A task: its ways of days and cost, or the days of each; who does it, and so many of others, and
-    so many of a second group; and how much it uses of the hall."""
+    """A task: its ways of days and cost, or the days of each; who does it, and so many of others,
+    and so many of a second group; and how much it uses of the hall."""
 
     ways: tuple[tuple[int, int], ...]
     people: tuple[str, ...]
@@ -46,9 +46,9 @@ class DrawnTask:
 @dataclass
 class Drawn:
     """A project: tasks, lags as (earlier, later, least, most, of), absences as (premise, person,
-    first, last), wishes as (premise, sort, task, day), and days between kinds by people. Of the hall
-    there is so much, `pay` is by the day, and `done` are tasks with their first day and their end, or
-    with the days that are `left` of them behind `today`."""
+    first, last), wishes as (premise, sort, task, day), and days between kinds by people. Of the
+    hall there is so much, `pay` is by the day, and `done` are tasks with their first day and their
+    end, or with the days that are `left` of them behind `today`."""
 
     seed: int
     days: int
@@ -363,9 +363,9 @@ def broken(made: Drawn, plan: Sequence[Done]) -> frozenset[str] | None:
 
 @dataclass
 class Known:
-    """What a search of all plans finds: those that fit, by their ends and costs, when the last task is
-    done, the sets of premises that are broken, each with the ends of such plans, the least of these
-    sets, and the least sets of which each has one of all of them."""
+    """What a search of all plans finds: those that fit, by their ends and costs, when the last task
+    is done, the sets of premises that are broken, each with the ends of such plans, the least of
+    these sets, and the least sets of which each has one of all of them."""
 
     plans: dict[tuple[int, int], list[tuple[Done, ...]]]
     days: set[tuple[int, int]]
@@ -610,8 +610,8 @@ class Held:
 
 
 def moved(entry: Entry, done: Done) -> int:
-    """Whether a task is done at another time than in a schedule, and whether by others or in another
-    way, of which each counts."""
+    """Whether a task is done at another time than in a schedule, and whether by others or in
+    another way, of which each counts."""
     is_then = (entry.start, entry.end) == (done.start, done.end)
     way = (entry.days, (entry.cost or 0) - entry.paid) if entry.way else None
     own = (done.days, done.own) if entry.way else None

@@ -161,7 +161,8 @@ def test_a_pause_is_told_of_the_chain(p: Project) -> None:
 
 
 def test_how_far_work_can_move(p: Project) -> None:
-    """Letters take days 0, 1 and 5, or all behind the leave: they can begin on days 0, 1 and 5 to 7."""
+    """Letters take days 0, 1 and 5, or all behind the leave: they can begin on days 0, 1 and 5 to
+    7."""
     p.task("letters", 3, who="ana")
     p.task("review", 10, who="ben")
     p.away("ana", 2, 5)
@@ -197,8 +198,8 @@ def test_what_is_refused_leaves_nothing(p: Project) -> None:
 
 
 def test_what_there_is_no_room_for_is_gone(wide: str, monkeypatch: pytest.MonkeyPatch) -> None:
-    """Absences that are told of in the end are told to the program with the next question: where that
-    has no room for them, all is as it was before them."""
+    """Absences that are told of in the end are told to the program with the next question: where
+    that has no room for them, all is as it was before them."""
     with Workbench(wide) as w:
         p = w.project(days=30, people="ana")
         p.task("venue", 5, who="ana")
@@ -212,7 +213,7 @@ def test_what_there_is_no_room_for_is_gone(wide: str, monkeypatch: pytest.Monkey
 
         with monkeypatch.context() as patch:
             patch.setattr(Session, "replay", refused)
-            with pytest.raises(ValueError, match="no room for so many .* what was said last is gone"):
+            with pytest.raises(ValueError, match="no room for .* what was said last is gone"):
                 w.least(p.end)
         assert w.premises == ("venue takes 5", "ana does one thing at a time")[: len(w.premises)]
         assert w.least(p.end).value == 5

@@ -1,5 +1,5 @@
-"""Resources that several tasks use at once, groups of people, pay by the day, and what is left to do:
-beside what one counts by hand, and trying all starts."""
+"""Resources that several tasks use at once, groups of people, pay by the day, and what is left to
+do: beside what one counts by hand, and trying all starts."""
 
 from itertools import product
 from pathlib import Path

@@ -295,7 +295,8 @@ def test_whoever_suits_best(ran: Ran, tmp_path: Path) -> None:
 
 
 SITE = (
-    "task,days,who,uses,after,left,started\nwalls,4,skilled in masonry; skilled in wiring,2 crew,,,\n"
+    "task,days,who,uses,after,left,started\n"
+    "walls,4,skilled in masonry; skilled in wiring,2 crew,,,\n"
     "roof,3,ben,crew; lift,walls,,\ndoors,2,ana,lift,,,\nwindows,2,cem,lift,,,\n"
 )
 PEOPLE_OF_SITE = (
@@ -305,8 +306,8 @@ PEOPLE_OF_SITE = (
 
 
 def test_resources(ran: Ran, tmp_path: Path) -> None:
-    """Ana and Ben make the walls in 4 days, and meanwhile Cem has the lift. Then Ben makes the roof in
-    3, and Ana the doors in 2, one behind the other, as there is one lift: so all takes 9."""
+    """Ana and Ben make the walls in 4 days, and meanwhile Cem has the lift. Then Ben makes the roof
+    in 3, and Ana the doors in 2, one behind the other, as there is one lift: so all takes 9."""
     (tmp_path / "tasks.csv").write_text(SITE)
     (tmp_path / "people.csv").write_text(PEOPLE_OF_SITE)
     status, out, err = ran(tmp_path, "--csv", tmp_path / "out.csv", "--why")
@@ -522,8 +523,8 @@ WRONG = [
     ("tasks.csv", "task,days,uses\na,1,2 lifts\n", "(uses): there is 1 of `lifts`: write how many"),
     ("people.csv", "person,holds\nAna,\nlift,0\n", "row 3, column B (holds): `0` is not a whole"),
     ("people.csv", "person,holds\nAna,2\n", "tasks, row 2, column C (who): no person is called"),
-    ("people.csv", "person,holds,skills\nlift,2,going up\n", "(skills): what `holds` so many is no"),
-    ("people.csv", "person,cost\nAna,much\n", "row 2, column B (cost): `much` is not a whole number"),
+    ("people.csv", "person,holds,skills\nlift,2,up\n", "(skills): what `holds` so many is no"),
+    ("people.csv", "person,cost\nAna,much\n", "row 2, column B (cost): `much` is not a whole"),
     (
         "tasks.csv",
         "task,days,started,finished\na,1,3,2\n",

@@ -152,7 +152,7 @@ class Network:
         """Has these events take the place of all that is stated, and then what a function states;
         or all is as it was before. The premises stay as they are. (The program is told all of it
         with the next use, so that what is restated several times is told once.)"""
-        before = self._record
+        before, was_stating = self._record, self._is_stating
         try:
             self._is_stating, self._record = True, before.with_events(list(events))
             self._index = Index(self._record)
@@ -165,7 +165,7 @@ class Network:
             self._record = before
             raise
         finally:
-            self._is_stating = False
+            self._is_stating = was_stating
 
     def kick(self, premise: str) -> None:
         """A premise is no longer believed."""

@@ -60,7 +60,7 @@ def state_bounds(project: "Project", names: Iterable[str], end: NumberCell) -> N
 
 
 def state_bound(project: "Project", name: str, end: NumberCell) -> None:
-    """The work of somebody, or what is used of a resource, with the days off, is done by the end."""
+    """The work of somebody, or what is used of a resource, and the days off lie before the end."""
     tasks = [task for task in project.tasks.values() if name in task.needs]
     if len(tasks) > 1:
         lost = [_lost(project, name, days, end) for days in _days_off(project, name)]
@@ -68,8 +68,8 @@ def state_bound(project: "Project", name: str, end: NumberCell) -> None:
 
 
 def state_bounds_from(project: "Project", said: NotYet) -> None:
-    """The work of tasks that begin on a day or later is done between that and the end, where there is
-    an end yet."""
+    """The work of tasks that begin on a day or later is done between that and the end, where there
+    is an end yet."""
     end, day, events = project.end_made, said.first, project.workbench.network.events
     if end is None:
         return
@@ -99,7 +99,7 @@ def state_bounds_from(project: "Project", said: NotYet) -> None:
 def _state_work(
     project: "Project", name: str, parts: tuple[Sequence[Task], Sequence[Number]], end: NumberCell
 ) -> None:
-    """The work of tasks, and the days in which nothing of it is done, are no more than there are."""
+    """The work of tasks, and the days in which nothing is done, are no more than there are."""
     tasks, lost = parts
     work = total([_work(task, name) for task in tasks])
     if name in project.people:

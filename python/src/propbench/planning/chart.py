@@ -136,7 +136,8 @@ def _days(schedule: Schedule, days: int, height: int) -> list[str]:
 
 def _row(schedule: Schedule, entry: Entry, room: tuple[int, int] | None, top: int) -> list[str]:
     """The bar of a task, its room, and its name."""
-    who = f" ({', '.join(entry.people)})" if entry.people else ""
+    names = (*entry.people, *entry.used)
+    who = f" ({', '.join(names)})" if names else ""
     told = printable(f"{entry.task}{who}")
     says = f"{escape(told)}: {_when(schedule, entry.start, entry.end)}"
     label = told if len(told) <= _LETTERS else f"{told[: _LETTERS - 1]}\u2026"
@@ -157,8 +158,9 @@ def _row(schedule: Schedule, entry: Entry, room: tuple[int, int] | None, top: in
     ]:
         says += f"; it starts when {escape(listed(back))} is back"
     colour = "#555555"
-    if entry.people:
-        colour = _COLOURS[schedule.people.index(entry.people[0]) % len(_COLOURS)]
+    if entry.needs:
+        known = (*schedule.people, *schedule.staff.resources)
+        colour = _COLOURS[known.index(entry.needs[0]) % len(_COLOURS)]
     if entry.pauses:
         parts.append(_bar(entry.start, entry.end, top + 11, 2, colour, ""))
     return [*parts, *(_bar(*part, top + 4, 16, colour, says) for part in entry.parts)]

@@ -1,5 +1,5 @@
-"""What makes a project of a file's events: notes beside them, which say of what is stated which task
-it is about, who is away, what was wished for."""
+"""What makes a project of a file's events: notes beside them, which say of what is stated which
+task it is about, who is away, what was wished for."""
 
 from collections.abc import Callable, Mapping, Sequence
 from datetime import date

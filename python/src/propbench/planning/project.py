@@ -147,8 +147,8 @@ class Project:
     @property
     def limits(self) -> tuple[str, ...]:
         """The premises that people do one thing at a time, of whoever has two tasks, and that a
-        resource holds so much: as `ana does one thing at a time`, `hall holds 2`. Where one is given
-        up, somebody has to help her, or there has to be more.
+        resource holds so much: as `ana does one thing at a time`, `hall holds 2`. Where one is
+        given up, somebody has to help her, or there has to be more.
 
         >>> w = Workbench()
         >>> p = w.project(days=30, start="2026-03-02", off="sat sun", people="ana")
@@ -197,10 +197,10 @@ class Project:
         return premise
 
     def pays(self, name: str, cost: int, under: str | None = None) -> str:
-        """A person, or each of a resource, costs so much for a day of work on a task, beside what the
-        task costs; the premise of that, which is one of `facts`, and named `ana costs 300 a day`
-        where no name is given. Raises ValueError for somebody else, where that was said, for less
-        than nothing, and where the total cost was asked for before.
+        """A person, or each of a resource, costs so much for a day of work on a task, beside what
+        the task costs; the premise of that, which is one of `facts`, and named `ana costs 300 a
+        day` where no name is given. Raises ValueError for somebody else, where that was said, for
+        less than nothing, and where the total cost was asked for before.
 
         >>> w = Workbench()
         >>> p = w.project(days=30, people="ana ben")
@@ -245,9 +245,9 @@ class Project:
 
         `who` does it, one person or all of several, or whoever suits best: `any_of("ana", "ben")`,
         `skilled("welding")`, each in days of his own by `days={"ana": 3, "ben": 5}`. `after` are
-        tasks that have to be done before. Work `pauses` while somebody is away who does it; an event
-        doesn't: it ends before, or begins behind. A `kind` is what `p.setup` speaks of, and `uses`
-        is how much it takes of what `p.resource` told.
+        tasks that have to be done before. Work `pauses` while somebody is away who does it; an
+        event doesn't: it ends before, or begins behind. A `kind` is what `p.setup` speaks of, and
+        `uses` is how much it takes of what `p.resource` told.
 
         What it takes, and that it comes after these, is stated under premises with names such as
         `review takes 5` and `review after venue`, or all of it `under` one. Raises ValueError where
@@ -292,9 +292,9 @@ class Project:
     def away(self, person: str, first: Day, last: Day, under: str | None = None) -> str:
         """A person does nothing from the beginning of one day to the beginning of another; the
         premise of that, which is named `ana away 5 to 10` where no name is given. Days are numbers,
-        or dates where the plan has a calendar. Work pauses meanwhile, and events end before or begin
-        behind. Where all of these days are off anyway, nothing more is stated. Raises ValueError for
-        somebody else, and for a return before the leave.
+        or dates where the plan has a calendar. Work pauses meanwhile, and events end before or
+        begin behind. Where all of these days are off anyway, nothing more is stated. Raises
+        ValueError for somebody else, and for a return before the leave.
 
         >>> w = Workbench()
         >>> p = w.project(days=30, people="ana")
@@ -321,9 +321,9 @@ class Project:
         return away.premise
 
     def works(self, person: str, weekdays: str | Sequence[str], under: str | None = None) -> str:
-        """A person works on these weekdays alone; the premise of that, which is named `ana works mon
-        tue` where no name is given. Raises ValueError where the plan has no dates, and for another
-        weekday.
+        """A person works on these weekdays alone; the premise of that, which is named `ana works
+        mon tue` where no name is given. Raises ValueError where the plan has no dates, and for
+        another weekday.
 
         >>> w = Workbench()
         >>> p = w.project(days=30, people="ana", start="2026-03-02", off="sat sun")
@@ -356,9 +356,9 @@ class Project:
         under: str | None = None,
     ) -> str:
         """So many days pass, at least and at the most, from the end of a task to the start of
-        another, or from its start by `of="start"`; the premise of that, which is one of `facts`, and
-        named `review 2 to 5 after venue` where no name is given. Raises ValueError for no such days,
-        and TypeError.
+        another, or from its start by `of="start"`; the premise of that, which is one of `facts`,
+        and named `review 2 to 5 after venue` where no name is given. Raises ValueError for no such
+        days, and TypeError.
 
         >>> w = Workbench()
         >>> p = w.project(days=30)
@@ -383,7 +383,8 @@ class Project:
     def setup(self, person: str, times: Times, under: str | None = None) -> str:
         """Between any task of one `kind` and any of another behind it, both of somebody or of a
         machine, there are so many days: `{("red", "blue"): 2}`; the premise of that, which is named
-        `press is set up` where no name is given. Raises ValueError and TypeError for what says none.
+        `press is set up` where no name is given. Raises ValueError and TypeError for what says
+        none.
 
         >>> w = Workbench()
         >>> p = w.project(days=30, people="press")
@@ -450,9 +451,9 @@ class Project:
         who: str | Sequence[str] | None = None,
     ) -> str:
         """A task was done, from the beginning of one day to that of another, however long it was to
-        take, and by these of whom who might; the premise of that, which is one of `facts`, and named
-        `venue done 2 to 5` where no name is given. Of a task with several ways one has to take so
-        long: else ValueError, as for people who don't do it.
+        take, and by these of whom who might; the premise of that, which is one of `facts`, and
+        named `venue done 2 to 5` where no name is given. Of a task with several ways one has to
+        take so long: else ValueError, as for people who don't do it.
 
         >>> w = Workbench()
         >>> p = w.project(days=30, start="2026-03-02", off="sat sun", people="ana")
@@ -480,8 +481,8 @@ class Project:
         who: str | Sequence[str] | None = None,
     ) -> str:
         """A task is under way, and so many days of work are left of it from today on, which has to
-        be said before; in place of what was said of it earlier. The premise of that, which is one of
-        `facts`, and named `venue has 2 days left` where no name is given. It began on a day, or
+        be said before; in place of what was said of it earlier. The premise of that, which is one
+        of `facts`, and named `venue has 2 days left` where no name is given. It began on a day, or
         today, where the days before don't matter; and these do it, of whom who might. Raises
         ValueError for such days and people as can't be, and TypeError.
 
@@ -503,8 +504,8 @@ class Project:
         return by.premise
 
     def today(self, day: Day, under: str | None = None) -> str:
-        """What isn't done begins today or later; the premise of that, in place of that of an earlier
-        day. Say first what was done.
+        """What isn't done begins today or later; the premise of that, in place of that of an
+        earlier day. Say first what was done.
 
         >>> w = Workbench()
         >>> p = w.project(days=30, start="2026-03-02", off="sat sun", people="ana")
@@ -521,8 +522,8 @@ class Project:
         return premise
 
     def wish(self, constraint: Truth, under: str, says: str) -> None:
-        """States a constraint under a premise, which is told in these words where somebody asks what
-        it says.
+        """States a constraint under a premise, which is told in these words where somebody asks
+        what it says.
 
         >>> w = Workbench()
         >>> p = w.project(days=30, start="2026-03-02", off="sat sun", people="ana")
@@ -568,9 +569,9 @@ class Project:
         self._end, self._total = cells
 
     def given_up(self, weights: "Weights" = None, name: str = "given up") -> NumberCell:
-        """A goal: the weight of what is given up of these premises, which are kicked out for that; of
-        all wishes, at 1 each, where none are named. The least of it is a best plan over all repairs.
-        Raises ValueError for what is no premise or no weight, and TypeError.
+        """A goal: the weight of what is given up of these premises, which are kicked out for that;
+        of all wishes, at 1 each, where none are named. The least of it is a best plan over all
+        repairs. Raises ValueError for what is no premise or no weight, and TypeError.
 
         >>> w = Workbench()
         >>> p = w.project(days=30, people="ana")
@@ -662,8 +663,8 @@ class Project:
         return self.calendar.date_of(day)
 
     def schedule(self, plan: Planned | Plan) -> "Schedule":
-        """A plan of the project as a schedule: of what `w.least(p.end)` or `w.solve()` gives, or one
-        of its plans. `w.least(p.end)` prints as one anyway where there is no other project.
+        """A plan of the project as a schedule: of what `w.least(p.end)` or `w.solve()` gives, or
+        one of its plans. `w.least(p.end)` prints as one anyway where there is no other project.
 
         >>> w = Workbench()
         >>> p = w.project(days=30, start="2026-03-02", off="sat sun", people="ana")

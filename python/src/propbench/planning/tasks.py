@@ -31,8 +31,8 @@ class Way:
 class Task:
     """A task. Its cells can be asked, and may stand in constraints as any others: it is done from
     the beginning of the day `start` to the beginning of the day `end`, `days` later, and more where
-    it `pauses`. All of its `people` do it, and a `number` of those who `may`, of whom each has a truth
-    that says whether they do. It `uses` so much of each resource.
+    it `pauses`. All of its `people` do it, and a `number` of those who `may`, of whom each has a
+    truth that says whether they do. It `uses` so much of each resource.
 
     >>> w = Workbench()
     >>> p = w.project(days=30)
@@ -203,8 +203,8 @@ class Wished(Required):
 
 @dataclass(frozen=True)
 class Away:
-    """Somebody does nothing from the beginning of one day to that of another, under a premise; these
-    are the days of `written`."""
+    """Somebody does nothing from the beginning of one day to that of another, under a premise;
+    these are the days of `written`."""
 
     person: str
     first: int

@@ -46,8 +46,8 @@ def any_of(*given: int | str | Iterable[str]) -> AnyOf:
 
 
 def skilled(*given: int | str | Iterable[str]) -> Skilled:
-    """One of those people who have a skill, or all of several skills, whoever suits best; or so many
-    of them, with the number in front. Raises as `any_of`.
+    """One of those people who have a skill, or all of several skills, whoever suits best; or so
+    many of them, with the number in front. Raises as `any_of`.
 
     >>> w = Workbench()
     >>> p = w.project(days=30, people="ana ben", skills={"ana": "welding", "ben": "wiring"})
@@ -75,8 +75,8 @@ def _several(what: str, given: Sequence[object]) -> tuple[int, tuple[str, ...] |
 
 @dataclass(frozen=True)
 class Doers:
-    """Who does a task: all of these `people`, and so many of each of some `groups`. Who is in several
-    of them stands for one."""
+    """Who does a task: all of these `people`, and so many of each of some `groups`. Who is in
+    several of them stands for one."""
 
     people: tuple[str, ...] = ()
     groups: tuple[tuple[int, tuple[str, ...]], ...] = ()
@@ -150,8 +150,8 @@ class Staffing:
 def _settled(
     task: str, people: tuple[str, ...], groups: Sequence[tuple[int, tuple[str, ...]]]
 ) -> Doers:
-    """These people, and so many of each group, who are none of them. Where all of a group are needed,
-    these are people too. Raises ValueError where there aren't so many."""
+    """These people, and so many of each group, who are none of them. Where all of a group are
+    needed, these are people too. Raises ValueError where there aren't so many."""
     left: list[tuple[int, tuple[str, ...]]] = []
     for place, (number, names) in enumerate(groups):
         others = tuple(each for each in names if each not in people)
@@ -180,8 +180,8 @@ def _has_groups(who: object) -> bool:
 
 
 def speeds_given(task: str, days: Mapping[str, int], doers: Doers) -> dict[str, int]:
-    """How many days each takes who may do a task. Raises ValueError where somebody lacks, or several
-    do it, and TypeError for what is no whole number."""
+    """How many days each takes who may do a task. Raises ValueError where somebody lacks, or
+    several do it, and TypeError for what is no whole number."""
     if doers.number != 1 or doers.people or len(doers.groups) > 1:
         raise ValueError(
             f"{printable(task)}: days of each are for a task that one of several does: "

@@ -2,8 +2,8 @@
 both, each with a plan.
 
 The least of the first goal is found, and the least of the second beside it; then the same among the
-plans that are better in the second, until there are none. So each step that is proved leaves nothing
-in between.
+plans that are better in the second, until there are none. So each step that is proved leaves
+nothing in between.
 """
 
 import os
@@ -21,9 +21,9 @@ from propbench.showing import printable
 
 
 class TradeOff(Shown, list[Optima]):
-    """Plans of which none is as good in both of two cells as another and better in one, by the first
-    cell; these are all there are where it is `complete`, by what the premises `because` say. `pairs`
-    are their values. Where there was no time, the last may not be `proved`.
+    """Plans of which none is as good in both of two cells as another and better in one, by the
+    first cell; these are all there are where it is `complete`, by what the premises `because` say.
+    `pairs` are their values. Where there was no time, the last may not be `proved`.
 
     >>> w = Workbench()
     >>> x, y = w.number("x", 1, 9), w.number("y", 1, 9)
@@ -54,9 +54,10 @@ class TradeOff(Shown, list[Optima]):
 
     @property
     def certificates(self) -> tuple[Certificate, ...]:
-        """A certificate of each step, which together show that there are no others: the least of the
-        first cell, the least of the second beside it, and so on among plans that are better in the
-        second, until nothing fits. What was found before is told in each by a premise `the best ..`.
+        """A certificate of each step, which together show that there are no others: the least of
+        the first cell, the least of the second beside it, and so on among plans that are better in
+        the second, until nothing fits. What was found before is told in each by a premise `the best
+        ..`.
 
         >>> w = Workbench()
         >>> x, y = w.number("x", 0, 9), w.number("y", 0, 9)
