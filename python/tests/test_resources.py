@@ -173,6 +173,16 @@ def test_days_off_count_in_what_is_left() -> None:
         assert best.plan is not None and best.plan["wall days"] == 5 and best.value == 11
 
 
+def test_days_off_before_the_plan_count_for_nothing() -> None:
+    with Workbench() as w:
+        p = w.project(days=9, people="ana")
+        p.task("one", 3, who="ana")
+        p.task("two", 3, who="ana")
+        p.away("ana", -2, 2)
+        p.away("ana", 8, 20)
+        assert w.least(p.end).value == 8
+
+
 def test_the_weight_of_what_is_given_up() -> None:
     with Workbench() as w:
         p = w.project(days=20, people="ana")

@@ -149,8 +149,8 @@ def _days_off(project: "Project", name: str) -> list[tuple[tuple[int, int], list
     found: list[tuple[tuple[int, int], list[Away]]] = []
     for first, last in pieces(aways):
         by = [it for it in aways if it.first <= first and last <= it.last]
-        if by and first < project.days:
-            found.append(((first, last), by))
+        if by and max(first, 0) < min(last, project.days):
+            found.append(((max(first, 0), last), by))
     return found
 
 
