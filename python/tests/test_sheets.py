@@ -351,6 +351,8 @@ def test_wishes_are_traded(ran: Ran, tmp_path: Path) -> None:
     lines = [line.split() for line in out.split("\n")]
     # (b first at 5: `first` and `late` are given up; at 8 a waits, and only `first` is)
     assert lines[2][:2] == ["5", "6"] and lines[3][:2] == ["8", "2"]
+    assert "At end 5 and wishes 6: without first and late." in out
+    assert "At end 8 and wishes 2: without first." in out
 
 
 def test_a_trade_off(ran: Ran, tmp_path: Path) -> None:

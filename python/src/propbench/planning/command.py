@@ -65,7 +65,7 @@ def plan_file(path: str, asked: Asked, program: str | None) -> int:
         elif asked.gives_up:
             print("All fits: nothing has to be given up.")
         if goals:
-            _trade(w, goals, asked)
+            _trade(plan, goals, asked)
             return 0
         _tell(plan.project, best, Path(path).stem, asked)
         for text in asked.what_ifs:
@@ -73,11 +73,16 @@ def plan_file(path: str, asked: Asked, program: str | None) -> int:
     return 0
 
 
-def _trade(w: Workbench, goals: Sequence[CellLike], asked: Asked) -> None:
+def _trade(plan: Plan, goals: Sequence[CellLike], asked: Asked) -> None:
     """Tells what one goal costs the other, and writes it."""
     first, second = goals
-    found = w.trade_off(first, second, seconds=asked.seconds)
+    found = plan.project.workbench.trade_off(first, second, seconds=asked.seconds)
     print(shown(str(found)))
+    if "wishes" in asked.goals:
+        for (one, other), each in zip(found.pairs, found):
+            lost = plan.wishes_lost(each.plan or {})
+            says = f"without {listed(lost)}" if lost else "with all that is wished for"
+            print(shown(f"At {found.cells[0]} {one} and {found.cells[1]} {other}: {says}."))
     writers = {"csv": found.to_csv, "svg": found.to_svg}
     for what, file in asked.files.items():
         writers[what](file)

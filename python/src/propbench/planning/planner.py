@@ -4,6 +4,7 @@ from collections.abc import Callable, Iterable, Mapping, Sequence
 from dataclasses import dataclass
 
 from propbench.model.cells import NumberCell
+from propbench.model.kinds import Point
 from propbench.planning.bounds import limit_of
 from propbench.planning.brief import LEAVE, Brief, Job, Wish
 from propbench.planning.project import Project
@@ -30,6 +31,11 @@ class Plan:
     def weights_of(self, premises: Iterable[str]) -> dict[str, float]:
         """The weights of those of these premises that have one."""
         return {name: self.weights[name] for name in premises if name in self.weights}
+
+    def wishes_lost(self, found: Mapping[str, Point]) -> list[str]:
+        """The wishes that a plan doesn't keep."""
+        kept = self.project.workbench.model.held(found)
+        return [name for name in self.wishes if name not in kept]
 
 
 def plan_of(workbench: Workbench, brief: Brief, spare: int = 0) -> Plan:
