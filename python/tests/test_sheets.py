@@ -327,6 +327,9 @@ def test_resources(ran: Ran, tmp_path: Path) -> None:
     status, out, _ = ran(tmp_path, "--give-up")
     assert status == 0 and "Without soon:" in out
     assert "lift holds 1" in out and "ana does one thing at a time" in out
+    (tmp_path / "wishes.csv").write_text("wish,latest,weight\nsoon,7,9\n")
+    status, out, _ = ran(tmp_path, "--give-up")
+    assert "The first of these takes more of lift.\nWithout lift holds 1:" in out
 
 
 def test_what_is_left(ran: Ran, tmp_path: Path) -> None:

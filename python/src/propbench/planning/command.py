@@ -6,7 +6,7 @@ from pathlib import Path
 
 from propbench.planning.brief import Given
 from propbench.planning.exports import ENDINGS, check_ending
-from propbench.planning.planner import Plan, best_of, goals_of, plan_of
+from propbench.planning.planner import Plan, best_of, goals_of, plan_of, taking
 from propbench.planning.project import Project
 from propbench.planning.reading import brief_of
 from propbench.planning.schedule import Schedule
@@ -117,6 +117,8 @@ def _is_mended(plan: Plan, best: Optimum | Optima, asked: Asked) -> bool:
     print(shown(str(w.conflicts(keep=facts, seconds=asked.seconds))))
     repairs = w.repairs(plan.weights_of(w.premises), keep=facts, seconds=asked.seconds)
     print(shown(str(repairs)))
+    if repairs and (wanted := taking(plan.project, repairs[0])):
+        print(shown(f"The first of these takes {listed(wanted)}."))
     if not repairs or not asked.gives_up:
         if repairs:
             print("With --give-up the first of these is given up.")

@@ -8,8 +8,8 @@ from propbench.model.kinds import Point
 from propbench.planning.bounds import limit_of
 from propbench.planning.brief import LEAVE, Brief, Job, Wish
 from propbench.planning.project import Project
-from propbench.planning.resources import rates_of
-from propbench.planning.tasks import Option, Task
+from propbench.planning.resources import KeptWithin, rates_of
+from propbench.planning.tasks import KeptApart, KeptOff, Option, Task
 from propbench.questions.asking import CellLike
 from propbench.questions.bounding import Optimum
 from propbench.questions.goals import Optima
@@ -154,6 +154,20 @@ def given_up(plan: Plan) -> NumberCell:
             raise ValueError(f"{name}: weights are added up here, so each is a whole number, as 2")
         weights[name] = int(plan.weights[name])
     return plan.project.given_up(weights, "wishes")
+
+
+def taking(project: Project, premises: Iterable[str]) -> list[str]:
+    """What it takes to give up these premises, of those that say who there is and what."""
+    stated = project.workbench.network.premises.statements
+    found: dict[str, None] = {}
+    for each in (it for name in premises for it in stated[name]):
+        if isinstance(each, KeptApart):
+            found[f"somebody to help {each.person}"] = None
+        elif isinstance(each, KeptWithin):
+            found[f"more of {each.resource}"] = None
+        elif isinstance(each, KeptOff):
+            found[f"{each.away.person} to be there {each.away.written}"] = None
+    return list(found)
 
 
 def goals_of(plan: Plan, goals: Sequence[str]) -> list[CellLike]:
