@@ -237,12 +237,13 @@ def lengths_of(made: Drawn, at: int, who: frozenset[str]) -> list[tuple[int, int
     """The days that a task may take where these do it, with its cost."""
     task = made.tasks[at]
     cost = task.ways[0][1]
-    told = told_of(made, at)
-    if told is not None:
-        days = told[1]
-        is_one = not task.speeds or days not in task.speeds
-        by = [it for it, each in zip(task.others, task.speeds) if each == days]
-        return [(days, cost)] if is_one or any(it in who for it in by) else []
+    told, planned = told_of(made, at), task.speeds or [days for days, _ in task.ways]
+    if told is not None and told[1] not in planned:
+        # (what was done takes as long as it did, and what is under way as long as is told)
+        return [(days, cost) for days in ([told[1]] if at in made.left else range(made.days + 1))]
+    if told is not None and at in made.left:
+        by = [it for it, each in zip(task.others, task.speeds) if each == told[1]]
+        return [(told[1], cost)] if not task.speeds or any(it in who for it in by) else []
     if task.speeds:
         return [(days, cost) for it, days in zip(task.others, task.speeds) if it in who]
     return list(task.ways)
