@@ -1,7 +1,7 @@
 """Plans as planners have them, drawn by seed: tasks of people with several skills, tasks among
 absences, talks in a hall, and nurses' rosters with rules of rest and wishes that have weights.
 
-usage: python3 planners.py [SEEDS] [SECONDS] [skills|absences|halls|rosters ..]
+usage: python3 planners.py [SEEDS] [SECONDS] [skills|absences|either|halls|rosters ..]
 
 Each line tells the best that was found, whether that is proved, and what it took. The program is
 the one that a workbench finds.
@@ -54,20 +54,30 @@ def skills_of(seed: int, tasks: int = 40, people: int = 8) -> Asked:
     return Asked(w, p.end, f"{tasks} tasks, {people} people with two skills of four")
 
 
-def absences_of(seed: int, tasks: int = 30, people: int = 4, aways: int = 12) -> Asked:
-    """Tasks of people who are away now and then, of which they hear in the end."""
+def absences_of(
+    seed: int, tasks: int = 30, people: int = 4, aways: int = 12, either: int = 1
+) -> Asked:
+    """Tasks of people who are away now and then, of which they hear in the end; each by whoever of so
+    many suits best."""
     draw, w = random.Random(seed), Workbench()
     names = [f"p{number}" for number in range(people)]
     p = w.project(days=200, people=names)
     made: list[Task] = []
     for number in range(tasks):
         after = [task for task in made if draw.random() < 0.08]
-        who = names[number % people]
+        own = [names[(number + step) % people] for step in range(either)]
+        who = any_of(*own) if either > 1 else own
         made.append(p.task(f"t{number}", draw.randint(1, 6), who=who, after=after))
     for number in range(aways):
         first = draw.randint(1, 45)
         p.away(draw.choice(names), first, first + draw.randint(1, 5), f"off {number}")
-    return Asked(w, p.end, f"{tasks} tasks, {people} people, {aways} absences")
+    says = f"{tasks} tasks, {people} people, {aways} absences"
+    return Asked(w, p.end, says if either == 1 else f"{says}, each by one of {either}")
+
+
+def either_of(seed: int) -> Asked:
+    """The same, where each task may be done by either of two people."""
+    return absences_of(seed, either=2)
 
 
 def halls_of(seed: int, talks: int = 20) -> Asked:
@@ -129,6 +139,7 @@ def _may_follow(one: str, other: str) -> bool:
 CASES: dict[str, Callable[[int], Asked]] = {
     "skills": skills_of,
     "absences": absences_of,
+    "either": either_of,
     "halls": halls_of,
     "rosters": roster_of,
 }

@@ -1,38 +1,22 @@
 """Why all can't end sooner than the work takes: of each person, and of each resource, the days of
 work and those off before the end are no more than there are until then.
 
-All of it is so anyway. Where it is said, a search needn't find it out task by task.
+All of it is so anyway. Where it is said, a search needn't find it out task by task. Days off count
+where nothing is done in them, which follows where an absence is believed.
 """
 
 from collections.abc import Iterable, Sequence
-from dataclasses import dataclass
 from typing import TYPE_CHECKING
 
 from propbench.model.cells import NumberCell
-from propbench.model.events import Event
-from propbench.model.expressions import Number, if_else, maximum, minimum, total
-from propbench.model.nodes import TRUE, cells_in
+from propbench.model.expressions import Number, Truth, if_else, maximum, minimum, total
+from propbench.model.nodes import TRUE, Node, all_of, any_of
 from propbench.planning.pausing import pieces
 from propbench.planning.resources import KeptWithin, kept_within, work_of
-from propbench.planning.tasks import Away, KeptApart, KeptOff, NotYet, Task, aways_of
+from propbench.planning.tasks import KeptApart, KeptOff, NotYet, Task, aways_of
 
 if TYPE_CHECKING:
     from propbench.planning.project import Project
-
-
-@dataclass(frozen=True)
-class DaysLost(KeptOff):
-    """So many of the days on which somebody is away lie before the end."""
-
-    days: tuple[int, int]
-    cell: NumberCell
-
-
-@dataclass(frozen=True)
-class DaysBefore(NotYet):
-    """So many days lie before today, in which nothing is done of what isn't done yet."""
-
-    cell: NumberCell
 
 
 def limit_of(person: str) -> str:
@@ -63,36 +47,26 @@ def state_bound(project: "Project", name: str, end: NumberCell) -> None:
     """The work of somebody, or what is used of a resource, and the days off lie before the end."""
     tasks = [task for task in project.tasks.values() if name in task.needs]
     if len(tasks) > 1:
-        lost = [_lost(project, name, days, end) for days in _days_off(project, name)]
-        _state_work(project, name, (tasks, lost), end)
+        _state_work(project, name, (tasks, _days_off(project, name, 0, end)), end)
 
 
 def state_bounds_from(project: "Project", said: NotYet) -> None:
     """The work of tasks that begin on a day or later is done between that and the end, where there
     is an end yet."""
-    end, day, events = project.end_made, said.first, project.workbench.network.events
+    end, day = project.end_made, said.first
     if end is None:
         return
-    later = [
-        it
-        for each in events
-        if isinstance(each, NotYet)
-        for it in cells_in(each.constraint)
-        if each.project is project and each.premise == said.premise
-    ]
-    made = f"the days before day {day}"
-    while made in project.workbench.network.cells:
-        made += "'"
-    before = project.workbench.number(made, 0, project.days)
-    project.state(
-        DaysBefore((before >= day).node, said.premise, project, said.written, day, before)
-    )
-    tasks = [task for task in project.tasks.values() if task.start.declared in later]
+    later = {
+        each.constraint
+        for each in project.workbench.network.events
+        if isinstance(each, NotYet) and each.project is project and each.premise == said.premise
+    }
+    tasks = [it for it in project.tasks.values() if (it.start >= day).node in later]
     for name in (*project.people, *project.resources):
         own = [task for task in tasks if name in task.needs]
         if len(own) > 1:
-            off = [it for it in _days_off(project, name) if it[0][0] >= day]
-            lost = [before, *(_lost(project, name, days, end) for days in off)]
+            all_later = Truth(all_of([(task.start >= day).node for task in own]))
+            lost = [if_else(all_later, day, 0), *_days_off(project, name, day, end)]
             _state_work(project, name, (own, lost), end)
 
 
@@ -110,13 +84,6 @@ def _state_work(
         if said.resource == name:
             bound = (total([work, *(it * said.holds for it in lost)]) <= end * said.holds).node
             project.state(KeptWithin(bound, said.premise, name, said.holds, project))
-
-
-def cells_lost(project: object, events: Iterable[Event]) -> list[NumberCell]:
-    """The cells that count the days off before the end, and those before today."""
-    kinds = DaysLost, DaysBefore
-    found = (each for each in events if isinstance(each, kinds) and each.project is project)
-    return list({each.cell.name: each.cell for each in found}.values())
 
 
 def _work(task: Task, name: str) -> Number:
@@ -143,32 +110,19 @@ def _state_shares(project: "Project", tasks: Sequence[Task]) -> None:
         project.workbench.require(total(by_person) == total(whole))
 
 
-def _days_off(project: "Project", name: str) -> list[tuple[tuple[int, int], list[Away]]]:
-    """The days on which somebody is away, from each end of an absence to the next, and by which."""
-    aways = [it for it in aways_of(project, project.workbench.network.events) if it.person == name]
-    found: list[tuple[tuple[int, int], list[Away]]] = []
-    for first, last in pieces(aways):
-        by = [it for it in aways if it.first <= first and last <= it.last]
-        if by and max(first, 0) < min(last, project.days):
-            found.append(((max(first, 0), last), by))
-    return found
-
-
-def _lost(
-    project: "Project", name: str, off: tuple[tuple[int, int], list[Away]], end: NumberCell
-) -> NumberCell:
-    """How many days off lie before the end, no fewer than there are where the absence counts."""
-    (first, last), by = off
+def _days_off(project: "Project", name: str, since: int, end: NumberCell) -> list[Number]:
+    """How many days from one on, and before the end, somebody is away, from each end of an absence
+    to the next."""
     events = project.workbench.network.events
-    for each in events:
-        if isinstance(each, DaysLost) and each.project is project and each.away in by:
-            if each.days == (first, last):
-                return each.cell
-    made = f"days of {name} off from {first} to {last}"
-    while made in project.workbench.network.cells:
-        made += "'"
-    cell = project.workbench.number(made, 0, last - first)
-    for away in by:
-        holds = (cell + first >= minimum(end, last)).node
-        project.state(DaysLost(holds, away.premise, away, project, (first, last), cell))
-    return cell
+    aways = [each for each in aways_of(project, events) if each.person == name]
+    found: list[Number] = []
+    for begin, last in pieces(aways):
+        first = max(begin, 0)
+        kept: list[Node] = []
+        for away in (it for it in aways if it.first <= begin and last <= it.last):
+            stated = [it for it in events if isinstance(it, KeptOff) and it.away == away]
+            kept.append(all_of(it.constraint for it in stated if it.project is project))
+        if kept and since <= first < min(last, project.days):
+            lost = maximum(minimum(end, last), first) - first
+            found.append(if_else(Truth(any_of(kept)), lost, 0))
+    return found

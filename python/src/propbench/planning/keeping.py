@@ -9,7 +9,6 @@ from propbench.model.cells import NumberCell, TruthCell
 from propbench.model.events import Event, Required, Told
 from propbench.model.kinds import Plain
 from propbench.model.nodes import Declared
-from propbench.planning.bounds import DaysBefore, DaysLost
 from propbench.planning.calendar import Calendar
 from propbench.planning.order import SetUp, TaskLagged
 from propbench.planning.pausing import Paused, TaskSpan
@@ -94,9 +93,7 @@ def _parts(event: Event) -> dict[str, object] | None:
     if isinstance(event, SetUp):
         return {"is": "setup", "person": event.person, "times": event.times}
     if isinstance(event, KeptOff):
-        lost = isinstance(event, DaysLost)
-        more = {"days": event.days, "cell": event.cell.name} if isinstance(event, DaysLost) else {}
-        return {"is": "lost" if lost else "off", "away": _away_parts(event.away), **more}
+        return {"is": "off", "away": _away_parts(event.away)}
     return _order_parts(event)
 
 
@@ -115,8 +112,7 @@ def _order_parts(event: Event) -> dict[str, object] | None:
     if isinstance(event, TaskBy):
         return {"is": "by", "task": event.task.name, "days": event.days, "says": event.written}
     if isinstance(event, NotYet):
-        more = {"cell": event.cell.name} if isinstance(event, DaysBefore) else {}
-        return {"is": "today", "says": event.written, "first": event.first, **more}
+        return {"is": "today", "says": event.written, "first": event.first}
     return None
 
 
@@ -165,7 +161,6 @@ class Restored:
                 *_of(it), self._own(note), note["person"], _times(note["times"])
             ),
             "off": lambda it, note: KeptOff(*_of(it), Away(*note["away"]), self._own(note)),
-            "lost": self._lost,
             "order": lambda it, note: TaskOrdered(*_of(it), self._own(note), *self._two(note)),
             "lag": lambda it, note: TaskLagged(
                 *_of(it), self._own(note), *self._two(note), note["least"], note["from"]
@@ -175,7 +170,9 @@ class Restored:
             "by": lambda it, note: TaskBy(
                 *_of(it), self._own(note), self._named(note), note["days"], note["says"]
             ),
-            "today": self._today,
+            "today": lambda it, note: NotYet(
+                *_of(it), self._own(note), note["says"], note["first"]
+            ),
         }
 
     def event(self, event: Event, note: Note | None) -> Event:
@@ -246,15 +243,6 @@ class Restored:
         )
         self._tasks[note["of"], task.name] = task
         return TaskMade(*_of(event), task, self._own(note), tuple(note["ways"]))
-
-    def _lost(self, event: Required, note: Note) -> Required:
-        first, last = note["days"]
-        away, cell = Away(*note["away"]), self._number(note["cell"])
-        return DaysLost(*_of(event), away, self._own(note), (first, last), cell)
-
-    def _today(self, event: Required, note: Note) -> Required:
-        own = *_of(event), self._own(note), note["says"], note["first"]
-        return DaysBefore(*own, self._number(note["cell"])) if "cell" in note else NotYet(*own)
 
     def _paused(self, event: Required, note: Note) -> Required:
         away, cell = Away(*note["away"]), self._truth(note["cell"])

@@ -11,7 +11,7 @@ from propbench.model.events import Required, Told
 from propbench.model.expressions import Number, Truth, implies, total
 from propbench.model.given import values_of
 from propbench.model.nodes import TRUE
-from propbench.planning.bounds import cells_lost, limit_of, state_bounds, state_end
+from propbench.planning.bounds import limit_of, state_bounds, state_end
 from propbench.planning.calendar import Calendar, date_given, date_said, dates_said
 from propbench.planning.groups import roles_of, state_groups
 from propbench.planning.order import (
@@ -783,7 +783,6 @@ class Project:
         """
         cells: list[Cell] = [cell for cell in (self._end, self._total) if cell is not None]
         rates = [it.name for it in rates_of(self, self.workbench.network.events).values()]
-        cells += cells_lost(self, self.workbench.network.events)
         for task in tasks:
             cells += [task.start, task.end, task.days, *([] if task.cost is None else [task.cost])]
             cells += [*task.may.values(), *task.roles.values()]
