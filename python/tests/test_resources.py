@@ -173,6 +173,25 @@ def test_days_off_count_in_what_is_left() -> None:
         assert best.plan is not None and best.plan["wall days"] == 5 and best.value == 11
 
 
+def test_each_plan_is_told_once() -> None:
+    """Of two tasks of a day with days off, also where these are given up: what bounds the end has no
+    values of its own."""
+    with Workbench() as w:
+        p = w.project(days=5, people="ana")
+        p.resource("hall", 2)
+        one, two = (p.task(name, 1, who="ana", uses="hall") for name in ("one", "two"))
+        assert p.end.ask().value is not None
+        p.away("ana", 1, 3, "leave")
+        p.today(0)
+        for believed, days in ((True, {0, 3, 4}), (False, {0, 1, 2, 3, 4})):
+            w.bring("leave") if believed else w.kick("leave")
+            found = w.plans(most=100)
+            starts = [(each["one start"], each["two start"]) for each in found]
+            assert found.complete and len(starts) == len({*starts})
+            assert {*starts} == {(a, b) for a in days for b in days if a != b}
+        assert one.needs == two.needs == ("ana", "hall")
+
+
 def test_days_off_before_the_plan_count_for_nothing() -> None:
     with Workbench() as w:
         p = w.project(days=9, people="ana")
