@@ -1,30 +1,34 @@
 """Small projects that are drawn with all that a plan may have, beside a plain search of all starts,
-ways, people and pauses.
+ways, people and pauses: absences, calendars, order, lags, setups, groups, resources, pay by the
+day, what was done and what is left of it, wishes with weights, and plans with few changes.
 
 By hand: python3 tests/drawn_projects.py FIRST COUNT, which tells each project that differs.
 """
 
 import random
 import sys
-from collections.abc import Iterator
-from dataclasses import dataclass, field
+from collections.abc import Iterator, Sequence
+from dataclasses import dataclass, field, replace
 from datetime import date, timedelta
 from itertools import combinations, product
+from tempfile import TemporaryDirectory
 
 from propbench import NothingFits, Workbench, any_of, skilled
 from propbench.planning import Project, Task
+from propbench.planning.schedule import Entry
 
 NAMES = ("ana", "ben", "cem")
 START, WEEK = date(2026, 3, 4), ("mon", "tue", "wed", "thu", "fri", "sat", "sun")
+HALL = "hall"
 # A project has so many plans to try at the most.
-_MOST = 150_000
+_MOST = 60_000
 _KINDS = ("red", "blue")
 
 
 @dataclass(frozen=True)
 class DrawnTask:
-    """A task: its ways of days and cost, or the days of each; who does it, and so many of
-    others."""
+    """A task: its ways of days and cost, or the days of each; who does it, and so many of others,
+    and so many of a second group; and how much it uses of the hall."""
 
     ways: tuple[tuple[int, int], ...]
     people: tuple[str, ...]
@@ -35,12 +39,16 @@ class DrawnTask:
     pauses: bool
     kind: str | None
     is_by_skill: bool
+    second: tuple[int, tuple[str, ...]] = (0, ())
+    uses: int = 0
 
 
 @dataclass
 class Drawn:
     """A project: tasks, lags as (earlier, later, least, most, of), absences as (premise, person,
-    first, last), wishes as (premise, sort, task, day), and days between kinds by people."""
+    first, last), wishes as (premise, sort, task, day), and days between kinds by people. Of the
+    hall there is so much, `pay` is by the day, and `done` are tasks with their first day and their
+    end, or with the days that are `left` of them behind `today`."""
 
     seed: int
     days: int
@@ -54,6 +62,11 @@ class Drawn:
     setups: dict[str, dict[tuple[str, str], int]] = field(default_factory=dict)
     early_aways: bool = False
     off: str = ""
+    hall: int = 0
+    pay: dict[str, int] = field(default_factory=dict)
+    done: dict[int, tuple[int, int]] = field(default_factory=dict)
+    left: dict[int, tuple[int | None, int]] = field(default_factory=dict)
+    today: int | None = None
 
 
 # --- drawing ---
@@ -65,15 +78,15 @@ def drawn_project(seed: int) -> Drawn:
     while True:
         made = _drawn(draw, seed)
         size = 1
-        for task in made.tasks:
-            size *= max(1, len(list(options_of(made, task))))
+        for at in range(len(made.tasks)):
+            size *= max(1, len(list(options_of(made, at))))
         if size <= _MOST:
             return made
 
 
 def _drawn(draw: random.Random, seed: int) -> Drawn:
     count = draw.choice((2, 2, 3, 3, 3, 4, 5))
-    people = NAMES[: draw.choice((1, 2, 2, 3))]
+    people = NAMES[: draw.choice((1, 2, 2, 3, 3))]
     days = draw.randint(6, 12) if count < 4 else draw.randint(5, 8)
     made = Drawn(seed, days, people, draw.random() < 0.5)
     for number in range(count):
@@ -94,7 +107,46 @@ def _drawn(draw: random.Random, seed: int) -> Drawn:
         made.wishes.append((f"wish {number}", sort, None if every else task, day))
     made.early_aways = draw.random() < 0.5
     made.off = draw.choice(("", "sun", "sat sun")) if made.has_dates else ""
+    _draw_resources(draw, made)
+    if draw.random() < 0.3:
+        _draw_progress(draw, made)
     return made
+
+
+def _draw_resources(draw: random.Random, made: Drawn) -> None:
+    """A hall, second groups, and pay by the day."""
+    tasks = made.tasks
+    if draw.random() < 0.5:
+        made.hall = draw.choice((1, 2, 2, 3))
+        for at, task in enumerate(tasks):
+            if draw.random() < 0.8:
+                tasks[at] = replace(task, uses=draw.randint(1, min(2, made.hall)))
+        if draw.random() < 0.2:
+            first = draw.randint(0, made.days // 2)
+            made.aways.append((f"off {len(made.aways)}", HALL, first, first + 1))
+    for at, task in enumerate(tasks):
+        if task.others and not task.speeds and len(made.people) == 3 and draw.random() < 0.7:
+            names = tuple(sorted(draw.sample(made.people, 2)))
+            if task.number + 1 <= len({*task.others, *names}):
+                tasks[at] = replace(tasks[at], second=(1, names))
+    for name in (*made.people, *([HALL] if made.hall else [])):
+        if draw.random() < 0.2:
+            made.pay[name] = draw.randint(1, 3)
+
+
+def _draw_progress(draw: random.Random, made: Drawn) -> None:
+    """What was done by today, and what is under way."""
+    made.today = draw.randint(1, made.days // 2)
+    for at, task in enumerate(made.tasks):
+        drawn = draw.random()
+        if len(task.ways) > 1 or drawn > 0.5:
+            continue
+        first = draw.randint(0, made.today)
+        if drawn < 0.25:
+            made.done[at] = first, draw.randint(first, made.today)
+        else:
+            began = None if draw.random() < 0.3 else first
+            made.left[at] = began, draw.randint(0, 3)
 
 
 def _drawn_task(draw: random.Random, made: Drawn, number: int) -> DrawnTask:
@@ -148,6 +200,7 @@ class Done:
     end: int
     days: int
     cost: int
+    own: int
     who: frozenset[str]
     waits: frozenset[int]
 
@@ -169,90 +222,212 @@ def all_aways(made: Drawn) -> list[tuple[str, str, int, int]]:
     return found
 
 
-def options_of(made: Drawn, task: DrawnTask) -> Iterator[Done]:
+def groups_of(task: DrawnTask) -> set[frozenset[str]]:
+    """Who may do a task: so many of each group, and nobody for both."""
+    free = [name for name in task.second[1] if name not in task.people]
+    return {
+        frozenset((*task.people, *one, *other))
+        for one in combinations(task.others, task.number)
+        for other in combinations(free, task.second[0])
+        if not {*one} & {*other}
+    }
+
+
+def lengths_of(made: Drawn, at: int, who: frozenset[str]) -> list[tuple[int, int]]:
+    """The days that a task may take where these do it, with its cost."""
+    task = made.tasks[at]
+    cost = task.ways[0][1]
+    told, planned = told_of(made, at), task.speeds or [days for days, _ in task.ways]
+    if told is not None and told[1] not in planned:
+        # (what was done takes as long as it did, and what is under way as long as is told)
+        return [(days, cost) for days in ([told[1]] if at in made.left else range(made.days + 1))]
+    if told is not None and at in made.left:
+        by = [it for it, each in zip(task.others, task.speeds) if each == told[1]]
+        return [(told[1], cost)] if not task.speeds or any(it in who for it in by) else []
+    if task.speeds:
+        return [(days, cost) for it, days in zip(task.others, task.speeds) if it in who]
+    return list(task.ways)
+
+
+def told_of(made: Drawn, at: int) -> tuple[int, int, int | None] | None:
+    """The first day of a task that was done or is under way, its days of work, and its end where it
+    was done."""
+    task = made.tasks[at]
+    if at in made.done:
+        first, end = made.done[at]
+        return first, worked(made, task, first, end), end
+    if at in made.left:
+        assert made.today is not None
+        began, left = made.left[at]
+        first = made.today if began is None else began
+        return first, worked(made, task, first, made.today) + left, None
+    return None
+
+
+def worked(made: Drawn, task: DrawnTask, first: int, end: int) -> int:
+    """How many of some days were worked on, but for those off of who does it anyway."""
+    off = {
+        day
+        for _, who, begin, last in all_aways(made)
+        if task.pauses and (who in task.people or (who == HALL and task.uses))
+        for day in range(begin, last)
+    }
+    return sum(day not in off for day in range(first, end))
+
+
+def options_of(made: Drawn, at: int) -> Iterator[Done]:
     """All that a task may be in a plan, whoever is away: it may pause over any absence of who does
-    it that lies within."""
-    aways = all_aways(made)
-    for group in combinations(task.others, task.number):
-        who = frozenset((*task.people, *group))
-        ways = task.ways
-        if task.speeds:
-            ways = tuple(
-                (days, task.ways[0][1]) for it, days in zip(task.others, task.speeds) if it in who
-            )
-        places = [at for at, away in enumerate(aways) if away[1] in who and task.pauses]
-        for (days, cost), start in product(ways, range(made.days + 1)):
+    it, or of what it uses, that lies within."""
+    aways, task, told = all_aways(made), made.tasks[at], told_of(made, at)
+    starts = range(made.days + 1) if told is None else (told[0],)
+    for who in sorted(groups_of(task), key=sorted):
+        needs = {*who, *([HALL] if task.uses else [])}
+        places = [place for place, it in enumerate(aways) if it[1] in needs and task.pauses]
+        for (days, cost), start in product(lengths_of(made, at, who), starts):
+            paid = sum(made.pay.get(name, 0) for name in who) + made.pay.get(HALL, 0) * task.uses
             for size in range(len(places) + 1):
                 for waits in combinations(places, size):
-                    off = {d for at in waits for d in range(aways[at][2], aways[at][3])}
+                    off = {d for it in waits for d in range(aways[it][2], aways[it][3])}
                     end = start + days + len(off)
-                    within = all(start < aways[at][2] and end > aways[at][3] for at in waits)
-                    if within and end <= made.days:
-                        yield Done(start, end, days, cost, who, frozenset(waits))
+                    within = all(start < aways[it][2] and end > aways[it][3] for it in waits)
+                    is_so = told is None or told[2] in (None, end)
+                    if within and end <= made.days and is_so:
+                        yield Done(
+                            start, end, days, cost + paid * days, cost, who, frozenset(waits)
+                        )
 
 
-def is_ordered(made: Drawn, plan: tuple[Done, ...]) -> bool:
-    """Whether tasks come in their order, with their lags."""
-    for task, done in zip(made.tasks, plan):
-        if any(plan[before].end > done.start for before in task.after):
+def are_ordered(made: Drawn, one: int, a: Done, other: int, b: Done) -> bool:
+    """Whether two tasks come in their order, with their lags."""
+    done = {one: a, other: b}
+    for then, at in ((other, one), (one, other)):
+        if at in made.tasks[then].after and done[at].end > done[then].start:
             return False
     for first, then, least, most, of in made.lags:
-        between = plan[then].start - (plan[first].end if of == "end" else plan[first].start)
-        if (least is not None and between < least) or (most is not None and between > most):
-            return False
+        if {first, then} == {one, other}:
+            between = done[then].start - (done[first].end if of == "end" else done[first].start)
+            if (least is not None and between < least) or (most is not None and between > most):
+                return False
     return True
 
 
-def broken(made: Drawn, plan: tuple[Done, ...]) -> frozenset[str]:
-    """The premises that don't hold in a plan, of those that may be given up."""
-    found = set()
-    for at, (premise, person, first, last) in enumerate(all_aways(made)):
-        for done in plan:
-            if (
-                person in done.who
-                and at not in done.waits
-                and done.end > first
-                and done.start < last
-            ):
-                found.add(premise)
-    for premise, sort, task, day in made.wishes:
-        ends = [done.end for done in plan] if task is None else [plan[task].end]
-        if max(ends) > day if sort == "by" else plan[task or 0].start < day:
+def broken_by(made: Drawn, at: int, done: Done) -> frozenset[str]:
+    """The premises that a task breaks by itself, of those that may be given up."""
+    found, task = set(), made.tasks[at]
+    for place, (premise, who, first, last) in enumerate(all_aways(made)):
+        is_there = who in done.who or (who == HALL and task.uses > 0)
+        if is_there and place not in done.waits and done.end > first and done.start < last:
             found.add(premise)
+    for premise, sort, which, day in made.wishes:
+        if which in (at, None) and (done.end > day if sort == "by" else done.start < day):
+            found.add(premise)
+    if made.today is not None and told_of(made, at) is None and done.start < made.today:
+        found.add("today")
+    return frozenset(found)
+
+
+def broken_by_two(made: Drawn, one: int, a: Done, other: int, b: Done) -> frozenset[str]:
+    """The premises that don't hold of two tasks of somebody."""
+    found = set()
+    for person in a.who & b.who:
+        if not (a.end <= b.start or b.end <= a.start):
+            found.add(f"{person} does one thing at a time")
+        times = made.setups.get(person, {})
+        kinds = made.tasks[one].kind, made.tasks[other].kind
+        if None not in kinds and (times.get(kinds, 0) or times.get(kinds[::-1], 0)):
+            there, back = times.get(kinds, 0), times.get(kinds[::-1], 0)
+            if not (a.end + there <= b.start or b.end + back <= a.start):
+                found.add(f"{person} is set up")
+    return frozenset(found)
+
+
+def is_full(made: Drawn, plan: Sequence[Done]) -> bool:
+    """Whether more of the hall is in use on some day than there is."""
+    return any(
+        sum(task.uses for task, it in zip(made.tasks, plan) if it.start <= day < it.end) > made.hall
+        for day in {it.start for it in plan}
+    )
+
+
+def broken(made: Drawn, plan: Sequence[Done]) -> frozenset[str] | None:
+    """The premises that don't hold in a plan, of those that may be given up; None where its order
+    doesn't."""
+    found: set[str] = {f"{HALL} holds {made.hall}"} if is_full(made, plan) else set()
+    for at, done in enumerate(plan):
+        found |= broken_by(made, at, done)
     for (one, a), (other, b) in combinations(list(enumerate(plan)), 2):
-        for person in a.who & b.who:
-            if not (a.end <= b.start or b.end <= a.start):
-                found.add(f"{person} does one thing at a time")
-            times = made.setups.get(person, {})
-            kinds = made.tasks[one].kind, made.tasks[other].kind
-            if None not in kinds and (times.get(kinds, 0) or times.get(kinds[::-1], 0)):
-                there, back = times.get(kinds, 0), times.get(kinds[::-1], 0)
-                if not (a.end + there <= b.start or b.end + back <= a.start):
-                    found.add(f"{person} is set up")
+        if not are_ordered(made, one, a, other, b):
+            return None
+        found |= broken_by_two(made, one, a, other, b)
     return frozenset(found)
 
 
 @dataclass
 class Known:
-    """What a search of all plans finds: the ends and costs of those that fit, when their last task
-    is done, and the minimal sets of premises that are broken."""
+    """What a search of all plans finds: those that fit, by their ends and costs, when the last task
+    is done, the sets of premises that are broken, each with the ends of such plans, the minimal of
+    these sets, and the minimal sets of which each has one of all of them."""
 
-    fits: set[tuple[int, int]]
+    plans: dict[tuple[int, int], list[tuple[Done, ...]]]
     days: set[tuple[int, int]]
+    broken: dict[frozenset[str], set[int]]
     repairs: set[frozenset[str]]
+
+    def take(self, plan: tuple[Done, ...], out: frozenset[str]) -> None:
+        """Takes in a plan that breaks these premises."""
+        end = max(it.end for it in plan)
+        self.broken.setdefault(out, set()).add(end)
+        if not out:
+            self.plans.setdefault((end, sum(it.cost for it in plan)), []).append(plan)
+            self.days.add((plan[-1].start, plan[-1].end))
+
+    @property
+    def fits(self) -> set[tuple[int, int]]:
+        """The ends and costs of plans."""
+        return {*self.plans}
+
+    @property
+    def conflicts(self) -> set[frozenset[str]]:
+        """The least sets of premises that can't all hold."""
+        names = sorted({name for each in self.repairs for name in each})
+        found: list[frozenset[str]] = []
+        for size in range(len(names) + 1):
+            for some in map(frozenset, combinations(names, size)):
+                if all(some & it for it in self.repairs) and not any(it <= some for it in found):
+                    found.append(some)
+        return {*found}
 
 
 def searched(made: Drawn) -> Known:
-    """By going through all plans."""
-    fits, days, sets = set(), set(), set()
-    for plan in product(*(list(options_of(made, task)) for task in made.tasks)):
-        if is_ordered(made, plan):
-            out = broken(made, plan)
-            sets.add(out)
-            if not out:
-                fits.add((max(it.end for it in plan), sum(it.cost for it in plan)))
-                days.add((plan[-1].start, plan[-1].end))
-    return Known(fits, days, {each for each in sets if not any(other < each for other in sets)})
+    """By going through all plans, task by task."""
+    known, count = Known({}, set(), {}, set()), len(made.tasks)
+    options = [
+        [(done, broken_by(made, at, done)) for done in options_of(made, at)] for at in range(count)
+    ]
+    two: dict[tuple[int, int, int, int], frozenset[str] | None] = {}
+
+    def of_two(one: int, left: int, other: int, right: int) -> frozenset[str] | None:
+        key = one, left, other, right
+        if key not in two:
+            pair = one, options[one][left][0], other, options[other][right][0]
+            two[key] = broken_by_two(made, *pair) if are_ordered(made, *pair) else None
+        return two[key]
+
+    def go(places: tuple[int, ...], out: frozenset[str]) -> None:
+        at = len(places)
+        if at == count:
+            plan = tuple(options[each][place][0] for each, place in enumerate(places))
+            full = made.hall and is_full(made, plan)
+            known.take(plan, out | {f"{HALL} holds {made.hall}"} if full else out)
+            return
+        for place, (_, own) in enumerate(options[at]):
+            more = [of_two(other, each, at, place) for other, each in enumerate(places)]
+            if None not in more:
+                go((*places, place), out.union(own, *(each for each in more if each)))
+
+    go((), frozenset())
+    known.repairs = {it for it in known.broken if not any(each < it for each in known.broken)}
+    return known
 
 
 def front(pairs: set[tuple[int, int]]) -> list[tuple[int, int]]:
@@ -275,6 +450,10 @@ def project_of(w: Workbench, made: Drawn) -> Project:
         can = {who: f"{has} s{len(others)}" if who in others else has for who, has in can.items()}
     start = START if made.has_dates else None
     p = w.project(days=made.days, people=made.people, start=start, off=made.off, skills=can)
+    if made.hall:
+        p.resource(HALL, made.hall)
+    for name, cost in made.pay.items():
+        p.pays(name, cost)
     if made.early_aways:
         state_aways(p, made)
     done: list[Task] = []
@@ -288,12 +467,13 @@ def project_of(w: Workbench, made: Drawn) -> Project:
     for first, then, least, most, of in made.lags:
         p.lag(done[first], done[then], least, most, of=of)
     for premise, sort, which, day in made.wishes:
-        task = None if which is None else done[which]
+        own = None if which is None else done[which]
         if sort == "by":
-            p.done_by(day, premise, task)
+            p.done_by(day, premise, own)
         else:
-            assert task is not None
-            p.not_before(day, task, premise)
+            assert own is not None
+            p.not_before(day, own, premise)
+    state_progress(p, made, done)
     return p
 
 
@@ -304,13 +484,28 @@ def state_aways(p: Project, made: Drawn) -> None:
         p.works(person, weekdays)
 
 
+def state_progress(p: Project, made: Drawn, tasks: list[Task]) -> None:
+    for at, (first, end) in made.done.items():
+        p.done(tasks[at], first, end)
+    if made.today is not None:
+        p.today(made.today, "today")
+    for at, (began, left) in made.left.items():
+        if began is not None:
+            # (what was said of it earlier doesn't count any more)
+            p.progress(tasks[at], left + 1)
+        p.progress(tasks[at], left, began)
+
+
 def state_task(p: Project, task: DrawnTask, number: int, after: list[Task]) -> Task:
-    who = list(task.people)
+    who: list[object] = list(task.people)
     if task.others:
         group = f"s{len(task.others)}"
         own = skilled(task.number, group) if task.is_by_skill else any_of(task.number, *task.others)
         who.append(own)
+    if task.second[0]:
+        who.append(any_of(task.second[0], *task.second[1]))
     name, rest = f"t{number}", dict(who=who, after=after, pauses=task.pauses, kind=task.kind)
+    rest["uses"] = {HALL: task.uses} if task.uses else None
     if task.speeds:
         days = dict(zip(task.others, task.speeds))
         return p.task(name, days, cost=task.ways[0][1], **rest)
@@ -321,70 +516,155 @@ def state_task(p: Project, task: DrawnTask, number: int, after: list[Task]) -> T
     return p.task(name, options=ways, **rest)
 
 
-def faults(seed: int, counts: dict[str, int] | None = None) -> list[str]:
-    """In what the answers of a drawn project differ from a search of all its plans."""
-    made = drawn_project(seed)
-    known, found = searched(made), list[str]()
-    counts = {} if counts is None else counts
+# --- what differs ---
 
-    def check(what: str, is_so: object, wanted: object) -> None:
-        counts[what] = counts.get(what, 0) + 1
+
+class Held:
+    """A drawn project, and what was held of its answers against a search of all its plans."""
+
+    def __init__(self, seed: int, counts: dict[str, int]) -> None:
+        self.seed, self.made, self.counts = seed, drawn_project(seed), counts
+        self.known, self.found = searched(self.made), list[str]()
+        self.draw = random.Random(-seed)
+
+    def check(self, what: str, is_so: object, wanted: object) -> None:
+        self.counts[what] = self.counts.get(what, 0) + 1
         if is_so != wanted:
-            found.append(f"{seed}: {what} is {is_so}, and by a search {wanted}")
+            self.found.append(f"{self.seed}: {what} is {is_so}, and by a search {wanted}")
 
-    with Workbench() as w:
-        p = project_of(w, made)
-        if not known.fits:
-            repairs = w.repairs(keep=p.facts, most=1000)
-            check("repairs", {frozenset(it.names) for it in repairs}, known.repairs)
-            check("all repairs", repairs.complete, True)
-            try:
-                w.solve()
-                found.append(f"{seed}: a plan where there is none")
-            except NothingFits:
-                pass
+    def hold(self, p: Project) -> None:
+        """All that is asked of a project."""
+        w = p.workbench
+        if not self.known.fits:
+            self.hold_conflicts(w, p)
+        self.hold_ends(w, p)
+        if self.known.fits and self.draw.random() < 0.3:
+            with w.what_if():
+                self.hold_moved(w, p)
+        self.hold_wishes(w, p)
+
+    def hold_conflicts(self, w: Workbench, p: Project) -> None:
+        repairs = w.repairs(keep=p.facts, most=1000)
+        self.check("repairs", {frozenset(it.names) for it in repairs}, self.known.repairs)
+        self.check("all repairs", repairs.complete, True)
+        if self.known.repairs:
+            conflicts = w.conflicts(keep=p.facts, most=1000)
+            told = {frozenset(it.names) for it in conflicts}
+            self.check("conflicts", told, self.known.conflicts)
+        try:
+            w.solve()
+            self.found.append(f"{self.seed}: a plan where there is none")
+        except NothingFits:
+            pass
+
+    def hold_ends(self, w: Workbench, p: Project) -> None:
+        fits = self.known.fits
         end, cost = p.end, p.total_cost
         both = w.least([end, cost])
-        check("the least end and cost", both.values, min(known.fits, default=()))
-        least = min((pair[1] for pair in known.fits), default=None)
-        check("the least cost", w.least(cost).value, least)
-        most = max((pair[0] for pair in known.fits), default=None)
-        check("the greatest end", w.greatest(end).value, most)
+        self.check("the least end and cost", both.values, min(fits, default=()))
+        least = min((pair[1] for pair in fits), default=None)
+        self.check("the least cost", w.least(cost).value, least)
+        most = max((pair[0] for pair in fits), default=None)
+        self.check("the greatest end", w.greatest(end).value, most)
         last = [*p.tasks.values()][-1]
         plans = w.plans([last.start, last.end], most=1000)
-        check("when a task is done", {tuple(plan.values()) for plan in plans}, known.days)
+        self.check("when a task is done", {tuple(it.values()) for it in plans}, self.known.days)
         traded = w.trade_off(end, cost)
-        check("trade-offs", (traded.pairs, traded.complete), (front(known.fits), True))
+        self.check("trade-offs", (traded.pairs, traded.complete), (front(fits), True))
         for each in (both, *traded):
             if each.plan is not None:
-                check("a plan", plan_in(made, p, each), True)
-    return found
+                self.check("a plan", plan_in(self.made, p, each), True)
+
+    def hold_moved(self, w: Workbench, p: Project) -> None:
+        """The fewest tasks that move where one has to begin later."""
+        before = p.schedule(w.least([p.end, p.total_cost]))
+        entries = before.entries
+        at = self.draw.randrange(len(entries))
+        weights = {entry.task: self.draw.randint(1, 3) for entry in entries}
+        later = entries[at].start + 1
+        if later > self.made.days:
+            return
+        p.not_before(later, p.tasks[f"t{at}"], "later")
+        sums = [
+            sum(weights[entry.task] * moved(entry, done) for entry, done in zip(entries, plan))
+            for plans in self.known.plans.values()
+            for plan in plans
+            if plan[at].start >= later
+        ]
+        found = w.least(p.moved(before, weights))
+        self.check("the fewest changes", found.value, min(sums, default=None))
+
+    def hold_wishes(self, w: Workbench, p: Project) -> None:
+        """The weight of what is given up, with the end."""
+        kinds = {it[0] for it in (*self.made.wishes, *self.made.aways)}
+        names = [it for it in w.believed if it in kinds or it in p.limits]
+        weights = {name: self.draw.randint(1, 4) for name in names if self.draw.random() < 0.7}
+        pairs = {
+            (end, sum(weights[name] for name in out))
+            for out, ends in self.known.broken.items()
+            if out <= {*weights}
+            for end in ends
+        }
+        traded = w.trade_off(p.end, p.given_up(weights))
+        told = traded.pairs, traded.complete
+        self.check("what is given up", told, (front(pairs), True))
+
+
+def moved(entry: Entry, done: Done) -> int:
+    """Whether a task is done at another time than in a schedule, and whether by others or in
+    another way, of which each counts."""
+    is_then = (entry.start, entry.end) == (done.start, done.end)
+    way = (entry.days, (entry.cost or 0) - entry.paid) if entry.way else None
+    own = (done.days, done.own) if entry.way else None
+    is_so = (frozenset(entry.people), way) == (done.who, own)
+    return (not is_then) + (not is_so)
+
+
+def faults(seed: int, counts: dict[str, int] | None = None) -> list[str]:
+    """In what the answers of a drawn project differ from a search of all its plans."""
+    held = Held(seed, {} if counts is None else counts)
+    with Workbench() as w:
+        p = project_of(w, held.made)
+        if seed % 3:
+            held.hold(p)
+            return held.found
+        with TemporaryDirectory() as folder:
+            w.save(f"{folder}/plan.prop")
+            with Workbench.load(f"{folder}/plan.prop") as other:
+                [again] = other.projects
+                held.check("what is kept", known_of(again), known_of(p))
+                held.hold(again)
+    return held.found
+
+
+def known_of(p: Project) -> list[object]:
+    """What a project knows of itself."""
+    tasks = [(str(it), it.kind, it.pauses, dict(it.uses)) for it in p.tasks.values()]
+    said = [(name, p.workbench.model.text(name)) for name in p.workbench.premises]
+    return [p.people, p.days, p.calendar, p.facts, p.limits, p.resources, tasks, said]
 
 
 def plan_in(made: Drawn, p: Project, found: object) -> object:
     """Whether a schedule is one of all plans, and breaks nothing; else what it is."""
     schedule = p.schedule(found)
     aways, plan = all_aways(made), []
-    for entry, task in zip(schedule.entries, made.tasks):
+    for at, entry in enumerate(schedule.entries):
         fits = [
             each
-            for each in options_of(made, task)
-            if (each.start, each.end, each.days, each.who)
-            == (entry.start, entry.end, entry.days, frozenset(entry.people))
-            and each.cost == (entry.cost or 0)
-            and not any(
-                person in each.who
-                and at not in each.waits
+            for each in options_of(made, at)
+            if not moved(entry, each) and (entry.days, entry.cost or 0) == (each.days, each.cost)
+            if not any(
+                (who in each.who or (who == HALL and made.tasks[at].uses))
+                and away not in each.waits
                 and each.end > first
                 and each.start < last
-                for at, (_, person, first, last) in enumerate(aways)
+                for away, (_, who, first, last) in enumerate(aways)
             )
         ]
         if not fits:
             return entry
         plan.append(fits[0])
-    fits_all = is_ordered(made, tuple(plan)) and not broken(made, tuple(plan))
-    return fits_all or schedule.entries
+    return broken(made, plan) == frozenset() or schedule.entries
 
 
 def main(first: int, count: int) -> None:

@@ -8,6 +8,7 @@ than those that make cells and state something of them: a project is what its ta
 from collections.abc import Callable, Iterable, Sequence
 from dataclasses import dataclass, field, replace
 from fractions import Fraction
+from functools import reduce
 from typing import Any
 
 from modelling import DAYS, Recipe, cell, names_in
@@ -285,6 +286,8 @@ class Standing:
             self.say(premise, ("constant", True))
         for name in doing:
             self._keep_off(name, first, last, premise)
+        if doing and "end" in p.asked:
+            self._bound(person)
 
     def done_by(self, day: int, under: str | None, name: str | None) -> None:
         """A task, or all, is done by a day."""
@@ -309,10 +312,37 @@ class Standing:
         ends = [cell(f"{name} end") for name in p.tasks]
         self.say(None, ("equal", cell("end"), ("maximum", *ends)))
         for person in PEOPLE:
-            work = [cell(f"{name} days") for name, people in p.tasks.items() if person in people]
-            if len(work) > 1:
-                bound = ("at most", ("total", *work), cell("end"))
-                self.say(f"{person} does one thing at a time", bound, True)
+            self._bound(person)
+
+    def _bound(self, person: str) -> None:
+        """The work of somebody, and the days off in which nothing is done, lie before the end."""
+        p = self._project()
+        doing = [name for name, people in p.tasks.items() if person in people]
+        if len(doing) > 1:
+            work: Recipe = ("total", *(cell(f"{name} days") for name in doing))
+            lost = self._days_off(person, doing)
+            whole = ("total", work, *lost) if lost else work
+            bound = ("at most", whole, cell("end"))
+            self.say(f"{person} does one thing at a time", bound, True)
+
+    def _days_off(self, person: str, doing: Sequence[str]) -> list[Recipe]:
+        """How many days before the end somebody is away, from each end of an absence to the next."""
+        p, found = self._project(), list[Recipe]()
+        aways = list(dict.fromkeys(each for each in p.away if each[0] == person))
+        ends = sorted({day for each in aways for day in each[1:3]})
+        for begin, last in zip(ends, ends[1:]):
+            kept: list[Recipe] = []
+            for _, off, back, _ in (it for it in aways if it[1] <= begin and last <= it[2]):
+                apart = [_apart_from(name, off, back) for name in doing]
+                kept.append(reduce(lambda one, other: ("and", one, other), apart))
+            first = max(begin, 0)
+            if kept and first < min(last, p.days):
+                is_off = reduce(lambda one, other: ("or", one, other), dict.fromkeys(kept))
+                before = ("minimum", cell("end"), ("constant", last))
+                since = ("maximum", before, ("constant", first))
+                days = ("difference", since, ("constant", first))
+                found.append(("if", is_off, days, ("constant", 0)))
+        return found
 
     def total_cost(self) -> None:
         """Makes the cell of what all costs."""
@@ -350,9 +380,13 @@ class Standing:
                 self._keep_off(name, begin, last, premise)
 
     def _keep_off(self, name: str, begin: int, last: int, premise: str) -> None:
-        before = ("at most", cell(f"{name} end"), ("constant", begin))
-        behind = ("at least", cell(f"{name} start"), ("constant", last))
-        self.say(premise, ("or", before, behind))
+        self.say(premise, _apart_from(name, begin, last))
+
+
+def _apart_from(name: str, begin: int, last: int) -> Recipe:
+    """A task is not done in some days."""
+    before = ("at most", cell(f"{name} end"), ("constant", begin))
+    return ("or", before, ("at least", cell(f"{name} start"), ("constant", last)))
 
 
 def told(of: str, values: Values) -> Recipe:

@@ -6,8 +6,9 @@ from xml.etree import ElementTree
 
 import pytest
 
-from propbench import Workbench
+from propbench import Session, Workbench
 from propbench.planning import Project
+from propbench.refusals import LineTooLong
 
 
 @pytest.fixture
@@ -194,3 +195,28 @@ def test_what_is_refused_leaves_nothing(p: Project) -> None:
     assert seen() == before
     p.away("ana", 2, 5)
     assert w.least(review.end).value == 1 + 5 + 3 + 1
+
+
+def test_what_there_is_no_room_for_is_gone(wide: str, monkeypatch: pytest.MonkeyPatch) -> None:
+    """Absences that are told of in the end are told to the program with the next question: where
+    that has no room for them, all is as it was before them."""
+    with Workbench(wide) as w:
+        p = w.project(days=30, people="ana")
+        p.task("venue", 5, who="ana")
+        assert w.least(p.end).value == 5
+        p.away("ana", 2, 4, "leave")
+        p.away("ana", 5, 6, "dentist")
+        assert w.premises[-2:] == ("leave", "dentist")
+
+        def refused(*given: object) -> None:
+            raise LineTooLong(1, "the line is too long", "tell leave ..", 1)
+
+        with monkeypatch.context() as patch:
+            patch.setattr(Session, "replay", refused)
+            with pytest.raises(ValueError, match="no room for .* what was said last is gone"):
+                w.least(p.end)
+        assert w.premises == ("venue takes 5", "ana does one thing at a time")[: len(w.premises)]
+        assert w.least(p.end).value == 5
+        p.away("ana", 2, 4, "leave")
+        p.away("ana", 5, 6, "dentist")
+        assert w.least(p.end).value == 8

@@ -56,21 +56,25 @@ def test_its_calls(wide: str) -> None:
     """Each call of its table is one, and has the premise that one expects."""
     table = PYTHON.partition("| Call | Says |\n")[2].partition("\n\n")[0]
     calls = [call for row in table.split("\n")[1:] for call in row.split(" | ")[0].split("`")[1::2]]
-    assert len(calls) == 8
+    assert len(calls) == 11
     with Workbench(wide) as w:
         p = w.project(
             days=60, people="ana ben press", start="2026-03-02", skills={"ana": "welding"}
         )
+        c = p.task("c", 4)
         a, b = p.task("a", 1, who="press", kind="red"), p.task("b", 2, who="press", kind="blue")
         functions = {"any_of": any_of, "skilled": skilled}
         names = {"p": p, "a": a, "b": b, "task": a, "first": 3, "end": 4, "day": 5}
         for number, call in enumerate(calls):
+            if "progress" in call:
+                names |= {"task": c}
             code = f'p.task("t{number}", 1, {call})' if call.startswith("who=") else call
             exec(code.replace("..", "who=any_of('ana ben')"), {**names, **functions})
         assert {"x takes 3 by ana or 5 by ben", "ana works mon tue", "b 2 to 5 after a"} < {
             *w.premises
         }
         assert {"press is set up", "a done 3 to 4", "today is 5"} < {*w.premises}
+        assert {"hall holds 2", "ana costs 300 a day", "c has 2 days left"} < {*w.premises}
         assert p.tasks["t0"].doers == ("ana", "ben") and p.tasks["t1"].people == ("ana",)
         # (b begins on a day from 4 + 2 to 4 + 5)
         assert w.least(b.start).value == 6 and w.greatest(b.start).value == 9

@@ -294,6 +294,70 @@ def test_whoever_suits_best(ran: Ran, tmp_path: Path) -> None:
     assert "weekdays need a start" in ran(tmp_path)[2]
 
 
+SITE = (
+    "task,days,who,uses,after,left,started\n"
+    "walls,4,skilled in masonry; skilled in wiring,2 crew,,,\n"
+    "roof,3,ben,crew; lift,walls,,\ndoors,2,ana,lift,,,\nwindows,2,cem,lift,,,\n"
+)
+PEOPLE_OF_SITE = (
+    "person,holds,skills,cost,weight\nana,,masonry,300,\nben,,wiring,200,\ncem,,,100,\n"
+    "crew,3,,10,7\nlift,1,,,3\n"
+)
+
+
+def test_resources(ran: Ran, tmp_path: Path) -> None:
+    """Ana and Ben make the walls in 4 days, and meanwhile Cem has the lift. Then Ben makes the roof
+    in 3, and Ana the doors in 2, one behind the other, as there is one lift: so all takes 9."""
+    (tmp_path / "tasks.csv").write_text(SITE)
+    (tmp_path / "people.csv").write_text(PEOPLE_OF_SITE)
+    status, out, err = ran(tmp_path, "--csv", tmp_path / "out.csv", "--why")
+    assert (status, err) == (0, "")
+    rows = list(csv.reader(io.StringIO((tmp_path / "out.csv").read_text(), newline="")))
+    found = {row[0]: row[1:] for row in rows[1:]}
+    assert rows[0][-1] == "uses" and found["walls"][-1] == "2 crew"
+    assert found["walls"][:3] == ["ana, ben", "0", "4"] and found["roof"][0] == "ben"
+    assert {found["roof"][2], found["doors"][2]} in ({"9", "6"}, {"9", "7"})
+    # (at 300 and 200 and 2 * 10 a day; 200 and 10; and so on)
+    assert [int(found[it][5]) for it in ("walls", "roof", "doors")] == [4 * 520, 3 * 210, 2 * 300]
+    assert "no sooner because of" in out and "lift, used by" in out
+    status, out, _ = ran(tmp_path, "--what-if", "lift holds 2", "--what-if", "crew away 0 to 3")
+    assert "What if lift holds 2?\nAll is done by day 7." in out
+    assert "What if crew away 0 to 3?\nAll is done by day 10." in out
+    (tmp_path / "wishes.csv").write_text("wish,latest\nsoon,7\n")
+    status, out, _ = ran(tmp_path, "--give-up")
+    assert status == 0 and "Without soon:" in out
+    assert "lift holds 1" in out and "ana does one thing at a time" in out
+    (tmp_path / "wishes.csv").write_text("wish,latest,weight\nsoon,7,9\n")
+    status, out, _ = ran(tmp_path, "--give-up")
+    assert "The first of these takes more of lift.\nWithout lift holds 1:" in out
+
+
+def test_what_is_left(ran: Ran, tmp_path: Path) -> None:
+    """Of the walls 3 days are left on the third."""
+    (tmp_path / "tasks.csv").write_text(SITE.replace("2 crew,,,", "2 crew,,3,0"))
+    (tmp_path / "people.csv").write_text(PEOPLE_OF_SITE)
+    assert ran(tmp_path, "--today", "2", "--csv", tmp_path / "out.csv")[0] == 0
+    rows = list(csv.reader(io.StringIO((tmp_path / "out.csv").read_text(), newline="")))
+    found = {row[0]: row[2:5] for row in rows[1:]}
+    assert found["walls"] == ["0", "5", "5"] and int(found["roof"][0]) >= 5
+
+
+def test_wishes_are_traded(ran: Ran, tmp_path: Path) -> None:
+    """Two tasks of one, each wished to be first: as soon as can be one of them is given up, and the
+    second wish, to begin late, costs days."""
+    (tmp_path / "tasks.csv").write_text("task,days,who\na,2,ana\nb,3,ana\n")
+    (tmp_path / "wishes.csv").write_text(
+        "wish,task,latest,earliest,weight\nfirst,a,2,,2\nsecond,b,3,,5\nlate,a,,6,4\n"
+    )
+    status, out, err = ran(tmp_path, "--trade-off", "end", "wishes")
+    assert (status, err) == (0, "")
+    lines = [line.split() for line in out.split("\n")]
+    # (b first at 5: `first` and `late` are given up; at 8 a waits, and only `first` is)
+    assert lines[2][:2] == ["5", "6"] and lines[3][:2] == ["8", "2"]
+    assert "At end 5 and wishes 6: without first and late." in out
+    assert "At end 8 and wishes 2: without first." in out
+
+
 def test_a_trade_off(ran: Ran, tmp_path: Path) -> None:
     """By a library 3 days and 1800, by their own engine 9 days and nothing."""
     path = tmp_path / "work.csv"
@@ -458,7 +522,14 @@ WRONG = [
     ("tasks.csv", HEAD + "a,1,,,3 March\n", "`3 March` is not a day of the plan, as 5; dates need"),
     ("plan.csv", "start\nsoon\n", "row 2, column A (start): `soon` is no date: write it as 2026"),
     ("plan.csv", "start\n2 March\n", "(start): `2 March` names no year: write it as 2026-03-02"),
-    ("tasks.csv", "task,days,started\na,1,2\n", "(started): say `finished` too; a task under way"),
+    ("tasks.csv", "task,days,started\na,1,2\n", "(started): say `finished` too, or how many days"),
+    ("tasks.csv", "task,days,finished\na,1,2\n", "column C (finished): say `started` too"),
+    ("tasks.csv", "task,days,left\na,1,2\n", "row 2, column C (left): say what day it is, by"),
+    ("tasks.csv", "task,days,uses\na,1,2 lifts\n", "(uses): there is 1 of `lifts`: write how many"),
+    ("people.csv", "person,holds\nAna,\nlift,0\n", "row 3, column B (holds): `0` is not a whole"),
+    ("people.csv", "person,holds\nAna,2\n", "tasks, row 2, column C (who): no person is called"),
+    ("people.csv", "person,holds,skills\nlift,2,up\n", "(skills): what `holds` so many is no"),
+    ("people.csv", "person,cost\nAna,much\n", "row 2, column B (cost): `much` is not a whole"),
     (
         "tasks.csv",
         "task,days,started,finished\na,1,3,2\n",

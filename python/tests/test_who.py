@@ -124,7 +124,7 @@ def test_what_is_wrong_is_said(p: Project) -> None:
         (["ana", any_of("ana")], 1, "t: 1 are needed, and there is nobody else"),
         (skilled("weldign"), 1, "t: nobody is skilled in 'weldign'. Did you mean welding?"),
         (skilled("painting"), 1, "nobody is skilled in 'painting'. Say who, as skills="),
-        ([any_of("ana"), any_of("ben")], 1, "t: say `any_of` or `skilled` once"),
+        ([any_of("ana", "ben")] * 3, 1, "t: 3 are needed, and there is only ana and ben"),
         ("ana", {"ana": 3}, "t: days of each are for a task that one of several does"),
         (any_of(2, "ana", "ben", "cem"), {"ana": 3}, "days of each are for a task that one"),
         (any_of("ana", "ben"), {"ana": 3}, "t: say how many days it takes ana and ben"),

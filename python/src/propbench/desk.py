@@ -213,7 +213,8 @@ def _add_plan(to: argparse.ArgumentParser) -> None:
         nargs=2,
         metavar="GOAL",
         default=(),
-        help="tell what one goal costs the other, as `end cost`; --csv and --svg are of that then",
+        help="tell what one goal costs the other, as `end cost`, `end wishes`; --csv and --svg are"
+        " of that then",
     )
     for ending, what in _WRITTEN.items():
         to.add_argument(f"--{ending}", metavar="FILE", help=f"write the schedule {what}")

@@ -51,6 +51,7 @@ from propbench.replies import Contradiction, Settled, Value, Worldview
 from propbench.session import Session
 
 if TYPE_CHECKING:
+    from propbench.model.saving import Noted, Saved
     from propbench.model.tabling import Table
     from propbench.page import Page
     from propbench.pictures import Film, Picture
@@ -678,7 +679,8 @@ class PlainWorkbench(Questions, Closing):
         from propbench.files import write_file
         from propbench.model.saving import saved
 
-        write_file(path_given(path), "".join(f"{line}\n" for line in saved(self._network)))
+        lines = saved(self._network, self._noted())
+        write_file(path_given(path), "".join(f"{line}\n" for line in lines))
 
     @classmethod
     def load(
@@ -701,17 +703,25 @@ class PlainWorkbench(Questions, Closing):
         with open(path_given(path), encoding="utf-8") as file:
             lines = file.read().split("\n")
         owner = object()
-        events, kicked = read(lines, owner)
+        found = read(lines, owner)
         with ExitStack() as closing:
             made = cls(program)
             closing.callback(made.close)
             made._owner = owner
-            for event in events:
-                made._network.do(event)
-            for premise in kicked:
+            made._take_in(found)
+            for premise in found.kicked:
                 made.kick(premise)
             closing.pop_all()
         return made
+
+    def _noted(self) -> "Noted":
+        """What is noted of events in a file."""
+        return lambda event: None
+
+    def _take_in(self, found: "Saved") -> None:
+        """Carries out what a file has."""
+        for event in found.events:
+            self._network.do(event)
 
     # --- within ---
 

@@ -37,6 +37,7 @@ from propbench.questions import Sensitivity
 from propbench.questions.asking import CellLike
 
 if TYPE_CHECKING:
+    from propbench.model.saving import Noted, Saved
     from propbench.laboratory.adjustment import Adjustment
     from propbench.laboratory.report import Report
     from propbench.model.tabling import Table
@@ -53,7 +54,8 @@ class Workbench(PlainWorkbench, Laboratory):
     - cells: `number`, `truth`, `element` (of a `domain`), `symbol`, `measured` with a unit; `cell`
       gives one by its name, and `cells` all.
     - what holds: `require` between cells, `fix` and `tell` for values, `choose` between
-      alternatives; `law` and `read` for quantities; `project` for tasks and people.
+      alternatives; `law` and `read` for quantities; `project` for tasks and people,
+      and `projects` all of these.
     - premises: with `under=` a statement belongs to one, which `kick` takes out, `bring` takes in
       again, and `forget` removes; `premises` and `believed` name them.
     - what follows: `x.ask()`, `x.why()` and `x.core()` of a cell, `table` and `show` of several,
@@ -236,7 +238,41 @@ class Workbench(PlainWorkbench, Laboratory):
         warnings.warn(said, DeprecationWarning, stacklevel=2)
         return self.project(days=days, people=people, start=start, off=off, skills=skills)
 
+    @property
+    def projects(self) -> tuple[Project, ...]:
+        """The projects of which something is stated, as also a file has them.
+
+        >>> w = Workbench()
+        >>> venue = w.project(days=30).task("venue", 3)
+        >>> w.save("plan.prop")
+        >>> [p] = Workbench.load("plan.prop").projects
+        >>> list(p.tasks), p.workbench.least(p.end).value
+        (['venue'], 3)
+        """
+        from propbench.planning.keeping import project_of
+
+        found = (project_of(event) for event in self._network.events)
+        return tuple(dict.fromkeys(project for project in found if project is not None))
+
     # --- within ---
+
+    def _noted(self) -> Noted:
+        from propbench.planning.keeping import Notes
+
+        return Notes().of
+
+    def _take_in(self, found: Saved) -> None:
+        from propbench.model.saving import WRONG, NotAWorkbench
+        from propbench.planning.keeping import Restored
+
+        restored = Restored(self)
+        for event, note in zip(found.events, found.notes):
+            try:
+                meant = restored.event(event, note)
+            except WRONG as error:
+                raise NotAWorkbench("the file was not saved by a workbench") from error
+            self._network.do(meant)
+        restored.finish()
 
     def _tell(self, premise: str | None, cell: Cell, value: GivenValue, high: object) -> None:
         if not isinstance(cell, Quantity):

@@ -64,6 +64,8 @@ class Network:
         self._forgotten: set[str] = set()
         # What makes the network from nothing, while that is known.
         self._base: Script | None = None
+        # What the session was told last, where the record was restated since then.
+        self._before: Record | None = None
         if program is None:
             self._program.offered = offered(self.session, YES)
 
@@ -148,14 +150,22 @@ class Network:
 
     def restate(self, events: Iterable[Event], state: Callable[[], _Found]) -> _Found:
         """Has these events take the place of all that is stated, and then what a function states;
-        or all is as it was before. The premises stay as they are."""
-        before = self._record
+        or all is as it was before. The premises stay as they are. (The program is told all of it
+        with the next use, so that what is restated several times is told once.)"""
+        before, was_stating = self._record, self._is_stating
         try:
-            self._record = before.with_events(list(events))
-            return self.whole(state)
+            self._is_stating, self._record = True, before.with_events(list(events))
+            self._index = Index(self._record)
+            found = state()
+            stands = self._record.with_events(self._index.events)
+            self._record = self._index.record = stands
+            self._before = self._before or before
+            return found
         except BaseException:
             self._record = before
             raise
+        finally:
+            self._is_stating = was_stating
 
     def kick(self, premise: str) -> None:
         """A premise is no longer believed."""
@@ -255,7 +265,21 @@ class Network:
         return self._script
 
     def _catch_up(self) -> None:
-        """Sees to it that the session was told the lines of the record, and nothing else."""
+        """Sees to it that the session was told the lines of the record, and nothing else. Where the
+        program has no room for what was restated, raises ValueError, and it is gone."""
+        before, self._before = self._before, None
+        try:
+            self._tell_all()
+        except (LimitReached, LineTooLong, RecursionError) as error:
+            if before is None:
+                raise
+            self._record = before
+            raise ValueError(f"{_why_not(error)}; what was said last is gone") from None
+        except BaseException:
+            self._before = before
+            raise
+
+    def _tell_all(self) -> None:
         script = self._writing()
         if self._told is not self._record:
             lines = [*script.writer.lines, *self.kicks(script.vocabulary)]

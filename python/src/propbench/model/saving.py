@@ -1,6 +1,8 @@
 """A workbench as a file, and a file as a workbench."""
 
-from collections.abc import Iterator, Sequence
+from collections.abc import Callable, Iterator, Mapping, Sequence
+from dataclasses import dataclass
+from typing import Any
 
 from propbench.finding import SAVED
 from propbench.model.events import Event
@@ -12,18 +14,36 @@ from propbench.showing import cut
 
 _FORM = 1
 # What comes of records that are none of a workbench's, or are nested without end.
-_WRONG: tuple[type[Exception], ...] = (KeyError, TypeError, ValueError, IndexError, AttributeError)
-_WRONG += (ArithmeticError, AssertionError, RecursionError)
+WRONG: tuple[type[Exception], ...] = (KeyError, TypeError, ValueError, IndexError, AttributeError)
+WRONG += (ArithmeticError, AssertionError, RecursionError)
 
 
-def saved(network: Network) -> Iterator[str]:
-    """The lines of a file, each event with those that say it."""
+# What is noted of an event beside what it states.
+Noted = Callable[[Event], Mapping[str, object] | None]
+
+
+@dataclass(frozen=True)
+class Saved:
+    """What a file has: events with what is noted of each, and the premises that are kicked out."""
+
+    events: list[Event]
+    notes: list[Mapping[str, Any] | None]
+    kicked: list[str]
+
+
+def _nothing(event: Event) -> None:
+    return None
+
+
+def saved(network: Network, noted: Noted = _nothing) -> Iterator[str]:
+    """The lines of a file, each event with what is noted of it, and with the lines that say it."""
     yield SAVED
     yield from comments({"workbench": _FORM, "kit": sorted(network.offered)})
     script = network.new_script()
     yield from script.writer.taken()
     for event in network.events:
-        yield from comments(record_of(event))
+        note = noted(event)
+        yield from comments(record_of(event) | ({} if note is None else {"note": note}))
         yield from script.lines_of(event)
     kicked = [name for name, believed in network.premises.believed.items() if not believed]
     yield from comments({"kicked": kicked})
@@ -34,8 +54,8 @@ class NotAWorkbench(ValueError):
     """A file is not one that a workbench has saved, or its lines were changed since."""
 
 
-def read(lines: Sequence[str], owner: object) -> tuple[list[Event], list[str]]:
-    """The events of a file, and the premises that are kicked out. The cells are the owner's.
+def read(lines: Sequence[str], owner: object) -> Saved:
+    """What a file has. The cells are the owner's.
 
     Raises NotAWorkbench: the lines of a file have to be those that its events stand for.
     """
@@ -47,11 +67,11 @@ def read(lines: Sequence[str], owner: object) -> tuple[list[Event], list[str]]:
         found = Records(owner)
         events = [found.event(record) for record in middle]
         _check(lines, events, kit, kicked)
-    except _WRONG as error:
+    except WRONG as error:
         if isinstance(error, NotAWorkbench):
             raise
         raise NotAWorkbench("the file was not saved by a workbench") from error
-    return events, kicked
+    return Saved(events, [record.get("note") for record in middle], kicked)
 
 
 def _check(

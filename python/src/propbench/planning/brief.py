@@ -23,8 +23,9 @@ class Way:
 @dataclass(frozen=True)
 class Job:
     """A task of a table. It begins on the day `earliest` or later, and ends before `latest`; `done`
-    are its first day and that by which it was over, where it was done. `people` do it, and some of a
-    `group`; it `pauses` while they are away."""
+    are its first day and that by which it was over, where it was done, and `left` the days that are
+    left of one under way, with that on which it `began`. `people` do it, and some of each of the
+    `groups`; it `pauses` while they are away, and `uses` so much of resources."""
 
     name: str
     ways: tuple[Way, ...]
@@ -33,8 +34,11 @@ class Job:
     earliest: int | None
     latest: int | None
     done: tuple[int, int] | None = None
-    group: AnyOf | Skilled | None = None
+    groups: tuple[AnyOf | Skilled, ...] = ()
     pauses: bool = True
+    uses: dict[str, int] = field(default_factory=dict)
+    left: int | None = None
+    began: int | None = None
 
 
 @dataclass(frozen=True)
@@ -73,7 +77,8 @@ class Given:
 
 @dataclass
 class Brief:
-    """All that tables say. `unread` are sheets that are none of a plan's."""
+    """All that tables say: of `resources` how much there is, and what it costs to have more, and of
+    `rates` what they cost a day. `unread` are sheets that are none of a plan's."""
 
     calendar: Calendar | None = None
     days: int | None = None
@@ -81,6 +86,8 @@ class Brief:
     people: dict[str, float] = field(default_factory=dict)
     skills: dict[str, tuple[str, ...]] = field(default_factory=dict)
     works: dict[str, tuple[str, ...]] = field(default_factory=dict)
+    resources: dict[str, tuple[int, float]] = field(default_factory=dict)
+    rates: dict[str, int] = field(default_factory=dict)
     jobs: dict[str, Job] = field(default_factory=dict)
     leaves: list[Leave] = field(default_factory=list)
     wishes: list[Wish] = field(default_factory=list)

@@ -8,6 +8,7 @@ from typing import TYPE_CHECKING
 from propbench.model.cells import NumberCell
 from propbench.model.network import Network
 from propbench.planning.order import SetUp
+from propbench.planning.resources import KeptWithin
 from propbench.planning.schedule import Entry, Schedule
 from propbench.planning.tasks import (
     Away,
@@ -215,7 +216,7 @@ def _rooms(project: "Project", tasks: Sequence[str], value: int, clock: Clock) -
 def _is_own(network: Network, project: "Project", premise: str) -> bool:
     """Whether what is stated under a premise is all of tasks and people."""
     stated = network.premises.statements[premise]
-    kinds = TaskTold, TaskBy, TaskOrdered, KeptApart, KeptOff, SetUp
+    kinds = TaskTold, TaskBy, TaskOrdered, KeptApart, KeptOff, KeptWithin, SetUp
     return all(isinstance(each, kinds) and each.project is project for each in stated)
 
 
@@ -232,6 +233,7 @@ class Walk:
         self._schedule, self._project = schedule, project
         self._entries = {entry.task: entry for entry in schedule.entries}
         self._busy = {it.person for it in self._stated if isinstance(it, KeptApart)}
+        self._full = {it.resource for it in self._stated if isinstance(it, KeptWithin)}
         self._setups = {it.person: dict(it.times) for it in self._stated if isinstance(it, SetUp)}
 
     def links(self) -> Iterator[Link]:
@@ -283,6 +285,7 @@ class Walk:
             for other in self._entries.values():
                 if person in other.people and other.start < other.end == entry.start:
                     self._take(other, person, entry, (words, before))
+        self._wait_for_room(entry, (words, before))
         self._wait_for_setups(entry, (words, before))
         for away in dict.fromkeys([*self._aways(entry), *self._breaks(entry)]):
             days = self._schedule.days_said(away.first, away.last)
@@ -292,6 +295,15 @@ class Walk:
                 if each.first == entry.start:
                     words.append(printable(str(each.premise)))
         return "; ".join(dict.fromkeys(words)), before
+
+    def _wait_for_room(self, entry: Entry, into: tuple[list[str], list[Entry]]) -> None:
+        """Takes in the tasks that leave no room for this one until it begins."""
+        for resource in (name for name, _ in entry.uses if name in self._full):
+            for other in self._entries.values():
+                if resource in other.needs and other.start < other.end == entry.start:
+                    if other.task != entry.task and other not in into[1]:
+                        into[0].append(printable(f"{resource}, used by {other.task}"))
+                        into[1].append(other)
 
     def _wait_for_setups(self, entry: Entry, into: tuple[list[str], list[Entry]]) -> None:
         """Takes in the tasks behind which somebody is set up for this one."""
@@ -317,8 +329,8 @@ class Walk:
         """The absences through which a task pauses."""
         found = dict.fromkeys(it.away for it in self._stated if isinstance(it, KeptOff))
         within = [it for it in found if any(a <= it.first < b for a, b in entry.pauses)]
-        return [it for it in within if it.person in entry.people]
+        return [it for it in within if it.person in entry.needs]
 
     def _aways(self, entry: Entry) -> list[Away]:
         found = dict.fromkeys(it.away for it in self._stated if isinstance(it, KeptOff))
-        return [it for it in found if it.person in entry.people and it.last == entry.start]
+        return [it for it in found if it.person in entry.needs and it.last == entry.start]

@@ -166,7 +166,8 @@ def _days(schedule: Schedule, days: int, height: int) -> list[str]:
 
 def _row(schedule: Schedule, entry: Entry, room: tuple[int, int] | None, top: int) -> list[str]:
     """The bar of a task, its room, and its name."""
-    who = f" ({', '.join(entry.people)})" if entry.people else ""
+    names = (*entry.people, *entry.used)
+    who = f" ({', '.join(names)})" if names else ""
     told = printable(f"{entry.task}{who}")
     says = f"{escape(told)}: {_when(schedule, entry.start, entry.end)}"
     label = told if len(told) <= _LETTERS else f"{told[: _LETTERS - 1]}\u2026"
@@ -174,7 +175,7 @@ def _row(schedule: Schedule, entry: Entry, room: tuple[int, int] | None, top: in
     parts += [
         _bar(away.first, away.last, top + 2, 20, "#eeddcc", _said_of(schedule, away))
         for away in schedule.staff.aways
-        if away.person in entry.people and away.last <= schedule.staff.days
+        if away.person in entry.needs and away.last <= schedule.staff.days
     ]
     if room is not None:
         within = schedule.days_said(*room)
@@ -183,12 +184,13 @@ def _row(schedule: Schedule, entry: Entry, room: tuple[int, int] | None, top: in
     if back := [
         away.person
         for away in schedule.staff.aways
-        if away.last == entry.start and away.person in entry.people
+        if away.last == entry.start and away.person in entry.needs
     ]:
         says += f"; it starts when {escape(listed(back))} is back"
     colour = "#555555"
-    if entry.people:
-        colour = _COLOURS[schedule.people.index(entry.people[0]) % len(_COLOURS)]
+    if entry.needs:
+        known = (*schedule.people, *schedule.staff.resources)
+        colour = _COLOURS[known.index(entry.needs[0]) % len(_COLOURS)]
     if entry.pauses:
         parts.append(_bar(entry.start, entry.end, top + 11, 2, colour, ""))
     return [*parts, *(_bar(*part, top + 4, 16, colour, says) for part in entry.parts)]

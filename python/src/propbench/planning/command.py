@@ -7,12 +7,13 @@ from pathlib import Path
 from propbench.planning.brief import Given
 from propbench.outputs import check_ending
 from propbench.planning.exports import ENDINGS
-from propbench.planning.planner import Plan, best_of, plan_of, trade_off_of
+from propbench.planning.planner import Plan, best_of, goals_of, plan_of, taking
 from propbench.planning.project import Project
 from propbench.planning.reading import brief_of
 from propbench.planning.schedule import Schedule
 from propbench.planning.sheets import sheets_of
 from propbench.planning.what_ifs import suppose
+from propbench.questions.asking import CellLike
 from propbench.questions.bounding import Optimum
 from propbench.questions.goals import Optima
 from propbench.questions.shown import listed
@@ -53,6 +54,7 @@ def plan_file(path: str, asked: Asked, program: str | None) -> int:
         print(f"The sheet {printable(name)} is not read: it is called like none of a plan's.")
     with Workbench(program) as w:
         plan = plan_of(w, brief, _SPARE if asked.what_ifs else 0)
+        goals = goals_of(plan, asked.goals)
         best = best_of(plan.project, asked.seconds)
         if best.plan is None:
             if not _is_mended(plan, best, asked):
@@ -63,8 +65,8 @@ def plan_file(path: str, asked: Asked, program: str | None) -> int:
                 return 1
         elif asked.gives_up:
             print("All fits: nothing has to be given up.")
-        if asked.goals:
-            _trade(plan.project, asked)
+        if goals:
+            _trade(plan, goals, asked)
             return 0
         _tell(plan.project, best, Path(path).stem, asked)
         for text in asked.what_ifs:
@@ -72,10 +74,16 @@ def plan_file(path: str, asked: Asked, program: str | None) -> int:
     return 0
 
 
-def _trade(project: Project, asked: Asked) -> None:
+def _trade(plan: Plan, goals: Sequence[CellLike], asked: Asked) -> None:
     """Tells what one goal costs the other, and writes it."""
-    found = trade_off_of(project, asked.goals, asked.seconds)
+    first, second = goals
+    found = plan.project.workbench.trade_off(first, second, seconds=asked.seconds)
     print(shown(str(found)))
+    if "wishes" in asked.goals:
+        for (one, other), each in zip(found.pairs, found):
+            lost = plan.wishes_lost(each.plan or {})
+            says = f"without {listed(lost)}" if lost else "with all that is wished for"
+            print(shown(f"At {found.cells[0]} {one} and {found.cells[1]} {other}: {says}."))
     writers = {"csv": found.to_csv, "svg": found.to_svg}
     for what, file in asked.files.items():
         writers[what](file)
@@ -110,6 +118,8 @@ def _is_mended(plan: Plan, best: Optimum | Optima, asked: Asked) -> bool:
     print(shown(str(w.conflicts(keep=facts, seconds=asked.seconds))))
     repairs = w.repairs(plan.weights_of(w.premises), keep=facts, seconds=asked.seconds)
     print(shown(str(repairs)))
+    if repairs and (wanted := taking(plan.project, repairs[0])):
+        print(shown(f"The first of these takes {listed(wanted)}."))
     if not repairs or not asked.gives_up:
         if repairs:
             print("With --give-up the first of these is given up.")

@@ -29,7 +29,8 @@ def csv_of(schedule: Schedule) -> str:
     out = io.StringIO()
     rows = csv.writer(out, lineterminator="\r\n")
     ends = ("start", "end") if schedule.calendar is None else ("from", "to")
-    rows.writerow(("task", "who", *ends, "days", "how", "cost"))
+    uses = ["uses"] if any(entry.uses for entry in schedule.entries) else []
+    rows.writerow(("task", "who", *ends, "days", "how", "cost", *uses))
     for entry in schedule.by_date():
         rows.writerow(
             (
@@ -39,6 +40,7 @@ def csv_of(schedule: Schedule) -> str:
                 entry.days,
                 no_formula(entry.way or ""),
                 "" if entry.cost is None else entry.cost,
+                *([_as_text(said(entry.used))] if uses else []),
             )
         )
     return out.getvalue()
@@ -59,8 +61,9 @@ def ics_of(schedule: Schedule, who: str | None, now: datetime | None) -> str:
     where nobody is called so."""
     if schedule.calendar is None:
         raise ValueError("the plan has no calendar, so no dates: give w.plan a start")
-    if who is not None and who not in schedule.people:
-        near = near_names(who, schedule.people)
+    known = (*schedule.people, *schedule.staff.resources)
+    if who is not None and who not in known:
+        near = near_names(who, known)
         hint = f" Did you mean {near[0]}?" if near else ""
         raise ValueError(f"nobody in the plan is called {who!r}.{hint}")
     stamp = (now or datetime.now(timezone.utc)).astimezone(timezone.utc)
@@ -76,7 +79,7 @@ def _events(schedule: Schedule, who: str | None) -> Iterator[list[str]]:
     calendar = schedule.calendar
     assert calendar is not None
     for entry in schedule.by_date():
-        if who is None or who in entry.people:
+        if who is None or who in entry.needs:
             by = f" ({said(entry.people)})" if entry.people else ""
             says = [f"how: {entry.way}"] if entry.way else []
             says += [f"cost: {entry.cost}"] if entry.cost else []

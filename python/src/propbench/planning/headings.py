@@ -38,7 +38,9 @@ TASKS = Columns(
         "way": ("option", "how", "alternative"),
         "started": ("begun", "began"),
         "finished": ("ended", "done"),
+        "left": ("days left", "remaining"),
         "pauses": ("pause",),
+        "uses": ("use", "room", "machine"),
     },
     ("task", "days"),
 )
@@ -47,6 +49,8 @@ PEOPLE = Columns(
         "person": ("people", "who", "name", "resource"),
         "works": ("weekdays", "works on"),
         "skills": ("skill", "can"),
+        "holds": ("capacity", "number", "how many"),
+        "cost": ("costs", "a day", "rate", "cost a day"),
         "weight": (),
     },
     ("person",),

@@ -4,7 +4,7 @@ A truth says of a task and an absence that the task goes on behind it, as it was
 of two absences count once. Where an absence is given up the work may pause then, and needn't.
 """
 
-from collections.abc import Iterable, Iterator, Sequence
+from collections.abc import Callable, Iterable, Iterator, Sequence
 from dataclasses import dataclass, replace
 from typing import TYPE_CHECKING
 
@@ -41,18 +41,21 @@ def pauses_of(events: Iterable[Event], task: Task) -> list[Paused]:
     return [each for each in events if isinstance(each, Paused) and each.task is task]
 
 
-def keep_off(project: "Project", tasks: Sequence[Task], aways: Sequence[Away]) -> None:
-    """Has nothing of these tasks be done while who does them is away."""
+def keep_off(
+    project: "Project", tasks: Sequence[Task], aways: Sequence[Away], then: Callable[[], None]
+) -> None:
+    """Has nothing of these tasks be done while who does them is away, and states more then."""
     network = project.workbench.network
     pausing = [task for task in tasks if task.pauses]
 
     def state() -> None:
         for task in tasks:
             for away in aways:
-                if away.person in task.doers:
+                if away.person in task.needs:
                     _state_off(project, task, away)
         for task in pausing:
             _state_span(project, task)
+        then()
 
     if pausing:
         network.restate(_without_spans(network.events, pausing), state)
@@ -112,7 +115,7 @@ def _state_span(project: "Project", task: Task) -> None:
 def _pause(pauses: Sequence[Paused]) -> Number | int:
     """How many days a task pauses in all."""
     days: dict[tuple[int, ...], int] = {}
-    for first, last in _pieces([each.away for each in pauses]):
+    for first, last in pieces([each.away for each in pauses]):
         over = tuple(
             place
             for place, each in enumerate(pauses)
@@ -132,7 +135,7 @@ def _any(truths: Sequence[Truth]) -> Truth:
     return found
 
 
-def _pieces(aways: Iterable[Away]) -> Iterator[tuple[int, int]]:
+def pieces(aways: Iterable[Away]) -> Iterator[tuple[int, int]]:
     """The days from each end of an absence to the next."""
     ends = sorted({end for away in aways for end in (away.first, away.last)})
     yield from zip(ends, ends[1:])
@@ -152,14 +155,17 @@ def days_off(aways: Iterable[Away], start: int, end: int) -> list[tuple[int, int
     return found
 
 
-def days_worked(project: "Project", task: Task, start: int, end: int) -> int:
-    """How many of some days a task was worked on by the people who do it in any case."""
-    believed = set(project.workbench.believed)
+def days_worked(
+    project: "Project", task: Task, days: tuple[int, int], people: Iterable[str] = ()
+) -> int:
+    """How many of some days a task was worked on by the people who do it in any case, and these."""
+    believed, needs = set(project.workbench.believed), {*task.people, *task.uses, *people}
     aways = [
         each
         for each in aways_of(project, project.workbench.network.events)
-        if each.premise in believed and each.person in task.people and task.pauses
+        if each.premise in believed and each.person in needs and task.pauses
     ]
+    start, end = days
     return end - start - sum(last - first for first, last in days_off(aways, start, end))
 
 

@@ -3,13 +3,16 @@
 from collections.abc import Callable, Iterable, Mapping, Sequence
 from dataclasses import dataclass
 
+from propbench.model.cells import NumberCell
+from propbench.model.kinds import Point
+from propbench.planning.bounds import limit_of
 from propbench.planning.brief import LEAVE, Brief, Job, Wish
-from propbench.planning.project import Project, limit_of
-from propbench.planning.tasks import Option, Task
+from propbench.planning.project import Project
+from propbench.planning.resources import KeptWithin, rates_of
+from propbench.planning.tasks import KeptApart, KeptOff, Option, Task
 from propbench.questions.asking import CellLike
 from propbench.questions.bounding import Optimum
 from propbench.questions.goals import Optima
-from propbench.questions.trading import TradeOff
 from propbench.showing import printable
 from propbench.workbench import Workbench
 
@@ -19,14 +22,20 @@ _WEEK = 7
 
 @dataclass(frozen=True)
 class Plan:
-    """A project, and what it costs to give up its premises."""
+    """A project, and what it costs to give up its premises, of which some are wishes."""
 
     project: Project
     weights: Mapping[str, float]
+    wishes: tuple[str, ...] = ()
 
     def weights_of(self, premises: Iterable[str]) -> dict[str, float]:
         """The weights of those of these premises that have one."""
         return {name: self.weights[name] for name in premises if name in self.weights}
+
+    def wishes_lost(self, found: Mapping[str, Point]) -> list[str]:
+        """The wishes that a plan doesn't keep."""
+        kept = self.project.workbench.model.held(found)
+        return [name for name in self.wishes if name not in kept]
 
 
 def plan_of(workbench: Workbench, brief: Brief, spare: int = 0) -> Plan:
@@ -35,6 +44,10 @@ def plan_of(workbench: Workbench, brief: Brief, spare: int = 0) -> Plan:
     weights = {limit_of(person): weight for person, weight in brief.people.items()}
     people, days = list(brief.people), _days(brief, spare)
     project = Project(workbench, days, people, brief.calendar, brief.skills)
+    for resource, (holds, weight) in brief.resources.items():
+        weights[project.resource(resource, holds)] = weight
+    for name, cost in brief.rates.items():
+        project.pays(name, cost)
     for job in brief.jobs.values():
         _add(project, job)
     for job in brief.jobs.values():
@@ -42,6 +55,9 @@ def plan_of(workbench: Workbench, brief: Brief, spare: int = 0) -> Plan:
             project.done(project.tasks[job.name], *job.done, f"{job.name} was done")
     if brief.today is not None:
         project.today(brief.today, f"today is {_told(project, brief.today)}")
+    for job in brief.jobs.values():
+        if job.left is not None:
+            project.progress(project.tasks[job.name], job.left, job.began)
     for leave in brief.leaves:
         if leave.first < leave.back:
             name = project.away(leave.person, leave.first, leave.back, leave.name)
@@ -51,7 +67,7 @@ def plan_of(workbench: Workbench, brief: Brief, spare: int = 0) -> Plan:
     for wish in brief.wishes:
         _wish(project, wish, brief)
         weights[wish.name] = wish.weight
-    return Plan(project, weights)
+    return Plan(project, weights, tuple(wish.name for wish in brief.wishes))
 
 
 def _days(brief: Brief, spare: int) -> int:
@@ -74,16 +90,19 @@ def _days(brief: Brief, spare: int) -> int:
 def _add(project: Project, job: Job) -> Task:
     """Adds a task, with its first and its last day."""
     after = [project.tasks[name] for name in job.after]
-    who = [*job.people, *([job.group] if job.group else [])]
+    who = [*job.people, *job.groups]
     if len(job.ways) > 1:
         options: dict[str, Option] = {
             way.name: {"days": way.days, "cost": way.cost} for way in job.ways
         }
-        task = project.task(job.name, who=who, after=after, options=options, pauses=job.pauses)
-    else:
-        [way] = job.ways
+        pauses, uses = job.pauses, job.uses
         task = project.task(
-            job.name, way.days, cost=way.cost, who=who, after=after, pauses=job.pauses
+            job.name, who=who, after=after, options=options, pauses=pauses, uses=uses
+        )
+    else:
+        [way], pauses, uses = job.ways, job.pauses, job.uses
+        task = project.task(
+            job.name, way.days, cost=way.cost, who=who, after=after, pauses=pauses, uses=uses
         )
     if job.earliest is not None:
         project.not_before(
@@ -120,17 +139,44 @@ def _wish(project: Project, wish: Wish, brief: Brief) -> None:
 def best_of(project: Project, seconds: float | None) -> Optimum | Optima:
     """The plan that ends soonest, and of those the cheapest, as far as there is time."""
     w = project.workbench
-    if all(task.cost is None for task in project.tasks.values()):
+    has_rates = rates_of(project, w.network.events)
+    if not has_rates and all(task.cost is None for task in project.tasks.values()):
         return w.least(project.end, seconds=seconds)
     return w.least([project.end, project.total_cost], seconds=seconds)
 
 
-def trade_off_of(project: Project, goals: Sequence[str], seconds: float | None) -> TradeOff:
-    """What one goal costs the other: `end`, `cost`, or the name of a cell. Raises ValueError for
-    another."""
+def given_up(plan: Plan) -> NumberCell:
+    """The weight of the wishes that are given up, which nothing has to hold any more. Raises
+    ValueError where one weighs what is no whole number."""
+    weights: dict[str, int] = {}
+    for name in plan.wishes:
+        if plan.weights[name] % 1:
+            raise ValueError(f"{name}: weights are added up here, so each is a whole number, as 2")
+        weights[name] = int(plan.weights[name])
+    return plan.project.given_up(weights, "wishes")
+
+
+def taking(project: Project, premises: Iterable[str]) -> list[str]:
+    """What it takes to give up these premises, of those that say who there is and what."""
+    stated = project.workbench.network.premises.statements
+    found: dict[str, None] = {}
+    for each in (it for name in premises for it in stated[name]):
+        if isinstance(each, KeptApart):
+            found[f"somebody to help {each.person}"] = None
+        elif isinstance(each, KeptWithin):
+            found[f"more of {each.resource}"] = None
+        elif isinstance(each, KeptOff):
+            found[f"{each.away.person} to be there {each.away.written}"] = None
+    return list(found)
+
+
+def goals_of(plan: Plan, goals: Sequence[str]) -> list[CellLike]:
+    """The cells of some goals: `end`, `cost`, `wishes`, which is the weight of those that are given
+    up, or the names of cells."""
+    project = plan.project
     known: dict[str, Callable[[], CellLike]] = {
         "end": lambda: project.end,
         "cost": lambda: project.total_cost,
+        "wishes": lambda: given_up(plan),
     }
-    first, second = (known[goal]() if goal in known else goal for goal in goals)
-    return project.workbench.trade_off(first, second, seconds=seconds)
+    return [known[goal]() if goal in known else goal for goal in goals]

@@ -1,10 +1,22 @@
 """How far the work is: what was done when, and that nothing else begins before today."""
 
-from typing import TYPE_CHECKING
+from dataclasses import dataclass
+from typing import TYPE_CHECKING, SupportsIndex
 
+from propbench.model.cells import Cell, NumberCell
 from propbench.model.given import values_of
+from propbench.model.nodes import TRUE
+from propbench.planning.bounds import state_bounds_from
 from propbench.planning.pausing import days_worked
-from propbench.planning.tasks import NotYet, Task, TaskBy, TaskDone, TaskMade, TaskTold
+from propbench.planning.tasks import (
+    NotYet,
+    Task,
+    TaskBegun,
+    TaskBy,
+    TaskDone,
+    TaskMade,
+    TaskTold,
+)
 from propbench.questions.shown import listed
 from propbench.showing import printable
 
@@ -12,37 +24,89 @@ if TYPE_CHECKING:
     from propbench.planning.project import Project
 
 
-def state_done(project: "Project", task: Task, days: tuple[int, int], premise: str) -> None:
+@dataclass(frozen=True)
+class By:
+    """The premise by which something is said of a task, and who did it, where that is told."""
+
+    premise: str
+    people: tuple[str, ...] | None
+
+
+def state_done(project: "Project", task: Task, days: tuple[int, int], by: By) -> None:
     """A task was done from the beginning of one day to that of another, however long it was to
     take. Raises ValueError where it can't have been."""
     first, last = days
     _check(project, first, last)
     if last < first:
         raise ValueError(f"{task.name}: it can't be over before it begins")
-    if task.name in tasks_done(project):
+    worked = days_worked(project, task, (first, last), by.people or ())
+    told = _Said(TaskDone, ((task.start, first), (task.end, last)), by)
+    _state(project, task, worked, told)
+
+
+def state_progress(project: "Project", task: Task, left: int, began: int | None, by: By) -> None:
+    """A task that began on a day has so many days of work left from today on. Raises ValueError
+    where that can't be, and TypeError for days that are no whole number."""
+    today = today_of(project)
+    if not isinstance(left, SupportsIndex):
+        raise TypeError(f"{printable(task.name)}: {left!r} days are no whole number")
+    if int(left) < 0:
+        raise ValueError(f"{printable(task.name)}: no days left are less than none")
+    if today is None:
+        raise ValueError("say first what day it is, by p.today(..)")
+    first = today[0] if began is None else began
+    _check(project, first)
+    if first > today[0]:
+        raise ValueError(f"{printable(task.name)}: it can't be under way before it begins")
+    days = days_worked(project, task, (first, today[0]), by.people or ()) + int(left)
+    _state(project, task, days, _Said(TaskBegun, ((task.start, first), (task.days, days)), by))
+
+
+@dataclass(frozen=True)
+class _Said:
+    """What is told of a task: of which sort that is, cells with their values, and by whom."""
+
+    sort: type[TaskDone]
+    numbers: tuple[tuple[NumberCell, int], ...]
+    by: By
+
+
+def _state(project: "Project", task: Task, days: int, said: _Said) -> None:
+    """States how it is with a task that takes so many days, in place of what was planned, and of
+    what was said of it before while it was under way."""
+    w, today = project.workbench, today_of(project)
+    for person in said.by.people or ():
+        if person not in task.doers:
+            raise ValueError(f"{printable(task.name)}: {person!r} is none of those who may do it")
+    begun = [it for it in _of_progress(project) if it.task == task.name]
+    if any(not isinstance(it, TaskBegun) for it in begun):
         raise ValueError(
             f"{printable(task.name)} was done already: forget the premise of that first"
         )
-    w, today = project.workbench, today_of(project)
-    planned = _planned(project, task, days_worked(project, task, first, last))
+    gone = [*_planned(project, task, days), *dict.fromkeys(str(it.premise) for it in begun)]
+    if said.by.premise in gone:
+        raise ValueError(f"{said.by.premise!r} says what was before: give this another name")
     try:
-        for name in planned:
+        for name in gone:
             w.kick(name)
-        w.network.whole(lambda: _tell(project, task, days, premise))
+        w.network.whole(lambda: _tell(project, task, said))
     except BaseException:
-        for name in planned:
+        for name in gone:
             w.bring(name)
         raise
     if today is not None:
         state_today(project, *today)
 
 
-def _tell(project: "Project", task: Task, days: tuple[int, int], premise: str) -> None:
-    w = project.workbench
-    w.network.premises.check(premise)
-    for cell, day in zip((task.start, task.end), days):
-        values = values_of(cell.declared, day)
-        w.network.do(TaskDone(cell.declared, values, premise, project, task.name))
+def _tell(project: "Project", task: Task, said: _Said) -> None:
+    w, people = project.workbench, said.by.people
+    w.network.premises.check(said.by.premise)
+    told: list[tuple[Cell, object]] = [*said.numbers]
+    if people is not None:
+        told += [(cell, person in people) for person, cell in task.may.items()]
+    for cell, value in told:
+        values = values_of(cell.declared, value)
+        w.network.do(said.sort(cell.declared, values, said.by.premise, project, task.name))
 
 
 def _planned(project: "Project", task: Task, days: int) -> list[str]:
@@ -53,6 +117,7 @@ def _planned(project: "Project", task: Task, days: int) -> list[str]:
         each
         for each in w.network.events
         if isinstance(each, TaskTold) and each.cell is task.days.declared
+        if not isinstance(each, TaskDone)
     ]
     [made] = [it for it in w.network.events if isinstance(it, TaskMade) and it.task is task]
     if len(made.ways) > 1 and days not in made.ways:
@@ -93,10 +158,14 @@ def state_today(project: "Project", day: int, premise: str) -> None:
     written = f"what isn't done begins {project.day_said(day)} or later"
 
     def state() -> None:
+        # (where all is done or under way, it is known what day it is)
+        said = NotYet(TRUE, premise, project, written, day)
+        w.network.do(said)
         for name, task in project.tasks.items():
             if name not in done:
                 node = (task.start >= day).node
                 w.network.do(NotYet(node, premise, project, written, day))
+        state_bounds_from(project, said)
 
     if before is not None and before[1] == premise:
         w.forget(premise)
@@ -113,10 +182,15 @@ def _check(project: "Project", *days: int) -> None:
 
 
 def tasks_done(project: "Project") -> set[str]:
-    """The tasks that were done, by premises that are believed."""
+    """The tasks that were done, or are under way, by premises that are believed."""
+    return {each.task for each in _of_progress(project)}
+
+
+def _of_progress(project: "Project") -> list[TaskDone]:
+    """What is said of tasks that were done, or are under way, by premises that are believed."""
     believed = set(project.workbench.believed)
-    return {
-        each.task
+    return [
+        each
         for each in project.workbench.network.events
         if isinstance(each, TaskDone) and each.project is project and each.premise in believed
-    }
+    ]

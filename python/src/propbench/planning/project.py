@@ -8,10 +8,12 @@ from typing import TYPE_CHECKING, SupportsIndex
 from propbench.given import names_given
 from propbench.model.cells import Cell, NumberCell
 from propbench.model.events import Required, Told
-from propbench.model.expressions import Truth, count, implies, maximum, total
+from propbench.model.expressions import Number, Truth, implies, total
 from propbench.model.given import values_of
 from propbench.model.nodes import TRUE
+from propbench.planning.bounds import limit_of, state_bounds, state_end
 from propbench.planning.calendar import Calendar, date_given, date_said, dates_said
+from propbench.planning.groups import roles_of, state_groups
 from propbench.planning.order import (
     SetUp,
     TaskLagged,
@@ -23,11 +25,24 @@ from propbench.planning.order import (
     times_given,
 )
 from propbench.planning.pausing import keep_off, pauses_by_task, state_pauses
+from propbench.planning.resources import (
+    KeptWithin,
+    holding,
+    holds_given,
+    kept_within,
+    paid,
+    rates_of,
+    resources_of,
+    state_resource,
+    state_uses,
+    uses_given,
+)
 from propbench.planning.tasks import (
     Away,
     KeptApart,
     KeptOff,
     Option,
+    Rate,
     Task,
     TaskBy,
     TaskMade,
@@ -52,6 +67,7 @@ if TYPE_CHECKING:
     from propbench.planning.folded import FoldedChain
     from propbench.planning.chart import Chart
     from propbench.planning.schedule import Schedule
+    from propbench.planning.wanted import Weights
     from propbench.workbench import Workbench
 
 MOST_COST = 10**12
@@ -90,7 +106,7 @@ class Project:
         if isinstance(people, Mapping):
             raise TypeError(
                 f"people are names, and each does one thing at a time: {people!r} says more of"
-                ' them. Where there are two of a kind, name two, as "hall1 hall2"'
+                ' them. Where there are two of a kind, say p.resource("hall", 2)'
             )
         self.workbench, self.days, self.calendar = workbench, days, calendar
         self.people = names_given(people)
@@ -131,8 +147,9 @@ class Project:
 
     @property
     def limits(self) -> tuple[str, ...]:
-        """The premises that people do one thing at a time, of whoever has two tasks: as `ana does
-        one thing at a time`. Where one is given up, somebody has to help her.
+        """The premises that people do one thing at a time, of whoever has two tasks, and that a
+        resource holds so much: as `ana does one thing at a time`, `hall holds 2`. Where one is
+        given up, somebody has to help her, or there has to be more.
 
         >>> w = Workbench()
         >>> p = w.project(days=30, start="2026-03-02", off="sat sun", people="ana")
@@ -140,8 +157,74 @@ class Project:
         >>> p.limits
         ('ana does one thing at a time',)
         """
-        kept = (each for each in self.workbench.network.events if isinstance(each, KeptApart))
-        return tuple(dict.fromkeys(each.premise for each in kept if each.project is self))
+        found: dict[str, None] = {}
+        for each in self.workbench.network.events:
+            if isinstance(each, (KeptApart, KeptWithin)) and each.project is self:
+                found[each.premise] = None
+        return tuple(found)
+
+    @property
+    def resources(self) -> dict[str, int]:
+        """The resources, and how much there is of each.
+
+        >>> w = Workbench()
+        >>> p = w.project(days=30)
+        >>> p.resource("hall", 2)
+        'hall holds 2'
+        >>> p.resources
+        {'hall': 2}
+        """
+        return resources_of(self, self.workbench.network.events)
+
+    def resource(self, name: str, holds: int = 1, under: str | None = None) -> str:
+        """There is so much of a resource, which no more is in use of at once by tasks that say what
+        they use (`uses={"hall": 1}`), also while these pause; the premise of that, which is named
+        `hall holds 2` where no name is given. What is said of one that is there holds beside that.
+        Raises ValueError for the name of a person and for less than one, and TypeError.
+
+        >>> w = Workbench()
+        >>> p = w.project(days=30)
+        >>> p.resource("hall", 2)
+        'hall holds 2'
+        >>> talks = [p.task(name, 3, uses={"hall": 1}) for name in ("one", "two", "three")]
+        >>> w.least(p.end).value
+        6
+        """
+        if name in self.people:
+            raise ValueError(f"{name!r} is a person, who does one thing at a time")
+        number, premise = holds_given(name, holds), under or holding(name, int(holds))
+        said = KeptWithin(TRUE, premise, name, number, self)
+        self.workbench.network.whole(lambda: state_resource(self, said, self.tasks.values()))
+        return premise
+
+    def pays(self, name: str, cost: int, under: str | None = None) -> str:
+        """A person, or each of a resource, costs so much for a day of work on a task, beside what
+        the task costs; the premise of that, which is one of `facts`, and named `ana costs 300 a
+        day` where no name is given. Raises ValueError for somebody else, where that was said, for
+        less than nothing, and where the total cost was asked for before.
+
+        >>> w = Workbench()
+        >>> p = w.project(days=30, people="ana ben")
+        >>> p.pays("ana", 300)
+        'ana costs 300 a day'
+        >>> venue = p.task("venue", {"ana": 3, "ben": 8}, who=any_of("ana", "ben"))
+        >>> w.least(p.total_cost).value, w.least([p.end, p.total_cost]).values
+        (0, (3, 900))
+        """
+        self._known(name)
+        if self._total is not None and self._has(self._total):
+            raise ValueError(f"{name}: say what it costs before the total cost is asked for")
+        if name in rates_of(self, self.workbench.network.events):
+            raise ValueError(f"what {name} costs a day was said already")
+        premise = under or f"{name} costs {cost} a day"
+
+        def state() -> None:
+            cell = self.workbench.number(f"{name} a day", 0, MOST_COST)
+            values = values_of(cell.declared, cost)
+            self.state(Rate(cell.declared, values, premise, self, name))
+
+        self.workbench.network.whole(state)
+        return premise
 
     def task(
         self,
@@ -154,6 +237,7 @@ class Project:
         options: Mapping[str, Option] | None = None,
         pauses: bool = True,
         kind: str | None = None,
+        uses: Mapping[str, int] | str | None = None,
         under: str | None = None,
     ) -> Task:
         """A task that takes so many days and costs so much, or that is done in one of some ways:
@@ -162,8 +246,9 @@ class Project:
 
         `who` does it, one person or all of several, or whoever suits best: `any_of("ana", "ben")`,
         `skilled("welding")`, each in days of his own by `days={"ana": 3, "ben": 5}`. `after` are
-        tasks that have to be done before. Work `pauses` while somebody is away who does it; an event
-        doesn't: it ends before, or begins behind. A `kind` is what `p.setup` speaks of.
+        tasks that have to be done before. Work `pauses` while somebody is away who does it; an
+        event doesn't: it ends before, or begins behind. A `kind` is what `p.setup` speaks of, and
+        `uses` is how much it takes of what `p.resource` told.
 
         What it takes, and that it comes after these, is stated under premises with names such as
         `review takes 5` and `review after venue`, or all of it `under` one. Raises ValueError where
@@ -180,6 +265,7 @@ class Project:
         (7, 1500)
         """
         doers = self._checked(name, who)
+        used = uses_given(name, uses or {}, self.resources)
         speeds = speeds_given(name, days, doers) if isinstance(days, Mapping) else {}
         taken = max(speeds.values(), default=0) if isinstance(days, Mapping) else days
         ways = checked_ways(name, taken, cost, options)
@@ -187,7 +273,7 @@ class Project:
         others, aways = self.tasks.values(), self._aways()
 
         def state() -> Task:
-            task = self._made(name, doers, list(ways.values()), (pauses, kind))
+            task = self._made(name, doers, list(ways.values()), (pauses, kind, used))
             if options is not None:
                 self._choose(task, ways)
             else:
@@ -197,8 +283,9 @@ class Project:
                 premise = under or f"{name} after {other.name}"
                 self.state(TaskOrdered(before, premise, self, other, task))
             self._keep_apart(task, others)
+            state_uses(self, task, others)
             state_setups(self, task, others)
-            state_pauses(self, task, [away for away in aways if away.person in task.doers])
+            state_pauses(self, task, [away for away in aways if away.person in task.needs])
             return task
 
         return self.workbench.network.whole(state)
@@ -206,9 +293,9 @@ class Project:
     def away(self, person: str, first: Day, last: Day, under: str | None = None) -> str:
         """A person does nothing from the beginning of one day to the beginning of another; the
         premise of that, which is named `ana away 5 to 10` where no name is given. Days are numbers,
-        or dates where the plan has a calendar. Work pauses meanwhile, and events end before or begin
-        behind. Where all of these days are off anyway, nothing more is stated. Raises ValueError for
-        somebody else, and for a return before the leave.
+        or dates where the plan has a calendar. Work pauses meanwhile, and events end before or
+        begin behind. Where all of these days are off anyway, nothing more is stated. Raises
+        ValueError for somebody else, and for a return before the leave.
 
         >>> w = Workbench()
         >>> p = w.project(days=30, people="ana")
@@ -218,7 +305,7 @@ class Project:
         >>> w.least(venue.end).value, w.least(fair.end).value
         (11, 13)
         """
-        self.staffing.known(person)
+        self._known(person)
         begin, end = self.day(first), self.day(last)
         if begin == end and _is_before(first, last):
             premise = under or f"{person} away {self._said(first)} to {self._said(last)}"
@@ -235,9 +322,9 @@ class Project:
         return away.premise
 
     def works(self, person: str, weekdays: str | Sequence[str], under: str | None = None) -> str:
-        """A person works on these weekdays alone; the premise of that, which is named `ana works mon
-        tue` where no name is given. Raises ValueError where the plan has no dates, and for another
-        weekday.
+        """A person works on these weekdays alone; the premise of that, which is named `ana works
+        mon tue` where no name is given. Raises ValueError where the plan has no dates, and for
+        another weekday.
 
         >>> w = Workbench()
         >>> p = w.project(days=30, people="ana", start="2026-03-02", off="sat sun")
@@ -247,7 +334,7 @@ class Project:
         >>> w.least(p.end).value
         6
         """
-        self.staffing.known(person)
+        self._known(person)
         if self.calendar is None:
             raise ValueError(f"{person}: weekdays need dates: give the plan a start")
         names = names_given(weekdays)
@@ -270,9 +357,9 @@ class Project:
         under: str | None = None,
     ) -> str:
         """So many days pass, at least and at the most, from the end of a task to the start of
-        another, or from its start by `of="start"`; the premise of that, which is one of `facts`, and
-        named `review 2 to 5 after venue` where no name is given. Raises ValueError for no such days,
-        and TypeError.
+        another, or from its start by `of="start"`; the premise of that, which is one of `facts`,
+        and named `review 2 to 5 after venue` where no name is given. Raises ValueError for no such
+        days, and TypeError.
 
         >>> w = Workbench()
         >>> p = w.project(days=30)
@@ -297,7 +384,8 @@ class Project:
     def setup(self, person: str, times: Times, under: str | None = None) -> str:
         """Between any task of one `kind` and any of another behind it, both of somebody or of a
         machine, there are so many days: `{("red", "blue"): 2}`; the premise of that, which is named
-        `press is set up` where no name is given. Raises ValueError and TypeError for what says none.
+        `press is set up` where no name is given. Raises ValueError and TypeError for what says
+        none.
 
         >>> w = Workbench()
         >>> p = w.project(days=30, people="press")
@@ -354,10 +442,19 @@ class Project:
         self.state(Wished(constraint, premise, written, task.name, first))
         return premise
 
-    def done(self, task: Task, first: Day, end: Day, under: str | None = None) -> str:
+    def done(
+        self,
+        task: Task,
+        first: Day,
+        end: Day,
+        under: str | None = None,
+        *,
+        who: str | Sequence[str] | None = None,
+    ) -> str:
         """A task was done, from the beginning of one day to that of another, however long it was to
-        take; the premise of that, which is one of `facts`, and named `venue done 2 to 5` where no
-        name is given. Of a task with several ways one has to take so long: else ValueError.
+        take, and by these of whom who might; the premise of that, which is one of `facts`, and
+        named `venue done 2 to 5` where no name is given. Of a task with several ways one has to
+        take so long: else ValueError, as for people who don't do it.
 
         >>> w = Workbench()
         >>> p = w.project(days=30, start="2026-03-02", off="sat sun", people="ana")
@@ -367,16 +464,49 @@ class Project:
         >>> w.least(review.start).value
         2
         """
-        from propbench.planning.progress import state_done
+        from propbench.planning.progress import By, state_done
 
         self._check_there(task)
         premise = under or f"{task.name} done {self._said(first)} to {self._said(end)}"
-        state_done(self, task, (self.day(first), self.day(end)), premise)
+        by = By(premise, None if who is None else names_given(who, self.people))
+        state_done(self, task, (self.day(first), self.day(end)), by)
         return premise
 
+    def progress(
+        self,
+        task: Task,
+        left: int,
+        began: Day | None = None,
+        under: str | None = None,
+        *,
+        who: str | Sequence[str] | None = None,
+    ) -> str:
+        """A task is under way, and so many days of work are left of it from today on, which has to
+        be said before; in place of what was said of it earlier. The premise of that, which is one
+        of `facts`, and named `venue has 2 days left` where no name is given. It began on a day, or
+        today, where the days before don't matter; and these do it, of whom who might. Raises
+        ValueError for such days and people as can't be, and TypeError.
+
+        >>> w = Workbench()
+        >>> p = w.project(days=30, start="2026-03-02", off="sat sun", people="ana")
+        >>> venue, review = p.task("venue", 3, who="ana"), p.task("review", 5, who="ana")
+        >>> today = p.today("2026-03-04")
+        >>> p.progress(venue, 4, "2026-03-02")
+        'venue has 4 days left'
+        >>> w.least(review.start).value
+        6
+        """
+        from propbench.planning.progress import By, state_progress
+
+        self._check_there(task)
+        said = f"{task.name} has {left} {'day' if left == 1 else 'days'} left"
+        by = By(under or self.unused(said), None if who is None else names_given(who, self.people))
+        state_progress(self, task, left, None if began is None else self.day(began), by)
+        return by.premise
+
     def today(self, day: Day, under: str | None = None) -> str:
-        """What isn't done begins today or later; the premise of that, in place of that of an earlier
-        day. Say first what was done.
+        """What isn't done begins today or later; the premise of that, in place of that of an
+        earlier day. Say first what was done.
 
         >>> w = Workbench()
         >>> p = w.project(days=30, start="2026-03-02", off="sat sun", people="ana")
@@ -393,8 +523,8 @@ class Project:
         return premise
 
     def wish(self, constraint: Truth, under: str, says: str) -> None:
-        """States a constraint under a premise, which is told in these words where somebody asks what
-        it says.
+        """States a constraint under a premise, which is told in these words where somebody asks
+        what it says.
 
         >>> w = Workbench()
         >>> p = w.project(days=30, start="2026-03-02", off="sat sun", people="ana")
@@ -404,6 +534,79 @@ class Project:
         3
         """
         self.state(Wished(self.workbench.constraint_of(constraint), under, says))
+
+    @property
+    def goals_made(self) -> list[str | None]:
+        """The cells of the end and of the total cost, where these are there.
+
+        >>> w = Workbench()
+        >>> p = w.project(days=30)
+        >>> venue = p.task("venue", 3)
+        >>> p.end.name, p.goals_made
+        ('end', ['end', None])
+        """
+        cells = self.end_made, self._total
+        return [it.name if it is not None and self._has(it) else None for it in cells]
+
+    @property
+    def end_made(self) -> NumberCell | None:
+        """The cell of the end, None where it wasn't asked for.
+
+        >>> w = Workbench()
+        >>> w.project(days=30).end_made is None
+        True
+        """
+        return self._end if self._end is not None and self._has(self._end) else None
+
+    def goals_are(self, cells: Sequence[NumberCell | None]) -> None:
+        """Takes in which cells these are, of a file.
+
+        >>> w = Workbench()
+        >>> p = w.project(days=30)
+        >>> p.goals_are([w.number("end", 0, 30), None])
+        >>> p.end.ask().value
+        Span(low=0, high=30)
+        """
+        self._end, self._total = cells
+
+    def given_up(self, weights: "Weights" = None, name: str = "given up") -> NumberCell:
+        """A goal: the weight of what is given up of these premises, which are kicked out for that;
+        of all wishes, at 1 each, where none are named. The least of it is a best plan over all
+        repairs. Raises ValueError for what is no premise or no weight, and TypeError.
+
+        >>> w = Workbench()
+        >>> p = w.project(days=30, people="ana")
+        >>> venue, review = p.task("venue", 3, who="ana"), p.task("review", 5, who="ana")
+        >>> early, soon = p.done_by(4, "early", venue), p.done_by(6, "soon", review)
+        >>> w.least([p.given_up({"early": 2, "soon": 3}), p.end]).values
+        (2, 8)
+        """
+        from propbench.planning.wanted import given_up_of
+
+        return given_up_of(self, weights, name)
+
+    def moved(
+        self,
+        before: "Schedule",
+        weights: Mapping[str, int] | None = None,
+        name: str = "moved",
+    ) -> NumberCell:
+        """A goal: how many tasks are done at another time than in an earlier schedule, and how many
+        by somebody else or in another way, each as often as its weight says, 1 where it has none.
+        Raises ValueError for a weight of no task.
+
+        >>> w = Workbench()
+        >>> p = w.project(days=30, people="ana ben")
+        >>> venue, review = p.task("venue", 3, who="ana"), p.task("review", 5, who="ben")
+        >>> before = p.schedule(w.least(p.end))
+        >>> p.away("ben", 0, 2)
+        'ben away 0 to 2'
+        >>> w.least(p.moved(before)).value
+        1
+        """
+        from propbench.planning.wanted import moved_of
+
+        return moved_of(self, before, weights, name)
 
     @property
     def end(self) -> NumberCell:
@@ -461,8 +664,8 @@ class Project:
         return self.calendar.date_of(day)
 
     def schedule(self, plan: Planned | Plan) -> "Schedule":
-        """A plan of the project as a schedule: of what `w.least(p.end)` or `w.solve()` gives, or one
-        of its plans. `w.least(p.end)` prints as one anyway where there is no other project.
+        """A plan of the project as a schedule: of what `w.least(p.end)` or `w.solve()` gives, or
+        one of its plans. `w.least(p.end)` prints as one anyway where there is no other project.
 
         >>> w = Workbench()
         >>> p = w.project(days=30, start="2026-03-02", off="sat sun", people="ana")
@@ -557,6 +760,11 @@ class Project:
 
         return chart_of(self, plan, rooms, seconds, progress)
 
+    def _known(self, name: str) -> None:
+        """Raises ValueError for what is neither a person nor a resource."""
+        if name not in self.resources:
+            self.staffing.known(name)
+
     def _checked(self, name: str, who: Who) -> Doers:
         """Who does a new task."""
         if name in self.tasks:
@@ -597,12 +805,13 @@ class Project:
         True
         """
         cells: list[Cell] = [cell for cell in (self._end, self._total) if cell is not None]
+        rates = [it.name for it in rates_of(self, self.workbench.network.events).values()]
         pauses = pauses_by_task(self.workbench.network.events)
         for task in tasks:
             cells += [task.start, task.end, task.days, *([] if task.cost is None else [task.cost])]
-            cells += task.may.values()
+            cells += [*task.may.values(), *task.roles.values()]
             cells += [it.cell for it in pauses.get(task, ())]
-        return frozenset([*(cell.name for cell in cells), *(task.name for task in tasks)])
+        return frozenset([*(it.name for it in cells), *rates, *(it.name for it in tasks)])
 
     def _said(self, day: Day) -> str:
         """A day as it was given, as names have it."""
@@ -640,7 +849,11 @@ class Project:
         return self.workbench.network.cells.get(cell.name) is cell.declared
 
     def _made(
-        self, name: str, doers: Doers, ways: Sequence[Way], how: tuple[bool, str | None]
+        self,
+        name: str,
+        doers: Doers,
+        ways: Sequence[Way],
+        how: tuple[bool, str | None, Mapping[str, int]],
     ) -> Task:
         """The cells of a task, and that it ends when its days are over."""
         number = self.workbench.number
@@ -650,13 +863,15 @@ class Project:
         has_cost = any(way.cost for way in ways)
         cost = number(f"{name} cost", 0, MOST_COST) if has_cost else None
         may = {person: self.workbench.truth(f"{name} by {person}") for person in doers.others}
-        task = Task(name, doers.people, start, end, days, cost, how[0], may, how[1])
+        roles = roles_of(self.workbench, name, doers)
+        task = Task(
+            name, doers.people, start, end, days, cost, how[0], may, *how[1:], roles, doers.number
+        )
         takes = tuple(way.days for way in ways)
-        waits = how[0] and any(away.person in task.doers for away in self._aways())
+        waits = how[0] and any(away.person in task.needs for away in self._aways())
         ends = TRUE if waits else (end == start + days).node
         self.state(TaskMade(ends, None, task, self, takes))
-        if may:
-            self.workbench.require(count(*may.values()) == doers.number)
+        state_groups(self.workbench, task, doers)
         return task
 
     def _take(self, task: Task, way: Way, speeds: Mapping[str, int], under: str | None) -> None:
@@ -713,44 +928,35 @@ class Project:
 
     def _keep_off(self, aways: Sequence[Away]) -> None:
         """Nothing is done by somebody who is away."""
-        theirs = [it for it in self.tasks.values() if any(a.person in it.doers for a in aways)]
+        theirs = [it for it in self.tasks.values() if any(a.person in it.needs for a in aways)]
 
         def state() -> None:
             # (A premise under which nothing is stated yet would not be known.)
             for away in aways:
                 self.state(KeptOff(TRUE, away.premise, away, self))
 
+        def bound() -> None:
+            if self.end_made is not None:
+                state_bounds(self, [away.person for away in aways], self.end_made)
+
         if theirs:
-            keep_off(self, theirs, aways)
+            keep_off(self, theirs, aways, bound)
         else:
             self.workbench.network.whole(state)
 
     def _made_total(self) -> NumberCell:
-        costs = [task.cost for task in self.tasks.values() if task.cost is not None]
+        tasks, rates = self.tasks.values(), rates_of(self, self.workbench.network.events)
+        costs: list[Number] = [task.cost for task in tasks if task.cost is not None]
+        costs += [each for task in tasks for each in paid(task, rates)]
         made = self.workbench.number("total cost", 0, MOST_COST)
         self.workbench.require(made == (total(costs) if costs else 0))
         return made
 
     def _made_end(self) -> NumberCell:
-        made = self.workbench.number("end", 0, self.days)
+        self._end = made = self.workbench.number("end", 0, self.days)
         if self.tasks:
-            self._bound(made)
+            state_end(self, made)
         return made
-
-    def _bound(self, end: NumberCell) -> None:
-        """The end is that of the last task; a person's days of work are a bound of it, which is so
-        anyway, and found sooner where it is said."""
-        self.workbench.require(end == maximum(*(task.end for task in self.tasks.values())))
-        for person in self.people:
-            work = [task.days for task in self.tasks.values() if person in task.people]
-            if len(work) > 1:
-                bound = (total(work) <= end).node
-                self.state(KeptApart(bound, limit_of(person), person, self))
-
-
-def limit_of(person: str) -> str:
-    """The premise that a person does one thing at a time."""
-    return f"{person} does one thing at a time"
 
 
 def _is_before(first: Day, last: Day) -> bool:

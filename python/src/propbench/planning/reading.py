@@ -40,6 +40,9 @@ _BETWEEN_PEOPLE = re.compile(r"[,;\n&+]|\band\b")
 _SOME = re.compile(r"\s*(?:(\d{1,3})|one|any)\s+of\s+(.+)", re.I | re.S)
 _ABLE = re.compile(r"\s*(?:(\d{1,3})\s+)?skilled\s+in\s+(.+)", re.I | re.S)
 _OR = re.compile(r"\bor\b", re.I)
+# So much of a resource, as `2 crew`.
+_MANY = re.compile(r"(\d{1,6})\s+(.+)", re.S)
+_HOLDS = "write how many there are under `holds`, in the table of people"
 
 
 def brief_of(sheets: Sequence[Sheet], given: Given) -> Brief:
@@ -135,13 +138,26 @@ class _Reader:
         self._is_closed = True
         for row in rows_of(sheet, PEOPLE):
             person = _first(row, "person")
-            if person.text in self.brief.people:
+            if person.text in self.brief.people or person.text in self.brief.resources:
                 raise person.wrong(f"`{cut(person.text)}` stands here twice")
+            if "cost" in row:
+                self.brief.rates[person.text] = _whole(row["cost"], 0)
+            if "holds" in row:
+                self._read_resource(person.text, row)
+                continue
             self.brief.people[person.text] = _weight(row, HELP)
             if "skills" in row:
                 self.brief.skills[person.text] = tuple(_split(row["skills"], _BETWEEN))
             if "works" in row:
                 self.brief.works[person.text] = self._works(row["works"])
+
+    def _read_resource(self, name: str, row: Row) -> None:
+        """So much there is of what several tasks may use at once."""
+        self.brief.resources[name] = _whole(row["holds"], 1), _weight(row, HELP)
+        if "skills" in row:
+            raise row["skills"].wrong("what `holds` so many is no person, and has no skills")
+        if "works" in row:
+            self.brief.works[name] = self._works(row["works"])
 
     def _works(self, given: Field) -> tuple[str, ...]:
         """The weekdays on which somebody works."""
@@ -170,8 +186,9 @@ class _Reader:
     def _job(self, name: str, rows: Sequence[Row]) -> Job:
         after = _once(rows, "after")
         earliest, latest = _once(rows, "earliest"), _once(rows, "latest")
-        people, group = self._doers(_once(rows, "who"))
-        pauses = _once(rows, "pauses")
+        people, groups = self._doers(_once(rows, "who"))
+        pauses, left = _once(rows, "pauses"), self._left(rows)
+        done = None if left else self._done(_once(rows, "started"), _once(rows, "finished"))
         return Job(
             name,
             tuple(_ways(name, rows)),
@@ -179,38 +196,74 @@ class _Reader:
             tuple(_split(after, _BETWEEN)),
             None if earliest is None else self._day(earliest),
             None if latest is None else self._day(latest, True),
-            self._done(_once(rows, "started"), _once(rows, "finished")),
-            group,
+            done,
+            tuple(groups),
             pauses is None or _yes(pauses),
+            self._uses(_once(rows, "uses")),
+            *(left or (None, None)),
         )
 
-    def _doers(self, given: Field | None) -> tuple[list[str], AnyOf | Skilled | None]:
+    def _left(self, rows: Sequence[Row]) -> tuple[int, int | None] | None:
+        """Of a task under way the days that are left, and on which it began, where that is told."""
+        left, started = _once(rows, "left"), _once(rows, "started")
+        if left is None:
+            return None
+        if (finished := _once(rows, "finished")) is not None:
+            raise finished.wrong("of what is finished no days are left")
+        if self.brief.today is None:
+            raise left.wrong("say what day it is, by --today 2026-03-09, for these are left then")
+        return _whole(left, 0), None if started is None else self._day(started)
+
+    def _uses(self, given: Field | None) -> dict[str, int]:
+        """How much a task uses of resources: `hall; 2 crew`."""
+        found: dict[str, int] = {}
+        for text in _split(given, _BETWEEN_PEOPLE):
+            many = _MANY.fullmatch(text)
+            name, number = (many[2], int(many[1])) if many else (text, 1)
+            if given is not None and not self._is_closed:
+                self.brief.resources.setdefault(name, (1, HELP))
+            _known(given and replace(given, text=name), _WHOLE, self.brief.resources, "resource")
+            holds = self.brief.resources[name][0]
+            if given is not None and not 0 < number <= holds:
+                raise given.wrong(f"there is {holds} of `{cut(name)}`: {_HOLDS}")
+            found[name] = number
+        return found
+
+    def _doers(self, given: Field | None) -> tuple[list[str], list[AnyOf | Skilled]]:
         """Who does a task: all who are named, or some: `Ana or Ben`, `2 of Ana, Ben, Cem`, `skilled
-        in welding`."""
-        text = given.text if given else ""
-        if given and (able := _ABLE.fullmatch(text)):
+        in welding`; several of these with a semicolon between, those who are named in front."""
+        people: list[str] = []
+        groups: list[AnyOf | Skilled] = []
+        for part in _parts(given.text) if given else ():
+            if given is not None:
+                self._take_doers(replace(given, text=part), people, groups)
+        return list(dict.fromkeys(people)), groups
+
+    def _take_doers(self, given: Field, people: list[str], groups: list[AnyOf | Skilled]) -> None:
+        """Takes in one part of who does a task."""
+        if able := _ABLE.fullmatch(given.text):
             skills = {skill for has in self.brief.skills.values() for skill in has}
             wanted = _known(replace(given, text=able[2]), _BETWEEN_PEOPLE, skills, "skill")
-            return [], Skilled(_number(given, able[1]), tuple(wanted))
-        some = _SOME.fullmatch(text)
-        if given is None or not (some or _OR.search(text)):
-            return self._people(given), None
-        names = _OR.sub(",", some[2] if some else text)
-        people = self._people(replace(given, text=names))
+            groups.append(Skilled(_number(given, able[1]), tuple(wanted)))
+            return
+        some = _SOME.fullmatch(given.text)
+        if not (some or _OR.search(given.text)):
+            people += self._people(given)
+            return
+        names = self._people(replace(given, text=_OR.sub(",", some[2] if some else given.text)))
         number = _number(given, some[1] if some else None)
-        if number > len(people):
-            raise given.wrong(f"there are only {len(people)} of them")
-        return [], AnyOf(number, tuple(people))
+        if number > len(names):
+            raise given.wrong(f"there are only {len(names)} of them")
+        groups.append(AnyOf(number, tuple(names)))
 
     def _done(self, started: Field | None, finished: Field | None) -> tuple[int, int] | None:
         """When a task was done, where both its ends are told."""
         if started is None or finished is None:
             told = started or finished
             if told is not None:
-                other = "finished" if started else "started"
-                raise told.wrong(
-                    f"say `{other}` too; a task under way has its days left, and neither"
-                )
+                if started:
+                    raise told.wrong("say `finished` too, or how many days are `left`")
+                raise told.wrong("say `started` too")
             return None
         first, back = self._day(started), self._day(finished, True)
         if back < first:
@@ -229,7 +282,8 @@ class _Reader:
         """Who is away when, each by a premise of its own."""
         for row in rows_of(sheet, ABSENCES) if sheet else ():
             person = _first(row, "person")
-            _known(person, _WHOLE, self.brief.people, "person")
+            known = (*self.brief.people, *self.brief.resources)
+            _known(person, _WHOLE, known, "person")
             if "from" not in row:
                 raise person.wrong("say under `from` on which day the absence begins")
             last = row.get("to", row["from"])
@@ -354,6 +408,18 @@ def _known(
             there = f"There are {listed(names[:_MOST])}." if names else "There is none."
             hint = f"Did you mean {near[0]}?" if near else there
             raise given.wrong(f"no {what} is called `{cut(name)}`. {hint}")
+    return found
+
+
+def _parts(text: str) -> list[str]:
+    """Who does a task, in parts: names behind `2 of Ana` are of that."""
+    found: list[str] = []
+    for part in text.split(";"):
+        is_group = any(it.match(part) for it in (_SOME, _ABLE)) or _OR.search(part)
+        if found and not is_group:
+            found[-1] += f";{part}"
+        elif part.strip():
+            found.append(part.strip())
     return found
 
 

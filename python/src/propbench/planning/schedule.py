@@ -3,13 +3,14 @@
 import os
 from collections.abc import Iterator, Mapping, Sequence
 from contextlib import suppress
-from dataclasses import dataclass
+from dataclasses import dataclass, field, replace
 from datetime import date, datetime
 from typing import TYPE_CHECKING, TypeVar
 
 from propbench.model.network import Network
 from propbench.planning.calendar import Calendar, date_said, dates_said
 from propbench.planning.pausing import Paused, days_off, pauses_by_task
+from propbench.planning.resources import rates_of
 from propbench.planning.tasks import Away, Task, TaskMade, aways_of
 from propbench.questions.bounding import Optimum
 from propbench.questions.goals import Optima
@@ -21,6 +22,7 @@ from propbench.showing import printable
 from propbench.tables import table
 
 if TYPE_CHECKING:
+    from propbench.planning.loads import Loads
     from propbench.planning.moves import Moves
     from propbench.planning.project import Project
 
@@ -32,7 +34,8 @@ _WIDE, _BEHIND = 100, 2
 @dataclass(frozen=True)
 class Entry:
     """A task in a plan, from the beginning of the day `start` to that of the day `end`, but for its
-    `pauses`; `way` is the option that is taken, where there are some."""
+    `pauses`; `way` is the option that is taken, where there are some. It `uses` so much of each
+    resource, all that time. Of its cost so much is `paid` by the day."""
 
     task: str
     people: tuple[str, ...]
@@ -41,6 +44,18 @@ class Entry:
     way: str | None
     cost: int | None
     pauses: tuple[tuple[int, int], ...] = ()
+    uses: tuple[tuple[str, int], ...] = ()
+    paid: int = 0
+
+    @property
+    def needs(self) -> tuple[str, ...]:
+        """Who does it, and the resources that it uses."""
+        return (*self.people, *(name for name, _ in self.uses))
+
+    @property
+    def used(self) -> tuple[str, ...]:
+        """What it uses, in words."""
+        return tuple(name if number == 1 else f"{number} {name}" for name, number in self.uses)
 
     @property
     def days(self) -> int:
@@ -56,12 +71,13 @@ class Entry:
 
 @dataclass(frozen=True)
 class Staff:
-    """Who there is, in which days, and who is away when."""
+    """Who there is, in which days, and who is away when; and how much of each resource."""
 
     people: tuple[str, ...]
     days: int
     calendar: Calendar | None
     aways: tuple[Away, ...]
+    resources: Mapping[str, int] = field(default_factory=dict)
 
 
 class Schedule(Shown):
@@ -129,7 +145,7 @@ class Schedule(Shown):
 
     def heads(self) -> Sequence[str]:
         ends = ("start", "end") if self.calendar is None else ("from", "to")
-        return (*ends, *self._rest_of(("days", "task", "who", "how", "cost")))
+        return (*ends, *self._rest_of(("days", "task", "who", "uses", "how", "cost")))
 
     def rows(self) -> Sequence[Sequence[object]]:
         return [
@@ -141,10 +157,13 @@ class Schedule(Shown):
         ]
 
     def _rest_of(self, columns: Sequence[Value]) -> Iterator[Value]:
-        """Those of the columns for days, task, people, way and cost in which something stands."""
+        """Those of the columns for days, task, people, resources, way and cost in which something
+        stands."""
         has_ways = any(entry.way is not None for entry in self.entries)
         has_people = any(entry.people for entry in self.entries)
-        for column, is_there in zip(columns, (True, True, has_people, has_ways, self.cost > 0)):
+        has_uses = any(entry.uses for entry in self.entries)
+        are_there = (True, True, has_people, has_uses, has_ways, self.cost > 0)
+        for column, is_there in zip(columns, are_there):
             if is_there:
                 yield column
 
@@ -156,11 +175,12 @@ class Schedule(Shown):
         return first, last
 
     def doings(self) -> list[tuple[str, str]]:
-        """Of each person what is done when, in order, in a text."""
-        return [(person, "; ".join(self._doings(person))) for person in self.people]
+        """Of each person, and each resource, what is done when, in order, in a text."""
+        names = (*self.people, *self.staff.resources)
+        return [(name, "; ".join(self._doings(name))) for name in names]
 
     def _doings(self, person: str) -> Iterator[str]:
-        own = [each for each in self.by_date() if person in each.people]
+        own = [each for each in self.by_date() if person in each.needs]
         when = [(*part, each.task) for each in own for part in each.parts]
         when += [(a.first, a.last, "away") for a in self.shown_aways() if a.person == person]
         for start, end, what in sorted(when):
@@ -186,6 +206,12 @@ class Schedule(Shown):
         if doings := self.doings():
             lines.append(table(("who", "does"), doings, "  ", _WIDE))
         return "\n".join(lines)
+
+    def loads(self) -> "Loads":
+        """Day by day who works on what, how much of each resource is in use, and who is free."""
+        from propbench.planning.loads import Loads
+
+        return Loads(self)
 
     def since(self, before: "Schedule") -> "Moves":
         """What moved since an earlier schedule of the plan."""
@@ -238,7 +264,7 @@ class Schedule(Shown):
 def _said_of(entry: Entry) -> tuple[object, ...]:
     """What the last columns of a schedule say of a task."""
     days, cost = entry.days, entry.cost or None
-    return days, entry.task, entry.people, entry.way, cost
+    return days, entry.task, entry.people, entry.used, entry.way, cost
 
 
 def schedule_in(
@@ -263,10 +289,15 @@ def schedule_of(
         if isinstance(each, TaskMade) and each.project is project
     ]
     pauses = pauses_by_task(network.events)
-    entries = [_entry(task, plan, ways.get(task.name), pauses.get(task, ())) for task in tasks]
+    rates = {it: plan[cell.name] for it, cell in rates_of(project, network.events).items()}
+    entries = [
+        _paid(_entry(task, plan, ways.get(task.name), pauses.get(task, ())), rates)
+        for task in tasks
+    ]
     believed = set(network.premises.in_force)
     aways = [away for away in aways_of(project, network.events) if away.premise in believed]
-    staff = Staff(project.people, project.days, project.calendar, tuple(aways))
+    parts = project.people, project.days, project.calendar, tuple(aways)
+    staff = Staff(*parts, project.resources)
     return Schedule(entries, staff, project.cells_told(tasks))
 
 
@@ -288,6 +319,14 @@ def values_in(
     return given, {}
 
 
+def _paid(entry: Entry, rates: Mapping[str, Point]) -> Entry:
+    """The same with what is paid by the day for who does it and what it uses."""
+    units = {**dict.fromkeys(entry.people, 1), **dict(entry.uses)}
+    paid = [int(rates[it]) * entry.days * units[it] for it in entry.needs if it in rates]
+    cost = (entry.cost or 0) + sum(paid)
+    return replace(entry, cost=cost, paid=sum(paid)) if paid else entry
+
+
 def _entry(task: Task, plan: Mapping[str, Point], way: object, pauses: Sequence[Paused]) -> Entry:
     """What a plan says of a task."""
     cells = [task.start, task.end, *([] if task.cost is None else [task.cost])]
@@ -298,5 +337,5 @@ def _entry(task: Task, plan: Mapping[str, Point], way: object, pauses: Sequence[
     people = [who for who, cell in task.may.items() if plan.get(cell.name) is True]
     aways = [each.away for each in pauses if plan.get(each.cell.name) is True]
     off = tuple(days_off(aways, start, end))
-    does = (*task.people, *people)
-    return Entry(task.name, does, start, end, told, cost[0] if cost else None, off)
+    does, uses = (*task.people, *people), tuple(task.uses.items())
+    return Entry(task.name, does, start, end, told, cost[0] if cost else None, off, uses)

@@ -31,7 +31,8 @@ class Way:
 class Task:
     """A task. Its cells can be asked, and may stand in constraints as any others: it is done from
     the beginning of the day `start` to the beginning of the day `end`, `days` later, and more where
-    it `pauses`. All of its `people` do it; those who `may` have a truth that says whether they do.
+    it `pauses`. All of its `people` do it, and a `number` of those who `may`, of whom each has a
+    truth that says whether they do. It `uses` so much of each resource.
 
     >>> w = Workbench()
     >>> p = w.project(days=30)
@@ -50,6 +51,9 @@ class Task:
     pauses: bool = False
     may: Mapping[str, TruthCell] = field(default_factory=dict)
     kind: str | None = None
+    uses: Mapping[str, int] = field(default_factory=dict)
+    roles: Mapping[tuple[int, str], TruthCell] = field(default_factory=dict)
+    number: int = 0
 
     @property
     def doers(self) -> tuple[str, ...]:
@@ -61,6 +65,18 @@ class Task:
         ('ana', 'ben', 'cem')
         """
         return (*self.people, *self.may)
+
+    @property
+    def needs(self) -> tuple[str, ...]:
+        """Whoever does it, or may, and the resources that it uses.
+
+        >>> w = Workbench()
+        >>> p = w.project(days=30, people="ana")
+        >>> hall = p.resource("hall", 2)
+        >>> p.task("venue", 3, who="ana", uses={"hall": 1}).needs
+        ('ana', 'hall')
+        """
+        return (*self.doers, *self.uses)
 
     def before(self, other: "Task") -> Number:
         """How many days there are between the end of this task and the start of another.
@@ -96,6 +112,13 @@ class TaskTold(Told):
 
 
 @dataclass(frozen=True)
+class Rate(TaskTold):
+    """What somebody, or so much of a resource, costs a day."""
+
+    name: str
+
+
+@dataclass(frozen=True)
 class TaskBy(Required):
     """In how many days somebody does a task of a project, who may."""
 
@@ -115,6 +138,11 @@ class TaskDone(TaskTold):
     """When a task was done: its first day, or the day by which it was over."""
 
     task: str
+
+
+@dataclass(frozen=True)
+class TaskBegun(TaskDone):
+    """When a task was begun that is under way, or how long it takes by now."""
 
 
 @dataclass(frozen=True)
@@ -175,8 +203,8 @@ class Wished(Required):
 
 @dataclass(frozen=True)
 class Away:
-    """Somebody does nothing from the beginning of one day to that of another, under a premise; these
-    are the days of `written`."""
+    """Somebody does nothing from the beginning of one day to that of another, under a premise;
+    these are the days of `written`."""
 
     person: str
     first: int

@@ -7,6 +7,7 @@ from datetime import timedelta
 from propbench.nearby import near_names
 from propbench.planning.days import days_in
 from propbench.planning.project import Project
+from propbench.planning.resources import kept_within
 from propbench.planning.tasks import TaskTold
 from propbench.showing import quoted
 
@@ -14,10 +15,12 @@ _AWAY = re.compile(
     r"\s+(?:is\s+)?(?:ill|sick|away|off|out|absent|on\s+leave|on\s+holiday)\s+", re.I
 )
 _TAKES = re.compile(r"\s+takes\s+(\d{1,6})(?:\s+days?)?\s*", re.I)
+_HOLDS = re.compile(r"\s+holds\s+(\d{1,6})\s*", re.I)
 _LATE = re.compile(r"\s+(?:not\s+before|from|begins)\s+", re.I)
 _WITHOUT = re.compile(r"\s*without\s+(.+)", re.I)
 _FORMS = (
-    "say `ana ill 3-7 March`, `review takes 8`, `review not before 9 March` or `without in time`"
+    "say `ana ill 3-7 March`, `review takes 8`, `review not before 9 March`, `hall holds 1` or"
+    " `without in time`"
 )
 
 
@@ -26,7 +29,7 @@ def suppose(project: Project, text: str) -> None:
     w = project.workbench
     if (without := _WITHOUT.fullmatch(text)) is not None:
         w.kick(_one_of(without[1].strip(), w.premises, text))
-    elif (told := _begin(text, project.people, _AWAY)) is not None:
+    elif (told := _begin(text, (*project.people, *project.resources), _AWAY)) is not None:
         project.away(told[0], *_days(project, told[1], text), under=f"what if {text}")
     elif (told := _begin(text, project.tasks, _LATE)) is not None:
         first, _ = _days(project, told[1], text)
@@ -34,6 +37,9 @@ def suppose(project: Project, text: str) -> None:
     elif (takes := _TAKES.search(text)) is not None:
         name = _one_of(text[: takes.start()].strip(), project.tasks, text)
         _take(project, name, int(takes[1]), text)
+    elif (holds := _HOLDS.search(text)) is not None:
+        name = _one_of(text[: holds.start()].strip(), project.resources, text)
+        _hold(project, name, int(holds[1]), text)
     else:
         raise ValueError(f"{quoted(text)} can't be read: {_FORMS}")
 
@@ -73,6 +79,15 @@ def _days(project: Project, text: str, whole: str) -> tuple[int, int]:
     if days.last < calendar.start:
         raise ValueError(f"{quoted(whole)}: these days are before the plan begins")
     return calendar.day_of(first), calendar.day_of(days.last + timedelta(days=1))
+
+
+def _hold(project: Project, name: str, holds: int, text: str) -> None:
+    """There is so much of a resource, in place of what there is."""
+    w = project.workbench
+    for said in kept_within(project, w.network.events):
+        if said.resource == name and said.premise in w.believed:
+            w.kick(said.premise)
+    project.resource(name, holds, under=f"what if {text}")
 
 
 def _take(project: Project, name: str, days: int, text: str) -> None:

@@ -2,6 +2,7 @@
 
 from collections.abc import Iterable, Mapping, Sequence
 from dataclasses import dataclass
+from itertools import combinations
 from typing import SupportsIndex
 
 from propbench.given import names_given
@@ -45,8 +46,8 @@ def any_of(*given: int | str | Iterable[str]) -> AnyOf:
 
 
 def skilled(*given: int | str | Iterable[str]) -> Skilled:
-    """One of those people who have a skill, or all of several skills, whoever suits best; or so many
-    of them, with the number in front. Raises as `any_of`.
+    """One of those people who have a skill, or all of several skills, whoever suits best; or so
+    many of them, with the number in front. Raises as `any_of`.
 
     >>> w = Workbench()
     >>> p = w.project(days=30, people="ana ben", skills={"ana": "welding", "ben": "wiring"})
@@ -74,16 +75,27 @@ def _several(what: str, given: Sequence[object]) -> tuple[int, tuple[str, ...] |
 
 @dataclass(frozen=True)
 class Doers:
-    """Who does a task: all of these `people`, and so many of the `others`."""
+    """Who does a task: all of these `people`, and so many of each of some `groups`. Who is in
+    several of them stands for one."""
 
     people: tuple[str, ...] = ()
-    number: int = 0
-    others: tuple[str, ...] = ()
+    groups: tuple[tuple[int, tuple[str, ...]], ...] = ()
 
     @property
-    def all(self) -> tuple[str, ...]:
-        """Whoever may do it."""
-        return (*self.people, *self.others)
+    def number(self) -> int:
+        """How many of the others do it."""
+        return sum(number for number, _ in self.groups)
+
+    @property
+    def others(self) -> tuple[str, ...]:
+        """Those who may do it, each once."""
+        return tuple(dict.fromkeys(name for _, names in self.groups for name in names))
+
+    @property
+    def shared(self) -> tuple[str, ...]:
+        """Those who are in several groups."""
+        names = [name for _, group in self.groups for name in group]
+        return tuple(name for name in self.others if names.count(name) > 1)
 
 
 class Staffing:
@@ -112,23 +124,14 @@ class Staffing:
         names = [name for part in parts if isinstance(part, str) for name in self._names(part)]
         people = tuple(dict.fromkeys(map(self.known, names)))
         groups = [part for part in parts if not isinstance(part, str)]
-        if len(groups) > 1:
-            raise ValueError(f"{printable(task)}: say `any_of` or `skilled` once, for all of them")
-        return self._with(task, people, groups[0]) if groups else Doers(people)
+        named = [(each.number, tuple(dict.fromkeys(self._members(task, each)))) for each in groups]
+        return _settled(task, people, named)
 
     def _names(self, text: str) -> tuple[str, ...]:
         return names_given(text, self.people)
 
-    def _with(self, task: str, people: tuple[str, ...], group: AnyOf | Skilled) -> Doers:
-        """These people, and some of a group. Where all of it are needed, these are people too."""
-        who = self._able(task, group) if isinstance(group, Skilled) else self._named(group)
-        others = tuple(dict.fromkeys(each for each in who if each not in people))
-        if group.number > len(others):
-            there = f"there is only {listed(others)}" if others else "there is nobody else"
-            raise ValueError(f"{printable(task)}: {group.number} are needed, and {there}")
-        if group.number == len(others):
-            return Doers((*people, *others))
-        return Doers(people, group.number, others)
+    def _members(self, task: str, group: AnyOf | Skilled) -> list[str]:
+        return self._able(task, group) if isinstance(group, Skilled) else self._named(group)
 
     def _named(self, group: AnyOf) -> list[str]:
         return [self.known(each) for each in names_given(group.names, self.people)]
@@ -144,6 +147,30 @@ class Staffing:
         return [each for each in self.people if {*wanted} <= {*self.skills.get(each, ())}]
 
 
+def _settled(
+    task: str, people: tuple[str, ...], groups: Sequence[tuple[int, tuple[str, ...]]]
+) -> Doers:
+    """These people, and so many of each group, who are none of them. Where all of a group are
+    needed, these are people too. Raises ValueError where there aren't so many."""
+    left: list[tuple[int, tuple[str, ...]]] = []
+    for place, (number, names) in enumerate(groups):
+        others = tuple(each for each in names if each not in people)
+        _check_enough(task, number, others)
+        if number == len(others):
+            return _settled(task, (*people, *others), [*groups[:place], *groups[place + 1 :]])
+        left.append((number, others))
+    for size in range(2, len(left) + 1):
+        for some in combinations(left, size):
+            _check_enough(task, sum(it[0] for it in some), Doers((), some).others)
+    return Doers(people, tuple(left))
+
+
+def _check_enough(task: str, number: int, others: tuple[str, ...]) -> None:
+    if number > len(others):
+        there = f"there is only {listed(others)}" if others else "there is nobody else"
+        raise ValueError(f"{printable(task)}: {number} are needed, and {there}")
+
+
 _FORM = 'skills={"ana": "welding"}'
 
 
@@ -153,9 +180,9 @@ def _has_groups(who: object) -> bool:
 
 
 def speeds_given(task: str, days: Mapping[str, int], doers: Doers) -> dict[str, int]:
-    """How many days each takes who may do a task. Raises ValueError where somebody lacks, or several
-    do it, and TypeError for what is no whole number."""
-    if doers.number != 1 or doers.people:
+    """How many days each takes who may do a task. Raises ValueError where somebody lacks, or
+    several do it, and TypeError for what is no whole number."""
+    if doers.number != 1 or doers.people or len(doers.groups) > 1:
         raise ValueError(
             f"{printable(task)}: days of each are for a task that one of several does: "
             "who=any_of('ana', 'ben')"

@@ -2,8 +2,8 @@
 both, each with a plan.
 
 The least of the first goal is found, and the least of the second beside it; then the same among the
-plans that are better in the second, until there are none. So each step that is proved leaves nothing
-in between.
+plans that are better in the second, until there are none. So each step that is proved leaves
+nothing in between.
 """
 
 import os
@@ -14,15 +14,16 @@ from propbench.clock import Clock, Progress
 from propbench.questions.asking import CellLike, tried_by, whole_named
 from propbench.questions.bench import Bench
 from propbench.questions.bounding import LEAST, Optimum
+from propbench.questions.certificate import Certificate
 from propbench.questions.goals import Optima, ask, told_at_most
 from propbench.questions.shown import NOT_REFUTED, Shown
 from propbench.showing import printable
 
 
 class TradeOff(Shown, list[Optima]):
-    """Plans of which none is as good in both of two cells as another and better in one, by the first
-    cell; these are all there are where it is `complete`, by what the premises `because` say. `pairs`
-    are their values. Where there was no time, the last may not be `proved`.
+    """Plans of which none is as good in both of two cells as another and better in one, by the
+    first cell; these are all there are where it is `complete`, by what the premises `because` say.
+    `pairs` are their values. Where there was no time, the last may not be `proved`.
 
     >>> w = Workbench()
     >>> x, y = w.number("x", 1, 9), w.number("y", 1, 9)
@@ -44,10 +45,27 @@ class TradeOff(Shown, list[Optima]):
         found: Iterable[Optima],
         complete: bool,
         because: Iterable[str] = (),
+        steps: Iterable[Optimum] = (),
     ) -> None:
-        """Of these plans, as far as they were found."""
+        """Of these plans, as far as they were found by these steps."""
         super().__init__(found)
         self.cells, self.complete, self.because = cells, complete, tuple(because)
+        self._steps = tuple(steps)
+
+    @property
+    def certificates(self) -> tuple[Certificate, ...]:
+        """A certificate of each step, which together show that there are no others: the least of
+        the first cell, the least of the second beside it, and so on among plans that are better in
+        the second, until nothing fits. What was found before is told in each by a premise `the best
+        ..`.
+
+        >>> w = Workbench()
+        >>> x, y = w.number("x", 0, 9), w.number("y", 0, 9)
+        >>> w.require(x + 4 * y >= 8)
+        >>> [each.check() for each in w.trade_off(x, y).certificates]
+        [True, True, True, True, True, True]
+        """
+        return tuple(step.certificate for step in self._steps)
 
     @property
     def pairs(self) -> list[tuple[int, int]]:
@@ -221,7 +239,7 @@ class _Trading:
     def result(self) -> TradeOff:
         """What is known by now."""
         because = self._because(self.steps) if self.complete else ()
-        return TradeOff(self.cells, self.found, self.complete, because)
+        return TradeOff(self.cells, self.found, self.complete, because, self.steps)
 
 
 def find_trade_off(

@@ -201,7 +201,7 @@ class WorkbenchWatched:
         return self.workbench.network.base()
 
     def saved(self) -> list[str]:
-        return list(saved(self.workbench.network))
+        return list(saved(self.workbench.network, self.workbench._noted()))
 
     def replay(self) -> None:
         self.workbench.network.begin_anew()

@@ -1,0 +1,269 @@
+"""What makes a project of a file's events: notes beside them, which say of what is stated which
+task it is about, who is away, what was wished for."""
+
+from collections.abc import Callable, Mapping, Sequence
+from datetime import date
+from typing import TYPE_CHECKING, Any
+
+from propbench.model.cells import NumberCell, TruthCell
+from propbench.model.events import Event, Required, Told
+from propbench.model.kinds import Plain
+from propbench.model.nodes import Declared
+from propbench.planning.calendar import Calendar
+from propbench.planning.order import SetUp, TaskLagged
+from propbench.planning.pausing import Paused, TaskSpan
+from propbench.planning.project import Project
+from propbench.planning.resources import KeptWithin
+from propbench.planning.tasks import (
+    Away,
+    KeptApart,
+    KeptOff,
+    NotYet,
+    Rate,
+    Task,
+    TaskBegun,
+    TaskBy,
+    TaskDone,
+    TaskMade,
+    TaskOrdered,
+    TaskTold,
+    Wished,
+)
+
+if TYPE_CHECKING:
+    from propbench.workbench import Workbench
+
+# What JSON gives may be anything: what has another form than a note raises as it is read.
+Note = Mapping[str, Any]
+
+
+class Notes:
+    """Notes of events, one after the other. The first of a project has what that is."""
+
+    def __init__(self) -> None:
+        self._known: list[Project] = []
+
+    def of(self, event: Event) -> dict[str, object] | None:
+        """The note of an event, None of one that is no project's."""
+        parts = _parts(event)
+        if parts is None:
+            return None
+        project = project_of(event)
+        if project is not None:
+            is_new = all(each is not project for each in self._known)
+            self._known += [project] if is_new else []
+            parts["of"] = [each is project for each in self._known].index(True)
+            parts |= {"project": _project_parts(project)} if is_new else {}
+        return parts
+
+
+def project_of(event: Event) -> Project | None:
+    """The project of an event, None where it is none's."""
+    project = getattr(event, "project", None)
+    return project if isinstance(project, Project) else None
+
+
+def _project_parts(project: Project) -> dict[str, object]:
+    calendar = project.calendar
+    dates = None
+    if calendar is not None:
+        off = sorted(each.isoformat() for each in calendar.dates_off)
+        dates = [calendar.start.isoformat(), sorted(calendar.weekdays_off), off]
+    return {
+        "days": project.days,
+        "people": project.people,
+        "dates": dates,
+        "skills": project.staffing.skills,
+        "goals": project.goals_made,
+    }
+
+
+def _parts(event: Event) -> dict[str, object] | None:
+    """What a note says of an event, by its sort."""
+    if isinstance(event, TaskMade):
+        return {"is": "task", "ways": event.ways, **_task_parts(event.task)}
+    if isinstance(event, Told):
+        return _told_parts(event)
+    if isinstance(event, Wished):
+        return {"is": "wish", "says": event.written, "task": event.task, "first": event.first}
+    if isinstance(event, KeptApart):
+        return {"is": "apart", "person": event.person}
+    if isinstance(event, KeptWithin):
+        return {"is": "within", "resource": event.resource, "holds": event.holds}
+    if isinstance(event, SetUp):
+        return {"is": "setup", "person": event.person, "times": event.times}
+    if isinstance(event, KeptOff):
+        return {"is": "off", "away": _away_parts(event.away)}
+    return _order_parts(event)
+
+
+def _order_parts(event: Event) -> dict[str, object] | None:
+    """The same of what is stated of tasks alone."""
+    if isinstance(event, TaskOrdered):
+        tasks = [event.earlier.name, event.later.name]
+        if isinstance(event, TaskLagged):
+            return {"is": "lag", "tasks": tasks, "least": event.least, "from": event.of}
+        return {"is": "order", "tasks": tasks}
+    if isinstance(event, Paused):
+        away = _away_parts(event.away)
+        return {"is": "pause", "task": event.task.name, "away": away, "cell": event.cell.name}
+    if isinstance(event, TaskSpan):
+        return {"is": "span", "task": event.task.name}
+    if isinstance(event, TaskBy):
+        return {"is": "by", "task": event.task.name, "days": event.days, "says": event.written}
+    if isinstance(event, NotYet):
+        return {"is": "today", "says": event.written, "first": event.first}
+    return None
+
+
+def _told_parts(event: Told) -> dict[str, object] | None:
+    if isinstance(event, TaskDone):
+        return {"is": "begun" if isinstance(event, TaskBegun) else "done", "task": event.task}
+    if isinstance(event, Rate):
+        return {"is": "rate", "name": event.name}
+    return {"is": "told"} if isinstance(event, TaskTold) else None
+
+
+def _task_parts(task: Task) -> dict[str, object]:
+    cells = [task.start.name, task.end.name, task.days.name]
+    return {
+        "name": task.name,
+        "people": task.people,
+        "cells": [*cells, *([] if task.cost is None else [task.cost.name])],
+        "pauses": task.pauses,
+        "may": {person: cell.name for person, cell in task.may.items()},
+        "kind": task.kind,
+        "uses": dict(task.uses),
+        "roles": [[place, who, cell.name] for (place, who), cell in task.roles.items()],
+        "number": task.number,
+    }
+
+
+def _away_parts(away: Away) -> list[object]:
+    return [away.person, away.first, away.last, away.premise, away.written, away.is_usual]
+
+
+class Restored:
+    """Makes the events of a project of those that a file has, by their notes."""
+
+    def __init__(self, workbench: "Workbench") -> None:
+        self._workbench = workbench
+        self._projects: list[tuple[Project, Sequence[str | None]]] = []
+        self._tasks: dict[tuple[int, str], Task] = {}
+        self._required: dict[str, Callable[[Required, Note], Required]] = {
+            "task": self._task_made,
+            "wish": lambda it, note: Wished(*_of(it), note["says"], note["task"], note["first"]),
+            "apart": lambda it, note: KeptApart(*_under(it), note["person"], self._own(note)),
+            "within": lambda it, note: KeptWithin(
+                *_under(it), note["resource"], note["holds"], self._own(note)
+            ),
+            "setup": lambda it, note: SetUp(
+                *_of(it), self._own(note), note["person"], _times(note["times"])
+            ),
+            "off": lambda it, note: KeptOff(*_of(it), Away(*note["away"]), self._own(note)),
+            "order": lambda it, note: TaskOrdered(*_of(it), self._own(note), *self._two(note)),
+            "lag": lambda it, note: TaskLagged(
+                *_of(it), self._own(note), *self._two(note), note["least"], note["from"]
+            ),
+            "pause": self._paused,
+            "span": lambda it, note: TaskSpan(*_of(it), self._own(note), self._named(note)),
+            "by": lambda it, note: TaskBy(
+                *_of(it), self._own(note), self._named(note), note["days"], note["says"]
+            ),
+            "today": lambda it, note: NotYet(
+                *_of(it), self._own(note), note["says"], note["first"]
+            ),
+        }
+
+    def event(self, event: Event, note: Note | None) -> Event:
+        """The event that a file means. Raises KeyError, TypeError or ValueError for a note that is
+        none."""
+        if note is None:
+            return event
+        if "project" in note:
+            self._make(note["project"])
+        if isinstance(event, Told):
+            return self._told(event, note)
+        if not isinstance(event, Required):
+            raise ValueError("a note is of what is stated")
+        return self._required[note["is"]](event, note)
+
+    def finish(self) -> None:
+        """Has projects know the cells of their goals."""
+        for project, goals in self._projects:
+            project.goals_are([None if it is None else self._number(it) for it in goals])
+
+    def _make(self, parts: Note) -> None:
+        calendar = None
+        if parts["dates"] is not None:
+            start, weekdays, dates = parts["dates"]
+            off = frozenset(map(date.fromisoformat, dates))
+            calendar = Calendar(date.fromisoformat(start), frozenset(weekdays), off)
+        skills = {person: tuple(has) for person, has in parts["skills"].items()}
+        made = Project(self._workbench, parts["days"], tuple(parts["people"]), calendar, skills)
+        self._projects.append((made, parts["goals"]))
+
+    def _own(self, note: Note) -> Project:
+        return self._projects[note["of"]][0]
+
+    def _named(self, note: Note) -> Task:
+        return self._tasks[note["of"], note["task"]]
+
+    def _two(self, note: Note) -> tuple[Task, Task]:
+        first, second = (self._tasks[note["of"], name] for name in note["tasks"])
+        return first, second
+
+    def _number(self, name: str) -> NumberCell:
+        return NumberCell(self._declared(name, Plain.NUMBER), self._workbench)
+
+    def _truth(self, name: str) -> TruthCell:
+        return TruthCell(self._declared(name, Plain.TRUTH), self._workbench)
+
+    def _declared(self, name: str, kind: Plain) -> Declared:
+        found = self._workbench.network.cells[name]
+        if found.kind is not kind:
+            raise ValueError(f"{name} is of another kind")
+        return found
+
+    def _task_made(self, event: Required, note: Note) -> Required:
+        start, end, days, *cost = map(self._number, note["cells"])
+        task = Task(
+            note["name"],
+            tuple(note["people"]),
+            start,
+            end,
+            days,
+            cost[0] if cost else None,
+            note["pauses"],
+            {person: self._truth(cell) for person, cell in note["may"].items()},
+            note["kind"],
+            dict(note["uses"]),
+            {(place, who): self._truth(cell) for place, who, cell in note["roles"]},
+            note["number"],
+        )
+        self._tasks[note["of"], task.name] = task
+        return TaskMade(*_of(event), task, self._own(note), tuple(note["ways"]))
+
+    def _paused(self, event: Required, note: Note) -> Required:
+        away, cell = Away(*note["away"]), self._truth(note["cell"])
+        return Paused(*_of(event), self._own(note), self._named(note), away, cell)
+
+    def _told(self, event: Told, note: Note) -> Told:
+        own = event.cell, event.values, event.premise, self._own(note)
+        if note["is"] in ("done", "begun"):
+            return (TaskBegun if note["is"] == "begun" else TaskDone)(*own, note["task"])
+        return Rate(*own, note["name"]) if note["is"] == "rate" else TaskTold(*own)
+
+
+def _of(event: Required) -> tuple[Any, str | None]:
+    return event.constraint, event.premise
+
+
+def _under(event: Required) -> tuple[Any, str]:
+    if event.premise is None:
+        raise ValueError("this is stated under a premise")
+    return event.constraint, event.premise
+
+
+def _times(times: Sequence[Any]) -> tuple[tuple[tuple[str, str], int], ...]:
+    return tuple(((one, other), days) for (one, other), days in times)
