@@ -40,7 +40,7 @@ def csv_of(schedule: Schedule) -> str:
                 entry.days,
                 no_formula(entry.way or ""),
                 "" if entry.cost is None else entry.cost,
-                *([_as_text(said(entry.used))] if uses else []),
+                *([no_formula(said(entry.used))] if uses else []),
             )
         )
     return out.getvalue()
