@@ -29,7 +29,6 @@ from propbench.planning.resources import (
     KeptWithin,
     holding,
     holds_given,
-    kept_within,
     paid,
     rates_of,
     resources_of,
