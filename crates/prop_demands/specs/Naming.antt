@@ -1,0 +1,49 @@
+-- What the names of an expression stand for.
+use Rattle.std.specs.Prelude.{ℕ, ◌+◌, ◌==◌, List, [], ◌∷◌, Bool, false, cond, Option, None, length}
+use Rattle.std.specs.Prelude.{replicate, slice_index_or}
+use Rattle.std.specs.Option.{option_map_or}
+use Rattle.std.specs.Str.{is_utf8}
+use Rattle.prop_lattice.specs.Points.{Point}
+use Rattle.prop_procedures.specs.Fitting.{kind_at}
+use Rattle.prop_meaning.specs.Words.{domain_of}
+use Rattle.prop_terms.specs.Meaning.{Names, Text, Value, value_of}
+use Rattle.prop_vocabulary.specs.Cells.{cell_named}
+use Rattle.prop_vocabulary.specs.Names.{number_in}
+use Rattle.prop_vocabulary.specs.Vocabulary.{elements_of}
+use Rattle.prop_workbench.specs.Machine.{State}
+
+-- how long names are together
+abbrev pub letters : List (List ℕ) → ℕ
+letters [] = 0
+letters (name ∷ names) = length name + letters names
+
+-- the number is that of a symbol, the first of its name
+abbrev pub is_symbol : List (List ℕ) → ℕ → Bool
+is_symbol symbols n =
+    option_map_or (λ m. m == n) (number_in symbols (slice_index_or symbols n [])) false
+
+-- so many spaces as no name has
+abbrev pub spare_word : List (List ℕ) → ℕ → List ℕ
+spare_word symbols n = replicate (n + 1 + letters symbols) 32
+
+-- what the number of a symbol is called: by its name, and where it is of none, by a spare word
+abbrev pub symbol_word : List (List ℕ) → ℕ → List ℕ
+symbol_word symbols n =
+    cond (is_symbol symbols n) (slice_index_or symbols n []) (spare_word symbols n)
+
+-- the cell that a word names
+abbrev pub cell_called : State → List ℕ → Option ℕ
+cell_called s w = cond (is_utf8 w) (cell_named s.names w) None
+
+-- the value of a cell at these points
+abbrev pub value_at : State → (ℕ → Point) → ℕ → Value
+value_at s points cell = value_of
+    (λ i. slice_index_or (elements_of s.words (domain_of (kind_at s.kinds cell).kind)) i [])
+    (symbol_word s.words.symbols) (points cell)
+
+-- a cell's name stands for its value, and any other word for itself; whatever belongs to relations
+abbrev pub names_in : State → (List ℕ → List Value → Bool) → (ℕ → Point) → Names
+names_in s related points = record {
+  value = λ w. option_map_or (value_at s points) (cell_called s w) (Text w);
+  related = related;
+}
