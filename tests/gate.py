@@ -115,6 +115,7 @@ GATES = [
 ]
 
 GOOD = {
+    "../tests/small.py": "SMALL = 2\n",
     "src/propbench/__init__.py": "def double(number: int) -> int:\n    return 2 * number\n",
     "tests/test_double.py": """\
 import os

@@ -1,6 +1,5 @@
 #!/usr/bin/python3
-"""A planner's whole case: sixteen tasks of three people, eleven wishes, and what to do about
-them."""
+"""A planner's whole case: sixteen tasks, three people, eleven wishes, and what to do about them."""
 from propbench import Workbench
 
 w = Workbench()

@@ -1,6 +1,5 @@
 #!/usr/bin/python3
-"""A course timetable: nine lessons of four teachers for two classes, in two rooms and five
-hours."""
+"""A course timetable: nine lessons, four teachers, two classes, two rooms and five hours."""
 from itertools import combinations
 
 from propbench import Workbench

@@ -1,6 +1,5 @@
 #!/usr/bin/python3
-"""A map is coloured so that neighbours differ: in how many ways, and why two colours are too
-few."""
+"""A map is coloured so that neighbours differ: in how many ways, and why two are too few."""
 from propbench import Workbench
 
 BORDERS = """

@@ -117,9 +117,9 @@ else:
             UnknownUnit WrongCountOfCells WrongForm WrongKind WrongParameter WrongReply
         """,
         "propbench.replies": """
-            Best Called Contradiction Done How Impossible Instance Listing Moved Nogoods NoneFits
-            Points Reply Searched Settled Several Silent SoFar Stand Stated Step Symbol Unsettled
-            Value Worldview
+            Best Blamed Called Contradiction Done How Impossible Instance Listing Moved Nogoods
+            NoneFits Points Reply Searched Settled Several Silent SoFar Stand Stated Step Symbol
+            Unsettled Value Worldview
         """,
     }
     __all__ = sorted(["errors", "replies", *all_of(_HOMES)])

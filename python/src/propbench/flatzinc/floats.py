@@ -35,11 +35,11 @@ _PRODUCTS = ("float_times", "float_div", "float_sqrt", "float_pow")
 EXACT = "in steps"
 
 # A number of steps, or a constant as it is written.
-Amount = Number | Fraction
+FloatAmount = Number | Fraction
 
 
 @dataclass(frozen=True)
-class Said:
+class FloatSaid:
     """What a constraint says of steps: of themselves, of some real numbers next to them, and of
     some for which it doesn't hold."""
 
@@ -48,17 +48,17 @@ class Said:
     denied: Truth = YES
 
     @staticmethod
-    def always(truth: Truth) -> "Said":
+    def always(truth: Truth) -> "FloatSaid":
         """What holds of steps just where it does of the real numbers."""
-        return Said(truth, truth, ~truth)
+        return FloatSaid(truth, truth, ~truth)
 
     @property
-    def opposite(self) -> "Said":
+    def opposite(self) -> "FloatSaid":
         """The same of the opposite."""
-        return Said(~self.exact, self.denied, self.loose)
+        return FloatSaid(~self.exact, self.denied, self.loose)
 
 
-class Values(Protocol):
+class FloatValues(Protocol):
     """What terms of a model stand for in a workbench."""
 
     def number(self, term: Term) -> Number:
@@ -104,7 +104,7 @@ class Floats:
         size = floor(abs(value) * per_unit + _HALF)
         return size if value >= 0 else -size
 
-    def said(self, values: Values, constraint: Constraint) -> Said:
+    def said(self, values: FloatValues, constraint: Constraint) -> FloatSaid:
         """What a constraint on floats says. Raises NotSupported."""
         reading = _Reading(self, values, constraint)
         for ending, is_same in (("_reif", True), ("_imp", False)):
@@ -122,12 +122,12 @@ class Floats:
         return most * most <= _GREATEST if is_product else most <= _GREATEST // 10**3
 
 
-def _switched(said: Said, truth: Truth, is_same: bool) -> Said:
+def _switched(said: FloatSaid, truth: Truth, is_same: bool) -> FloatSaid:
     """What is said where a truth tells whether it holds, or holds only if it does."""
     if not is_same:
-        return Said(implies(truth, said.exact), implies(truth, said.loose))
+        return FloatSaid(implies(truth, said.exact), implies(truth, said.loose))
     both = every([implies(truth, said.loose), implies(~truth, said.denied)])
-    return Said(same_truth(said.exact, truth), both)
+    return FloatSaid(same_truth(said.exact, truth), both)
 
 
 @dataclass(frozen=True)
@@ -164,7 +164,7 @@ class _Sum:
 class _Reading:
     """The arguments of a constraint, as steps."""
 
-    def __init__(self, floats: Floats, values: Values, constraint: Constraint) -> None:
+    def __init__(self, floats: Floats, values: FloatValues, constraint: Constraint) -> None:
         self.floats, self.values, self.constraint = floats, values, constraint
 
     @property
@@ -172,7 +172,7 @@ class _Reading:
         """How many steps make one."""
         return self.floats.per_unit
 
-    def amount(self, term: Term) -> Amount:
+    def amount(self, term: Term) -> FloatAmount:
         """A constant, or the steps of a float."""
         found = self.floats._flat.resolved(term)
         if isinstance(found, (Fraction, int)):
@@ -182,7 +182,7 @@ class _Reading:
         fixed = self.floats.fixed(found.text)
         return self.values.steps(found.text) if fixed is None else fixed
 
-    def amounts(self, term: Term) -> list[Amount]:
+    def amounts(self, term: Term) -> list[FloatAmount]:
         """An array of these."""
         return [self.amount(each) for each in self.values.elements(term)]
 
@@ -191,7 +191,7 @@ class _Reading:
         found = [self.amount(each) for each in self.values.elements(term)]
         return [each for each in found if isinstance(each, Fraction)]
 
-    def steps(self, amount: Amount) -> Number:
+    def steps(self, amount: FloatAmount) -> Number:
         """The steps of an amount: those of a constant are the nearest."""
         return constant(self.floats.step(amount)) if isinstance(amount, Fraction) else amount
 
@@ -199,7 +199,9 @@ class _Reading:
         """What is raised where the constraint isn't supported."""
         return NotSupported(self.constraint.line, f"{self.constraint.name}: {text}")
 
-    def sum(self, factors: Sequence[Fraction], amounts: Sequence[Amount], bound: Fraction) -> _Sum:
+    def sum(
+        self, factors: Sequence[Fraction], amounts: Sequence[FloatAmount], bound: Fraction
+    ) -> _Sum:
         """A sum by factors, compared with a bound."""
         pairs = list(zip(factors, amounts, strict=True))
         fixed = sum((it * each for it, each in pairs if isinstance(each, Fraction)), Fraction(0))
@@ -238,81 +240,81 @@ def _largest(total: Fraction) -> int:
 
 # --- sums and comparisons ---
 
-Says = Callable[[_Reading, tuple[Term, ...]], Said]
+FloatSays = Callable[[_Reading, tuple[Term, ...]], FloatSaid]
 
 
-def _sum_at_most(made: _Sum) -> Said:
+def _sum_at_most(made: _Sum) -> FloatSaid:
     off = made.half + made.rounded
     loose, denied = made.at_most(made.bound + off), made.at_least(made.bound - off)
-    return Said(made.at_most(made.bound + made.rounded), loose, denied)
+    return FloatSaid(made.at_most(made.bound + made.rounded), loose, denied)
 
 
-def _sum_less(made: _Sum) -> Said:
+def _sum_less(made: _Sum) -> FloatSaid:
     said = _sum_at_most(made)
-    return Said(made.at_most(Fraction(ceil(made.bound) - 1)), said.loose, said.denied)
+    return FloatSaid(made.at_most(Fraction(ceil(made.bound) - 1)), said.loose, said.denied)
 
 
-def _sum_equal(made: _Sum) -> Said:
+def _sum_equal(made: _Sum) -> FloatSaid:
     exact = made.near(made.least + made.rounded)
     if not made.numbers:
-        return Said.always(exact)
-    return Said(exact, made.near(made.half + made.rounded))
+        return FloatSaid.always(exact)
+    return FloatSaid(exact, made.near(made.half + made.rounded))
 
 
-def _sums(compare: Callable[[_Sum], Said]) -> Says:
-    def says(reading: _Reading, args: tuple[Term, ...]) -> Said:
+def _sums(compare: Callable[[_Sum], FloatSaid]) -> FloatSays:
+    def says(reading: _Reading, args: tuple[Term, ...]) -> FloatSaid:
         [bound] = reading.constants((args[2],))
         return compare(reading.sum(reading.constants(args[0]), reading.amounts(args[1]), bound))
 
     return says
 
 
-def _at_most(reading: _Reading, args: tuple[Term, ...]) -> Said:
+def _at_most(reading: _Reading, args: tuple[Term, ...]) -> FloatSaid:
     """Of two the greater one has no lower step."""
     left, right = (reading.amount(each) for each in args)
     if isinstance(left, Fraction) and isinstance(right, Fraction):
-        return Said.always(YES if left <= right else NO)
+        return FloatSaid.always(YES if left <= right else NO)
     one, other = reading.steps(left), reading.steps(right)
     exact = one <= other
     if isinstance(left, Fraction):
         exact = other >= ceil(left * reading.unit)
     if isinstance(right, Fraction):
         exact = one <= floor(right * reading.unit)
-    return Said(exact, one <= other, other <= one)
+    return FloatSaid(exact, one <= other, other <= one)
 
 
-def _less(reading: _Reading, args: tuple[Term, ...]) -> Said:
+def _less(reading: _Reading, args: tuple[Term, ...]) -> FloatSaid:
     return _at_most(reading, (args[1], args[0])).opposite
 
 
-def _equal(reading: _Reading, args: tuple[Term, ...]) -> Said:
+def _equal(reading: _Reading, args: tuple[Term, ...]) -> FloatSaid:
     left, right = (reading.amount(each) for each in args)
     if isinstance(left, Fraction) and isinstance(right, Fraction):
-        return Said.always(YES if left == right else NO)
+        return FloatSaid.always(YES if left == right else NO)
     same = reading.steps(left) == reading.steps(right)
-    return Said(same, same)
+    return FloatSaid(same, same)
 
 
-def _unequal(reading: _Reading, args: tuple[Term, ...]) -> Said:
+def _unequal(reading: _Reading, args: tuple[Term, ...]) -> FloatSaid:
     return _equal(reading, args).opposite
 
 
-def _from_whole(reading: _Reading, args: tuple[Term, ...]) -> Said:
+def _from_whole(reading: _Reading, args: tuple[Term, ...]) -> FloatSaid:
     whole, amount = reading.values.number(args[0]), reading.amount(args[1])
     if isinstance(amount, Number):
-        return Said.always(whole * reading.unit == amount)
-    return Said.always(whole == int(amount) if amount.denominator == 1 else NO)
+        return FloatSaid.always(whole * reading.unit == amount)
+    return FloatSaid.always(whole == int(amount) if amount.denominator == 1 else NO)
 
 
 # --- functions ---
 
 
-def _plus(reading: _Reading, args: tuple[Term, ...]) -> Said:
+def _plus(reading: _Reading, args: tuple[Term, ...]) -> FloatSaid:
     ones = [Fraction(1), Fraction(1), Fraction(-1)]
     return _sum_equal(reading.sum(ones, [reading.amount(each) for each in args], Fraction(0)))
 
 
-def _times(reading: _Reading, args: tuple[Term, ...]) -> Said:
+def _times(reading: _Reading, args: tuple[Term, ...]) -> FloatSaid:
     one, other, whole = (reading.amount(each) for each in args)
     if isinstance(one, Fraction) or isinstance(other, Fraction):
         factor, amount = (one, other) if isinstance(one, Fraction) else (other, one)
@@ -321,13 +323,13 @@ def _times(reading: _Reading, args: tuple[Term, ...]) -> Said:
     return _product(reading, one, other, reading.steps(whole))
 
 
-def _product(reading: _Reading, one: Number, other: Number, whole: Number) -> Said:
+def _product(reading: _Reading, one: Number, other: Number, whole: Number) -> FloatSaid:
     """A product of steps lies by the steps of a product: by half of one step of each it is off."""
     sizes = _size(one) + _size(other)
     product, steps = one * other, whole * reading.unit
     exact = _near(product * 2, steps * 2, sizes + reading.unit)
     loose = _near(product * 4, steps * 4, sizes * 2 + (2 * reading.unit + 1))
-    return Said(exact, loose)
+    return FloatSaid(exact, loose)
 
 
 def _near(one: Number, other: Number, off: Number) -> Truth:
@@ -339,25 +341,25 @@ def _size(number: Number) -> Number:
     return number if range_of(number.node)[0] >= 0 else abs(number)
 
 
-def _divided(reading: _Reading, args: tuple[Term, ...]) -> Said:
+def _divided(reading: _Reading, args: tuple[Term, ...]) -> FloatSaid:
     whole, divisor, quotient = args
     by = reading.amount(divisor)
     if isinstance(by, Fraction):
         if by == 0:
-            return Said.always(NO)
+            return FloatSaid.always(NO)
         amounts = [reading.amount(whole), reading.amount(quotient)]
         return _sum_equal(reading.sum([1 / by, Fraction(-1)], amounts, Fraction(0)))
     said = _times(reading, (quotient, divisor, whole))
-    return Said(every([said.exact, by != 0]), said.loose)
+    return FloatSaid(every([said.exact, by != 0]), said.loose)
 
 
-def _root(reading: _Reading, args: tuple[Term, ...]) -> Said:
+def _root(reading: _Reading, args: tuple[Term, ...]) -> FloatSaid:
     squared, root = reading.steps(reading.amount(args[0])), reading.steps(reading.amount(args[1]))
     said, is_root = _product(reading, root, root, squared), root >= 0
-    return Said(every([said.exact, is_root]), every([said.loose, is_root]))
+    return FloatSaid(every([said.exact, is_root]), every([said.loose, is_root]))
 
 
-def _power(reading: _Reading, args: tuple[Term, ...]) -> Said:
+def _power(reading: _Reading, args: tuple[Term, ...]) -> FloatSaid:
     exponent = reading.amount(args[1])
     if exponent == 2:
         return _times(reading, (args[0], args[0], args[2]))
@@ -368,33 +370,33 @@ def _power(reading: _Reading, args: tuple[Term, ...]) -> Said:
     raise reading.refused("exponents are 0.5, 1 and 2 alone")
 
 
-def _found(give: Callable[[list[Number]], Number]) -> Says:
+def _found(give: Callable[[list[Number]], Number]) -> FloatSays:
     """A function that gives the step of its value for the steps of its arguments: one that keeps
     the order of numbers, and gives one of these."""
 
-    def says(reading: _Reading, args: tuple[Term, ...]) -> Said:
+    def says(reading: _Reading, args: tuple[Term, ...]) -> FloatSaid:
         *given, value = (reading.steps(reading.amount(each)) for each in args)
-        return Said.always(give(given) == value)
+        return FloatSaid.always(give(given) == value)
 
     return says
 
 
-def _found_of_array(give: Callable[[list[Number]], Number]) -> Says:
-    def says(reading: _Reading, args: tuple[Term, ...]) -> Said:
+def _found_of_array(give: Callable[[list[Number]], Number]) -> FloatSays:
+    def says(reading: _Reading, args: tuple[Term, ...]) -> FloatSaid:
         value, given = reading.amount(args[0]), reading.amounts(args[1])
-        return Said.always(give([*map(reading.steps, given)]) == reading.steps(value))
+        return FloatSaid.always(give([*map(reading.steps, given)]) == reading.steps(value))
 
     return says
 
 
-def _element(reading: _Reading, args: tuple[Term, ...]) -> Said:
+def _element(reading: _Reading, args: tuple[Term, ...]) -> FloatSaid:
     index, given = reading.values.number(args[0]), reading.amounts(args[1])
     found = picked(index, 1, [reading.steps(each) for each in given])
     is_index = within(index, Numbers.span(1, len(given)))
-    return Said.always(every([is_index, found == reading.steps(reading.amount(args[2]))]))
+    return FloatSaid.always(every([is_index, found == reading.steps(reading.amount(args[2]))]))
 
 
-_SAYS: dict[str, Says] = {
+_SAYS: dict[str, FloatSays] = {
     "float_eq": _equal,
     "float_ne": _unequal,
     "float_le": _at_most,

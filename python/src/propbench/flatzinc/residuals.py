@@ -11,10 +11,10 @@ from propbench.flatzinc.terms import Constraint, Flat, Name, Term
 from propbench.model.kinds import Point
 
 # What a variable is in a solution.
-Values = Callable[[str], Point | Fraction]
+ResidualValues = Callable[[str], Point | Fraction]
 
 
-def off_by(flat: Flat, values: Values) -> Fraction:
+def off_by(flat: Flat, values: ResidualValues) -> Fraction:
     """By how much they miss at the most: 0 where all holds."""
     reading = _Reading(flat, values)
     missed = [reading.off(each) for each in flat.constraints]
@@ -26,7 +26,7 @@ def off_by(flat: Flat, values: Values) -> Fraction:
 class _Reading:
     """The arguments of constraints as numbers."""
 
-    def __init__(self, flat: Flat, values: Values) -> None:
+    def __init__(self, flat: Flat, values: ResidualValues) -> None:
         self._flat, self._values = flat, values
 
     def off(self, constraint: Constraint) -> Fraction:

@@ -13,8 +13,8 @@ from propbench.showing import printable
 
 # An end of what may be without end is None.
 End = Fraction | None
-Ends = tuple[End, End]
-_OPEN: Ends = (None, None)
+FloatEnds = tuple[End, End]
+_OPEN: FloatEnds = (None, None)
 
 
 def rooms_of(flat: Flat) -> dict[str, Reals]:
@@ -37,7 +37,7 @@ class _Rooms:
     def __init__(self, flat: Flat) -> None:
         self._flat = flat
         floats = [each for each in flat.variables.values() if each.is_float]
-        self.ends: dict[str, Ends] = {it.name: (it.reals.low, it.reals.high) for it in floats}
+        self.ends: dict[str, FloatEnds] = {it.name: (it.reals.low, it.reals.high) for it in floats}
         # Which are whole numbers.
         whole = (each.args[1] for each in flat.constraints if each.name == "int2float")
         self._whole = {each.text for each in whole if isinstance(each, Name)}
@@ -54,7 +54,7 @@ class _Rooms:
                 _LOOKS[each.name](self, each.args)
         return self._is_new
 
-    def of(self, term: Term) -> Ends:
+    def of(self, term: Term) -> FloatEnds:
         """The ends of a value."""
         found = self._flat.resolved(term)
         if isinstance(found, (Fraction, int)):
@@ -68,7 +68,7 @@ class _Rooms:
             return _OPEN
         return Fraction(values.ranges[0][0]), Fraction(values.ranges[-1][1])
 
-    def of_all(self, term: Term) -> list[Ends]:
+    def of_all(self, term: Term) -> list[FloatEnds]:
         """The ends of each element of an array."""
         return [self.of(each) for each in self._array(term)]
 
@@ -102,7 +102,7 @@ class _Rooms:
         self.sum(factors, self._array(args[1]), self.of(args[2]), is_equal)
 
     def sum(
-        self, factors: Sequence[Fraction], terms: Sequence[Term], bound: Ends, is_equal: bool
+        self, factors: Sequence[Fraction], terms: Sequence[Term], bound: FloatEnds, is_equal: bool
     ) -> None:
         """The same of a sum that is no more than a bound, or is the same."""
         parts = [_times(self.of(each), (it, it)) for it, each in zip(factors, terms)]
@@ -142,7 +142,7 @@ class _Rooms:
             self.narrow(each, self.of(args[2])[0], None)
 
     def _extreme(
-        self, term: Term, ends: Sequence[Ends], choose: Callable[[list[Fraction]], Fraction]
+        self, term: Term, ends: Sequence[FloatEnds], choose: Callable[[list[Fraction]], Fraction]
     ) -> None:
         lows, highs = [low for low, _ in ends], [high for _, high in ends]
         known = [[it for it in some if it is not None] for some in (lows, highs)]
@@ -182,7 +182,7 @@ class _Rooms:
         self._extreme(args[0], self.of_all(args[1]), choose)
 
 
-def _total(parts: Sequence[Ends], end: int) -> End:
+def _total(parts: Sequence[FloatEnds], end: int) -> End:
     total = Fraction(0)
     for each in parts:
         part = each[end]
@@ -196,7 +196,7 @@ def _less(one: End, other: End) -> End:
     return None if one is None or other is None else one - other
 
 
-def _times(one: Ends, other: Ends) -> Ends:
+def _times(one: FloatEnds, other: FloatEnds) -> FloatEnds:
     if Fraction(0) in one and one[0] == one[1] or Fraction(0) in other and other[0] == other[1]:
         return Fraction(0), Fraction(0)
     factor = other[0]
@@ -211,7 +211,7 @@ def _times(one: Ends, other: Ends) -> Ends:
     return min(corners), max(corners)
 
 
-def _inverse(ends: Ends) -> Ends:
+def _inverse(ends: FloatEnds) -> FloatEnds:
     """The ends of 1 divided by what lies between these; none where that may be zero."""
     low, high = ends
     if low is None or high is None or low <= 0 <= high:

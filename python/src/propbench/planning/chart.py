@@ -142,12 +142,12 @@ def _rooms_by(
 
     def run() -> None:
         for name in tasks:
+            if seeker.clock.is_over():
+                break
             task = project.tasks[name]
             ends = end(task.start.name, LEAST), end(task.end.name, GREATEST)
             if ends[0] is not None and ends[1] is not None:
                 rooms[name] = ends[0], ends[1]
-            if seeker.clock.is_over():
-                break
             seeker.clock.tell(f"the rooms of {len(rooms)} of {len(tasks)} tasks")
 
     return tried_by(seeker.clock, run, lambda: rooms)

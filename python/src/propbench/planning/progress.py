@@ -25,14 +25,14 @@ if TYPE_CHECKING:
 
 
 @dataclass(frozen=True)
-class By:
+class DoneBy:
     """The premise by which something is said of a task, and who did it, where that is told."""
 
     premise: str
     people: tuple[str, ...] | None
 
 
-def state_done(project: "Project", task: Task, days: tuple[int, int], by: By) -> None:
+def state_done(project: "Project", task: Task, days: tuple[int, int], by: DoneBy) -> None:
     """A task was done from the beginning of one day to that of another, however long it was to
     take. Raises ValueError where it can't have been."""
     first, last = days
@@ -44,7 +44,9 @@ def state_done(project: "Project", task: Task, days: tuple[int, int], by: By) ->
     _state(project, task, worked, told)
 
 
-def state_progress(project: "Project", task: Task, left: int, began: int | None, by: By) -> None:
+def state_progress(
+    project: "Project", task: Task, left: int, began: int | None, by: DoneBy
+) -> None:
     """A task that began on a day has so many days of work left from today on. Raises ValueError
     where that can't be, and TypeError for days that are no whole number."""
     today = today_of(project)
@@ -68,7 +70,7 @@ class _Said:
 
     sort: type[TaskDone]
     numbers: tuple[tuple[NumberCell, int], ...]
-    by: By
+    by: DoneBy
 
 
 def _state(project: "Project", task: Task, days: int, said: _Said) -> None:

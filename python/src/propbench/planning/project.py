@@ -463,11 +463,11 @@ class Project:
         >>> w.least(review.start).value
         2
         """
-        from propbench.planning.progress import By, state_done
+        from propbench.planning.progress import DoneBy, state_done
 
         self._check_there(task)
         premise = under or f"{task.name} done {self._said(first)} to {self._said(end)}"
-        by = By(premise, None if who is None else names_given(who, self.people))
+        by = DoneBy(premise, None if who is None else names_given(who, self.people))
         state_done(self, task, (self.day(first), self.day(end)), by)
         return premise
 
@@ -495,11 +495,13 @@ class Project:
         >>> w.least(review.start).value
         6
         """
-        from propbench.planning.progress import By, state_progress
+        from propbench.planning.progress import DoneBy, state_progress
 
         self._check_there(task)
         said = f"{task.name} has {left} {'day' if left == 1 else 'days'} left"
-        by = By(under or self.unused(said), None if who is None else names_given(who, self.people))
+        by = DoneBy(
+            under or self.unused(said), None if who is None else names_given(who, self.people)
+        )
         state_progress(self, task, left, None if began is None else self.day(began), by)
         return by.premise
 
