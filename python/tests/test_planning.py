@@ -278,7 +278,7 @@ def test_leave_on_days_off_is_taken(p: Project) -> None:
 def test_people_are_names() -> None:
     with Workbench() as w:
         for people in ({"hall": 2}, {"hall": 1, "ana": 1}):
-            with pytest.raises(TypeError, match='says more of them.*say p.resource'):
+            with pytest.raises(TypeError, match="says more of them.*say p.resource"):
                 w.project(days=9, people=people)  # type: ignore[arg-type]
         with pytest.raises(TypeError, match="names are one text"):
             w.project(days=9, people=["ana", 2])  # type: ignore[list-item]
