@@ -185,6 +185,13 @@ def test_each_question(wide: str) -> None:
         assert (
             session.solve() == session.least("x") == session.plans(3, "x") == NoneFits(("c", "d"))
         )
+
+
+def test_minimal_sets(wide: str) -> None:
+    with Session(wide) as session:
+        if not session.blames:
+            pytest.skip("the program doesn't search for conflicts")
+        session.send_all([*LINES, "tell d z 90"])
         conflicts, repairs = session.send("conflicts 9"), session.send("repairs 9")
         assert isinstance(conflicts, Blamed) and isinstance(repairs, Blamed)
         assert sorted(conflicts.sets) == [("a", "b", "d"), ("c", "d")] and not conflicts.unsettled
