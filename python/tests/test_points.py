@@ -35,7 +35,7 @@ from propbench import (
     seeking,
 )
 from propbench.questions import Point
-from propbench.replies import NotAReply, lines_in, reply_of
+from propbench.replies import Blamed, NotAReply, lines_in, reply_of
 
 KINDS = {"x": "span", "plan": "span", "t": "truth", "d": "day", "s": "symbol"}
 POINTS = Points(
@@ -77,6 +77,21 @@ READ: list[tuple[str, str, Reply]] = [
     ),
     ("plans 1 x", "plans 1\nx = 4\nothers unknown", Several(({"x": Span(4, 4)},), None)),
     ("plans 1 x", "plans 0\nothers none: no premise", Several((), ())),
+    (
+        "conflicts 9",
+        "conflicts 2\nunsettled: unsettled ben\nconflict: ana unsettled\nothers unknown",
+        Blamed("conflicts", (("unsettled", "ben"), ("ana", "unsettled")), frozenset({0}), False),
+    ),
+    (
+        "conflicts 9",
+        "conflicts 1\nconflict: no premise\nothers none",
+        Blamed("conflicts", ((),), frozenset(), True),
+    ),
+    (
+        "repairs 1",
+        "repairs 1\nrepair: ana\nothers unknown",
+        Blamed("repairs", (("ana",),), frozenset(), False),
+    ),
 ]
 # Three cells, a sum and a choice: 7 sums, and each with either side.
 SUM = "cell x span, cell y span, cell z span, attach sum x y z, tell a x 3..5, tell b y 2..4"
@@ -126,6 +141,11 @@ def test_what_is_found_is_read(line: str, text: str, wanted: Reply) -> None:
         ("plans 1 x", "plans 2\nx = 3\nothers unknown"),
         ("plans 1 x", "plans 1\nx = \nothers unknown"),
         ("ask x", "none: ana"),
+        ("conflicts 3", "conflicts 1\nconflict: ana"),
+        ("conflicts 3", "conflicts 2\nconflict: ana\nothers none"),
+        ("conflicts 3", "conflicts 1\nrepair: ana\nothers none"),
+        ("repairs 3", "repairs 1\nunsettled: ana\nothers none"),
+        ("repairs 3", "unsettled"),
     ],
 )
 def test_what_is_no_reply_is_not_read(line: str, text: str) -> None:
@@ -150,7 +170,8 @@ def test_a_program_that_does_not_search_says_so(program: str) -> None:
 def test_each_question(wide: str) -> None:
     with Session(wide) as session:
         session.send_all(LINES)
-        assert session.seeks and session.tells[3:] == ("solve", "least", "greatest", "plans")
+        told = ("solve", "least", "greatest", "plans", "conflicts", "repairs")
+        assert session.seeks and session.tells[3:] == told
         found = session.solve()
         assert isinstance(found, Points) and found.sides in (("v=1",), ("v=2",))
         x, y, z, u = (str(found.values[cell]) for cell in "xyzu")
@@ -163,6 +184,11 @@ def test_each_question(wide: str) -> None:
         assert (
             session.solve() == session.least("x") == session.plans(3, "x") == NoneFits(("c", "d"))
         )
+        conflicts, repairs = session.send("conflicts 9"), session.send("repairs 9")
+        assert isinstance(conflicts, Blamed) and isinstance(repairs, Blamed)
+        assert sorted(conflicts.sets) == [("a", "b", "d"), ("c", "d")] and not conflicts.unsettled
+        assert sorted(repairs.sets) == [("a", "c"), ("b", "c"), ("d",)]
+        assert conflicts.is_all and repairs.is_all
 
 
 def test_plans_go_on_at_once_and_begin_anew_later(wide: str) -> None:

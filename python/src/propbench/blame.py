@@ -10,7 +10,7 @@ from itertools import islice
 
 from propbench.commands import usages_of
 from propbench.fitting import Fitting, Misfit
-from propbench.grammar import FORMS, KINDS, SEEKING, Expected, Parse, Place, Role, parsed
+from propbench.grammar import BLAMING, FORMS, KINDS, SEEKING, Expected, Parse, Place, Role, parsed
 from propbench.kit import KIT
 from propbench.known import Known, steps_of
 from propbench.showing import quoted
@@ -50,6 +50,7 @@ _UNTOLD = {
     "how": "what makes up a value",
     "list": "what it holds",
     **dict.fromkeys(SEEKING, "which points fit"),
+    **dict.fromkeys(BLAMING, "what can't all hold"),
 }
 
 

@@ -213,6 +213,11 @@ def _plans() -> Form:
     yield from _end_of()
 
 
+def _counted() -> Form:
+    yield (Role.COUNT,)
+    yield (Role.END,)
+
+
 def _limit() -> Form:
     yield (Role.STEPS,)
     yield (Role.END,)
@@ -251,9 +256,11 @@ SEEKING: dict[str, Callable[[], Form]] = {
     "greatest": _end_of,
     "plans": _plans,
 }
-_ALL = {**FORMS, **TELLING, **SEEKING}
+# Those that ask what can't all hold, and what to give up: propwide has them as well.
+BLAMING: dict[str, Callable[[], Form]] = {"conflicts": _counted, "repairs": _counted}
+_ALL = {**FORMS, **TELLING, **SEEKING, **BLAMING}
 # Those that ask: they are answered by more than `ok`, and change nothing that was said.
-ASKING = RUNNING | TELLING.keys() | SEEKING.keys() | {"nogoods"}
+ASKING = RUNNING | TELLING.keys() | SEEKING.keys() | BLAMING.keys() | {"nogoods"}
 
 
 def parsed(line: str) -> Parse:

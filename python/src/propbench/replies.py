@@ -8,7 +8,8 @@ from collections.abc import Iterator, Mapping, Sequence
 from dataclasses import dataclass
 from typing import TYPE_CHECKING
 
-from propbench.grammar import SEEKING
+from propbench.blamed import Blamed, blamed_in
+from propbench.grammar import BLAMING, SEEKING
 from propbench.points import Best, NoneFits, Points, Several, SoFar, points_in
 from propbench.points import lines_in as lines_of_points
 from propbench.values import Elements, Held, Impossible, Nothing, Span, Symbol, value_of
@@ -17,6 +18,7 @@ from propbench.words import looks_like_number, named, names_in
 
 __all__ = [
     "Best",
+    "Blamed",
     "Called",
     "Contradiction",
     "Done",
@@ -382,6 +384,7 @@ Reply = (
     | Best
     | Several
     | NoneFits
+    | Blamed
 )
 
 SILENT = Silent()
@@ -390,14 +393,14 @@ SETTLED = Settled()
 UNSETTLED = Unsettled()
 
 # The commands whose reply may have more than one line.
-SEVERAL = frozenset(("worldview", "nogoods", "step", "how", "list", *SEEKING))
+SEVERAL = frozenset(("worldview", "nogoods", "step", "how", "list", *SEEKING, *BLAMING))
 # Those of them whose first line is the command and how many lines follow.
 _COUNTED = ("nogoods", "step", "how", "list")
 _WORDS: dict[str, Reply] = {"ok": DONE, "settled": SETTLED, "unsettled": UNSETTLED}
 # Which of the replies that are a word alone a command has; any other has `ok`.
 _OK: tuple[str, ...] = ("ok",)
 _PLAIN: dict[str, tuple[str, ...]] = {
-    **dict.fromkeys(("ask", "why", "core", *_COUNTED), ()),
+    **dict.fromkeys(("ask", "why", "core", *_COUNTED, *BLAMING), ()),
     "settle": ("settled", "unsettled"),
     **dict.fromkeys(("worldview", *SEEKING), ("unsettled",)),
 }
@@ -423,7 +426,10 @@ def lines_behind(command: str, first: str) -> int:
     if command == "worldview" and first.startswith("in:"):
         return 1
     word, _, count = first.partition(" ")
-    return int(count) if word == command and command in _COUNTED and count.isdecimal() else 0
+    if word != command or command not in (*_COUNTED, *BLAMING) or not count.isdecimal():
+        return 0
+    # (behind these stands what is known of others)
+    return int(count) + (command in BLAMING)
 
 
 def lines_in(command: str, begun: Sequence[str]) -> int:
@@ -451,6 +457,8 @@ def reply_of(words: list[str], text: str, kinds: Mapping[str, str]) -> Reply:
     if command in SEEKING:
         return _found(words, text, kinds)
     lines = text.split("\n")
+    if command in BLAMING:
+        return _blamed(command, lines)
     begins = [line.partition(" ")[0] for line in lines]
     if command == "worldview" and begins == ["in:", "out:"]:
         return Worldview(tuple(lines[0].split(" ")[1:]), tuple(lines[1].split(" ")[1:]))
@@ -465,6 +473,14 @@ def reply_of(words: list[str], text: str, kinds: Mapping[str, str]) -> Reply:
     if len(lines) < 3 or not lines[2].startswith(f"{name} = "):
         raise NotAReply
     return _how(lines[1:], kinds)
+
+
+def _blamed(command: str, lines: list[str]) -> Reply:
+    """What can't all hold, by these lines."""
+    found = blamed_in(command, lines)
+    if found is None:
+        raise NotAReply
+    return found
 
 
 def _found(words: list[str], text: str, kinds: Mapping[str, str]) -> Reply:

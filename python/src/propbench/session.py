@@ -21,7 +21,7 @@ from propbench.closing import Closing
 from propbench.conversation import Conversation, WrongReply
 from propbench.finding import find_program
 from propbench.given import seconds_given
-from propbench.grammar import ASKING, FORMS, RUNNING, SEEKING
+from propbench.grammar import ASKING, BLAMING, FORMS, RUNNING, SEEKING
 from propbench.known import Known
 from propbench.points import Best, NoneFits, Points, Several, SoFar
 from propbench.program import OutOfTime, Program, ProgramEnded, StillAtWork
@@ -510,16 +510,17 @@ class Session(Closing):
 
     @property
     def tells(self) -> tuple[str, ...]:
-        """Those of the commands `step`, `how` and `list`, `solve`, `least`, `greatest` and `plans`
-        that the program has. It is asked once.
+        """Those of the commands `step`, `how` and `list`, `solve`, `least`, `greatest` and `plans`,
+        `conflicts` and `repairs` that the program has. It is asked once.
 
         >>> with Session() as session:
         ...     print(session.tells)
-        ('step', 'how', 'list', 'solve', 'least', 'greatest', 'plans')
+        ('step', 'how', 'list', 'solve', 'least', 'greatest', 'plans', 'conflicts', 'repairs')
         """
         if self._tells is None:
             # (none of these is carried out but `list`)
-            asked = {"how _": ["step", "how"], "list": ["list"], "least": list(SEEKING)}
+            asked = {"how _": ["step", "how"], "list": ["list"]}
+            asked |= {"least": list(SEEKING), "repairs": list(BLAMING)}
             replies = zip(asked.values(), self.look(asked))
             found = [words for words, reply in replies if not isinstance(reply, UnknownCommand)]
             self._tells = tuple(word for words in found for word in words)
