@@ -8,7 +8,7 @@ use prop_telling::is_apart;
 use std::alloc::{AllocError, Global};
 
 /// Whether this is the line's first word, from its first byte on.
-fn begins(word: &[u8], line: &[u8]) -> bool
+pub fn begins(word: &[u8], line: &[u8]) -> bool
     ensures { result ≡ begins word.now line.now }
 {
     match line.strip_prefix(word) {

@@ -17,10 +17,12 @@ mod inquiry;
 mod interpreting;
 mod posting;
 mod question;
+mod reading;
 mod running;
 mod seeker;
 mod striding;
 mod texts;
 
+pub use asking::begins;
 pub use running::run;
 pub use seeker::Seeker;

@@ -37,5 +37,5 @@ pub fn run<D: Devices>(alloc: Global, options: Options, devices: &mut D) -> Resu
             call,
         ))?;
     }
-    prop_seeking::run(alloc, procedures, &prelude, options, devices)
+    prop_requiring::run(alloc, procedures, &prelude, options, devices)
 }

@@ -108,7 +108,7 @@ kept_seeks library old line answer inquiry (inr (read, is, replies)) =
     inr (read, kept_reading line read is, replies)
 
 -- the one or the other, each from what is another's own
-own_from : {A B C D : Type 0} (b c : Bool) → b ≡ c → (A → C) → (B → D) → Own b A B → Own c C D
+pub own_from : {A B C D : Type 0} (b c : Bool) → b ≡ c → (A → C) → (B → D) → Own b A B → Own c C D
 own_from true true e f g x = f x
 own_from false false e f g x = g x
 own_from true false e f g x = cc

@@ -1,0 +1,8 @@
+pub mod Lists
+pub mod Placing
+pub mod Singling
+pub mod Reading
+pub mod Fitting
+pub mod Allowing
+pub mod Demanding
+pub mod Starting

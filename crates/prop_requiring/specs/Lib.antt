@@ -1,0 +1,6 @@
+pub mod Asking
+pub mod Naming
+pub mod Requiring
+pub mod Answering
+pub mod inner
+pub mod laws

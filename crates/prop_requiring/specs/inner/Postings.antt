@@ -1,0 +1,45 @@
+-- What a term becomes, as the session takes it.
+use Rattle.std.specs.Prelude.{◌≡◌, ℕ, List, map}
+use Rattle.prop_lattice.specs.Ends.{elements_from}
+use Rattle.prop_lattice.specs.declared.info.Info.{Info}
+use Rattle.prop_lattice.specs.declared.span.Span.{Span}
+use Rattle.prop_procedures.specs.declared.shape.Kinded.{Kinded}
+use Rattle.prop_terms.specs.Terms.{Term}
+use Rattle.prop_terms.specs.Writing.{IsWritten}
+use Rattle.prop_terms.specs.declared.forming.Sort.TheVariants.{Truth}
+use Rattle.prop_vocabulary.specs.Cells.{CellNames}
+use Rattle.prop_vocabulary.specs.Vocabulary.{Vocabulary}
+use Rattle.prop_cells.specs.Data.{Data}
+use Rattle.prop_workbench.specs.declared.posting.Posting.{Posting}
+use Rattle.prop_workbench.specs.declared.posting.Stated.{Stated}
+use Rattle.prop_meaning.specs.Palette.{IsFlatOf}
+use Rattle.prop_meaning.specs.Posting.{SaysSame}
+use Rattle.prop_meaning.specs.Words.{Lexicon}
+use Rattle.prop_meaning.specs.declared.posting.Posted.{Posted}
+use Rattle.prop_requiring.specs.inner.Fitting.{AllFits}
+use Rattle.prop_requiring.specs.inner.Glossaries.{IsWhole, lexicon_in, seen}
+use Rattle.prop_requiring.specs.inner.Palettes.{rule_number}
+
+-- what is stated, with its place
+abbrev pub constant_of : Stated → ℕ × Info
+constant_of x = (x.place, x.info)
+
+-- the instances are those of procedures, the constants are stated, and the result is told to be yes
+pub record IsPostingOf (posted : Posted) (p : Posting) : Type 0 where
+  pub flat : IsFlatOf rule_number posted p.flat
+  pub fixed : map constant_of p.fixed.items ≡ posted.constants.items
+  pub told : constant_of p.told ≡ (posted.result, elements_from 1)
+
+-- it says the same as the term, and fits cells of these kinds
+pub record IsUnderstood (lexicon : Lexicon) (words : Vocabulary) (kinds : List Kinded) (t : Term)
+    (p : Posting) : Type 0 where
+  pub posted : Posted
+  pub says : SaysSame lexicon posted t
+  pub fits : AllFits words kinds posted
+  pub posting : IsPostingOf posted p
+
+-- by what is there before anything is believed, a text says some term, which was understood
+abbrev pub IsUnderstoodIn : CellNames → Vocabulary → Data → List ℕ → Posting → Type 0
+IsUnderstoodIn names words cells text p = (t : Term) × IsWritten Truth text t × (whole : Span)
+    × (domains : ℕ) × IsWhole whole
+    × IsUnderstood (lexicon_in (seen names words cells whole domains)) words cells.kinds t p

@@ -1,0 +1,103 @@
+//! Which lines require something, and what they say.
+ghost use Rattle.std.specs.Prelude.{◌≡◌, ◌≤◌, ◌++◌, ◌∷◌, ℕ, List, IsTrue, IfOk, IfSome, codes, length};
+ghost use Rattle.prop_workbench.specs.inner.Effects.{name_of};
+ghost use Rattle.prop_requiring.specs.Asking.{AreSpaces, HasParts, is_requirement, is_space};
+
+use prop_language::name;
+use prop_refusals::Refusal;
+use prop_seeking::begins;
+
+/// How many bytes a line may have.
+const MOST_BYTES: usize = 4096;
+
+/// Whether the line requires something.
+pub(crate) fn is_requirement(line: &[u8]) -> bool
+    ensures { result ≡ is_requirement line.now }
+{
+    begins(b"require".as_slice(), line)
+}
+
+/// What a line says: a text, and the name of the premise under which it is required.
+#[derive(Clone, Copy)]
+pub(crate) struct Said<'l> {
+    pub(crate) text: &'l [u8],
+    pub(crate) premise: Option<&'l str>,
+}
+
+/// Whether the byte is a space, a tab or a carriage return.
+fn is_space(byte: u8) -> bool
+    ensures { result ≡ is_space byte }
+{
+    byte == b' ' || byte == b'\t' || byte == b'\r'
+}
+
+/// The bytes without spaces at their end.
+fn trimmed(bytes: &[u8]) -> &[u8]
+    ensures { (end : List ℕ) × AreSpaces end × (bytes.now ≡ result.now ++ end) }
+{
+    let mut rest = bytes;
+    while let Some((last, front)) = rest.split_last() {
+        if !is_space(*last) {
+            return rest;
+        }
+        rest = front;
+    }
+    rest
+}
+
+/// What stands before the last space, and what behind.
+fn split_at_space(bytes: &[u8]) -> Option<(&[u8], &[u8])>
+    ensures { IfSome result
+        (λ p. (b : ℕ) × IsTrue (is_space b) × (bytes.now ≡ p.0.now ++ b ∷ p.1.now)) }
+{
+    for k in (0..bytes.len()).rev() {
+        if is_space(bytes[k]) {
+            return Some((&bytes[..k], &bytes[k + 1..]));
+        }
+    }
+    None
+}
+
+/// What stands before the last word, where that is `under`.
+fn before_under(bytes: &[u8]) -> Option<&[u8]>
+    ensures { IfSome result (λ text. (a : ℕ) × (gap : List ℕ) × IsTrue (is_space a) × AreSpaces gap
+        × (bytes.now ≡ text.now ++ a ∷ (codes "under" ++ gap))) }
+{
+    let (front, word) = split_at_space(trimmed(bytes))?;
+    if word == b"under".as_slice() {
+        Some(front)
+    } else {
+        None
+    }
+}
+
+/// What a line says that requires something. Refused with 1 where it is too long, and with 5 where
+/// behind `under` stands no name.
+pub(crate) fn said(line: &[u8]) -> Result<Said<'_>, Refusal>
+    requires { is_requirement line.now ≡ true }
+    ensures few { IfOk result (λ s. length line.now ≤ 4_096) }
+    ensures parts { IfOk result (λ s. HasParts line.now s.text.now (name_of s.premise)) }
+{
+    if line.len() > MOST_BYTES {
+        return Err(Refusal::LineTooLong);
+    }
+    let Some(behind) = line.strip_prefix(b"require".as_slice()) else {
+        unreachable!()
+    };
+    let text = trimmed(behind);
+    let whole = Said {
+        text,
+        premise: None,
+    };
+    let Some((front, word)) = split_at_space(text) else {
+        return Ok(whole);
+    };
+    let Some(before) = before_under(front) else {
+        return Ok(whole);
+    };
+    let premise = name(word)?;
+    Ok(Said {
+        text: before,
+        premise: Some(premise),
+    })
+}

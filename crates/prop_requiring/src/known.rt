@@ -1,0 +1,52 @@
+//! What is known of the cells before anything is believed.
+ghost use Rattle.std.specs.Prelude.{◌≡◌, ◌≤◌, All, length};
+ghost use Rattle.prop_compound.specs.Kinds.{IsSized};
+ghost use Rattle.prop_vocabulary.specs.Vocabulary as vocabularies;
+ghost use Rattle.prop_requiring.specs.inner.Glossaries.{IsWhole, span_in};
+
+use prop_cells::Cells;
+use prop_lattice::{B, Info, Kind, Span};
+use prop_vocabulary::Vocabulary;
+
+/// How many domains are there at the least: those up to the last that a cell is of.
+pub(crate) fn domains_of(words: &Vocabulary, cells: &Cells) -> usize
+    requires { All (IsSized words.now) cells.now.kinds }
+    ensures there { result ≤ length words.now.domains }
+{
+    // (that of truth is there)
+    words.truth();
+    let mut domains = 1;
+    for cell in 0..cells.len() {
+        if let Kind::Set(domain) = cells.kind(cell).kind {
+            domains = domains.max(usize::from(domain) + 1);
+        }
+    }
+    domains
+}
+
+/// Each vocabulary is whole.
+pub(crate) fn is_whole(words: &Vocabulary)
+    ensures { vocabularies.IsWhole words.now }
+{
+    words.symbol_count();
+}
+
+/// All numbers.
+pub(crate) fn all_numbers() -> Span
+    ensures { IsWhole result }
+{
+    match Span::new(-B, B) {
+        Some(span) => span,
+        None => unreachable!(),
+    }
+}
+
+/// The numbers that an information leaves, where all are these.
+pub(crate) fn span_in(whole: Span, info: Info) -> Span
+    ensures { result ≡ span_in whole info }
+{
+    match info {
+        Info::Span(span) => span,
+        _ => whole,
+    }
+}

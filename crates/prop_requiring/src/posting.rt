@@ -1,0 +1,74 @@
+//! What an expression becomes, as it is posted.
+
+ghost use Rattle.std.specs.Prelude.{◌≡◌, map, IfOk};
+ghost use Rattle.prop_terms.specs.Terms.{term_of};
+ghost use Rattle.prop_requiring.specs.inner.Glossaries.{lexicon_in, seen_of};
+ghost use Rattle.prop_requiring.specs.inner.Postings.{IsPostingOf, IsUnderstood, constant_of};
+
+use crate::fitting::fits;
+use crate::forms::Numbers;
+use crate::reading::Glossary;
+use prop_lattice::Info;
+use prop_meaning::{Posted, Why, flat, post};
+use prop_refusals::Refusal;
+use prop_terms::Term;
+use prop_workbench::{Posting, Stated};
+use std::alloc::{AllocError, Global};
+
+/// Why a term is refused, as a line is.
+fn refusal_of(why: Why) -> Refusal {
+    match why {
+        Why::Memory => Refusal::Memory,
+        Why::NoSuchCell => Refusal::NoSuchCell,
+        Why::NotInDomain => Refusal::NotInTheDomain,
+        Why::WrongKind => Refusal::WrongKind,
+        Why::OutOfRange | Why::MayBeZero => Refusal::NotANumber,
+        Why::TwoReadings | Why::WrongForm | Why::NotYet => Refusal::WrongForm,
+    }
+}
+
+/// What the constants are, at their places.
+fn constants(alloc: Global, posted: &Posted) -> Result<Vec<Stated>, AllocError>
+    ensures { IfOk result (λ v. map constant_of v.items ≡ posted.now.constants.items) }
+{
+    let mut fixed = Vec::new(alloc);
+    for constant in &posted.constants {
+        fixed.push(Stated {
+            place: constant.0,
+            info: constant.1,
+        })?;
+    }
+    Ok(fixed)
+}
+
+/// What was posted, as the session takes it: the result is told to be `yes`.
+fn posting_of(alloc: Global, posted: &Posted) -> Result<Posting, AllocError>
+    ensures { IfOk result (λ p. IsPostingOf posted.now p) }
+{
+    let flat = flat(alloc, &Numbers, posted)?;
+    let fixed = constants(alloc, posted)?;
+    let told = Stated {
+        place: posted.result,
+        info: Info::from_bits(1),
+    };
+    Ok(Posting { flat, fixed, told })
+}
+
+/// What a term becomes, as the session takes it.
+pub(crate) fn posting(
+    alloc: Global,
+    glossary: &Glossary<'_>,
+    term: &Term<'_>,
+) -> Result<Posting, Refusal>
+    ensures { IfOk result (λ p. IsUnderstood (lexicon_in (seen_of glossary.now))
+        glossary.now.words.now glossary.now.cells.now.kinds (term_of term.now) p) }
+{
+    let posted = match post(alloc, glossary, term) {
+        Ok(posted) => posted,
+        Err(fault) => return Err(refusal_of(fault.why)),
+    };
+    if !fits(glossary, &posted) {
+        return Err(Refusal::WrongKind);
+    }
+    Ok(posting_of(alloc, &posted)?)
+}

@@ -1,0 +1,149 @@
+//! A session with a seeker around it that takes constraints as one writes them.
+ghost use Rattle.std.specs.Prelude.{◌≡◌, IfOk};
+ghost use Rattle.std.specs.List.{range_with_len};
+
+use crate::asking::{Said, is_requirement, said};
+use crate::known::{all_numbers, domains_of, is_whole};
+use crate::posting::posting;
+use crate::reading::Glossary;
+use prop_engine::Reply;
+use prop_guards::Guarded;
+use prop_premises::Worldview;
+use prop_refusals::Refusal;
+use prop_scheduler::Order;
+use prop_seeking::Seeker;
+use prop_terms::{Sort, read};
+use prop_workbench::{Posting, Session};
+use std::alloc::{AllocError, Global};
+
+/// A seeker that takes constraints.
+#[derive(Drop)]
+pub struct Requirer<R, O> {
+    pub(crate) seeker: Seeker<R, O>,
+}
+
+/// The numbers below a number.
+fn numbers_below(alloc: Global, count: usize) -> Result<Vec<usize>, AllocError>
+    ensures { IfOk result (λ v. v.items ≡ range_with_len 0 count) }
+{
+    let mut numbers = Vec::new(alloc);
+    for number in 0..count {
+        numbers.push(number)?;
+    }
+    Ok(numbers)
+}
+
+impl<R: Guarded + Drop, O: Order + Drop> Requirer<R, O> {
+    ghost use Rattle.std.specs.Prelude.{◌≡◌, ◌×◌, ℕ, IfOk, None, OnOk, true};
+    ghost use Rattle.prop_language.specs.Said.{words};
+    ghost use Rattle.prop_lattice.specs.declared.span.Span.{Span as Spans};
+    ghost use Rattle.prop_engine.specs.Answers.{answer_done, answer_of};
+    ghost use Rattle.prop_terms.specs.Terms.{Term};
+    ghost use Rattle.prop_terms.specs.Writing.{IsWritten};
+    ghost use Rattle.prop_vocabulary.specs.Vocabulary.{IsWhole as IsWholeVocabulary};
+    ghost use Rattle.prop_workbench.specs.Loading.{Loads};
+    ghost use Rattle.prop_workbench.specs.Sessions.{library_of, IsSound};
+    ghost use Rattle.prop_telling.specs.Notes.{no_notes};
+    ghost use Rattle.prop_seeking.specs.Seeking.{seeking};
+    ghost use Rattle.prop_seeking.specs.inner.Seekers.{sought_of, IsReady as IsSeekerReady};
+    ghost use Rattle.prop_requiring.specs.Asking.{is_requirement};
+    ghost use Rattle.prop_requiring.specs.Requiring.{requiring, Requires};
+    ghost use Rattle.prop_requiring.specs.inner.Glossaries.{IsWhole, lexicon_in, seen};
+    ghost use Rattle.prop_requiring.specs.inner.Postings.{IsUnderstood, IsUnderstoodIn};
+    ghost use Rattle.prop_requiring.specs.inner.Requirers.{IsReady};
+
+    /// A requirer around the seeker of a session.
+    pub fn new(session: Session<R, O>) -> Requirer<R, O>
+        requires sound { IsSound R.value_of session }
+        ensures session { result.seeker.teller.session ≡ session }
+        ensures notes { result.seeker.teller.notes ≡ no_notes }
+        ensures inquiry { result.seeker.inquiry ≡ None }
+        ensures earlier { result.seeker.earlier ≡ None }
+    {
+        Requirer {
+            seeker: Seeker::new(session),
+        }
+    }
+
+    /// Carries out a line: a requirement, or as its seeker does.
+    pub fn command(&mut self, line: &[u8]) -> Reply
+        requires ready { IsReady R.value_of self.old }
+        ensures same { self.new.seeker.teller.session.live.network.library
+            ≡ self.old.seeker.teller.session.live.network.library }
+        ensures ready { IsReady R.value_of self.new }
+        ensures requires_it { requiring O.picks
+            (library_of R.value_of self.old.seeker.teller.session) (sought_of self.old.seeker)
+            line.now (answer_of result) (sought_of self.new.seeker) }
+    {
+        if is_requirement(line) {
+            return Reply::of(self.require(line));
+        }
+        self.seeker.command(line)
+    }
+
+    /// Carries out the lines of a prelude, in order. The first that is refused ends it with its
+    /// refusal, and those before it stand.
+    pub(crate) fn load_prelude(&mut self, lines: &[&str]) -> Result<(), Refusal>
+        requires ready { IsReady R.value_of self.old }
+        ensures same { self.new.seeker.teller.session.live.network.library
+            ≡ self.old.seeker.teller.session.live.network.library }
+        ensures ready { IsReady R.value_of self.new }
+        ensures ok { OnOk result (Loads
+            (requiring O.picks (library_of R.value_of self.old.seeker.teller.session))
+            (sought_of self.old.seeker) (words lines.now) (sought_of self.new.seeker)) }
+    {
+        for line in lines {
+            if let Reply::Refused(refusal) = self.command(line.as_bytes()) {
+                return Err(refusal);
+            }
+        }
+        Ok(())
+    }
+
+    /// Has what a line says hold, under its premise.
+    fn require(&mut self, line: &[u8]) -> Result<(), Refusal>
+        requires ready { IsReady R.value_of self.old }
+        requires is { is_requirement line.now ≡ true }
+        ensures same { self.new.seeker.teller.session.live.network.library
+            ≡ self.old.seeker.teller.session.live.network.library }
+        ensures ready { IsReady R.value_of self.new }
+        ensures requires_it { Requires (library_of R.value_of self.old.seeker.teller.session)
+            (sought_of self.old.seeker) line.now (answer_done result)
+            (sought_of self.new.seeker) }
+    {
+        let said = said(line)?;
+        let posting = self.understood(said)?;
+        let alloc = self.seeker.alloc();
+        let cells = numbers_below(alloc, self.seeker.cells().len())?;
+        self.seeker.post(&cells, posting, said.premise)
+    }
+
+    /// What a text becomes.
+    fn understood(&self, said: Said<'_>) -> Result<Posting, Refusal>
+        requires ready { IsSeekerReady R.value_of self.now.seeker }
+        ensures words { IfOk result
+            (λ p. IsWholeVocabulary self.now.seeker.teller.session.words) }
+        ensures understood { IfOk result
+            (IsUnderstoodIn self.now.seeker.teller.session.names
+            self.now.seeker.teller.session.words
+            self.now.seeker.teller.session.live.network.cells said.text.now) }
+    {
+        let alloc = self.seeker.alloc();
+        let term = match read(alloc, said.text, Sort::Truth) {
+            Ok(term) => term,
+            Err(fault) => return Err(fault.refusal),
+        };
+        let nobody = Worldview::empty(alloc);
+        let (words, cells) = (self.seeker.words(), self.seeker.cells());
+        is_whole(words);
+        let glossary = Glossary {
+            names: self.seeker.names(),
+            words,
+            cells,
+            nobody: &nobody,
+            whole: all_numbers(),
+            domains: domains_of(words, cells),
+        };
+        posting(alloc, &glossary, &term)
+    }
+}
