@@ -5,4 +5,5 @@ pub mod Reading
 pub mod Fitting
 pub mod Allowing
 pub mod Demanding
+pub mod Demands
 pub mod Starting

@@ -1,12 +1,12 @@
 -- What single points tell: where points satisfy a state, each cell may be pinned to its own.
 use Rattle.std.proofs.Common.{◌≡◌, ◌≢◌, ◌⊎◌, ◌∙◌, ℕ, ℤ, ◌^◌, ◌+◌, ◌<◌, ◌≤◌, ◌≤ℤ◌, neg_ℤ, List, [], ◌∷◌, ◌++◌, map}
-use Rattle.std.proofs.Common.{All, length, get_or, refl, ap, sym, subst, inl, inr, arith, Some, None, IsTrue}
+use Rattle.std.proofs.Common.{All, length, get_or, refl, ap, sym, subst, inl, inr, arith, rules, Some, None, IsTrue}
 use Rattle.std.specs.Prelude.{count_ones, slice_get}
 use Rattle.std.specs.Int.{bit_at}
 use Rattle.std.specs.List.{range_with_len}
 use Rattle.std.proofs.lemmas.Bool.{cases_eq}
 use Rattle.std.proofs.lemmas.Int.{ints}
-use Rattle.std.proofs.lemmas.Nat.{zero_from_ones}
+use Rattle.std.proofs.lemmas.Nat.{pow_pos, zero_from_ones}
 use Rattle.std.proofs.lemmas.Nat.Bits.{bit_at-pow_same}
 use Rattle.std.proofs.lemmas.List.Elements.{All-append, All-map}
 use Rattle.std.proofs.lemmas.List.FromFn.{get_or-range_with_len, length-range_with_len, get_or-map-range_with_len}
@@ -97,10 +97,7 @@ of_element i a few below clear = by (some_or_not (2 ^ i)) a below clear
     by (inl e) Nothing b c = absurd b
     by (inl e) (Span t) b c = absurd b
     by (inl e) (Sym t) b c = absurd b
-    by (inr f) a b c = absurd (f (omega (arith, bit_some i), pow-lt few))
-      where
-        bit_some : (i : ℕ) → 0 < 2 ^ i
-        bit_some i = omega (arith, ones_one i)
+    by (inr f) a b c = absurd (f (pow_pos i, pow-lt few))
 
 of_symbol : (n : ℕ) (a : Info) → Below (Sym n) a → a ≢ Contradiction → IsSingle a (Symbol n)
 of_symbol n (Sym m) b c = sym b
@@ -154,7 +151,6 @@ module _ (library : List Stored) (related : ℕ → Param → List Point → Poi
     pins_stated = All-map IsStated pin (range_with_len 0 (length n.kinds)) each
       where
         each : All (λ (c : ℕ). IsStated (pin c)) (range_with_len 0 (length n.kinds))
-        unfolding pin
         each k d l h =
             let at = get_or-range_with_len 0 (length n.kinds) k d (rw (length-range_with_len 0 (length n.kinds)) at l) in
             let below : get_or (range_with_len 0 (length n.kinds)) k d < length n.kinds =

@@ -1,6 +1,6 @@
 -- What the names of an expression stand for.
-use Rattle.std.specs.Prelude.{ℕ, ◌+◌, ◌==◌, List, [], Bool, false, cond, Option, Some, None, sum, map}
-use Rattle.std.specs.Prelude.{length, replicate, slice_index_or}
+use Rattle.std.specs.Prelude.{ℕ, ◌+◌, ◌==◌, List, [], ◌∷◌, Bool, false, cond, Option, None, length}
+use Rattle.std.specs.Prelude.{replicate, slice_index_or}
 use Rattle.std.specs.Option.{option_map_or}
 use Rattle.std.specs.Str.{is_utf8}
 use Rattle.prop_lattice.specs.Points.{Point}
@@ -12,13 +12,21 @@ use Rattle.prop_vocabulary.specs.Names.{number_in}
 use Rattle.prop_vocabulary.specs.Vocabulary.{elements_of}
 use Rattle.prop_workbench.specs.Machine.{State}
 
--- what a number of a symbol is called: by its name, where it is the first that has it, and else by
--- so many spaces as no name has
+-- how long names are together
+abbrev pub letters : List (List ℕ) → ℕ
+letters [] = 0
+letters (name ∷ names) = length name + letters names
+
+-- the number is that of a symbol, the first of its name
+abbrev pub is_symbol : List (List ℕ) → ℕ → Bool
+is_symbol symbols n =
+    option_map_or (λ m. m == n) (number_in symbols (slice_index_or symbols n [])) false
+
+-- what the number of a symbol is called: by its name, and where it is of none, by so many spaces as
+-- no name has
 abbrev pub symbol_word : List (List ℕ) → ℕ → List ℕ
-symbol_word symbols n =
-    let w = slice_index_or symbols n [] in
-    cond (option_map_or (λ m. m == n) (number_in symbols w) false) w
-    (replicate (n + 1 + sum (map length symbols)) 32)
+symbol_word symbols n = cond (is_symbol symbols n) (slice_index_or symbols n [])
+    (replicate (n + 1 + letters symbols) 32)
 
 -- the cell that a word names
 abbrev pub cell_called : State → List ℕ → Option ℕ
