@@ -18,6 +18,7 @@ The status is 0 where nothing was wrong.
 """
 import itertools
 import os
+import re
 import sys
 from dataclasses import dataclass, field
 from random import Random
@@ -228,7 +229,7 @@ class Session:
         chance = Random(f"requiring {self.seed}")
         kinds = self.kinds(chance)
         values = {cell: self.values(chance, kind) for cell, kind in kinds.items()}
-        self.say("domain month {jan feb mar}")
+        self.say("domain month jan feb mar")
         self.say(f"limit {STEPS}")
         for cell, kind in kinds.items():
             self.say(f"cell {cell} {'span' if kind == 'number' else kind}")
@@ -277,18 +278,20 @@ class Session:
             )
         }
         told: set[tuple[Value, ...]] = set()
+        # (so that the rows are told from the first on)
+        self.say("solve")
         for _ in range(TURNS):
             reply = self.say(f"plans {ROWS} {' '.join(cells)}")
-            if not reply[0].startswith("plans"):
-                break
             told |= {self.row(line, cells) for line in reply[1:-1]}
+            if not reply[-1].startswith("others unknown"):
+                break
         if told != wanted:
             self.blame(f"lost {sorted(map(str, wanted - told))[:3]}, wrong "
                        f"{sorted(map(str, told - wanted))[:3]}")
 
     def row(self, line: str, cells: list[str]) -> tuple[Value, ...]:
         """The values of a row of a reply."""
-        said = dict(word.split("=", 1) for word in line.split() if "=" in word)
+        said = dict(re.findall(r"(\w+) = (\S+)", line))
         return tuple(
             int(said[cell]) if said[cell].lstrip("-").isdigit() else said[cell] for cell in cells
         )
@@ -319,7 +322,7 @@ def tried(program: str, seeds: range) -> tuple[list[str], int]:
 # ---- what is refused
 
 REFUSED = [
-    ("domain month {jan feb mar}", "ok"),
+    ("domain month jan feb mar", "ok"),
     ("cell x span", "ok"),
     ("cell far span", "ok"),
     ("cell t truth", "ok"),
@@ -336,13 +339,13 @@ REFUSED = [
     ("require x < 1 under 1x", "error 5: not a name"),
     ("require x < 1 under", "error 4: wrong form"),
     (f"require x < {'1' * 4090}", "error 1: line too long"),
-    ("choose c x with 1 or with 2", "ok"),
+    ("choose c x 1 or 2", "ok"),
     ("require x < 1 under c", "error 17: is a choice"),
     ("require x*x == 4", "ok"),
     ("\trequire x < 2", "error 3: unknown command"),
     ("require\tt\tunder\tp \r", "ok"),
     ("ask x", "x = 2"),
-    ("ask t", "t = yes if p"),
+    ("ask t", "t = yes"),
 ]
 
 

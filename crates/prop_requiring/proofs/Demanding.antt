@@ -11,8 +11,9 @@ use Rattle.std.proofs.lemmas.Option.{slice_get_within}
 use Rattle.std.proofs.Math.Pow.{pow-lt}
 use Rattle.std.proofs.lemmas.Nat.Bits.{bit_at-pow_same}
 use Rattle.prop_refusals.specs.declared.refusal.Refusal.{Refusal}
-use Rattle.prop_lattice.specs.Ends.{elements_from}
-use Rattle.prop_lattice.specs.Points.{Point, Element, Holds, IsPointOf}
+use Rattle.prop_lattice.specs.Ends.{elements_from, some_or_not}
+use Rattle.prop_lattice.specs.inner.Ends.{AreSome, elements_if}
+use Rattle.prop_lattice.specs.Points.{Point, Number, Element, Symbol, Holds, IsPointOf}
 use Rattle.prop_lattice.specs.declared.info.Info.{Info}
 use Rattle.prop_sets.specs.laws.NarrowestLaws.{elements_hold}
 use Rattle.prop_numbers.specs.Sets.{Members}
@@ -29,6 +30,8 @@ use Rattle.prop_cells.specs.Instances.{IsWithin}
 use Rattle.prop_cells.specs.Points.{AreFitting, AreSoundBy, ArePoints, Attached}
 use Rattle.prop_cells.specs.Problems.{is_member}
 use Rattle.prop_cells.specs.declared.instance.Statement.{Statement}
+use Rattle.prop_plans.specs.Held.{AreHeld}
+use Rattle.prop_points.proofs.Singles.{bit_of_power}
 use Rattle.prop_meaning.specs.Acts.{HoldsAt, RelatedBy, TellsBy, inputs_of, param_of}
 use Rattle.prop_meaning.specs.Posting.{LosesNone, SaysSame, Solves}
 use Rattle.prop_meaning.specs.Words.{Fits, IsLexicon, IsWithin as IsKnownWithin, Lexicon}
@@ -36,12 +39,7 @@ use Rattle.prop_meaning.specs.declared.acts.Act.{Act}
 use Rattle.prop_meaning.specs.declared.acts.Rule.{Rule}
 use Rattle.prop_meaning.specs.declared.acts.Rule.TheVariants.{OfKit, OfWide}
 use Rattle.prop_meaning.specs.declared.posting.Posted.{Posted}
-use Rattle.prop_meaning.proofs.ConstantLemmas.{element_back}
-use Rattle.prop_workbench.specs.Points.{AreHeld}
-use Rattle.prop_workbench.specs.Posting.{statement_at}
-use Rattle.prop_workbench.specs.declared.posting.Stated.{Stated}
 use Rattle.prop_requiring.specs.inner.Palettes.{IsPalette, related_by, rule_number, tells_by}
-use Rattle.prop_requiring.specs.inner.Postings.{constant_of}
 use Rattle.prop_requiring.proofs.Lists.{all_first, all_second, all_of, by_recursion}
 use Rattle.prop_requiring.proofs.Placing.{act_made, placed_there}
 
@@ -96,21 +94,29 @@ told_all points (a ∷ acts) h = (h.0 a.rule refl, told_all points acts h.1)
 abbrev pub IsStated : Members → (ℕ → Point) → Statement → Type 0
 IsStated believed points x = IsTrue (is_member believed x.premise) → Holds x.info (points x.cell)
 
-pub constants_stated : (n : ℕ) (believed : Members) (points : ℕ → Point) (fixed : List Stated)
-    → AllByRecursion (λ (c : ℕ × Info). Holds c.1 (points c.0)) (map constant_of fixed)
-    → AllByRecursion (IsStated believed points) (map (statement_at None (range_with_len 0 n) n) fixed)
-constants_stated n believed points [] h = tt
-constants_stated n believed points (x ∷ fixed) h =
-    let P : ℕ → Type 0 = λ k. Holds x.info (points k) in
-    (λ m. subst P (sym (placed_there n x.place)) h.0, constants_stated n believed points fixed h.1)
+-- what is stated of the cell at a place
+abbrev pub stated_at : ℕ → Option ℕ → ℕ × Info → Statement
+stated_at n premise c =
+    record { premise = premise; cell = cell_placed (range_with_len 0 n) n c.0; info = c.1 }
 
-pub stated_constants : (n : ℕ) (believed : Members) (points : ℕ → Point) (fixed : List Stated)
-    → AllByRecursion (IsStated believed points) (map (statement_at None (range_with_len 0 n) n) fixed)
-    → AllByRecursion (λ (c : ℕ × Info). Holds c.1 (points c.0)) (map constant_of fixed)
+abbrev pub IsConstant : (ℕ → Point) → ℕ × Info → Type 0
+IsConstant points c = Holds c.1 (points c.0)
+
+pub constants_stated : (n : ℕ) (believed : Members) (points : ℕ → Point) (constants : List (ℕ × Info))
+    → AllByRecursion (IsConstant points) constants
+    → AllByRecursion (IsStated believed points) (map (stated_at n None) constants)
+constants_stated n believed points [] h = tt
+constants_stated n believed points (c ∷ constants) h =
+    let P : ℕ → Type 0 = λ k. Holds c.1 (points k) in
+    (λ m. subst P (sym (placed_there n c.0)) h.0, constants_stated n believed points constants h.1)
+
+pub stated_constants : (n : ℕ) (believed : Members) (points : ℕ → Point) (constants : List (ℕ × Info))
+    → AllByRecursion (IsStated believed points) (map (stated_at n None) constants)
+    → AllByRecursion (IsConstant points) constants
 stated_constants n believed points [] h = tt
-stated_constants n believed points (x ∷ fixed) h =
-    let P : ℕ → Type 0 = λ k. Holds x.info (points k) in
-    (subst P (placed_there n x.place) (h.0 refl), stated_constants n believed points fixed h.1)
+stated_constants n believed points (c ∷ constants) h =
+    let P : ℕ → Type 0 = λ k. Holds c.1 (points k) in
+    (subst P (placed_there n c.0) (h.0 refl), stated_constants n believed points constants h.1)
 
 -- ---- the result
 
@@ -118,7 +124,14 @@ pub yes_held : Holds (elements_from 1) (Element 0)
 yes_held = elements_hold 1 (pow-lt {i = 0} {j = 64} (omega arith)) 0 (bit_at-pow_same 0)
 
 pub held_yes : (p : Point) → Holds (elements_from 1) p → p ≡ Element 0
-held_yes p h = element_back 0 (λ n. p) 0 (h, tt)
+unfolding elements_from
+held_yes p h = by (some_or_not 1) p h
+  where
+    by : (e : AreSome 1 ⊎ ¬ (AreSome 1)) (p : Point) → Holds (elements_if 1 e) p → p ≡ Element 0
+    by (inl e) (Element j) h = ap Element (bit_of_power 0 j h)
+    by (inl e) (Number z) h = absurd h
+    by (inl e) (Symbol n) h = absurd h
+    by (inr f) p h = absurd h
 
 -- ---- points of given cells and fresh ones
 

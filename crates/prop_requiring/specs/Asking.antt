@@ -14,7 +14,7 @@ is_requirement line = begins (codes "require") line
 
 -- a space, a tab or a carriage return
 abbrev pub is_space : ℕ → Bool
-is_space b = (b == 32) || ((b == 9) || (b == 13))
+is_space b = (b == 32) || (b == 9) || (b == 13)
 
 abbrev pub AreSpaces : List ℕ → Type 0
 AreSpaces bytes = list_all is_space bytes ≡ true

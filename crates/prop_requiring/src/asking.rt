@@ -35,14 +35,12 @@ fn is_space(byte: u8) -> bool
 fn trimmed(bytes: &[u8]) -> &[u8]
     ensures { (end : List ℕ) × AreSpaces end × (bytes.now ≡ result.now ++ end) }
 {
-    let mut rest = bytes;
-    while let Some((last, front)) = rest.split_last() {
-        if !is_space(*last) {
-            return rest;
+    for k in (0..bytes.len()).rev() {
+        if !is_space(bytes[k]) {
+            return &bytes[..k + 1];
         }
-        rest = front;
     }
-    rest
+    &bytes[..0]
 }
 
 /// What stands before the last space, and what behind.
@@ -73,7 +71,7 @@ fn before_under(bytes: &[u8]) -> Option<&[u8]>
 
 /// What a line says that requires something. Refused with 1 where it is too long, and with 5 where
 /// behind `under` stands no name.
-pub(crate) fn said(line: &[u8]) -> Result<Said<'_>, Refusal>
+pub(crate) fn read_line(line: &[u8]) -> Result<Said<'_>, Refusal>
     requires { is_requirement line.now ≡ true }
     ensures few { IfOk result (λ s. length line.now ≤ 4_096) }
     ensures parts { IfOk result (λ s. HasParts line.now s.text.now (name_of s.premise)) }

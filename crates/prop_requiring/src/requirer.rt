@@ -2,7 +2,7 @@
 ghost use Rattle.std.specs.Prelude.{◌≡◌, IfOk};
 ghost use Rattle.std.specs.List.{range_with_len};
 
-use crate::asking::{Said, is_requirement, said};
+use crate::asking::{Said, is_requirement, read_line};
 use crate::known::{all_numbers, domains_of, is_whole};
 use crate::posting::posting;
 use crate::reading::Glossary;
@@ -111,10 +111,20 @@ impl<R: Guarded + Drop, O: Order + Drop> Requirer<R, O> {
             (sought_of self.old.seeker) line.now (answer_done result)
             (sought_of self.new.seeker) }
     {
-        let said = said(line)?;
-        let posting = self.understood(said)?;
+        let said = match read_line(line) {
+            Ok(said) => said,
+            Err(refusal) => return Err(refusal),
+        };
+        let posting = match self.understood(said) {
+            Ok(posting) => posting,
+            Err(refusal) => return Err(refusal),
+        };
         let alloc = self.seeker.alloc();
-        let cells = numbers_below(alloc, self.seeker.cells().len())?;
+        let count = self.seeker.cells().len();
+        let Ok(cells) = numbers_below(alloc, count) else {
+            drop(posting);
+            return Err(Refusal::Memory);
+        };
         self.seeker.post(&cells, posting, said.premise)
     }
 

@@ -18,7 +18,7 @@ use Rattle.prop_lattice.specs.declared.info.Kind.TheVariants as kinds
 use Rattle.prop_lattice.specs.declared.span.Span.{Span}
 use Rattle.prop_lattice.specs.declared.span.TheConstants.{B}
 use Rattle.prop_numbers.specs.Sets.{Members, set_of}
-use Rattle.prop_premises.specs.Origins.{Origin}
+use Rattle.prop_procedures.specs.declared.shape.Kinded.{Kinded}
 use Rattle.prop_procedures.specs.Fitting.{kind_at}
 use Rattle.prop_procedures.specs.Stored.{Stored, span_kind}
 use Rattle.prop_sets.specs.Names.{AreElements}
@@ -30,18 +30,17 @@ use Rattle.prop_vocabulary.specs.Vocabulary.{Vocabulary, elements_of}
 use Rattle.prop_vocabulary.specs.Texts.{elements_of_kind}
 use Rattle.prop_vocabulary.proofs.CellLookups.{of_named}
 use Rattle.prop_cells.specs.Data.{Data, IsKept, beliefs}
-use Rattle.prop_cells.specs.Points.{AreFitting}
+use Rattle.prop_cells.specs.Points.{AreFitting, ArePoints}
 use Rattle.prop_cells.specs.Problems.{is_member}
 use Rattle.prop_cells.proofs.Founding.{believed_entailed}
+use Rattle.prop_cells.proofs.PointLaws.{entailed_holds}
+use Rattle.prop_plans.specs.Held.{AreHeld, attached_of}
 use Rattle.prop_compound.specs.Kinds.{IsSized}
-use Rattle.prop_compound.specs.Definitions.{Definitions}
 use Rattle.prop_terms.specs.Meaning.{Value, Text}
 use Rattle.prop_meaning.specs.Words.{Fits, IsLexicon, LiesIn, Lies, names_at, value_as}
-use Rattle.prop_workbench.specs.Points.{Satisfy, attached_in}
-use Rattle.prop_workbench.specs.Sessions.{state_from}
-use Rattle.prop_workbench.proofs.PointLemmas.{entailed_holds_points}
 use Rattle.prop_requiring.specs.Naming.{is_symbol, letters, symbol_word}
 use Rattle.prop_requiring.specs.inner.Glossaries.{IsWhole, lexicon_in, seen, span_in}
+use Rattle.prop_requiring.proofs.Singling.{held_are_sound}
 
 -- ---- names
 
@@ -109,6 +108,22 @@ elements_there words domain i whole l = by (slice_get words.domains domain) refl
     by (Some es) e l = subst AreElements (get_or_from_slice_get words.domains domain es [] e)
         (whole.each_domain domain [] (slice_get_within words.domains domain es e))
 
+-- a kind has no more elements than a set has
+kinds_few : (words : Vocabulary) → vocabularies.IsWhole words → (kind : Kind)
+    → length (elements_of_kind words kind) ≤ 64
+kinds_few words whole (kinds.Set domain) = by (slice_get words.domains domain) refl
+  where
+    by : (o : Option (List (List ℕ))) → slice_get words.domains domain ≡ o → length (unwrap_or o []) ≤ 64
+    by None e = omega arith
+    by (Some es) e =
+        let P : List (List ℕ) → Type 0 = λ ns. length ns ≤ 64 in
+        subst P (get_or_from_slice_get words.domains domain es [] e)
+        (whole.each_domain domain [] (slice_get_within words.domains domain es e)).few
+kinds_few words whole kind = omega arith
+
+pub kind_few : (words : Vocabulary) → vocabularies.IsWhole words → (k : Kinded) → IsSized words k → k.size ≤ 64
+kind_few words whole k h = omega (arith, h.1, kinds_few words whole k.kind)
+
 module _ (names : CellNames) (words : Vocabulary) (d : Data) (whole : Span) (domains : ℕ)
     (law : vocabularies.IsWhole words) (sized : All (IsSized words) d.kinds)
   where
@@ -161,26 +176,25 @@ member_less : (believed : Members) (o : Option ℕ) → IsTrue (is_member (set_o
 member_less believed None h = refl
 member_less believed (Some p) h = cc
 
-module _ (library : List Stored) (names : CellNames) (words : Vocabulary) (definitions : Definitions)
-    (premises : List Origin) (d : Data) (limit : ℕ) (whole : Span) (domains : ℕ)
+module _ (library : List Stored) (names : CellNames) (words : Vocabulary) (d : Data) (whole : Span) (domains : ℕ)
+    (kept : IsKept library d) (w : IsWhole whole)
   where
-    pub points_fit : IsKept library d → AreFitting library (attached_in (state_from names words definitions premises d
-    limit))
-        → IsWhole whole → (believed : Members) (points : ℕ → Point)
-        → Satisfy library (state_from names words definitions premises d limit) believed points
+    pub points_fit : (believed : Members) (points : ℕ → Point)
+        → ArePoints (AreHeld library) (attached_of d) believed points
         → Fits (lexicon_in (seen names words d whole domains)) points
-    points_fit kept fit w believed points p i l =
-        let s = state_from names words definitions premises d limit in
+    points_fit believed points p i l =
         let kind = kind_at d.kinds i in
         let of : IsPointOf kind.kind kind.size (points i) =
         p.of_kind i kind (slice_get-get_or d.kinds i span_kind l) in
-        let less : Satisfy library s (set_of []) points = record {
+        let less : ArePoints (AreHeld library) (attached_of d) (set_of []) points = record {
           of_kind = p.of_kind;
           stated = λ k e m h. p.stated k e m (member_less believed (get_or d.statements k e).premise h);
           together = p.together;
         } in
-        let held : Holds (beliefs (set_of []) d.contents i) (points i) = entailed_holds_points library s (set_of []) i
-        (beliefs (set_of []) d.contents i) fit (believed_entailed library d (set_of []) kept i) points less in
+        let fit : AreFitting library (attached_of d) = record { fitting = kept.fits; within = kept.made.within } in
+        let held : Holds (beliefs (set_of []) d.contents i) (points i) =
+        entailed_holds library (AreHeld library) (held_are_sound library) (attached_of d) (set_of []) points fit less i
+        (beliefs (set_of []) d.contents i) (believed_entailed library d (set_of []) kept i) in
         (of, lies_in whole (beliefs (set_of []) d.contents i) kind.kind kind.size (points i) w of held)
 
 -- ---- names at points that are alike
