@@ -1,5 +1,4 @@
 pub mod Asking
-pub mod Naming
 pub mod Requiring
 pub mod Answering
 pub mod inner

@@ -1,5 +1,1 @@
-pub mod Palettes
-pub mod Glossaries
-pub mod Fitting
-pub mod Postings
 pub mod Requirers

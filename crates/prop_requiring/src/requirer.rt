@@ -2,18 +2,14 @@
 ghost use Rattle.std.specs.Prelude.{◌≡◌, IfOk};
 ghost use Rattle.std.specs.List.{range_with_len};
 
-use crate::asking::{Said, is_requirement, read_line};
-use crate::known::{all_numbers, domains_of, is_whole};
-use crate::posting::posting;
-use crate::reading::Glossary;
+use crate::asking::{is_requirement, read_line};
+use prop_demands::understood;
 use prop_engine::Reply;
 use prop_guards::Guarded;
-use prop_premises::Worldview;
 use prop_refusals::Refusal;
 use prop_scheduler::Order;
 use prop_seeking::Seeker;
-use prop_terms::{Sort, read};
-use prop_workbench::{Posting, Session};
+use prop_workbench::Session;
 use std::alloc::{AllocError, Global};
 
 /// A seeker that takes constraints.
@@ -34,22 +30,16 @@ fn numbers_below(alloc: Global, count: usize) -> Result<Vec<usize>, AllocError>
 }
 
 impl<R: Guarded + Drop, O: Order + Drop> Requirer<R, O> {
-    ghost use Rattle.std.specs.Prelude.{◌≡◌, ◌×◌, ℕ, IfOk, None, OnOk, true};
+    ghost use Rattle.std.specs.Prelude.{◌≡◌, None, OnOk, true};
     ghost use Rattle.prop_language.specs.Said.{words};
-    ghost use Rattle.prop_lattice.specs.declared.span.Span.{Span as Spans};
     ghost use Rattle.prop_engine.specs.Answers.{answer_done, answer_of};
-    ghost use Rattle.prop_terms.specs.Terms.{Term};
-    ghost use Rattle.prop_terms.specs.Writing.{IsWritten};
-    ghost use Rattle.prop_vocabulary.specs.Vocabulary.{IsWhole as IsWholeVocabulary};
     ghost use Rattle.prop_workbench.specs.Loading.{Loads};
     ghost use Rattle.prop_workbench.specs.Sessions.{library_of, IsSound};
     ghost use Rattle.prop_telling.specs.Notes.{no_notes};
     ghost use Rattle.prop_seeking.specs.Seeking.{seeking};
-    ghost use Rattle.prop_seeking.specs.inner.Seekers.{sought_of, IsReady as IsSeekerReady};
+    ghost use Rattle.prop_seeking.specs.inner.Seekers.{sought_of};
     ghost use Rattle.prop_requiring.specs.Asking.{is_requirement};
     ghost use Rattle.prop_requiring.specs.Requiring.{requiring, Requires};
-    ghost use Rattle.prop_requiring.specs.inner.Glossaries.{IsWhole, lexicon_in, seen};
-    ghost use Rattle.prop_requiring.specs.inner.Postings.{IsUnderstood, IsUnderstoodIn};
     ghost use Rattle.prop_requiring.specs.inner.Requirers.{IsReady};
 
     /// A requirer around the seeker of a session.
@@ -115,45 +105,17 @@ impl<R: Guarded + Drop, O: Order + Drop> Requirer<R, O> {
             Ok(said) => said,
             Err(refusal) => return Err(refusal),
         };
-        let posting = match self.understood(said) {
+        let alloc = self.seeker.alloc();
+        let (names, words) = (self.seeker.names(), self.seeker.words());
+        let posting = match understood(alloc, names, words, self.seeker.cells(), said.text) {
             Ok(posting) => posting,
             Err(refusal) => return Err(refusal),
         };
-        let alloc = self.seeker.alloc();
         let count = self.seeker.cells().len();
         let Ok(cells) = numbers_below(alloc, count) else {
             drop(posting);
             return Err(Refusal::Memory);
         };
         self.seeker.post(&cells, posting, said.premise)
-    }
-
-    /// What a text becomes.
-    fn understood(&self, said: Said<'_>) -> Result<Posting, Refusal>
-        requires ready { IsSeekerReady R.value_of self.now.seeker }
-        ensures words { IfOk result
-            (λ p. IsWholeVocabulary self.now.seeker.teller.session.words) }
-        ensures understood { IfOk result
-            (IsUnderstoodIn self.now.seeker.teller.session.names
-            self.now.seeker.teller.session.words
-            self.now.seeker.teller.session.live.network.cells said.text.now) }
-    {
-        let alloc = self.seeker.alloc();
-        let term = match read(alloc, said.text, Sort::Truth) {
-            Ok(term) => term,
-            Err(fault) => return Err(fault.refusal),
-        };
-        let nobody = Worldview::empty(alloc);
-        let (words, cells) = (self.seeker.words(), self.seeker.cells());
-        is_whole(words);
-        let glossary = Glossary {
-            names: self.seeker.names(),
-            words,
-            cells,
-            nobody: &nobody,
-            whole: all_numbers(),
-            domains: domains_of(words, cells),
-        };
-        posting(alloc, &glossary, &term)
     }
 }

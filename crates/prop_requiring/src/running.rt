@@ -9,7 +9,7 @@ ghost use Rattle.prop_requiring.specs.Answering.{IsRequired};
 ghost use Rattle.prop_telling.specs.Notes.{no_notes};
 ghost use Rattle.prop_requiring.specs.Requiring.{requiring};
 ghost use Rattle.prop_seeking.specs.inner.Seekers.{sought_of};
-ghost use Rattle.prop_requiring.specs.inner.Palettes.{IsPalette};
+ghost use Rattle.prop_demands.specs.inner.Palettes.{IsPalette};
 ghost use Rattle.prop_requiring.specs.inner.Requirers.{IsReady};
 
 use crate::requirer::Requirer;

@@ -23,8 +23,8 @@ use Rattle.prop_points.specs.Networks.{SinglesSolve}
 use Rattle.prop_meaning.specs.Acts as acts
 use Rattle.prop_meaning.specs.declared.acts.Rule.{Rule}
 use Rattle.prop_meaning.specs.declared.acts.Rule.TheVariants.{OfKit, OfWide}
-use Rattle.prop_requiring.specs.inner.Palettes.{HasForm, IsPalette, kit_number, related_by, rule_number, tells_by}
-use Rattle.prop_requiring.specs.inner.Palettes.{ins_of, wide_ins, wide_number}
+use Rattle.prop_demands.specs.inner.Palettes.{HasForm, IsPalette, kit_number, related_by, rule_number, tells_by}
+use Rattle.prop_demands.specs.inner.Palettes.{ins_of, wide_ins, wide_number}
 use Rattle.propwide.specs.Kits.{Made, Mixed, RelatedBy, TellsBy, answer_of, in_order, of_kit, of_wide, wide}
 use Rattle.propwide.specs.Kits.{wide_related, wide_tells}
 use Rattle.propwide.proofs.Making.{wide_is_sound, wide_solves}

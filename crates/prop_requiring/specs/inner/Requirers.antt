@@ -5,7 +5,7 @@ use Rattle.prop_procedures.specs.declared.shape.Param.{Param}
 use Rattle.prop_workbench.specs.Sessions.{library_of}
 use Rattle.prop_seeking.specs.inner.Seekers.{IsReady as IsSeekerReady}
 use Rattle.prop_requiring.specs.declared.requirer.Requirer.{Requirer}
-use Rattle.prop_requiring.specs.inner.Palettes.{IsPalette}
+use Rattle.prop_demands.specs.inner.Palettes.{IsPalette}
 
 -- what is known of a requirer between lines
 pub record IsReady {R O : Type 0} {X : Type 0} {F : X → Type 0} {g : _}

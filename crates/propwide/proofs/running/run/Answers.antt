@@ -7,7 +7,7 @@ use Rattle.prop_requiring.specs.Answering.{IsRequired}
 use Rattle.prop_requiring.proofs.Starting.{required_by_fault}
 use Rattle.propwide.specs.Kits.{answer_of, lines_in_order, shown, wide}
 use Rattle.propwide.proofs.Making.{stored_made, stored_is, more, all_stored, entry_formed, with_both}
-use Rattle.prop_requiring.specs.inner.Palettes.{IsPalette}
+use Rattle.prop_demands.specs.inner.Palettes.{IsPalette}
 use Rattle.propwide.proofs.Palette.{wide_palette}
 use Rattle.propwide.proofs.running.run.Goals as goal
 

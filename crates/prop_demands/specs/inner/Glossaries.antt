@@ -12,8 +12,8 @@ use Rattle.prop_vocabulary.specs.Names.{number_in}
 use Rattle.prop_vocabulary.specs.Vocabulary.{Vocabulary, elements_of}
 use Rattle.prop_cells.specs.Data.{Data, beliefs}
 use Rattle.prop_meaning.specs.Words.{Lexicon}
-use Rattle.prop_requiring.specs.Naming.{symbol_word}
-use Rattle.prop_requiring.specs.declared.reading.Glossary.{Glossary}
+use Rattle.prop_demands.specs.Naming.{symbol_word}
+use Rattle.prop_demands.specs.declared.reading.Glossary.{Glossary}
 
 -- the numbers that an information leaves, where all are these
 abbrev pub span_in : Span → Info → Span

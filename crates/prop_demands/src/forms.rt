@@ -1,8 +1,8 @@
 //! The procedures that have the rules of which expressions are made: their numbers and their forms.
 
 ghost use Rattle.std.specs.Prelude.{◌≡◌};
-ghost use Rattle.prop_requiring.specs.inner.Palettes.{ins_of, is_taken, kit_number, need_of, out_of};
-ghost use Rattle.prop_requiring.specs.inner.Palettes.{rule_number, wide_ins, wide_number};
+ghost use Rattle.prop_demands.specs.inner.Palettes.{ins_of, is_taken, kit_number, need_of, out_of};
+ghost use Rattle.prop_demands.specs.inner.Palettes.{rule_number, wide_ins, wide_number};
 
 use prop_arith::Kit;
 use prop_meaning::{Palette, Rule};

@@ -21,8 +21,8 @@ use Rattle.prop_meaning.specs.Palette.{Instance, instance_of, numbered, param_pl
 use Rattle.prop_meaning.specs.declared.acts.Act.{Act}
 use Rattle.prop_meaning.specs.declared.acts.Rule.{Rule}
 use Rattle.prop_meaning.specs.declared.acts.Rule.TheVariants.{OfKit, OfWide}
-use Rattle.prop_requiring.specs.inner.Palettes.{IsPalette, is_taken, need_of, rule_number}
-use Rattle.prop_requiring.proofs.Lists.{map_same}
+use Rattle.prop_demands.specs.inner.Palettes.{IsPalette, is_taken, need_of, rule_number}
+use Rattle.prop_demands.proofs.Lists.{map_same}
 
 -- ---- places
 

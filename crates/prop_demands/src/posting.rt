@@ -2,8 +2,8 @@
 
 ghost use Rattle.std.specs.Prelude.{◌≡◌, map, IfOk};
 ghost use Rattle.prop_terms.specs.Terms.{term_of};
-ghost use Rattle.prop_requiring.specs.inner.Glossaries.{lexicon_in, seen_of};
-ghost use Rattle.prop_requiring.specs.inner.Postings.{IsPostingOf, IsUnderstood, constant_of};
+ghost use Rattle.prop_demands.specs.inner.Glossaries.{lexicon_in, seen_of};
+ghost use Rattle.prop_demands.specs.inner.Postings.{IsPostingOf, IsUnderstood, constant_of};
 
 use crate::fitting::fits;
 use crate::forms::Numbers;

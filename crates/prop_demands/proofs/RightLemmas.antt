@@ -7,8 +7,8 @@ use Rattle.prop_procedures.specs.Stored.{are_right, span_kind}
 use Rattle.prop_procedures.specs.declared.shape.Kinded.{Kinded}
 use Rattle.prop_procedures.specs.declared.shape.Need.{Need}
 use Rattle.prop_procedures.specs.declared.shape.Shape.{Shape}
-use Rattle.prop_requiring.specs.inner.Fitting.{IsRight}
-use Rattle.prop_requiring.proofs.Lists.{all_of}
+use Rattle.prop_demands.specs.inner.Fitting.{IsRight}
+use Rattle.prop_demands.proofs.Lists.{all_of}
 
 module _ (kinds : List Kinded) (ins : List Shape) (out : Shape) (need : Need) (o : ℕ) (l : Kinded)
     (at : slice_get kinds o ≡ Some l)

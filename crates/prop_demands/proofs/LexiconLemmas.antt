@@ -38,9 +38,9 @@ use Rattle.prop_plans.specs.Held.{AreHeld, attached_of}
 use Rattle.prop_compound.specs.Kinds.{IsSized}
 use Rattle.prop_terms.specs.Meaning.{Value, Text}
 use Rattle.prop_meaning.specs.Words.{Fits, IsLexicon, LiesIn, Lies, names_at, value_as}
-use Rattle.prop_requiring.specs.Naming.{is_symbol, letters, symbol_word}
-use Rattle.prop_requiring.specs.inner.Glossaries.{IsWhole, lexicon_in, seen, span_in}
-use Rattle.prop_requiring.proofs.Singling.{held_are_sound}
+use Rattle.prop_demands.specs.Naming.{is_symbol, letters, symbol_word}
+use Rattle.prop_demands.specs.inner.Glossaries.{IsWhole, lexicon_in, seen, span_in}
+use Rattle.prop_demands.proofs.Singling.{held_are_sound}
 
 -- ---- names
 

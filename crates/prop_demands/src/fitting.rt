@@ -7,7 +7,7 @@ ghost use Rattle.prop_procedures.specs.Stored.{are_right};
 ghost use Rattle.prop_cells.specs.Refusing.{may_be_stated};
 ghost use Rattle.prop_compound.specs.Kinds.{IsSized};
 ghost use Rattle.prop_meaning.specs.Acts.{inputs_of};
-ghost use Rattle.prop_requiring.specs.inner.Fitting.{Admits, AllFits, Fits};
+ghost use Rattle.prop_demands.specs.inner.Fitting.{Admits, AllFits, Fits};
 
 use crate::forms::{Form, form_of, is_taken};
 use crate::reading::Glossary;
@@ -66,7 +66,7 @@ impl Board<'_> {
     ghost use Rattle.prop_procedures.specs.Fitting.{kind_at};
     ghost use Rattle.prop_procedures.specs.Stored.{are_right};
     ghost use Rattle.prop_meaning.specs.Acts.{inputs_of};
-    ghost use Rattle.prop_requiring.specs.inner.Fitting.{Admits, Fits, IsRight};
+    ghost use Rattle.prop_demands.specs.inner.Fitting.{Admits, Fits, IsRight};
 
     /// The kind of the cell at a place.
     fn kind(&self, place: usize) -> Option<Kinded>

@@ -33,11 +33,13 @@ use Rattle.prop_workbench.specs.Machine.{State}
 use Rattle.prop_workbench.specs.Posting.{MayBeAt, MayBePosted}
 use Rattle.prop_workbench.specs.declared.posting.Posting.{Posting}
 use Rattle.prop_workbench.specs.declared.posting.Stated.{Stated}
-use Rattle.prop_requiring.specs.inner.Fitting.{Admits, Fits}
-use Rattle.prop_requiring.specs.inner.Palettes.{IsPalette, need_of, rule_number}
-use Rattle.prop_requiring.specs.inner.Postings.{IsUnderstood, constant_of}
-use Rattle.prop_requiring.proofs.Lists.{map_same}
-use Rattle.prop_requiring.proofs.Placing.{no_sides, param_taken, params, placed_all, placed_there}
+use Rattle.prop_demands.specs.inner.Laws.{MayAllBePosted}
+use Rattle.prop_workbench.specs.Sessions.{state_from}
+use Rattle.prop_demands.specs.inner.Fitting.{Admits, Fits}
+use Rattle.prop_demands.specs.inner.Palettes.{IsPalette, need_of, rule_number}
+use Rattle.prop_demands.specs.inner.Postings.{IsUnderstood, constant_of}
+use Rattle.prop_demands.proofs.Lists.{map_same}
+use Rattle.prop_demands.proofs.Placing.{no_sides, param_taken, params, placed_all, placed_there}
 
 -- a list of what is seen so, where another is, holds what each of that other one gives
 all_seen : {X Y Z : Type 0} (f : X → Z) (g : Y → Z) (P : X → Type 0) (Q : Y → Type 0) (xs : List X) (ys : List Y)
@@ -129,3 +131,7 @@ may_be_posted library s lexicon t p palette few u =
       told = rw fresh (may_be_at s.kinds u.posted.fresh.items p.told (u.posted.result, elements_from 1) u.posting.told
       u.fits.result);
     }
+
+pub all_may_be_posted : (library : List Stored) → MayAllBePosted library
+all_may_be_posted library names words definitions premises d limit whole domains t p palette few u =
+    may_be_posted library (state_from names words definitions premises d limit) _ t p palette few u

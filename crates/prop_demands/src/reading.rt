@@ -26,7 +26,7 @@ pub(crate) struct Glossary<'a> {
 }
 
 impl Words for Glossary<'_> {
-    ghost use Rattle.prop_requiring.specs.inner.Glossaries.{lexicon_in, seen_of};
+    ghost use Rattle.prop_demands.specs.inner.Glossaries.{lexicon_in, seen_of};
 
     ghost lexicon = { λ g. lexicon_in (seen_of g) };
 

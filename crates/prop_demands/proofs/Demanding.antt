@@ -39,9 +39,9 @@ use Rattle.prop_meaning.specs.declared.acts.Act.{Act}
 use Rattle.prop_meaning.specs.declared.acts.Rule.{Rule}
 use Rattle.prop_meaning.specs.declared.acts.Rule.TheVariants.{OfKit, OfWide}
 use Rattle.prop_meaning.specs.declared.posting.Posted.{Posted}
-use Rattle.prop_requiring.specs.inner.Palettes.{IsPalette, related_by, rule_number, tells_by}
-use Rattle.prop_requiring.proofs.Lists.{all_first, all_second, all_of, by_recursion}
-use Rattle.prop_requiring.proofs.Placing.{act_made, placed_there}
+use Rattle.prop_demands.specs.inner.Palettes.{IsPalette, related_by, rule_number, tells_by}
+use Rattle.prop_demands.proofs.Lists.{all_first, all_second, all_of, by_recursion}
+use Rattle.prop_demands.proofs.Placing.{act_made, placed_there}
 
 -- ---- one instance
 

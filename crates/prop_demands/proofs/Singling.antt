@@ -40,7 +40,7 @@ use Rattle.prop_cells.proofs.PointLaws.{points_consistent}
 use Rattle.prop_points.specs.Networks.{AreSettled, SinglesSolve}
 use Rattle.prop_points.specs.Singles.{IsSingle}
 use Rattle.prop_plans.specs.Held.{AreHeld}
-use Rattle.prop_requiring.proofs.Lists.{all_first, all_second}
+use Rattle.prop_demands.proofs.Lists.{all_first, all_second}
 
 -- ---- one point
 

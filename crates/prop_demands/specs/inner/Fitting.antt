@@ -14,7 +14,7 @@ use Rattle.prop_vocabulary.specs.Vocabulary.{Vocabulary}
 use Rattle.prop_meaning.specs.Acts.{inputs_of}
 use Rattle.prop_meaning.specs.declared.acts.Act.{Act}
 use Rattle.prop_meaning.specs.declared.posting.Posted.{Posted}
-use Rattle.prop_requiring.specs.inner.Palettes.{ins_of, is_taken, need_of, out_of}
+use Rattle.prop_demands.specs.inner.Palettes.{ins_of, is_taken, need_of, out_of}
 
 -- a procedure of this form may stand between these cells, where there are cells of these kinds
 pub record IsRight (kinds : List Kinded) (ins : List Shape) (out : Shape) (need : Need)

@@ -2,7 +2,7 @@
 ghost use Rattle.std.specs.Prelude.{◌≡◌, ◌≤◌, All, length};
 ghost use Rattle.prop_compound.specs.Kinds.{IsSized};
 ghost use Rattle.prop_vocabulary.specs.Vocabulary as vocabularies;
-ghost use Rattle.prop_requiring.specs.inner.Glossaries.{IsWhole, span_in};
+ghost use Rattle.prop_demands.specs.inner.Glossaries.{IsWhole, span_in};
 
 use prop_cells::Cells;
 use prop_lattice::{B, Info, Kind, Span};

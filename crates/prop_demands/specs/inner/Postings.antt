@@ -16,9 +16,9 @@ use Rattle.prop_meaning.specs.Palette.{IsFlatOf}
 use Rattle.prop_meaning.specs.Posting.{SaysSame}
 use Rattle.prop_meaning.specs.Words.{Lexicon}
 use Rattle.prop_meaning.specs.declared.posting.Posted.{Posted}
-use Rattle.prop_requiring.specs.inner.Fitting.{AllFits}
-use Rattle.prop_requiring.specs.inner.Glossaries.{IsWhole, lexicon_in, seen}
-use Rattle.prop_requiring.specs.inner.Palettes.{rule_number}
+use Rattle.prop_demands.specs.inner.Fitting.{AllFits}
+use Rattle.prop_demands.specs.inner.Glossaries.{IsWhole, lexicon_in, seen}
+use Rattle.prop_demands.specs.inner.Palettes.{rule_number}
 
 -- what is stated, with its place
 abbrev pub constant_of : Stated → ℕ × Info

@@ -27,20 +27,16 @@ use Rattle.prop_meaning.specs.Acts.{RelatedBy, TellsBy}
 use Rattle.prop_meaning.specs.Posting.{SaysSame, Solves}
 use Rattle.prop_meaning.specs.Words.{Fits, IsLexicon, IsWithin, Lexicon, names_at}
 use Rattle.prop_meaning.specs.declared.posting.Posted.{Posted}
-use Rattle.prop_requiring.specs.inner.Glossaries.{IsWhole, lexicon_in, seen}
-use Rattle.prop_requiring.specs.inner.Palettes.{IsPalette, tells_by}
-use Rattle.prop_requiring.proofs.Lists.{all_first, all_second, all_of, by_recursion}
-use Rattle.prop_requiring.proofs.Placing.{act_made, placed_there}
-use Rattle.prop_requiring.proofs.Singling.{AreFew, told_by_single}
-use Rattle.prop_requiring.proofs.LexiconLemmas.{kind_few, lexicon_law, names_alike, points_fit}
-use Rattle.prop_requiring.proofs.Demanding.{IsConstant, IsHeld, IsStated, IsTold, constants_stated, fresh_kinds}
-use Rattle.prop_requiring.proofs.Demanding.{held_all, held_yes, joined, parted, stated_at, stated_constants, tells_all}
-use Rattle.prop_requiring.proofs.Demanding.{together_with, told_all, yes_held}
-
--- it fits, and its statements are of cells that are there
-pub record IsSolid (library : List Stored) (n : Attached) : Type 0 where
-  pub fit : AreFitting library n
-  pub within : All (λ (x : Statement). x.cell < length n.kinds) n.statements
+use Rattle.prop_demands.specs.inner.Glossaries.{IsWhole, lexicon_in, seen}
+use Rattle.prop_demands.specs.inner.Laws.{IsSolid}
+use Rattle.prop_demands.specs.inner.Palettes.{IsPalette, tells_by}
+use Rattle.prop_demands.proofs.Lists.{all_first, all_second, all_of, by_recursion}
+use Rattle.prop_demands.proofs.Placing.{act_made, placed_there}
+use Rattle.prop_demands.proofs.Singling.{AreFew, told_by_single}
+use Rattle.prop_demands.proofs.LexiconLemmas.{kind_few, lexicon_law, names_alike, points_fit}
+use Rattle.prop_demands.proofs.Demanding.{IsConstant, IsHeld, IsStated, IsTold, constants_stated, fresh_kinds}
+use Rattle.prop_demands.proofs.Demanding.{held_all, held_yes, joined, parted, stated_at, stated_constants, tells_all}
+use Rattle.prop_demands.proofs.Demanding.{together_with, told_all, yes_held}
 
 -- points that satisfy what is there now, and what was there
 pub record Asks (library : List Stored) (old new : Attached) (Meet : Members → (ℕ → Point) → Type 0) : Type 0 where

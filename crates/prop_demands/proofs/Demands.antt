@@ -32,14 +32,15 @@ use Rattle.prop_workbench.specs.Posting.{IsPosted, posted, statement_at, with_fi
 use Rattle.prop_workbench.specs.Sessions.{state_from}
 use Rattle.prop_workbench.specs.declared.posting.Posting.{Posting}
 use Rattle.prop_workbench.specs.declared.posting.Stated.{Stated}
-use Rattle.prop_requiring.specs.Requiring.{Demand, Demands, HoldsUnder, demanded}
-use Rattle.prop_requiring.specs.inner.Glossaries.{IsWhole, lexicon_in, seen}
-use Rattle.prop_requiring.specs.inner.Palettes.{IsPalette, is_taken}
-use Rattle.prop_requiring.specs.inner.Postings.{IsUnderstood, constant_of}
-use Rattle.prop_requiring.proofs.Lists.{by_recursion}
-use Rattle.prop_requiring.proofs.Placing.{act_made, all_made}
-use Rattle.prop_requiring.proofs.Demanding.{joined, stated_at}
-use Rattle.prop_requiring.proofs.Core.{Asks, Holding, IsSolid, asks_nothing, asks_term}
+use Rattle.prop_demands.specs.Demanding.{Demands, HoldsUnder, demanded}
+use Rattle.prop_demands.specs.inner.Laws.{IsSolid, PostingDemands}
+use Rattle.prop_demands.specs.inner.Glossaries.{IsWhole, lexicon_in, seen}
+use Rattle.prop_demands.specs.inner.Palettes.{IsPalette, is_taken}
+use Rattle.prop_demands.specs.inner.Postings.{IsUnderstood, constant_of}
+use Rattle.prop_demands.proofs.Lists.{by_recursion}
+use Rattle.prop_demands.proofs.Placing.{act_made, all_made}
+use Rattle.prop_demands.proofs.Demanding.{joined, stated_at}
+use Rattle.prop_demands.proofs.Core.{Asks, asks_nothing, asks_term}
 
 -- ---- lists
 
@@ -122,7 +123,7 @@ module _ (library : List Stored) (palette : IsPalette library) (names : CellName
 
     -- ---- what is demanded
 
-    demands_from : (new : State) (Meet : Demand) → Asks library n (attached_in new) Meet → Demands library s new Meet
+    demands_from : (new : State) (Meet : Members → (ℕ → Point) → Type 0) → Asks library n (attached_in new) Meet → Demands library s new Meet
     demands_from new Meet a = record { kept = a.kept; found = a.found }
 
     same_demanded : (new : State) → new ≡ s → Demands library s new (λ believed points. ⊤)
@@ -133,7 +134,7 @@ module _ (library : List Stored) (palette : IsPalette library) (names : CellName
           found = λ believed points q meets. (points, λ cell l. refl, q);
         })
 
-    asked : (new : State) (then : Attached) (Meet : Demand) → attached_in new ≡ then
+    asked : (new : State) (then : Attached) (Meet : Members → (ℕ → Point) → Type 0) → attached_in new ≡ then
         → IsSolid library (attached_in new) → (IsSolid library then → Asks library n then Meet)
         → Demands library s new Meet
     asked new then Meet e solid asks =
@@ -153,3 +154,9 @@ module _ (library : List Stored) (palette : IsPalette library) (names : CellName
         asked new _ (λ believed points. ⊤) (ap attached_in is ∙ left_is k) solid
         (λ then. asks_nothing library palette names words d whole domains law sized named is_whole kept t u.posted
         u.says u.fits.sized k then)
+
+pub posting_demands : (library : List Stored) → PostingDemands library
+posting_demands library names words definitions premises d limit whole domains t p palette ground is_whole u new premise
+    result solid posted =
+    demands_met library palette names words definitions premises d limit whole domains ground.law ground.sized
+    ground.named is_whole ground.kept t p u new premise result solid posted

@@ -1,0 +1,9 @@
+pub mod Lists
+pub mod Placing
+pub mod Singling
+pub mod LexiconLemmas
+pub mod RightLemmas
+pub mod Allowing
+pub mod Demanding
+pub mod Core
+pub mod Demands

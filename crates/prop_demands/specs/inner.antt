@@ -1,0 +1,5 @@
+pub mod Palettes
+pub mod Glossaries
+pub mod Fitting
+pub mod Postings
+pub mod Laws
