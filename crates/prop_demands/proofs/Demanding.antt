@@ -1,5 +1,5 @@
 -- What is posted demands what the term says: no point is lost, and none is wrong.
-use Rattle.std.proofs.Common.{◌≡◌, ◌∙◌, ◌⊎◌, ℕ, ◌+◌, ◌-◌, ◌<◌, ◌≤◌, List, [], ◌∷◌, ◌++◌, All, IsTrue, length, get_or, map}
+use Rattle.std.proofs.Common.{◌≡◌, ◌∙◌, ◌⊎◌, ℕ, suc, ◌+◌, ◌-◌, ◌<◌, ◌≤◌, List, [], ◌∷◌, ◌++◌, All, IsTrue, length, get_or, map}
 use Rattle.std.proofs.Common.{Option, Some, None, Result, Ok, Err, Bool, true, false, refl, ap, sym, subst, inl, inr, arith}
 use Rattle.std.proofs.Common.{append_assoc, take, pos}
 use Rattle.std.specs.Prelude.{slice_get, ⊤}
@@ -171,7 +171,7 @@ module _ (library : List Stored) (n : Attached) (fit : AreFitting library n)
     inputs_same [] h = refl
     inputs_same (c ∷ cells) h =
         let first = same c (h 0 c (omega arith)) in
-        let rest = inputs_same cells (λ k d l. h (k + 1) d (omega (arith, l))) in
+        let rest = inputs_same cells (λ k d l. h (suc k) d (omega (arith, l))) in
         λ i. first i ∷ rest i
 
     -- points of the fresh cells with which more is stated, and more belongs together, join them

@@ -38,7 +38,7 @@ use Rattle.prop_plans.specs.Held.{AreHeld, attached_of}
 use Rattle.prop_compound.specs.Kinds.{IsSized}
 use Rattle.prop_terms.specs.Meaning.{Value, Text}
 use Rattle.prop_meaning.specs.Words.{Fits, IsLexicon, LiesIn, Lies, names_at, value_as}
-use Rattle.prop_demands.specs.Naming.{is_symbol, letters, symbol_word}
+use Rattle.prop_demands.specs.Naming.{is_symbol, letters, spare_word, symbol_word}
 use Rattle.prop_demands.specs.inner.Glossaries.{IsWhole, lexicon_in, seen, span_in}
 use Rattle.prop_demands.proofs.Singling.{held_are_sound}
 
@@ -70,15 +70,15 @@ symbol_length symbols n e =
     length_in symbols n (number_found symbols (get_or symbols n []) n (symbol_number symbols n e)).0
 
 spare_length : (symbols : List (List ℕ)) (k : ℕ)
-    → length (replicate (k + 1 + letters symbols) 32) ≡ k + 1 + letters symbols
-spare_length symbols k = length-replicate (k + 1 + letters symbols) 32
+    → length (spare_word symbols k) ≡ k + 1 + letters symbols
+spare_length symbols k = length-replicate {A = ℕ} (k + 1 + letters symbols) 32
 
 symbols_differ : (symbols : List (List ℕ)) (m n : ℕ) → symbol_word symbols m ≡ symbol_word symbols n → m ≡ n
 symbols_differ symbols m n h = by (is_symbol symbols m) (is_symbol symbols n) refl refl h
   where
     by : (b c : Bool) → is_symbol symbols m ≡ b → is_symbol symbols n ≡ c
-        → cond b (get_or symbols m []) (replicate (m + 1 + letters symbols) 32)
-        ≡ cond c (get_or symbols n []) (replicate (n + 1 + letters symbols) 32) → m ≡ n
+        → cond b (get_or symbols m []) (spare_word symbols m)
+        ≡ cond c (get_or symbols n []) (spare_word symbols n) → m ≡ n
     by true true e f h =
         let a = symbol_number symbols m e in
         let b = symbol_number symbols n f in
@@ -145,7 +145,7 @@ module _ (names : CellNames) (words : Vocabulary) (d : Data) (whole : Span) (dom
           let own : is_symbol words.symbols n ≡ true =
           ap (λ v. option_map_or (λ m. m == n) (number_in words.symbols v) false) at
           ∙ ap (λ o. option_map_or (λ m. m == n) o false) found ∙ eq-eqb n n refl in
-          ap (λ b. cond b (get_or words.symbols n []) (replicate (n + 1 + letters words.symbols) 32)) own ∙ at;
+          ap (λ b. cond b (get_or words.symbols n []) (spare_word words.symbols n)) own ∙ at;
       symbols_differ = symbols_differ words.symbols;
       truths = ap (λ o. length (unwrap_or o [])) law.truth;
       yes = ap (λ o. get_or (unwrap_or o []) 0 []) law.truth;
@@ -203,15 +203,15 @@ module _ (names : CellNames) (words : Vocabulary) (d : Data) (whole : Span) (dom
     (named : All (λ cell. cell < length d.kinds) names.cells) (related : List ℕ → List Value → Bool)
     (points all : ℕ → Point) (same : (i : ℕ) → i < length d.kinds → all i ≡ points i)
   where
+    abbrev at : (ℕ → Point) → ℕ → Value
+    at a i =
+        let lexicon = lexicon_in (seen names words d whole domains) in
+        value_as lexicon (lexicon.known i).kinded (a i)
+
     pub names_alike : names_at (lexicon_in (seen names words d whole domains)) related all
         ≡ names_at (lexicon_in (seen names words d whole domains)) related points
     names_alike = λ j. record { value = λ w. value_alike w j; related = related }
       where
-        abbrev at : (ℕ → Point) → ℕ → Value
-        at a i =
-            let lexicon = lexicon_in (seen names words d whole domains) in
-            value_as lexicon (lexicon.known i).kinded (a i)
-
         by : (w : List ℕ) (o : Option ℕ) → cond (is_utf8 w) (cell_named names w) None ≡ o
             → option_map_or (at all) o (Text w) ≡ option_map_or (at points) o (Text w)
         by w None e = refl

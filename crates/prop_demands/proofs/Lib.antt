@@ -3,6 +3,7 @@ pub mod Placing
 pub mod Singling
 pub mod LexiconLemmas
 pub mod RightLemmas
+pub mod TextLemmas
 pub mod Allowing
 pub mod Demanding
 pub mod Core

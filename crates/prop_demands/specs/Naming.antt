@@ -22,11 +22,14 @@ abbrev pub is_symbol : List (List ℕ) → ℕ → Bool
 is_symbol symbols n =
     option_map_or (λ m. m == n) (number_in symbols (slice_index_or symbols n [])) false
 
--- what the number of a symbol is called: by its name, and where it is of none, by so many spaces as
--- no name has
+-- so many spaces as no name has
+abbrev pub spare_word : List (List ℕ) → ℕ → List ℕ
+spare_word symbols n = replicate (n + 1 + letters symbols) 32
+
+-- what the number of a symbol is called: by its name, and where it is of none, by a spare word
 abbrev pub symbol_word : List (List ℕ) → ℕ → List ℕ
-symbol_word symbols n = cond (is_symbol symbols n) (slice_index_or symbols n [])
-    (replicate (n + 1 + letters symbols) 32)
+symbol_word symbols n =
+    cond (is_symbol symbols n) (slice_index_or symbols n []) (spare_word symbols n)
 
 -- the cell that a word names
 abbrev pub cell_called : State → List ℕ → Option ℕ

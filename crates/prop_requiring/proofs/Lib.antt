@@ -1,1 +1,2 @@
+pub mod PostLemmas
 pub mod Starting
