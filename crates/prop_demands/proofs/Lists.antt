@@ -1,9 +1,9 @@
 -- What holds of each of a list.
 use Rattle.std.proofs.Common.{◌≡◌, ℕ, zero, suc, ◌+◌, ◌<◌, List, [], ◌∷◌, ◌++◌, All, length, get_or, map, subst, ap, arith}
-use Rattle.std.proofs.Common.{Some, slice_get}
+use Rattle.std.proofs.Common.{◌≤◌, sym, take}
 use Rattle.std.specs.List.{AllByRecursion}
-use Rattle.std.proofs.lemmas.List.{get_or_append_left, get_or-append-add, length-append}
-use Rattle.std.proofs.lemmas.List.Elements.{All-head, All-tail}
+use Rattle.std.proofs.lemmas.List.{get_or_append_left, get_or-append-add, length-append, take_all, take_more}
+use Rattle.std.proofs.lemmas.List.Elements.{All-head, All-push, All-tail}
 
 pub all_first : {X : Type 0} (P : X → Type 0) (xs ys : List X) → All P (xs ++ ys) → All P xs
 all_first P xs ys h k d l =
@@ -31,3 +31,12 @@ pub map_alike : {X Y : Type 0} (f g : X → Y) (P : X → Type 0) (xs : List X) 
     → AllByRecursion P xs → map f xs ≡ map g xs
 map_alike f g P [] h a = λ i. []
 map_alike f g P (x ∷ xs) h a = λ i. h x a.0 i ∷ map_alike f g P xs h a.1 i
+
+-- what is so of the first, and of the next, is so of one more
+pub all_more : {X : Type 0} (P : X → Type 0) (xs : List X) (i : ℕ) (d : X) → i < length xs → All P (take i xs)
+    → P (get_or xs i d) → All P (take (i + 1) xs)
+all_more P xs i d l h p =
+    subst (λ (ys : List _). All P ys) (sym (take_more xs i d l)) (All-push P (take i xs) (get_or xs i d) h p)
+
+pub all_taken : {X : Type 0} (P : X → Type 0) (xs : List X) (i : ℕ) → length xs ≤ i → All P (take i xs) → All P xs
+all_taken P xs i l h = subst (λ (ys : List _). All P ys) (take_all i xs l) h

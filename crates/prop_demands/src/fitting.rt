@@ -14,9 +14,12 @@ use crate::reading::Glossary;
 use prop_cells::Cells;
 use prop_lattice::{Info, Kind};
 use prop_meaning::{Act, Inputs, Posted};
-use prop_procedures::Kinded;
+use prop_procedures::{Kinded, Shape};
 use prop_procedures::fitting::are_right;
 use prop_vocabulary::Vocabulary;
+
+/// Three inputs, by their shapes and places.
+type Three = ((Shape, usize), (Shape, usize), (Shape, usize));
 
 /// Given cells and fresh ones behind them.
 #[derive(Clone, Copy)]
@@ -84,32 +87,84 @@ impl Board<'_> {
         ensures { IsTrue result → IsRight (self.now.cells.now.kinds ++ self.now.fresh.now)
             form.ins.now form.out form.need (inputs_of inputs) output }
     {
-        let Some(out) = self.kind(output) else {
-            return false;
-        };
         match (form.ins, inputs) {
-            ([s], Inputs::One(x)) => match self.kind(x) {
-                Some(k) => are_right(form.need, None, &[(*s, k), (form.out, out)]),
-                None => false,
-            },
-            ([s, t], Inputs::Two(x, y)) => match (self.kind(x), self.kind(y)) {
-                (Some(k), Some(l)) => {
-                    are_right(form.need, None, &[(*s, k), (*t, l), (form.out, out)])
-                }
-                _ => false,
-            },
+            ([s], Inputs::One(x)) => self.is_right_one(form, (*s, x), output),
+            ([s, t], Inputs::Two(x, y)) => self.is_right_two(form, (*s, x), (*t, y), output),
             ([s, t, u], Inputs::Three(x, y, z)) => {
-                match (self.kind(x), self.kind(y), self.kind(z)) {
-                    (Some(k), Some(l), Some(m)) => are_right(
-                        form.need,
-                        None,
-                        &[(*s, k), (*t, l), (*u, m), (form.out, out)],
-                    ),
-                    _ => false,
-                }
+                self.is_right_three(form, ((*s, x), (*t, y), (*u, z)), output)
             }
             _ => false,
         }
+    }
+
+    /// The same where it has one input, of this shape.
+    fn is_right_one(&self, form: Form, x: (Shape, usize), output: usize) -> bool
+        ensures { IsTrue result → form.ins.now ≡ x.0 ∷ []
+            → IsRight (self.now.cells.now.kinds ++ self.now.fresh.now) form.ins.now form.out
+            form.need (x.1 ∷ []) output }
+    {
+        let Some(first) = self.kind(x.1) else {
+            return false;
+        };
+        let Some(last) = self.kind(output) else {
+            return false;
+        };
+        are_right(form.need, None, &[(x.0, first), (form.out, last)])
+    }
+
+    /// The same where it has two.
+    fn is_right_two(
+        &self,
+        form: Form,
+        x: (Shape, usize),
+        y: (Shape, usize),
+        output: usize,
+    ) -> bool
+        ensures { IsTrue result → form.ins.now ≡ x.0 ∷ y.0 ∷ []
+            → IsRight (self.now.cells.now.kinds ++ self.now.fresh.now) form.ins.now form.out
+            form.need (x.1 ∷ y.1 ∷ []) output }
+    {
+        let Some(first) = self.kind(x.1) else {
+            return false;
+        };
+        let Some(second) = self.kind(y.1) else {
+            return false;
+        };
+        let Some(last) = self.kind(output) else {
+            return false;
+        };
+        are_right(
+            form.need,
+            None,
+            &[(x.0, first), (y.0, second), (form.out, last)],
+        )
+    }
+
+    /// The same where it has three.
+    fn is_right_three(&self, form: Form, inputs: Three, output: usize) -> bool
+        ensures { IsTrue result
+            → form.ins.now ≡ inputs.0.0 ∷ inputs.1.0 ∷ inputs.2.0 ∷ []
+            → IsRight (self.now.cells.now.kinds ++ self.now.fresh.now) form.ins.now form.out
+            form.need (inputs.0.1 ∷ inputs.1.1 ∷ inputs.2.1 ∷ []) output }
+    {
+        let (x, y, z) = inputs;
+        let Some(first) = self.kind(x.1) else {
+            return false;
+        };
+        let Some(second) = self.kind(y.1) else {
+            return false;
+        };
+        let Some(third) = self.kind(z.1) else {
+            return false;
+        };
+        let Some(last) = self.kind(output) else {
+            return false;
+        };
+        are_right(
+            form.need,
+            None,
+            &[(x.0, first), (y.0, second), (z.0, third), (form.out, last)],
+        )
     }
 
     /// Whether the instance may be made.

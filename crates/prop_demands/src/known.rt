@@ -6,7 +6,20 @@ ghost use Rattle.prop_demands.specs.inner.Glossaries.{IsWhole, span_in};
 
 use prop_cells::Cells;
 use prop_lattice::{B, Info, Kind, Span};
+use prop_procedures::Kinded;
 use prop_vocabulary::Vocabulary;
+
+/// How many domains there are up to the one of a kind.
+fn domain_after(words: &Vocabulary, kinded: Kinded) -> usize
+    requires { IsSized words.now kinded }
+    ensures { result ≤ length words.now.domains }
+{
+    let _ = words;
+    match kinded.kind {
+        Kind::Set(domain) => usize::from(domain) + 1,
+        Kind::Span | Kind::Symbol => 0,
+    }
+}
 
 /// How many domains are there at the least: those up to the last that a cell is of.
 pub(crate) fn domains_of(words: &Vocabulary, cells: &Cells) -> usize
@@ -17,9 +30,7 @@ pub(crate) fn domains_of(words: &Vocabulary, cells: &Cells) -> usize
     words.truth();
     let mut domains = 1;
     for cell in 0..cells.len() {
-        if let Kind::Set(domain) = cells.kind(cell).kind {
-            domains = domains.max(usize::from(domain) + 1);
-        }
+        domains = domains.max(domain_after(words, cells.kind(cell)));
     }
     domains
 }

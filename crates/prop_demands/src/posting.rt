@@ -32,11 +32,9 @@ fn constants(alloc: Global, posted: &Posted) -> Result<Vec<Stated>, AllocError>
     ensures { IfOk result (λ v. map constant_of v.items ≡ posted.now.constants.items) }
 {
     let mut fixed = Vec::new(alloc);
-    for constant in &posted.constants {
-        fixed.push(Stated {
-            place: constant.0,
-            info: constant.1,
-        })?;
+    for number in 0..posted.constants.len() {
+        let (place, info) = posted.constants[number];
+        fixed.push(Stated { place, info })?;
     }
     Ok(fixed)
 }
