@@ -1,29 +1,23 @@
 -- What a term becomes may be posted: it fits what is there.
-use Rattle.std.proofs.Common.{◌≡◌, ◌∙◌, ℕ, zero, suc, ◌+◌, ◌-◌, ◌^◌, ◌<◌, ◌≤◌, List, [], ◌∷◌, ◌++◌, All, IsTrue, length}
-use Rattle.std.proofs.Common.{get_or, map, Option, Some, None, refl, ap, sym, subst, arith, true, false, pos, is_none}
+use Rattle.std.proofs.Common.{◌≡◌, ◌∙◌, ℕ, zero, suc, ◌+◌, ◌-◌, ◌^◌, ◌<◌, ◌≤◌, List, [], ◌∷◌, ◌++◌, All, length}
+use Rattle.std.proofs.Common.{get_or, map, Option, None, refl, ap, sym, subst, arith, true}
 use Rattle.std.specs.Prelude.{slice_get, zip}
 use Rattle.std.specs.List.{range_with_len}
 use Rattle.std.specs.Option.{option_and_then}
 use Rattle.std.proofs.lemmas.List.{length-append, length-map}
 use Rattle.std.proofs.lemmas.List.Elements.{All-head, All-tail}
 use Rattle.std.proofs.lemmas.List.FromFn.{get_or-range_with_len, length-range_with_len}
-use Rattle.prop_refusals.specs.Refusals.{most}
-use Rattle.prop_refusals.specs.declared.refusal.Limit.TheVariants.{Cells}
 use Rattle.prop_lattice.specs.Ends.{elements_from}
 use Rattle.prop_lattice.specs.declared.info.Info.{Info}
 use Rattle.prop_procedures.specs.Fitting.{kind_at, kinds_fit}
 use Rattle.prop_procedures.specs.Flats.{cell_placed, cells_of, param_at}
-use Rattle.prop_procedures.specs.Rules.{fitting_param, sides_of}
+use Rattle.prop_procedures.specs.Rules.{sides_of}
 use Rattle.prop_procedures.specs.Stored.{Stored, are_right}
 use Rattle.prop_procedures.specs.declared.flat.Placed.{Placed}
 use Rattle.prop_procedures.specs.declared.shape.Kinded.{Kinded}
 use Rattle.prop_procedures.specs.declared.shape.Need.{Need}
-use Rattle.prop_procedures.specs.declared.shape.Param.{Param}
 use Rattle.prop_procedures.specs.declared.shape.Shape.{Shape}
-use Rattle.prop_cells.specs.Refusing.{may_be_stated}
-use Rattle.prop_scheduler.specs.Making.{MayBeMade, cells_made}
-use Rattle.prop_compound.specs.Kinds.{IsSized}
-use Rattle.prop_vocabulary.specs.Vocabulary.{Vocabulary}
+use Rattle.prop_scheduler.specs.Making.{MayBeMade}
 use Rattle.prop_meaning.specs.Acts.{inputs_of}
 use Rattle.prop_meaning.specs.Palette.{Instance, instance_of, numbered, param_place}
 use Rattle.prop_meaning.specs.Words.{Lexicon}
@@ -36,7 +30,7 @@ use Rattle.prop_workbench.specs.declared.posting.Stated.{Stated}
 use Rattle.prop_demands.specs.inner.Laws.{MayAllBePosted}
 use Rattle.prop_workbench.specs.Sessions.{state_from}
 use Rattle.prop_demands.specs.inner.Fitting.{Admits, Fits}
-use Rattle.prop_demands.specs.inner.Palettes.{IsPalette, need_of, rule_number}
+use Rattle.prop_demands.specs.inner.Palettes.{IsPalette, rule_number}
 use Rattle.prop_demands.specs.inner.Postings.{IsUnderstood, constant_of}
 use Rattle.prop_demands.proofs.Lists.{map_same}
 use Rattle.prop_demands.proofs.Placing.{no_sides, param_taken, params, placed_all, placed_there}
@@ -129,7 +123,7 @@ may_be_posted library s lexicon t p palette few u =
           (u.posting.fixed ∙ sym (map_same (λ (c : ℕ × Info). c) u.posted.constants.items (λ c. refl)))
           (λ x c e admits. may_be_at s.kinds u.posted.fresh.items x c e admits) u.fits.constants);
       told = rw fresh (may_be_at s.kinds u.posted.fresh.items p.told (u.posted.result, elements_from 1) u.posting.told
-      u.fits.result);
+          u.fits.result);
     }
 
 pub all_may_be_posted : (library : List Stored) → MayAllBePosted library

@@ -1,11 +1,11 @@
 -- What is attached to cells for a term demands what it says: no point is lost, and none is wrong.
-use Rattle.std.proofs.Common.{◌≡◌, ◌∙◌, ℕ, zero, suc, ◌+◌, ◌<◌, ◌≤◌, List, [], ◌∷◌, ◌++◌, All, IsTrue, length, get_or}
-use Rattle.std.proofs.Common.{Bool, false, map, Option, Some, None, refl, ap, sym, subst, take, arith}
-use Rattle.std.specs.Prelude.{slice_get, ⊤}
-use Rattle.std.specs.List.{AllByRecursion, range_with_len}
+use Rattle.std.proofs.Common.{◌≡◌, ◌∙◌, ℕ, zero, suc, ◌<◌, List, [], ◌∷◌, ◌++◌, All, IsTrue, length}
+use Rattle.std.proofs.Common.{Bool, false, map, Option, None, ap, sym, subst, take}
+use Rattle.std.specs.Prelude.{⊤}
+use Rattle.std.specs.List.{AllByRecursion}
 use Rattle.std.proofs.lemmas.List.Elements.{All-append}
 use Rattle.prop_lattice.specs.Ends.{elements_from}
-use Rattle.prop_lattice.specs.Points.{Point, Element, Holds, IsPointOf}
+use Rattle.prop_lattice.specs.Points.{Point, Element, Holds}
 use Rattle.prop_lattice.specs.declared.info.Info.{Info}
 use Rattle.prop_lattice.specs.declared.span.Span.{Span}
 use Rattle.prop_numbers.specs.Sets.{Members}
@@ -126,24 +126,25 @@ module _ (library : List Stored) (palette : IsPalette library) (names : CellName
 
     -- ---- nothing is demanded
 
-    module _ (k : ℕ) (solid : IsSolid library (joined n fresh (map (stated_at count None) (take k constants)) made)) where
-      abbrev first : List Statement
-      first = map (stated_at count None) (take k constants)
+    module _ (k : ℕ)
+        (solid : IsSolid library (joined n fresh (map (stated_at count None) (take k constants)) made))
+      where
+        abbrev first : List Statement
+        first = map (stated_at count None) (take k constants)
 
-      pub asks_nothing : Asks library n (joined n fresh first made) (λ believed points. ⊤)
-      asks_nothing = record {
-        kept = λ believed points q. (before first solid believed points q, tt);
-        found = λ believed points q meets.
-            let lost = says.none_lost is_lexicon points (fits believed points q) in
-            let all = lost.0 in
-            let stated = constants_stated count believed all (take k constants)
-            (first_of (IsConstant all) k constants lost.2.constants) in
-            (
-              all,
-              lost.1,
-              after first solid believed points all lost.1 q lost.2 (all_of (IsStated believed all) first stated),
-            );
-      }
+        pub asks_nothing : Asks library n (joined n fresh first made) (λ believed points. ⊤)
+        asks_nothing = record {
+          kept = λ believed points q. (before first solid believed points q, tt);
+          found = λ believed points q meets.
+              let lost = says.none_lost is_lexicon points (fits believed points q) in
+              let all = lost.0 in
+              let stated = constants_stated count believed all (take k constants)
+              (first_of (IsConstant all) k constants lost.2.constants) in (
+                all,
+                lost.1,
+                after first solid believed points all lost.1 q lost.2 (all_of (IsStated believed all) first stated),
+              );
+        }
 
     -- ---- the term is demanded
 
@@ -188,8 +189,8 @@ module _ (library : List Stored) (palette : IsPalette library) (names : CellName
               let lost = says.none_lost is_lexicon points (fits believed points q) in
               let all = lost.0 in
               let same = lost.1 in
-              let all_fits : Fits lexicon all =
-              λ i l. subst (λ (x : Point). IsWithin (lexicon.known i) x) (sym (same i l)) (fits believed points q i l) in
+              let all_fits : Fits lexicon all = λ i l.
+              subst (λ (x : Point). IsWithin (lexicon.known i) x) (sym (same i l)) (fits believed points q i l) in
               let tells : Solves TellsBy count posted all = record {
                 kinds = lost.2.kinds;
                 constants = lost.2.constants;
@@ -206,8 +207,7 @@ module _ (library : List Stored) (palette : IsPalette library) (names : CellName
                     let P : Point → Type 0 = λ x. Holds (elements_from 1) x in
                     subst P (sym (result_there all ∙ is_zero)) yes_held,
                 tt,
-              ) in
-              (
+              ) in (
                 all,
                 same,
                 after (fixed ++ last) solid believed points all same q lost.2

@@ -1,27 +1,23 @@
 -- What is posted demands what the term says: no point is lost, and none is wrong.
-use Rattle.std.proofs.Common.{◌≡◌, ◌∙◌, ◌⊎◌, ℕ, suc, ◌+◌, ◌-◌, ◌<◌, ◌≤◌, List, [], ◌∷◌, ◌++◌, All, IsTrue, length, get_or, map}
-use Rattle.std.proofs.Common.{Option, Some, None, Result, Ok, Err, Bool, true, false, refl, ap, sym, subst, inl, inr, arith}
-use Rattle.std.proofs.Common.{append_assoc, take, pos}
-use Rattle.std.specs.Prelude.{slice_get, ⊤}
+use Rattle.std.proofs.Common.{◌≡◌, ◌∙◌, ◌⊎◌, ℕ, suc, ◌+◌, ◌-◌, ◌<◌, ◌≤◌, List, [], ◌∷◌, ◌++◌, All, IsTrue, length}
+use Rattle.std.proofs.Common.{get_or, map}
+use Rattle.std.proofs.Common.{Option, Some, None, refl, ap, sym, subst, inl, inr, arith}
+use Rattle.std.specs.Prelude.{slice_get}
 use Rattle.std.specs.List.{AllByRecursion, range_with_len}
-use Rattle.std.specs.Option.{option_map}
 use Rattle.std.proofs.lemmas.Bool.{cases_lt}
-use Rattle.std.proofs.lemmas.List.Elements.{All-append, All-take}
+use Rattle.std.proofs.lemmas.List.Elements.{All-append}
 use Rattle.std.proofs.lemmas.Option.{slice_get_within}
 use Rattle.std.proofs.Math.Pow.{pow-lt}
 use Rattle.std.proofs.lemmas.Nat.Bits.{bit_at-pow_same}
-use Rattle.prop_refusals.specs.declared.refusal.Refusal.{Refusal}
 use Rattle.prop_lattice.specs.Ends.{elements_from, some_or_not}
 use Rattle.prop_lattice.specs.inner.Ends.{AreSome, elements_if}
 use Rattle.prop_lattice.specs.Points.{Point, Number, Element, Symbol, Holds, IsPointOf}
 use Rattle.prop_lattice.specs.declared.info.Info.{Info}
 use Rattle.prop_sets.specs.laws.NarrowestLaws.{elements_hold}
 use Rattle.prop_numbers.specs.Sets.{Members}
-use Rattle.prop_premises.specs.Origins.{Origin}
 use Rattle.prop_premises.proofs.ChoiceLemmas.{slice_get-front, slice_get-skip}
 use Rattle.prop_procedures.specs.Flats.{cell_placed}
 use Rattle.prop_procedures.specs.Stored.{Stored}
-use Rattle.prop_procedures.specs.declared.flat.Placed.{Placed}
 use Rattle.prop_procedures.specs.declared.shape.Kinded.{Kinded}
 use Rattle.prop_procedures.specs.declared.shape.Param.{Param}
 use Rattle.prop_arith.specs.declared.kit.Kit.TheVariants as kits
@@ -33,14 +29,11 @@ use Rattle.prop_cells.specs.declared.instance.Statement.{Statement}
 use Rattle.prop_plans.specs.Held.{AreHeld}
 use Rattle.prop_points.proofs.Singles.{bit_of_power}
 use Rattle.prop_meaning.specs.Acts.{HoldsAt, RelatedBy, TellsBy, inputs_of, param_of}
-use Rattle.prop_meaning.specs.Posting.{LosesNone, SaysSame, Solves}
-use Rattle.prop_meaning.specs.Words.{Fits, IsLexicon, IsWithin as IsKnownWithin, Lexicon}
 use Rattle.prop_meaning.specs.declared.acts.Act.{Act}
 use Rattle.prop_meaning.specs.declared.acts.Rule.{Rule}
 use Rattle.prop_meaning.specs.declared.acts.Rule.TheVariants.{OfKit, OfWide}
-use Rattle.prop_meaning.specs.declared.posting.Posted.{Posted}
-use Rattle.prop_demands.specs.inner.Palettes.{IsPalette, related_by, rule_number, tells_by}
-use Rattle.prop_demands.proofs.Lists.{all_first, all_second, all_of, by_recursion}
+use Rattle.prop_demands.specs.inner.Palettes.{related_by, rule_number, tells_by}
+use Rattle.prop_demands.proofs.Lists.{all_first}
 use Rattle.prop_demands.proofs.Placing.{act_made, placed_there}
 
 -- ---- one instance

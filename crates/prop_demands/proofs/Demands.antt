@@ -123,7 +123,8 @@ module _ (library : List Stored) (palette : IsPalette library) (names : CellName
 
     -- ---- what is demanded
 
-    demands_from : (new : State) (Meet : Members → (ℕ → Point) → Type 0) → Asks library n (attached_in new) Meet → Demands library s new Meet
+    demands_from : (new : State) (Meet : Members → (ℕ → Point) → Type 0) → Asks library n (attached_in new) Meet
+        → Demands library s new Meet
     demands_from new Meet a = record { kept = a.kept; found = a.found }
 
     same_demanded : (new : State) → new ≡ s → Demands library s new (λ believed points. ⊤)

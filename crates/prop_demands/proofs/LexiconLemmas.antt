@@ -1,7 +1,7 @@
 -- What words of expressions are in a session, and that points which satisfy it fit that.
 use Rattle.std.proofs.Common.{◌≡◌, ◌∙◌, ℕ, ℤ, zero, suc, ◌+◌, ◌<◌, ◌≤◌, ◌==◌, ◌≤ℤ◌, neg_ℤ, Bool, true, false, cond}
 use Rattle.std.proofs.Common.{nat_lt, List, [], ◌∷◌, All, length, get_or, Option, Some, None, IsTrue}
-use Rattle.std.proofs.Common.{refl, ap, sym, subst, arith, eqb-true, eq-eqb, replicate}
+use Rattle.std.proofs.Common.{refl, ap, sym, subst, arith, eqb-true, eq-eqb}
 use Rattle.std.specs.Prelude.{slice_get, unwrap_or, bytes_eq}
 use Rattle.std.specs.Option.{option_map_or}
 use Rattle.std.specs.Str.{is_utf8}
@@ -137,7 +137,8 @@ module _ (names : CellNames) (words : Vocabulary) (d : Data) (whole : Span) (dom
           let apart = (elements_there words domain i law li).apart in
           let a = position_at names i (get_or names i []) apart (slice_get-get_or names i [] li) in
           let b = position_at names j (get_or names j []) apart (slice_get-get_or names j [] lj) in
-          let k : number_in names (get_or names i []) ≡ number_in names (get_or names j []) = ap (number_in names) same in
+          let k : number_in names (get_or names i []) ≡ number_in names (get_or names j []) =
+          ap (number_in names) same in
           cc;
       symbols = λ w n e.
           let found = found_if (is_utf8 w) (number_in words.symbols w) n e in

@@ -1,6 +1,6 @@
 -- The places of what is posted are the numbers of cells, and its instances those of rules.
-use Rattle.std.proofs.Common.{◌≡◌, ◌∙◌, ℕ, ◌+◌, ◌-◌, ◌<◌, ◌≤◌, Bool, true, false, cond, nat_lt, List, [], ◌∷◌, map, length}
-use Rattle.std.proofs.Common.{Option, Some, None, get_or, refl, ap, sym, arith, pos}
+use Rattle.std.proofs.Common.{◌≡◌, ◌∙◌, ℕ, ◌+◌, ◌-◌, ◌<◌, Bool, true, false, cond, nat_lt, List, [], ◌∷◌, map, length}
+use Rattle.std.proofs.Common.{Some, None, get_or, refl, ap, arith, pos}
 use Rattle.std.specs.List.{AllByRecursion, range_with_len}
 use Rattle.std.specs.Option.{option_and_then}
 use Rattle.std.specs.Prelude.{unwrap_or, slice_get}

@@ -1,7 +1,7 @@
 -- What single points tell: where points satisfy a state, each cell may be pinned to its own.
-use Rattle.std.proofs.Common.{◌≡◌, ◌≢◌, ◌⊎◌, ◌∙◌, ℕ, ℤ, ◌^◌, ◌+◌, ◌<◌, ◌≤◌, ◌≤ℤ◌, neg_ℤ, List, [], ◌∷◌, ◌++◌, map}
-use Rattle.std.proofs.Common.{All, length, get_or, refl, ap, sym, subst, inl, inr, arith, rules, Some, None, IsTrue}
-use Rattle.std.specs.Prelude.{count_ones, slice_get}
+use Rattle.std.proofs.Common.{◌≡◌, ◌≢◌, ◌⊎◌, ◌∙◌, ℕ, ℤ, ◌^◌, ◌<◌, ◌≤◌, ◌≤ℤ◌, neg_ℤ, List, ◌++◌, map}
+use Rattle.std.proofs.Common.{All, length, get_or, refl, ap, sym, subst, inl, inr, arith, rules, None, IsTrue}
+use Rattle.std.specs.Prelude.{count_ones}
 use Rattle.std.specs.Int.{bit_at}
 use Rattle.std.specs.List.{range_with_len}
 use Rattle.std.proofs.lemmas.Bool.{cases_eq}
@@ -11,7 +11,6 @@ use Rattle.std.proofs.lemmas.Nat.Bits.{bit_at-pow_same}
 use Rattle.std.proofs.lemmas.List.Elements.{All-append, All-map}
 use Rattle.std.proofs.lemmas.List.FromFn.{get_or-range_with_len, length-range_with_len, get_or-map-range_with_len}
 use Rattle.std.proofs.lemmas.List.FromFn.{length-map-range_with_len}
-use Rattle.std.proofs.lemmas.List.{length-append}
 use Rattle.std.proofs.lemmas.Option.{slice_get-get_or}
 use Rattle.std.proofs.Math.Pow.{pow-lt}
 use Rattle.prop_lattice.proofs.PartLemmas.{ones_part}
@@ -34,7 +33,7 @@ use Rattle.prop_procedures.specs.declared.shape.Param.{Param}
 use Rattle.prop_procedures.specs.Fitting.{kind_at}
 use Rattle.prop_procedures.specs.Stored.{Stored, span_kind}
 use Rattle.prop_cells.specs.Points.{AreSoundBy, Attached, AreFitting, ArePoints, problem_of}
-use Rattle.prop_cells.specs.Problems.{Assignment, IsSolution, is_member}
+use Rattle.prop_cells.specs.Problems.{IsSolution, is_member}
 use Rattle.prop_cells.specs.declared.instance.Statement.{Statement}
 use Rattle.prop_cells.proofs.PointLaws.{points_consistent}
 use Rattle.prop_points.specs.Networks.{AreSettled, SinglesSolve}
@@ -126,9 +125,9 @@ abbrev pub AreFew : List Kinded → Type 0
 AreFew kinds = (cell : ℕ) → cell < length kinds → (kind_at kinds cell).size ≤ 64
 
 module _ (library : List Stored) (related : ℕ → Param → List Point → Point → Type 0)
-    (single : SinglesSolve library related) (n : Attached) (s : Members) (points : ℕ → Point) (fit : AreFitting library n)
-    (within : All (λ (x : Statement). x.cell < length n.kinds) n.statements) (few : AreFew n.kinds)
-    (held : ArePoints (AreHeld library) n s points)
+    (single : SinglesSolve library related) (n : Attached) (s : Members) (points : ℕ → Point)
+    (fit : AreFitting library n) (within : All (λ (x : Statement). x.cell < length n.kinds) n.statements)
+    (few : AreFew n.kinds) (held : ArePoints (AreHeld library) n s points)
   where
     in_range : (cell : ℕ) → cell < length n.kinds
         → IsPointOf (kind_at n.kinds cell).kind (kind_at n.kinds cell).size (points cell)
@@ -152,7 +151,8 @@ module _ (library : List Stored) (related : ℕ → Param → List Point → Poi
       where
         each : All (λ (c : ℕ). IsStated (pin c)) (range_with_len 0 (length n.kinds))
         each k d l h =
-            let at = get_or-range_with_len 0 (length n.kinds) k d (rw (length-range_with_len 0 (length n.kinds)) at l) in
+            let at = get_or-range_with_len 0 (length n.kinds) k d
+            (rw (length-range_with_len 0 (length n.kinds)) at l) in
             let below : get_or (range_with_len 0 (length n.kinds)) k d < length n.kinds =
             omega (arith, at, l, length-range_with_len 0 (length n.kinds)) in
             let c = get_or (range_with_len 0 (length n.kinds)) k d in
@@ -184,10 +184,10 @@ module _ (library : List Stored) (related : ℕ → Param → List Point → Poi
         } in
         let pinned_below : (cell : ℕ) → cell < length n.kinds → Below (alone (points cell)) (a cell) =
         λ cell l.
-            let k : cell < length pins = omega (arith, l, length-map-range_with_len pin 0 (length n.kinds)) in
-            let at : get_or pins cell (pin 0) ≡ pin cell =
-            get_or-map-range_with_len pin 0 (length n.kinds) cell cell (pin 0) l (omega arith) in
-            subst S at (all_second S n.statements pins free.solves.statements cell (pin 0) k) refl in
+        let k : cell < length pins = omega (arith, l, length-map-range_with_len pin 0 (length n.kinds)) in
+        let at : get_or pins cell (pin 0) ≡ pin cell =
+        get_or-map-range_with_len pin 0 (length n.kinds) cell cell (pin 0) l (omega arith) in
+        subst S at (all_second S n.statements pins free.solves.statements cell (pin 0) k) refl in
         let settled : AreSettled n a points = record {
           single = λ cell l. single_from _ _ (points cell) (a cell) (in_range cell l) (few cell l) (pinned_below cell l)
               (free.free cell);

@@ -1,21 +1,17 @@
 //! Whether what a term becomes fits the cells that it is posted to, as it is tested of what a line
 //! attaches and states.
-ghost use Rattle.std.specs.Prelude.{◌≡◌, ◌<◌, ◌≤◌, ◌++◌, ◌∷◌, [], IsTrue, None, All, length, map, zip};
-ghost use Rattle.std.specs.Prelude.{slice_get};
-ghost use Rattle.prop_procedures.specs.Fitting.{kind_at};
-ghost use Rattle.prop_procedures.specs.Stored.{are_right};
+ghost use Rattle.std.specs.Prelude.{◌≡◌, ◌≤◌, IsTrue, All, length};
 ghost use Rattle.prop_cells.specs.Refusing.{may_be_stated};
 ghost use Rattle.prop_compound.specs.Kinds.{IsSized};
-ghost use Rattle.prop_meaning.specs.Acts.{inputs_of};
-ghost use Rattle.prop_demands.specs.inner.Fitting.{Admits, AllFits, Fits};
+ghost use Rattle.prop_demands.specs.inner.Fitting.{AllFits};
 
 use crate::forms::{Form, form_of, is_taken};
 use crate::reading::Glossary;
 use prop_cells::Cells;
 use prop_lattice::{Info, Kind};
 use prop_meaning::{Act, Inputs, Posted};
-use prop_procedures::{Kinded, Shape};
 use prop_procedures::fitting::are_right;
+use prop_procedures::{Kinded, Shape};
 use prop_vocabulary::Vocabulary;
 
 /// Three inputs, by their shapes and places.
@@ -113,13 +109,7 @@ impl Board<'_> {
     }
 
     /// The same where it has two.
-    fn is_right_two(
-        &self,
-        form: Form,
-        x: (Shape, usize),
-        y: (Shape, usize),
-        output: usize,
-    ) -> bool
+    fn is_right_two(&self, form: Form, x: (Shape, usize), y: (Shape, usize), output: usize) -> bool
         ensures { IsTrue result → form.ins.now ≡ x.0 ∷ y.0 ∷ []
             → IsRight (self.now.cells.now.kinds ++ self.now.fresh.now) form.ins.now form.out
             form.need (x.1 ∷ y.1 ∷ []) output }

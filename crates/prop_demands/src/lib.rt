@@ -1,7 +1,7 @@
 //! What a constraint becomes in a session, and that this demands what it says.
 //!
 //! `understood` reads a text as an expression that may hold or not, and makes of it what a session
-//! may post (prop_meaning): fresh cells, instances and constants, and that the cell of the result is
+//! may post (prop_meaning): fresh cells, instances and constants, and that the result's cell is
 //! told to be `yes`. `what_is_posted_is_demanded` is the law: points of the cells that were there
 //! satisfy what is there then, with some points of the fresh ones, just where they satisfied what
 //! was there and the expression holds: under a premise, where that is believed.

@@ -18,9 +18,9 @@ use std::alloc::Global;
 /// What a text becomes in a session that has these cells, by these names and words.
 ///
 /// Refused are with 1 a text that is too long, with 4 what writes no expression that may hold, has
-/// two readings or can't be posted yet, with 6 a part whose value may lie beyond 10^18, with 9 a word
-/// that is no cell, with 13 a part of a wrong kind, with 15 a word that is no element there, and with
-/// 90 want of memory.
+/// two readings or can't be posted yet, with 6 a part whose value may lie beyond 10^18, with 9 a
+/// word that is no cell, with 13 a part of a wrong kind, with 15 a word that is no element there,
+/// and with 90 want of memory.
 pub fn understood(
     alloc: Global,
     names: &CellNames,

@@ -1,5 +1,5 @@
 -- What was posted fits the cells that it is posted to.
-use Rattle.std.specs.Prelude.{◌≡◌, ◌<◌, ℕ, List, [], ◌∷◌, ◌++◌, All, IsTrue, true, None, length}
+use Rattle.std.specs.Prelude.{◌≡◌, ◌<◌, ℕ, List, [], ◌∷◌, ◌++◌, All, true, None, length}
 use Rattle.std.specs.Prelude.{map, zip}
 use Rattle.prop_lattice.specs.Ends.{elements_from}
 use Rattle.prop_lattice.specs.declared.info.Info.{Info}

@@ -25,7 +25,7 @@ pub record IsWhole (s : Span) : Type 0 where
   pub least : s.lo ≡ neg_ℤ B
   pub greatest : s.hi ≡ B
 
--- what there is, as one sees it who believes these premises; the first so many domains are looked at
+-- what there is, as one sees it who believes these premises, with the first so many domains
 pub record Seen : Type 0 where
   pub names : CellNames
   pub words : Vocabulary

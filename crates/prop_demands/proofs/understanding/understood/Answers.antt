@@ -2,7 +2,7 @@ use Rattle.std.proofs.Common.{List, ℕ, subst}
 use Rattle.std.proofs.lemmas.Result.{IfOk-weaker}
 use Rattle.prop_terms.specs.Terms.{term_of}
 use Rattle.prop_workbench.specs.declared.posting.Posting.{Posting}
-use Rattle.prop_demands.specs.inner.Glossaries.{Seen, lexicon_in, seen}
+use Rattle.prop_demands.specs.inner.Glossaries.{lexicon_in}
 use Rattle.prop_demands.specs.inner.Postings.{IsUnderstood, IsUnderstoodIn}
 use Rattle.prop_demands.proofs.understanding.understood.Goals as goal
 
@@ -23,5 +23,11 @@ returns-clause-understood c =
       domains = domains;
     })) words cells.kinds t p in
     IfOk-weaker c.posting.result (by c.empty-nobody.result) (IsUnderstoodIn names words cells c.args.text.now)
-    (λ p u. (t, c.in-Ok.ensures.ok, whole, domains, c.all_numbers.ensures,
-    subst (λ (n : List ℕ). by n p) c.empty-nobody.ensures u)) c.posting.ensures
+    (λ p u. (
+      t,
+      c.in-Ok.ensures.ok,
+      whole,
+      domains,
+      c.all_numbers.ensures,
+      subst (λ (n : List ℕ). by n p) c.empty-nobody.ensures u,
+    )) c.posting.ensures
