@@ -10,16 +10,6 @@ use Rattle.std.proofs.lemmas.Slice.Eq.{bytes_eq-Decides}
 use Rattle.prop_seeking.specs.Asking.{begins, is_apart}
 use Rattle.prop_requiring.specs.Asking.{AreSpaces, HasParts, is_space}
 
--- one space more in front
-pub more_spaces : (bytes : List ℕ) (k : ℕ) → k < length bytes → is_space (get_or bytes k 0) ≡ true
-    → AreSpaces (drop (k + 1) bytes) → AreSpaces (drop k bytes)
-more_spaces bytes k l s h = rw (drop-cons bytes k 0 l, s, ← add-one k) h
-
-pub split_here : (bytes : List ℕ) (k : ℕ) → k < length bytes
-    → bytes ≡ take k bytes ++ get_or bytes k 0 ∷ drop (k + 1) bytes
-split_here bytes k l = sym (take-append-drop k bytes)
-    ∙ ap (λ r. take k bytes ++ r) (drop-cons bytes k 0 l ∙ ap (λ n. get_or bytes k 0 ∷ drop n bytes) (sym (add-one k)))
-
 -- what stands before `under`
 pub under_split : (bytes whole front word gap : List ℕ) (a : ℕ) → bytes ≡ whole ++ gap → whole ≡ front ++ a ∷ word
     → word ≡ codes "under" → bytes ≡ front ++ a ∷ (codes "under" ++ gap)
@@ -42,10 +32,3 @@ with_premise line behind whole front text word name gap end a b e f s g space h 
     ∙ ap (λ w. text ++ a ∷ (codes "under" ++ (gap ++ b ∷ (w ++ end)))) (sym same) in
     (a, b, gap, end, other, space, gaps, s, subst (λ (w : List ℕ). IsTrue (is_name w)) (sym same) is,
     e ∙ ap (λ w. codes "require" ++ w) joined)
-
--- the line begins with the word
-pub begun : (word line : List ℕ) → begins word line ≡ true → line ≡ word ++ drop (length word) line
-begun word line e =
-    let same = (bytes_eq-Decides (take (length word) line) word).0
-    (and_parts (bytes_eq (take (length word) line) word) (is_apart (drop (length word) line)) e).0 in
-    sym (take-append-drop (length word) line) ∙ ap (λ w. w ++ drop (length word) line) same

@@ -1,5 +1,6 @@
 //! Which lines require something, and what they say.
-ghost use Rattle.std.specs.Prelude.{◌≡◌, ◌≤◌, ◌++◌, ◌∷◌, ℕ, List, IsTrue, IfOk, IfSome, codes, length};
+ghost use Rattle.std.specs.Prelude.{◌≡◌, ◌≤◌, ◌++◌, ◌∷◌, ℕ, List, IsTrue, IfOk, IfSome, codes};
+ghost use Rattle.std.specs.Prelude.{length};
 ghost use Rattle.prop_workbench.specs.inner.Effects.{name_of};
 ghost use Rattle.prop_requiring.specs.Asking.{AreSpaces, HasParts, is_requirement, is_space};
 
@@ -44,16 +45,33 @@ fn trimmed(bytes: &[u8]) -> &[u8]
 }
 
 /// What stands before the last space, and what behind.
-fn split_at_space(bytes: &[u8]) -> Option<(&[u8], &[u8])>
-    ensures { IfSome result
-        (λ p. (b : ℕ) × IsTrue (is_space b) × (bytes.now ≡ p.0.now ++ b ∷ p.1.now)) }
+#[derive(Clone, Copy)]
+struct Cut<'l> {
+    before: &'l [u8],
+    word: &'l [u8],
+}
+
+/// Cuts the bytes at the last space.
+fn cut_at_space(bytes: &[u8]) -> Option<Cut<'_>>
+    ensures { IfSome result (λ cut. (b : ℕ) × IsTrue (is_space b)
+        × (bytes.now ≡ cut.before.now ++ b ∷ cut.word.now)) }
 {
     for k in (0..bytes.len()).rev() {
         if is_space(bytes[k]) {
-            return Some((&bytes[..k], &bytes[k + 1..]));
+            return Some(Cut {
+                before: &bytes[..k],
+                word: &bytes[k + 1..],
+            });
         }
     }
     None
+}
+
+/// Whether the word is `under`.
+fn is_under(word: &[u8]) -> bool
+    ensures { IsTrue result → word.now ≡ codes "under" }
+{
+    matches!(word, [b'u', b'n', b'd', b'e', b'r'])
 }
 
 /// What stands before the last word, where that is `under`.
@@ -61,41 +79,54 @@ fn before_under(bytes: &[u8]) -> Option<&[u8]>
     ensures { IfSome result (λ text. (a : ℕ) × (gap : List ℕ) × IsTrue (is_space a) × AreSpaces gap
         × (bytes.now ≡ text.now ++ a ∷ (codes "under" ++ gap))) }
 {
-    let (front, word) = split_at_space(trimmed(bytes))?;
-    if word == b"under".as_slice() {
-        Some(front)
+    let whole = trimmed(bytes);
+    let Some(cut) = cut_at_space(whole) else {
+        return None;
+    };
+    if is_under(cut.word) {
+        Some(cut.before)
     } else {
         None
     }
 }
 
+/// What stands behind the first word of a line that requires something.
+fn behind_word(line: &[u8]) -> Option<&[u8]>
+    ensures { IfSome result (λ rest. line.now ≡ codes "require" ++ rest.now) }
+{
+    line.strip_prefix(b"require".as_slice())
+}
+
 /// What a line says that requires something. Refused with 1 where it is too long, and with 5 where
 /// behind `under` stands no name.
 pub(crate) fn read_line(line: &[u8]) -> Result<Said<'_>, Refusal>
-    requires { is_requirement line.now ≡ true }
     ensures few { IfOk result (λ s. length line.now ≤ 4_096) }
     ensures parts { IfOk result (λ s. HasParts line.now s.text.now (name_of s.premise)) }
 {
     if line.len() > MOST_BYTES {
         return Err(Refusal::LineTooLong);
     }
-    let Some(behind) = line.strip_prefix(b"require".as_slice()) else {
-        unreachable!()
+    let Some(behind) = behind_word(line) else {
+        return Err(Refusal::WrongForm);
     };
     let text = trimmed(behind);
-    let whole = Said {
-        text,
-        premise: None,
+    let Some(cut) = cut_at_space(text) else {
+        return Ok(Said {
+            text,
+            premise: None,
+        });
     };
-    let Some((front, word)) = split_at_space(text) else {
-        return Ok(whole);
+    let Some(before) = before_under(cut.before) else {
+        return Ok(Said {
+            text,
+            premise: None,
+        });
     };
-    let Some(before) = before_under(front) else {
-        return Ok(whole);
-    };
-    let premise = name(word)?;
-    Ok(Said {
-        text: before,
-        premise: Some(premise),
-    })
+    match name(cut.word) {
+        Ok(premise) => Ok(Said {
+            text: before,
+            premise: Some(premise),
+        }),
+        Err(refusal) => Err(refusal),
+    }
 }

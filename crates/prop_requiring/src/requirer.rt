@@ -30,7 +30,7 @@ fn numbers_below(alloc: Global, count: usize) -> Result<Vec<usize>, AllocError>
 }
 
 impl<R: Guarded + Drop, O: Order + Drop> Requirer<R, O> {
-    ghost use Rattle.std.specs.Prelude.{◌≡◌, None, OnOk, true};
+    ghost use Rattle.std.specs.Prelude.{◌≡◌, None, OnOk};
     ghost use Rattle.prop_language.specs.Said.{words};
     ghost use Rattle.prop_engine.specs.Answers.{answer_done, answer_of};
     ghost use Rattle.prop_workbench.specs.Loading.{Loads};
@@ -38,7 +38,6 @@ impl<R: Guarded + Drop, O: Order + Drop> Requirer<R, O> {
     ghost use Rattle.prop_telling.specs.Notes.{no_notes};
     ghost use Rattle.prop_seeking.specs.Seeking.{seeking};
     ghost use Rattle.prop_seeking.specs.inner.Seekers.{sought_of};
-    ghost use Rattle.prop_requiring.specs.Asking.{is_requirement};
     ghost use Rattle.prop_requiring.specs.Requiring.{requiring, Requires};
     ghost use Rattle.prop_requiring.specs.inner.Requirers.{IsReady};
 
@@ -93,7 +92,6 @@ impl<R: Guarded + Drop, O: Order + Drop> Requirer<R, O> {
     /// Has what a line says hold, under its premise.
     fn require(&mut self, line: &[u8]) -> Result<(), Refusal>
         requires ready { IsReady R.value_of self.old }
-        requires is { is_requirement line.now ≡ true }
         ensures same { self.new.seeker.teller.session.live.network.library
             ≡ self.old.seeker.teller.session.live.network.library }
         ensures ready { IsReady R.value_of self.new }

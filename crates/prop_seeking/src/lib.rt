@@ -13,6 +13,7 @@
 
 mod asking;
 mod bound;
+mod exploring;
 mod inquiry;
 mod interpreting;
 mod posting;
@@ -23,6 +24,6 @@ mod seeker;
 mod striding;
 mod texts;
 
-pub use asking::begins;
+pub use asking::{as_value, begins};
 pub use running::run;
 pub use seeker::Seeker;

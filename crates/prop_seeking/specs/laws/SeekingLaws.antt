@@ -83,7 +83,7 @@ value_longer line =
     )
 
 -- what is kept of a line asks what the line asks
-kept_reading : (line : List ℕ) (read : Result (Option Command) Refusal)
+pub kept_reading : (line : List ℕ) (read : Result (Option Command) Refusal)
     → IsReading (as_value (kept_of line)) read → IsReading (as_value line) read
 unfolding kept_of
 kept_reading line read (inl (l, e)) =
