@@ -29,6 +29,8 @@ worldview nogoods
 TOLD = ["step", "how", "list"]
 # Questions that have a word behind them which is no number, while a reply to them has one.
 ENDS = ["how", "least", "greatest"]
+# Questions to which a reply begins as they do.
+BLAME = ["conflicts", "repairs"]
 # Documents whose sessions are run over propwide, where it is built.
 WIDE = {"docs/WIDE.md", "docs/FITTING.md"}
 
@@ -41,17 +43,20 @@ def is_command(line: str) -> bool:
         return not "".join(rest).lstrip("-").isdigit()
     if word in ("solve", "plans"):
         return word == "solve" or len(rest) > 1
-    return word in (*COMMANDS, *TOLD) and not (word in ("nogoods", *TOLD) and rest)
+    return word in (*COMMANDS, *TOLD, *BLAME) and not (word in ("nogoods", *TOLD) and rest)
 
 
 def told_apart(block: list[str]) -> Iterator[tuple[str, bool]]:
     """Each line of a block, and whether it is a command: none is of those that a reply counts."""
-    left = 0
+    left, is_asked = 0, False
     for line in block:
-        yield line, left == 0 and is_command(line)
-        counted = re.fullmatch(r"(nogoods|step|how|list|plans?) (\d+)", line)
-        # (behind plans stands what is known of others)
-        more = 1 if counted and counted[1] == "plans" else 0
+        is_sent = left == 0 and not is_asked and is_command(line)
+        yield line, is_sent
+        is_asked = is_sent and line.split(" ")[0] in BLAME
+        words = "|".join(["nogoods", "step", "how", "list", "plans?", *BLAME])
+        counted = None if is_sent else re.fullmatch(rf"({words}) (\d+)", line)
+        # (behind these stands what is known of others)
+        more = 1 if counted and counted[1] in ("plans", *BLAME) else 0
         left = int(counted[2]) + more if counted and not left else max(left - 1, 0)
 
 

@@ -47,7 +47,7 @@ TYPED_TESTS = ["conftest", "documents", "driver", "first_start", "gate", "handbo
 TYPED_TESTS += ["networks"]
 TYPED_TESTS += ["package", "pages", "peers", "pipe", "points", "puzzles", "relations", "scripts"]
 TYPED_TESTS += ["searches", "solving", "spoiled_solving", "talking", "test_sessions", "versions"]
-TYPED_TESTS += ["changes", "changing", "questions", "spoiled_changing"]
+TYPED_TESTS += ["blaming", "changes", "changing", "asked", "spoiled_blaming", "spoiled_changing"]
 TYPED_TESTS += ["many_rules", "row_rules", "wide_puzzles", "wide_rules"]
 # Scripts and modules that are typed and laid out by black, by the folder that they are looked at
 # in.

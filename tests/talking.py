@@ -5,6 +5,9 @@ import threading
 from typing import Callable, Iterable, Iterator
 
 SECONDS = 60
+# How a reply begins of which it says how many lines follow, and those with one line more.
+COUNTED = r"(plans?|conflicts|repairs|list|how|step|nogoods) (\d+)(?: unsettled)?$"
+BEHIND = ("plans", "conflicts", "repairs")
 Reply = list[str]
 
 
@@ -21,8 +24,8 @@ def reply_of(line: str, read: Callable[[], str]) -> Reply:
     word, reply = line.split()[0], [read()]
     if word in ("least", "greatest") and reply[0].startswith((f"{word} ", "bound ")):
         reply += [read(), read()]
-    counted = re.match(r"(plans?|list|how|step|nogoods) (\d+)(?: unsettled)?$", reply[-1])
-    more = int(counted[2]) + (counted[1] == "plans") if counted else reply[0].startswith("in:")
+    counted = re.match(COUNTED, reply[-1])
+    more = int(counted[2]) + (counted[1] in BEHIND) if counted else reply[0].startswith("in:")
     return [*reply, *(read() for _ in range(more))]
 
 

@@ -27,6 +27,8 @@ PATH is crates/propbench/out/propbench where it is left out. What is run:
   (tests/spoiled_solving.py);
 - such questions between random changes of the network (tests/changing.py), and a program that
   heeds no change of a kind, which these sessions have to find out (tests/spoiled_changing.py);
+- conflicts and repairs of random small networks, against every set of premises (tests/blaming.py),
+  and such replies spoiled on purpose (tests/spoiled_blaming.py);
 - random sessions, each answer of which is compared with a plain and slow evaluation
   (tests/plain.py), such with choices, of which every list is tried (tests/choices.py), and such
   under small limits, of which every step is taken anew (tests/steps.py);
@@ -63,6 +65,7 @@ from concurrent.futures import Future, ProcessPoolExecutor
 from typing import Any, Iterator, Optional, Protocol
 
 import believed
+import blaming
 import changing
 import choices
 import cores
@@ -88,6 +91,7 @@ import scripts
 import searches
 import solving
 import spoiled
+import spoiled_blaming
 import spoiled_changing
 import spoiled_solving
 import stacks
@@ -162,6 +166,8 @@ def cases() -> Iterator[Runnable]:
     yield from spoiled_solving.built()
     yield from changing.built()
     yield from spoiled_changing.built()
+    yield from blaming.built()
+    yield from spoiled_blaming.built()
     yield from documents.built()
     yield from telling.built()
     yield from in_each_order(worked())

@@ -171,8 +171,8 @@ def test_a_program_that_does_not_search_says_so(program: str) -> None:
 def test_each_question(wide: str) -> None:
     with Session(wide) as session:
         session.send_all(LINES)
-        told = ("solve", "least", "greatest", "plans")
-        assert session.seeks and session.tells[3:7] == told
+        told = ("solve", "least", "greatest", "plans", "conflicts", "repairs")
+        assert session.seeks and session.tells[3:] == told
         found = session.solve()
         assert isinstance(found, Points) and found.sides in (("v=1",), ("v=2",))
         x, y, z, u = (str(found.values[cell]) for cell in "xyzu")
@@ -185,6 +185,11 @@ def test_each_question(wide: str) -> None:
         assert (
             session.solve() == session.least("x") == session.plans(3, "x") == NoneFits(("c", "d"))
         )
+        conflicts, repairs = session.send("conflicts 9"), session.send("repairs 9")
+        assert isinstance(conflicts, Blamed) and isinstance(repairs, Blamed)
+        assert sorted(conflicts.sets) == [("a", "b", "d"), ("c", "d")] and not conflicts.unsettled
+        assert sorted(repairs.sets) == [("a", "c"), ("b", "c"), ("d",)]
+        assert conflicts.is_all and repairs.is_all
 
 
 def test_minimal_sets(wide: str) -> None:

@@ -182,7 +182,8 @@ def contents(parts: dict[str, list[str]], folder: str = "") -> str:
 def commands() -> set[str]:
     """The words that begin a line of the language."""
     found = re.findall(r"^\| `(\w+)", read("docs/LANGUAGE.md").partition("### ")[0], flags=re.M)
-    return {*found, "step", "how", "list", "solve", "least", "greatest", "plans", "mark"}
+    told = "step how list solve least greatest plans conflicts repairs mark"
+    return {*found, *told.split()}
 
 
 def lay_out(to: str) -> None:

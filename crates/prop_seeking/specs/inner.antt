@@ -1,3 +1,4 @@
 pub mod Seekers
 pub mod Pieces
 pub mod Bounds
+pub mod Explored

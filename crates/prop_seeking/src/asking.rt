@@ -8,7 +8,7 @@ use prop_telling::is_apart;
 use std::alloc::{AllocError, Global};
 
 /// Whether this is the line's first word, from its first byte on.
-fn begins(word: &[u8], line: &[u8]) -> bool
+pub fn begins(word: &[u8], line: &[u8]) -> bool
     ensures { result ≡ begins word.now line.now }
 {
     match line.strip_prefix(word) {
@@ -51,8 +51,9 @@ fn without_return(line: &[u8]) -> &[u8]
     if *last == b'\r' { front } else { line }
 }
 
-/// The line's words as the elements of a value, so that they are read as those are.
-pub(crate) fn as_value(alloc: Global, line: &[u8]) -> Result<Vec<u8>, AllocError>
+/// The line's words as the elements of a value, so that they are read as those are. `AllocError`
+/// where memory is refused.
+pub fn as_value(alloc: Global, line: &[u8]) -> Result<Vec<u8>, AllocError>
     ensures { IfOk result (λ bytes. bytes.items ≡ as_value line.now) }
 {
     let mut bytes = Vec::from_slice(alloc, b"fix at {")?;

@@ -13,14 +13,17 @@
 
 mod asking;
 mod bound;
+mod exploring;
 mod inquiry;
 mod interpreting;
 mod posting;
 mod question;
+mod reading;
 mod running;
 mod seeker;
 mod striding;
 mod texts;
 
+pub use asking::{as_value, begins};
 pub use running::run;
 pub use seeker::Seeker;

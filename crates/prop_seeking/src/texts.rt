@@ -198,8 +198,8 @@ impl<R: Guarded + Drop, O: Order + Drop> Seeker<R, O> {
         counted_text(alloc, mark, &lines)
     }
 
-    /// Premises on which something rests.
-    fn premises(&self, by: &PremiseSet) -> Result<String, AllocError>
+    /// The names of believed premises, each behind a space. `AllocError` where memory is refused.
+    pub fn premises(&self, by: &PremiseSet) -> Result<String, AllocError>
         requires { IsPart (set_of by.now) (believed_in self.now.teller.session.search.premises) }
         ensures { IfOk result (λ text. string_bytes text
             ≡ support_text self.now.teller.session.search.premises by.now) }

@@ -4,7 +4,8 @@
 //! the next, each line that the read ended is answered by a step of the workbench over the kit, the
 //! wider rules, the excluders, those of many cells and of rows, and their preludes, or, where it is
 //! `step`, `how` or `list`, told (prop_telling), or, where it asks for points, answered by a search
-//! (prop_seeking), with work behind it in the order that was chosen, from the seed that was given.
+//! (prop_seeking), or, where it asks what can't all hold, by searches for that (prop_blaming), with
+//! work behind it in the order that was chosen, from the seed that was given.
 //! The procedures' answers hold the points that belong together; those of a plan in points do so at
 //! each instance but those of `divider` and `parter`. Help and the version are sent on standard
 //! output, what else there is to say is said on standard error, and each end has its status

@@ -83,7 +83,7 @@ value_longer line =
     )
 
 -- what is kept of a line asks what the line asks
-kept_reading : (line : List ℕ) (read : Result (Option Command) Refusal)
+pub kept_reading : (line : List ℕ) (read : Result (Option Command) Refusal)
     → IsReading (as_value (kept_of line)) read → IsReading (as_value line) read
 unfolding kept_of
 kept_reading line read (inl (l, e)) =
@@ -108,7 +108,7 @@ kept_seeks library old line answer inquiry (inr (read, is, replies)) =
     inr (read, kept_reading line read is, replies)
 
 -- the one or the other, each from what is another's own
-own_from : {A B C D : Type 0} (b c : Bool) → b ≡ c → (A → C) → (B → D) → Own b A B → Own c C D
+pub own_from : {A B C D : Type 0} (b c : Bool) → b ≡ c → (A → C) → (B → D) → Own b A B → Own c C D
 own_from true true e f g x = f x
 own_from false false e f g x = g x
 own_from true false e f g x = cc

@@ -1,0 +1,4 @@
+pub mod AskLemmas
+pub mod SayLemmas
+pub mod Starting
+pub mod StayLemmas

@@ -1,0 +1,59 @@
+-- Which believed premises can't all hold, what has to be given up of them, and what is replied.
+use Rattle.std.specs.Prelude.{◌≡◌, ◌≤◌, ℕ, List, Bool, true, false, not, ◌&&◌, All, Contains}
+use Rattle.std.specs.Prelude.{IsTrue}
+use Rattle.std.specs.Prelude.{length}
+use Rattle.prop_lattice.specs.Points.{Point}
+use Rattle.prop_numbers.specs.Sets.{Members, IsPart, set_of, without}
+use Rattle.prop_premises.specs.ChoiceLists.{IsChoiceList, worldview}
+use Rattle.prop_premises.specs.Origins.{believed_in}
+use Rattle.prop_procedures.specs.Stored.{Stored}
+use Rattle.prop_hitting.specs.declared.conflict.Conflict.{Conflict}
+use Rattle.prop_workbench.specs.Machine.{State, choices_in}
+use Rattle.prop_workbench.specs.Points.{Satisfy}
+use Rattle.prop_seeking.specs.Plans.{Refutes}
+use Rattle.prop_blaming.specs.Texts.{conflicts_text, repairs_text}
+
+-- some points satisfy what these premises say, with a side of each choice
+abbrev pub CanHold : List Stored → State → Members → Type 0
+CanHold library s ps = (list : List ℕ) × (points : ℕ → Point) × IsChoiceList (choices_in s) list
+    × Satisfy library s (worldview ps (choices_in s) list) points
+
+-- these believed premises can't all hold
+abbrev pub CannotHold : List Stored → State → List ℕ → Type 0
+CannotHold library s by = Refutes library s (λ points. ⊥) by
+
+-- they can't, and where they are known to be minimal, without any one of them the others can
+abbrev pub IsConflict : List Stored → State → Conflict → Type 0
+IsConflict library s c = CannotHold library s c.premises × (IsTrue c.is_least → (p : ℕ)
+    → IsTrue (set_of c.premises p) → CanHold library s (without (set_of c.premises) p))
+
+-- the believed premises but these
+abbrev pub kept_without : State → Members → Members
+kept_without s out p = believed_in s.premises p && not (out p)
+
+-- without these believed premises the others can hold, and without all but one of them they can't
+abbrev pub IsRepair : List Stored → State → List ℕ → Type 0
+IsRepair library s out = IsPart (set_of out) (believed_in s.premises)
+    × CanHold library s (kept_without s (set_of out)) × ((p : ℕ) → IsTrue (set_of out p)
+    → CanHold library s (kept_without s (without (set_of out) p)) → ⊥)
+
+-- conflicts, no more than were asked for; where there are no others, whatever can't hold has all of
+-- one of them
+abbrev pub SaysConflicts : List Stored → State → ℕ → List ℕ → Type 0
+SaysConflicts library s most text = (found : List Conflict) × (all : Bool) × (length found ≤ most)
+    × All (IsConflict library s) found × (IsTrue all → (by : List ℕ) → CannotHold library s by
+    → (c : Conflict) × Contains found c × IsPart (set_of c.premises) (set_of by))
+    × (text ≡ conflicts_text s.premises found all)
+
+-- repairs, no more than were asked for; where there are no others, whatever can hold has nothing of
+-- one of them
+abbrev pub SaysRepairs : List Stored → State → ℕ → List ℕ → Type 0
+SaysRepairs library s most text = (found : List (List ℕ)) × (all : Bool) × (length found ≤ most)
+    × All (IsRepair library s) found × (IsTrue all → (kept : Members) → CanHold library s kept
+    → (out : List ℕ) × Contains found out × ((p : ℕ) → IsTrue (set_of out p) → kept p ≡ false))
+    × (text ≡ repairs_text s.premises found all)
+
+-- what is replied is so
+abbrev pub Says : List Stored → State → Bool → ℕ → List ℕ → Type 0
+Says library s true most text = SaysRepairs library s most text
+Says library s false most text = SaysConflicts library s most text

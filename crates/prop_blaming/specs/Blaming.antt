@@ -1,0 +1,32 @@
+-- What a layer that answers what can't all hold does, as a machine.
+use Rattle.std.specs.Prelude.{◌≡◌, ◌⊎◌, ℕ, List, Bool, Result, Ok, Err}
+use Rattle.prop_refusals.specs.declared.refusal.Refusal.{Refusal}
+use Rattle.prop_refusals.specs.declared.refusal.Refusal.TheVariants.{Memory}
+use Rattle.prop_procedures.specs.Stored.{Stored}
+use Rattle.prop_engine.specs.Answers.{Answer, Text, Refused}
+use Rattle.prop_engine.specs.Transcripts.{Machine}
+use Rattle.prop_language.specs.Reading.{AsRead}
+use Rattle.prop_workbench.specs.Machine.{State}
+use Rattle.prop_workbench.specs.Questions.{Picks}
+use Rattle.prop_telling.specs.Telling.{Own}
+use Rattle.prop_seeking.specs.Asking.{as_value}
+use Rattle.prop_seeking.specs.Seeking.{Sought, seeking}
+use Rattle.prop_blaming.specs.Asking.{asked, is_blame}
+use Rattle.prop_blaming.specs.Blame.{Says}
+
+-- a reply that is so is told, or the question was refused
+abbrev pub Replies : List Stored → State → Result (Bool × ℕ) Refusal → Answer → Type 0
+Replies library s (Ok (repairs, most)) answer =
+    (text : List ℕ) × Says library s repairs most text × (answer ≡ Text text)
+Replies library s (Err reason) answer = answer ≡ Refused reason
+
+-- a question is answered as it is read, or memory was refused
+abbrev pub Blames : List Stored → State → List ℕ → Answer → Type 0
+Blames library s line answer = (answer ≡ Refused Memory)
+    ⊎ AsRead (as_value line) (λ read. Replies library s (asked read) answer)
+
+-- a line asks what can't all hold, and all stays; or the seeker carries it out
+abbrev pub blaming : {O : Type 0} → Picks O → List Stored → Machine (Sought O)
+blaming picks library old line answer new = Own (is_blame line)
+    ((new ≡ old) × Blames library old.told.standing.shown.state line answer)
+    (seeking picks library old line answer new)

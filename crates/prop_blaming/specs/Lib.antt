@@ -1,0 +1,7 @@
+pub mod Asking
+pub mod Texts
+pub mod Blame
+pub mod Blaming
+pub mod Answering
+pub mod inner
+pub mod laws
