@@ -1,39 +1,45 @@
 -- A question is answered as it was read.
-use Rattle.std.proofs.Common.{◌≡◌, ◌⊎◌, ℕ, List, refl, sym, ap, subst, inl, inr}
-use Rattle.std.specs.Prelude.{Bool, Result, Ok, Err}
+use Rattle.std.proofs.Common.{◌≡◌, ◌∙◌, ◌⊎◌, ℕ, List, [], ◌∷◌, Bool, length, refl, sym, ap, subst, inl, inr}
+use Rattle.std.specs.Borrow.{Bor}
+use Rattle.std.specs.Prelude.{Result, Ok, Err}
 use Rattle.prop_refusals.specs.declared.refusal.Refusal.{Refusal}
-use Rattle.prop_refusals.specs.declared.refusal.Refusal.TheVariants.{Memory}
+use Rattle.prop_refusals.specs.declared.refusal.Refusal.TheVariants.{Memory, WrongForm}
 use Rattle.prop_procedures.specs.Stored.{Stored}
 use Rattle.prop_engine.specs.Answers.{Answer, Text, Refused}
 use Rattle.prop_language.specs.Reading.{AsRead}
+use Rattle.prop_language.specs.Said.{words}
 use Rattle.prop_workbench.specs.Machine.{State}
 use Rattle.prop_seeking.specs.Asking.{as_value}
 use Rattle.prop_seeking.specs.inner.Seekers.{Gives}
-use Rattle.prop_blaming.specs.Asking.{asked}
+use Rattle.prop_blaming.specs.Asking.{asked, asked_by}
 use Rattle.prop_blaming.specs.Blame.{Says}
 use Rattle.prop_blaming.specs.Blaming.{Blames, Replies}
 use Rattle.prop_blaming.specs.declared.asking.Asked.{Asked}
 use Rattle.prop_blaming.specs.inner.Blamers.{asked_of}
 
-module _ (library : List Stored) (s : State) (line : List ℕ) where
-  pub blame_asked : (answer : Answer) (a : Asked)
-      → (Ok a ≡ Err Memory) ⊎ AsRead (as_value line) (λ read. Gives asked_of (Ok a) (asked read))
-      → (answer ≡ Refused Memory)
-      ⊎ ((text : List ℕ) × Says library s a.are_repairs a.most text × (answer ≡ Text text))
-      → Blames library s line answer
-  blame_asked answer a (inl m) said = absurd (cc m)
-  blame_asked answer a (inr (read, is, gives)) (inl memory) = inl memory
-  blame_asked answer a (inr (read, is, gives)) (inr said) =
-      inr (read, is, subst (λ (r : Result (Bool × ℕ) Refusal). Replies library s r answer) (sym gives) said)
+-- what is answered to what was asked so
+abbrev pub IsSaid : List Stored → State → Result Asked Refusal → Answer → Type 0
+IsSaid library s (Ok a) answer = (answer ≡ Refused Memory)
+    ⊎ ((text : List ℕ) × Says library s a.are_repairs a.most text × (answer ≡ Text text))
+IsSaid library s (Err refusal) answer = answer ≡ Refused refusal
 
-  pub blame_refused : (refusal : Refusal)
-      → (Err {A = Asked} refusal ≡ Err Memory)
-      ⊎ AsRead (as_value line) (λ read. Gives asked_of (Err refusal) (asked read))
-      → Blames library s line (Refused refusal)
-  blame_refused refusal (inl m) = let same : refusal ≡ Memory = cc in inl (ap Refused same)
-  blame_refused refusal (inr (read, is, inl memory)) = inl (ap Refused memory)
-  blame_refused refusal (inr (read, is, inr gives)) = inr (
-    read,
-    is,
-    subst (λ (r : Result (Bool × ℕ) Refusal). Replies library s r (Refused refusal)) (sym gives) refl,
-  )
+pub blamed_so : (library : List Stored) (s : State) (line : List ℕ) (answer : Answer) (r : Result Asked Refusal)
+    → (r ≡ Err Memory) ⊎ AsRead (as_value line) (λ read. Gives asked_of r (asked read))
+    → IsSaid library s r answer → Blames library s line answer
+blamed_so library s line answer (Ok a) (inl m) said = absurd (cc m)
+blamed_so library s line answer (Ok a) (inr (read, is, gives)) (inl memory) = inl memory
+blamed_so library s line answer (Ok a) (inr (read, is, gives)) (inr said) =
+    inr (read, is, subst (λ (r : Result (Bool × ℕ) Refusal). Replies library s r answer) (sym gives) said)
+blamed_so library s line answer (Err refusal) (inl m) said =
+    let same : refusal ≡ Memory = cc in inl (said ∙ ap Refused same)
+blamed_so library s line answer (Err refusal) (inr (read, is, inl memory)) said = inl (said ∙ ap Refused memory)
+blamed_so library s line answer (Err refusal) (inr (read, is, inr gives)) said =
+    inr (read, is, subst (λ (r : Result (Bool × ℕ) Refusal). Replies library s r answer) (sym gives) said)
+
+-- other words than two
+pub asked_otherwise : (listed : List (Bor (List ℕ))) → (length listed ≡ 2 → ⊥)
+    → asked_by (words listed) ≡ Err WrongForm
+asked_otherwise [] other = refl
+asked_otherwise (a ∷ []) other = refl
+asked_otherwise (a ∷ b ∷ []) other = absurd (other refl)
+asked_otherwise (a ∷ b ∷ c ∷ listed) other = refl

@@ -39,7 +39,7 @@ refuted_from library s by h = record { believed = h.0; none = λ f. h.1 f.0 f.1 
 over_and_few : (b : Bool) (found most : ℕ) → (b && nat_le found most) ≡ true → (b ≡ true) × (found ≤ most)
 over_and_few b found most h =
     let parts = and_parts b (nat_le found most) h in
-    (parts.0, elim (leb_tells found most) [ inl e ↦ e.1 | inr e ↦ cc (e.0, parts.1) ])
+    (parts.0, elim (leb_tells found most) [ inl e ↦ e.1 | inr e ↦ absurd (cc (e.0, parts.1)) ])
 
 -- ---- which conflicts are told
 

@@ -72,12 +72,13 @@ pub(crate) fn listed_conflicts(
     let Some(premises) = explorer.shrinking() else {
         return Ok(found);
     };
-    if found.len() < most {
-        found.push(Conflict {
-            premises: premises.copy()?,
-            is_least: false,
-        })?;
+    if found.len() >= most {
+        return Ok(found);
     }
+    found.push(Conflict {
+        premises: premises.copy()?,
+        is_least: false,
+    })?;
     Ok(found)
 }
 
