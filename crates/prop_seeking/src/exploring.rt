@@ -14,7 +14,7 @@ impl<R: Guarded + Drop, O: Order + Drop> Seeker<R, O> {
 
     /// Goes on with a search for conflicts and repairs, or begins one, by as many steps as a line
     /// may take. `AllocError` where memory is refused, and the search is lost.
-    pub fn explore(&self, before: Option<Explorer>, wanted: Wanted) -> Result<Explorer, AllocError>
+    pub fn explore(&self, before: Option<Explorer>, wanted: Wanted<'_>) -> Result<Explorer, AllocError>
         requires ready { IsReady R.value_of self.now }
         requires explored { IfSome before
             (IsExplored (ground_in R.value_of self.now.teller.session)) }
