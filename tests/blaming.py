@@ -12,6 +12,8 @@ that
 - each conflict can't hold, and one that isn't `unsettled` holds without any one of its
   premises; without a repair the others hold, and not with any one of it;
 - nothing is told twice, and no more than was asked for;
+- what a repair costs is the sum of what its premises do, the cheaper ones come first, and none that
+  is cheaper than the last is missing;
 - `others none` stands where all are told, and only there, and from then on; to the end all are told;
 - the same is so by slices of 1, 10 and 1,000 steps: what was told by one is told by the next, too,
   whatever is said between that changes nothing;
@@ -21,8 +23,9 @@ that
 How many conflicts and repairs were told is told. The status is 0 where nothing was wrong.
 """
 import os
+import re
 import sys
-from dataclasses import dataclass, field
+from dataclasses import dataclass, field, replace
 from itertools import combinations
 from typing import Callable, ClassVar, Iterator, Optional
 
@@ -51,6 +54,9 @@ ALL = 1_000_000
 TURNS, ASIDE, ROUNDS, CHANGES = 6, 0.2, 3, 4
 # How the lines of a reply begin; those of premises that may not all be needed.
 MARKS, UNSETTLED = {"conflicts": "conflict:", "repairs": "repair:"}, "unsettled:"
+
+# Of the premises so many have a cost that is said, one of these.
+PRICED, COSTS = 0.6, [0, 1, 2, 3, 7, 1_000_000_000]
 
 Premises = frozenset[str]
 
@@ -156,6 +162,43 @@ class Blame:
 
 
 @dataclass
+class Cheapest(Blame):
+    """Repairs by what each premise costs."""
+
+    costs: dict[str, int] = field(default_factory=dict)
+
+    def line(self) -> str:
+        return " ".join([super().line(), "by", *(f"{it} {much}" for it, much in self.costs.items())])
+
+    def cost(self, names: Premises) -> int:
+        return sum(self.costs.get(it, 1) for it in names)
+
+    def read(self, line: str) -> tuple[Optional[Premises], bool]:
+        said = re.fullmatch(r"repair (\d+): (.*)", line)
+        names, _ = super().read(f"repair: {said[2]}") if said else (None, False)
+        is_so = said and names is not None and self.cost(names) == int(said[1])
+        return names if is_so else None, False
+
+    def wrong(self, reply: Reply) -> Optional[str]:
+        """What is wrong with the next reply, or None."""
+        wrong = super().wrong(reply)
+        sets = [self.read(line)[0] for line in reply[1:-1]]
+        told = [it for it in sets if it is not None]
+        much = [self.cost(it) for it in told]
+        if wrong or not told:
+            return wrong
+        if much != sorted(much):
+            return "a cheaper one stands behind a dearer one"
+        missing = [it for it in self.all() if self.cost(it) < much[-1] and it not in told]
+        return f"cheaper are {missing}" if missing else None
+
+
+def afresh(asked: Blame, most: int = ALL) -> Blame:
+    """The same question, of which nothing was told."""
+    return replace(asked, most=most, told=set(), is_over=False)
+
+
+@dataclass
 class State(changes.State):
     """A network that changes, with which sets of the believed premises hold at the moment."""
 
@@ -212,26 +255,34 @@ class Session(solving.Session):
 
     def ask_of(self, sets: Sets) -> bool:
         """Asks for conflicts and for repairs, at once and by slices; whether nothing is wrong."""
-        for word in self.chance.sample([*MARKS], 2):
+        for asked in self.chance.sample(self.all_asked(sets), 3):
             limit, few = self.chance.choice([*SLICES]), self.chance.choice([1, 2, 3])
             self.begin_over(FIRST)
-            is_right = self.ask_blame(Blame(sets, word), LINES)
-            is_right = is_right and self.ask_blame(Blame(sets, word, few), 1)
+            is_right = self.ask_blame(afresh(asked), LINES)
+            is_right = is_right and self.ask_blame(afresh(asked, few), 1)
             self.begin_over(limit)
-            if not (is_right and self.ask_blame(Blame(sets, word), *SLICES[limit])):
+            is_right = is_right and self.ask_blame(afresh(asked, few), 1)
+            if not (is_right and self.ask_blame(afresh(asked), *SLICES[limit])):
                 return False
         self.talk.all([f"limit {FIRST}"])
         return True
+
+    def all_asked(self, sets: Sets) -> list[Blame]:
+        """All that may be asked, the cheapest by what some of the premises cost."""
+        some = [it for it in sorted(sets.believed) if self.chance.random() < PRICED]
+        costs = {it: self.chance.choice(COSTS) for it in some}
+        blames = [Blame(sets, word) for word in MARKS]
+        return [*blames, Cheapest(sets, "repairs", costs=costs) if costs else Blame(sets, "repairs")]
 
     def turn(self, state: State) -> bool:
         """Asks for both by a few small slices, and then changes something; whether nothing is
         wrong."""
         self.talk.all([f"limit {self.chance.choice([*SLICES])}"])
-        both = [Blame(state.sets, word) for word in MARKS]
+        asked = self.all_asked(state.sets)
         for _ in range(self.chance.randint(1, TURNS)):
             if self.chance.random() < ASIDE:
                 self.talk.say(self.chance.choice(ASIDES))
-            if not self.is_right(self.chance.choice(both)):
+            if not self.is_right(self.chance.choice(asked)):
                 return False
         self.talk.all(state.change())
         self.tried.counts["changes"] += 1
@@ -281,6 +332,11 @@ SAID = [
     ("conflicts 1000000001", "error 6: not a number in range"),
     ("repairs x", "error 6: not a number in range"),
     ("conflicts {", "error 4: wrong form"),
+    ("conflicts 1 by a 1", "error 4: wrong form"),
+    ("repairs 1 by", "error 4: wrong form"),
+    ("repairs 1 at a 1", "error 4: wrong form"),
+    ("repairs 0 by a 1", "error 6: not a number in range"),
+    ("repairs 1 by a 1", "error 10: no such premise"),
     ("conflict 1", "error 3: unknown command"),
     ("conflicts 3", "conflicts 0\nothers none"),
     ("repairs\t1000000000 ", "repairs 1\nrepair: no premise\nothers none"),
@@ -289,6 +345,15 @@ SAID = [
     ("tell c x 7", "ok"),
     ("conflicts 10", "conflicts 1\nconflict: a c\nothers none"),
     ("repairs 10", "repairs 2\nrepair: c\nrepair: a\nothers none"),
+    ("repairs 10 by a", "error 4: wrong form"),
+    ("repairs 10 by a 1 b", "error 4: wrong form"),
+    ("repairs 10 by a x", "error 6: not a number in range"),
+    ("repairs 10 by a -1", "error 6: not a number in range"),
+    ("repairs 10 by a 1000000001", "error 6: not a number in range"),
+    ("repairs 10 by 7 1", "error 5: not a name"),
+    ("repairs 10 by c 5", "repairs 2\nrepair 1: a\nrepair 5: c\nothers none"),
+    ("repairs 1 by a 1000000000 c 0", "repairs 1\nrepair 0: c\nothers unknown"),
+    ("repairs 2 by a 7 a 0", "repairs 2\nrepair 0: a\nrepair 1: c\nothers none"),
     ("kick a", "ok"),
     ("conflicts 10", "conflicts 0\nothers none"),
     ("fix x 20", "ok"),

@@ -35,11 +35,3 @@ blamed_so library s line answer (Err refusal) (inl m) said =
 blamed_so library s line answer (Err refusal) (inr (read, is, inl memory)) said = inl (said ∙ ap Refused memory)
 blamed_so library s line answer (Err refusal) (inr (read, is, inr gives)) said =
     inr (read, is, subst (λ (r : Result Wish Refusal). Replies library s r answer) (sym gives) said)
-
--- other words than two
-pub asked_otherwise : (listed : List (Bor (List ℕ))) → (length listed ≡ 2 → ⊥)
-    → asked_by (words listed) ≡ Err WrongForm
-asked_otherwise [] other = refl
-asked_otherwise (a ∷ []) other = refl
-asked_otherwise (a ∷ b ∷ []) other = absurd (other refl)
-asked_otherwise (a ∷ b ∷ c ∷ listed) other = refl

@@ -1,3 +1,4 @@
+pub mod WeighLemmas
 pub mod AskLemmas
 pub mod SayLemmas
 pub mod Starting

@@ -141,14 +141,15 @@ module _ (library : List Stored) (s : State) (e : Explorer) (known : IsExplored 
 
 -- ---- what is replied of the cheapest
 
-module _ (library : List Stored) (s : State) (most : ℕ) (text weights : List ℕ) (found : List (List ℕ))
+module _ (library : List Stored) (s : State) (weights : List ℕ) (found : List (List ℕ))
     (cheapest : AreCheapestIn (ground_of library s) weights found) where
   pub cheapest_believed : All (AreBelieved s.premises) found
   cheapest_believed k d l = (cheapest.repairs (get_or found k d) (Contains-get_or found k d l)).believed
 
-  pub says_cheapest : (all : Bool) → length found ≤ most → (IsTrue all → HaveOne (ground_of library s) found)
+  pub says_cheapest : (most : ℕ) (text : List ℕ) (all : Bool) → length found ≤ most
+      → (IsTrue all → HaveOne (ground_of library s) found)
       → text ≡ cheapest_text s.premises weights found all → SaysCheapest library s weights most text
-  says_cheapest all few others is = (
+  says_cheapest most text all few others is = (
     found,
     all,
     few,

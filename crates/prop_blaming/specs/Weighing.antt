@@ -18,18 +18,23 @@ price word = option_map unsigned_abs (number_in (pos 0) (pos 1_000_000_000) word
 abbrev pub evenly : List Origin → List ℕ
 evenly premises = replicate (length premises) 1
 
--- why a name and a number don't say what a premise costs
-abbrev pub unpriced : List Origin → List ℕ → List ℕ → Option Refusal
-unpriced premises name number = first_of (when NotAName (not (is_name name))
+-- why no premise is found by a name
+abbrev pub unnamed : List Origin → List ℕ → Option Refusal
+unnamed premises name = first_of (when NotAName (not (is_name name))
     ∷ when IsAChoice (is_choice premises name)
-    ∷ when NoSuchPremise (is_none (premise_number premises name))
-    ∷ when NotANumber (is_none (price number)) ∷ [])
+    ∷ when NoSuchPremise (is_none (premise_number premises name)) ∷ [])
+
+-- the premise of a name
+abbrev pub premise_named : List Origin → List ℕ → Result ℕ Refusal
+premise_named premises name = option_map_or Err (unnamed premises name)
+    (Ok (unwrap_or (premise_number premises name) 0))
 
 -- what premises cost, by number, once the one of this name costs so much
 abbrev pub priced : List Origin → List ℕ → List ℕ → List ℕ → Result (List ℕ) Refusal
-priced premises weights name number = option_map_or Err
-    (Ok (slice_set weights (unwrap_or (premise_number premises name) 0)
-    (unwrap_or (price number) 0))) (unpriced premises name number)
+priced premises weights name number = elim (premise_named premises name) [
+  | Ok p ↦ option_map_or (λ n. Ok (slice_set weights p n)) (price number) (Err NotANumber)
+  | Err refusal ↦ Err refusal
+]
 
 -- what they cost by names with a number behind each
 abbrev pub weighed : List Origin → List ℕ → List (List ℕ) → Result (List ℕ) Refusal

@@ -3,7 +3,8 @@ ghost use Rattle.std.specs.Prelude.{◌≡◌, Ok, codes};
 ghost use Rattle.prop_language.specs.Said.{said, words};
 ghost use Rattle.prop_seeking.specs.Asking.{begins};
 ghost use Rattle.prop_blaming.specs.Asking.{asked, asked_by, evenly_asked, is_blame, is_by_cost};
-ghost use Rattle.prop_blaming.specs.Asking.{most};
+ghost use Rattle.prop_blaming.specs.Asking.{cheapest_asked, most};
+ghost use Rattle.prop_blaming.specs.Weighing.{evenly, weighed};
 ghost use Rattle.prop_seeking.specs.inner.Seekers.{Gives};
 ghost use Rattle.prop_blaming.specs.inner.Blamers.{asked_of};
 
@@ -65,6 +66,25 @@ fn is_by_cost(word: &[u8], by: &[u8]) -> bool
     word == b"repairs".as_slice() && by == b"by".as_slice()
 }
 
+/// So many of the cheapest repairs, by these words.
+fn cheapest_asked(
+    alloc: Global,
+    premises: &Premises,
+    most: usize,
+    prices: &[&[u8]],
+) -> Result<Asked, Refusal>
+    ensures { Gives asked_of result (cheapest_asked most (weighed premises.now
+        (evenly premises.now) (words prices.now))) }
+{
+    let Ok(weights) = evenly(alloc, premises) else {
+        return Err(Refusal::Memory);
+    };
+    match weighed(premises, weights, prices) {
+        Ok(weights) => Ok(Asked::Cheapest(most, weights)),
+        Err(refusal) => Err(refusal),
+    }
+}
+
 /// What these words ask of premises.
 fn asked_by(alloc: Global, premises: &Premises, listed: &[&[u8]]) -> Result<Asked, Refusal>
     ensures { Gives asked_of result (asked_by premises.now (words listed.now)) }
@@ -75,11 +95,10 @@ fn asked_by(alloc: Global, premises: &Premises, listed: &[&[u8]]) -> Result<Aske
             if !is_by_cost(word, by) || prices.is_empty() {
                 return Err(Refusal::WrongForm);
             }
-            let most = most(number)?;
-            let Ok(weights) = evenly(alloc, premises) else {
-                return Err(Refusal::Memory);
-            };
-            Ok(Asked::Cheapest(most, weighed(premises, weights, prices)?))
+            match most(number) {
+                Ok(most) => cheapest_asked(alloc, premises, most, prices),
+                Err(refusal) => Err(refusal),
+            }
         }
         _ => Err(Refusal::WrongForm),
     }

@@ -1,11 +1,12 @@
 //! What premises cost, as a line says it.
 ghost use Rattle.std.specs.Prelude.{◌≡◌, IfOk};
 ghost use Rattle.prop_language.specs.Said.{words};
-ghost use Rattle.prop_blaming.specs.Weighing.{evenly, price, priced, weighed};
+ghost use Rattle.prop_blaming.specs.Weighing.{evenly, premise_named, price, priced};
+ghost use Rattle.prop_blaming.specs.Weighing.{weighed};
 ghost use Rattle.prop_seeking.specs.inner.Seekers.{Gives};
 
 use prop_language::{name, natural_in};
-use prop_premises::Premises;
+use prop_premises::{Premise, Premises};
 use prop_refusals::Refusal;
 use std::alloc::{AllocError, Global};
 
@@ -24,6 +25,16 @@ pub(crate) fn evenly(alloc: Global, premises: &Premises) -> Result<Vec<u32>, All
     vec![in alloc; 1; premises.len()]
 }
 
+/// The premise of a name.
+fn premise_named(premises: &Premises, word: &[u8]) -> Result<Premise, Refusal>
+    ensures { result ≡ premise_named premises.now word.now }
+{
+    match name(word) {
+        Ok(name) => premises.find(name),
+        Err(refusal) => Err(refusal),
+    }
+}
+
 /// What premises cost once one costs so much.
 fn priced(
     premises: &Premises,
@@ -33,7 +44,7 @@ fn priced(
 ) -> Result<Vec<u32>, Refusal>
     ensures { Gives (λ v. v.items) result (priced premises.now weights.items word.now number.now) }
 {
-    let premise = premises.find(name(word)?)?;
+    let premise = premise_named(premises, word)?;
     let Some(price) = price(number) else {
         return Err(Refusal::NotANumber);
     };

@@ -12,7 +12,7 @@ cheapest_text-requires g c =
     let library = library_of g.R.Rule.value_of s in
     let ground = ground_of library (state_of s) in
     rw c.deref.ensures.value (cheapest_believed library (state_of s) c.args.weights.now
-    c.in_ok-listed.listed.sets.items (c.in_ok-listed.ensures.repairs ground c.requires))
+    c.in_ok-listed.listed.sets.items (c.in_ok-listed.ensures.repairs ground c.requires.explored))
 
 pub returns : goal.returns
 returns g c =
@@ -21,9 +21,10 @@ returns g c =
     let ground = ground_of library (state_of s) in
     let found = c.in_ok-listed.listed.sets.items in
     IfOk-weaker c.cheapest_text.result _ _
-    (λ t is. says_cheapest library (state_of s) c.args.most (string_bytes t) c.args.weights.now found
-    (c.in_ok-listed.ensures.repairs ground c.requires) c.in_ok-listed.listed.are_all c.in_ok-listed.ensures.few
-    (λ all. c.in_ok-listed.ensures.all all ground c.requires)
+    (λ t is. says_cheapest library (state_of s) c.args.weights.now found
+    (c.in_ok-listed.ensures.repairs ground c.requires.explored) c.args.most (string_bytes t)
+    c.in_ok-listed.listed.are_all c.in_ok-listed.ensures.few
+    (λ all. c.in_ok-listed.ensures.all all ground c.requires.explored)
     (is ∙ ap (λ sets. cheapest_text s.search.premises c.args.weights.now sets c.in_ok-listed.listed.are_all)
     c.deref.ensures.value))
     c.cheapest_text.ensures
