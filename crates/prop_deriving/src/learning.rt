@@ -8,7 +8,7 @@ ghost use Rattle.prop_deriving.specs.Known.{AlwaysFollows, AlwaysStays, Follows,
 use crate::clash::{Clash, Pair};
 use crate::derivation::Derivation;
 use crate::ground::Ground;
-use crate::reading::{is_decided, is_later, level_of};
+use crate::reading::{is_decided, is_of_root, level_of, maker_of, since_of};
 use crate::reason::Reason;
 use prop_facts::{Fact, Literal};
 use prop_lattice::Info;
@@ -33,41 +33,40 @@ pub enum State {
     Failed,
 }
 
-/// A nogood under way. For each literal there is the entry of the trail that made it so, none where
-/// it was so at the root. After refused memory its steps fail, and its nogood is what it was or
-/// what a step made of it.
+/// A nogood under way. For each literal it is told how many entries the trail had once it was so:
+/// none where it was so at the root. After refused memory its steps fail, and its nogood is what it
+/// was or what a step made of it.
 #[derive(Drop)]
 pub struct Learning {
     derivation: Derivation,
-    makers: Vec<Option<usize>>,
+    since: Vec<usize>,
     level: usize,
     asserting: usize,
 }
 
-/// The literal that came to be so last, the entry that made it so, and the entry that made the last
-/// of the others so.
+/// The literal that came to be so last, how many entries there were once it was so, and how many
+/// once the last of the others was.
 #[derive(Clone, Copy)]
 struct Latest {
     at: usize,
-    maker: Option<usize>,
-    second: Option<usize>,
+    since: usize,
+    second: usize,
 }
 
 impl Latest {
-    /// The same with one literal more.
-    fn beside(self, at: usize, maker: Option<usize>) -> Latest {
-        if is_later(maker, self.maker) {
-            return Latest {
+    /// The same with one literal more, which came to be so later than the second.
+    fn beside(self, at: usize, since: usize) -> Latest {
+        if self.since < since {
+            Latest {
                 at,
-                maker,
-                second: self.maker,
-            };
-        }
-        let is_second = is_later(maker, self.second);
-        Latest {
-            at: self.at,
-            maker: self.maker,
-            second: if is_second { maker } else { self.second },
+                since,
+                second: self.since,
+            }
+        } else {
+            Latest {
+                second: since,
+                ..self
+            }
         }
     }
 }
@@ -208,8 +207,8 @@ impl Learning {
     /// and the asserting one's where there is no other.
     pub fn second(&self, trail: &Trail) -> (usize, usize) {
         let mut second = (0, self.asserting);
-        for (at, maker) in self.makers.iter().enumerate() {
-            let level = level_of(trail, *maker);
+        for (at, since) in self.since.iter().enumerate() {
+            let level = level_of(trail, *since);
             if at != self.asserting && level > second.0 {
                 second = (level, at);
             }
@@ -232,11 +231,11 @@ impl Learning {
             (attached_of basis.now.network.now.cells) basis.now.choices.now basis.now.root.now
             basis.now.store.now self.old self.new }
     {
-        if self.makers.len() != self.nogood().literals().len() {
+        if self.since.len() != self.nogood().literals().len() {
             return Ok(State::Failed);
         }
         let latest = self.latest();
-        self.level = level_of(basis.trail, latest.maker);
+        self.level = level_of(basis.trail, latest.since);
         if self.level > 0 && !self.can_end(basis, latest, is_whole) {
             return self.resolve(basis, latest.at, weights);
         }
@@ -256,7 +255,7 @@ impl Learning {
     {
         let mut learning = Learning {
             derivation,
-            makers: Vec::new(basis.alloc),
+            since: Vec::new(basis.alloc),
             level: 0,
             asserting: 0,
         };
@@ -269,26 +268,28 @@ impl Learning {
     fn suppose_first(&mut self, trail: &Trail)
         ensures { self.new ≡ self.old }
     {
-        if !self.makers.is_empty() {
-            self.makers[0] = Some(trail.len());
+        if !self.since.is_empty() {
+            self.since[0] = trail.len().saturating_add(1);
         }
         self.level = self.last_level(trail);
     }
 
     /// The level of the last of the literals.
     fn last_level(&self, trail: &Trail) -> usize {
-        level_of(trail, self.latest().maker)
+        level_of(trail, self.latest().since)
     }
 
-    /// The literal that came to be so last, and what made the last of the others so.
+    /// The literal that came to be so last, beside the last of the others.
     fn latest(&self) -> Latest {
         let mut latest = Latest {
             at: 0,
-            maker: None,
-            second: None,
+            since: 0,
+            second: 0,
         };
-        for (at, maker) in self.makers.iter().enumerate() {
-            latest = latest.beside(at, *maker);
+        for (at, since) in self.since.iter().enumerate() {
+            if latest.second < *since {
+                latest = latest.beside(at, *since);
+            }
         }
         latest
     }
@@ -296,11 +297,11 @@ impl Learning {
     /// Of the literals that were so where nothing was supposed that which came to be so last.
     fn last_of_root(&self, trail: &Trail) -> Option<usize> {
         let mut last = None;
-        let mut last_maker = None;
-        for (at, maker) in self.makers.iter().enumerate() {
-            if level_of(trail, *maker) == 0 && (last.is_none() || is_later(*maker, last_maker)) {
+        let mut last_since = 0;
+        for (at, since) in self.since.iter().enumerate() {
+            if is_of_root(trail, *since) && (last.is_none() || last_since < *since) {
                 last = Some(at);
-                last_maker = *maker;
+                last_since = *since;
             }
         }
         last
@@ -315,7 +316,7 @@ impl Learning {
         is_whole: bool,
     ) -> bool {
         level_of(basis.trail, latest.second) < self.level
-            && (!is_whole || is_decided(basis.trail, latest.maker))
+            && (!is_whole || is_decided(basis.trail, latest.since))
             && self.can_be_denied(basis, latest.at)
     }
 
@@ -336,7 +337,7 @@ impl Learning {
 
     /// The entry that made a literal so.
     fn maker(&self, at: usize) -> Option<usize> {
-        *self.makers.get(at)?
+        maker_of(*self.since.get(at)?)
     }
 
     /// Puts in place of a literal what it rests on.
@@ -396,8 +397,8 @@ impl Learning {
     fn forget_maker(&mut self, at: usize)
         ensures { self.new ≡ self.old }
     {
-        if at < self.makers.len() {
-            self.makers.swap_remove(at);
+        if at < self.since.len() {
+            self.since.swap_remove(at);
         }
     }
 
@@ -410,7 +411,7 @@ impl Learning {
     ) -> Result<(), AllocError>
         ensures { AlwaysStays self.old self.new }
     {
-        let first = self.makers.len();
+        let first = self.since.len();
         self.push_makers(basis, before)?;
         self.drop_repeated(first);
         Ok(())
@@ -424,15 +425,10 @@ impl Learning {
     ) -> Result<(), AllocError>
         ensures { self.new ≡ self.old }
     {
-        for literal in self
-            .derivation
-            .nogood()
-            .literals()
-            .iter()
-            .skip(self.makers.len())
-        {
-            let maker = basis.course.maker(basis.trail, *literal, before);
-            self.makers.push(maker)?;
+        let literals = self.derivation.nogood().literals();
+        for at in self.since.len()..literals.len() {
+            let maker = basis.course.maker(basis.trail, literals[at], before);
+            self.since.push(since_of(maker))?;
         }
         Ok(())
     }
@@ -442,7 +438,7 @@ impl Learning {
         ensures { AlwaysStays self.old self.new }
     {
         let mut at = first;
-        for _ in 0..self.makers.len() {
+        for _ in 0..self.since.len() {
             let Some(next) = self.drop_next(at) else {
                 return;
             };
@@ -455,7 +451,7 @@ impl Learning {
     fn drop_next(&mut self, from: usize) -> Option<usize>
         ensures { AlwaysStays self.old self.new }
     {
-        for at in from..self.makers.len() {
+        for at in from..self.since.len() {
             if let Some(gone) = self.drop_beside(at) {
                 return Some(at.min(gone));
             }
@@ -469,13 +465,13 @@ impl Learning {
         ensures { AlwaysStays self.old self.new }
     {
         let (gone, beside) = self.derivation.repeated(at)?;
-        if gone >= self.makers.len() {
+        if gone >= self.since.len() {
             return None;
         }
         if !self.derivation.drop_repeated(gone, beside) {
             return None;
         }
-        self.makers.swap_remove(gone);
+        self.since.swap_remove(gone);
         Some(gone)
     }
 }

@@ -102,7 +102,9 @@ impl Guarded for Many {
             Many::Cumulative if place == 0 => HIGH,
             Many::Cumulative if place % 3 == 1 => ENDS,
             Many::Disjoint if place % 2 == 0 => ENDS,
-            Many::Circuit if 0 < place => POINT,
+            // (intervals seldom fill before one of the others is decided, and to look at each end
+            // that moves takes longer than it saves)
+            Many::Differ | Many::Circuit if 0 < place => POINT,
             Many::Differ | Many::Circuit => ENDS,
             _ => LOW,
         }

@@ -138,6 +138,23 @@ fn is_met<R: Rule + Drop>(network: &Network<R>, values: &[Info], number: usize) 
         let mut room = [Info::Nothing; FEW];
         return is_met_in(network, values, number, &mut room[..count]);
     }
+    is_met_of_many(network, values, number)
+}
+
+/// The same of an instance with any count of inputs. A function fills all its room as it begins, so
+/// this one stands by itself.
+#[inline(never)]
+fn is_met_of_many<R: Rule + Drop>(network: &Network<R>, values: &[Info], number: usize) -> bool
+    requires means { AllMean R.value_of network.now.library.procedures.items }
+    requires kept { IsKept (stored_of R.value_of network.now.library) network.now.cells }
+    requires values { AreValues network.now.cells.kinds values.now }
+    requires number { number < length network.now.cells.instances }
+    ensures { (x : InstanceOf) → slice_get network.now.cells.instances number ≡ Some x
+        → (IsTrue result ↔ Meets (value_in values.now)
+        (constraint_of (stored_of R.value_of network.now.library) x)) }
+{
+    let x = network.data().instance(number);
+    let count = x.inputs().len();
     let mut room = [Info::Nothing; MOST_INPUTS];
     is_met_in(network, values, number, &mut room[..count])
 }

@@ -108,6 +108,12 @@ impl Gate {
         }
     }
 
+    /// Whether it is open where nothing is supposed, and so for good.
+    pub(crate) fn stands_open(&self, trail: &Trail) -> bool {
+        let elements = elements_of(trail, self.place);
+        elements.count_ones() == 1 && elements & self.speaks != 0
+    }
+
     /// Whether nothing is said by any element.
     pub(crate) fn is_mute(&self) -> bool {
         self.speaks == 0

@@ -30,8 +30,11 @@ use prop_trail::{Outcome, Source, Trail, Waiting};
 use std::alloc::{AllocError, Global};
 use std::marker::Model;
 
-/// As many inputs as most instances have at the most, whose arguments take no memory.
-const FEW: usize = 8;
+/// As many inputs as most instances have at the most.
+const FEW: usize = 4;
+
+/// As many inputs as an instance has at the most whose arguments take no memory.
+const SEVERAL: usize = 16;
 
 /// How far it is.
 #[derive(Clone, Copy, Debug, PartialEq, Eq)]
@@ -102,16 +105,16 @@ impl Model for Spread {
     ghost view = { λ s. record { nogoods = s.store; root = s.root } };
 }
 
-/// What is believed of the inputs, in their order.
-fn gather(present: &Present, inputs: &[usize], args: &mut [Info; FEW]) {
-    for j in 0..inputs.len().min(FEW) {
+/// What is believed of the inputs, in their order, as far as there is room.
+fn gather(present: &Present, inputs: &[usize], args: &mut [Info]) {
+    for j in 0..inputs.len().min(args.len()) {
         args[j] = present.info(inputs[j]);
     }
 }
 
 /// What is believed of these cells, of any count.
 fn gathered(alloc: Global, present: &Present, inputs: &[usize]) -> Result<Vec<Info>, AllocError> {
-    let mut args = Vec::new(alloc);
+    let mut args = Vec::with_capacity(alloc, inputs.len())?;
     for input in inputs {
         args.push(present.info(*input))?;
     }
@@ -428,6 +431,27 @@ impl Spread {
         let x = network.data().instance(instance);
         if x.inputs().len() <= FEW {
             let mut args = [Info::Nothing; FEW];
+            gather(&self.present, x.inputs(), &mut args);
+            return self.call_on(network, instance, &args[..x.inputs().len()]);
+        }
+        self.call_of_many(network, instance)
+    }
+
+    /// The same of an instance with any count of inputs.
+    #[inline(never)]
+    fn call_of_many<R: Guarded + Drop>(
+        &mut self,
+        network: &Network<R>,
+        instance: usize,
+    ) -> Result<bool, AllocError>
+        requires means { AllMean R.value_of network.now.library.procedures.items }
+        requires kept { IsKept (stored_of R.value_of network.now.library) network.now.cells }
+        requires there { instance < length network.now.cells.instances }
+        ensures same { self.new ≡ self.old }
+    {
+        let x = network.data().instance(instance);
+        if x.inputs().len() <= SEVERAL {
+            let mut args = [Info::Nothing; SEVERAL];
             gather(&self.present, x.inputs(), &mut args);
             return self.call_on(network, instance, &args[..x.inputs().len()]);
         }

@@ -53,6 +53,10 @@ fn connect<R: Guarded + Drop>(
     if gate.is_some_and(|gate| gate.is_mute()) {
         return Ok(());
     }
+    let gate = match gate {
+        Some(gate) if gate.stands_open(trail) => None,
+        gate => gate,
+    };
     for place in 0..x.inputs().len() {
         let cell = x.inputs()[place];
         if cell < readers.len() && !x.inputs()[..place].contains(&cell) {
