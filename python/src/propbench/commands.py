@@ -82,7 +82,11 @@ TOLD = tuple(
         ("greatest X [Y ..]", "the greatest that X can be at such points"),
         ("plans N X ..", "N points that fit, and differ at X .."),
         ("conflicts N", "N minimal sets of premises that can't all hold"),
-        ("repairs N", "N minimal sets of premises without which the others can hold"),
+        (
+            "repairs N [by P M ..]",
+            "N minimal sets of premises without which the others can hold; the cheapest, where P"
+            " costs M, and others 1",
+        ),
     )
 )
 

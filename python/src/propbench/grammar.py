@@ -218,6 +218,16 @@ def _counted() -> Form:
     yield (Role.END,)
 
 
+def _repairs() -> Form:
+    yield (Role.COUNT,)
+    if (yield ("by", Role.END)) == "by":
+        yield (Role.PREMISE,)
+        yield (Role.COUNT,)
+        while True:
+            yield (Role.PREMISE, Role.END)
+            yield (Role.COUNT,)
+
+
 def _limit() -> Form:
     yield (Role.STEPS,)
     yield (Role.END,)
@@ -257,7 +267,7 @@ SEEKING: dict[str, Callable[[], Form]] = {
     "plans": _plans,
 }
 # Those that ask what can't all hold, and what to give up: propwide has them as well.
-BLAMING: dict[str, Callable[[], Form]] = {"conflicts": _counted, "repairs": _counted}
+BLAMING: dict[str, Callable[[], Form]] = {"conflicts": _counted, "repairs": _repairs}
 _ALL = {**FORMS, **TELLING, **SEEKING, **BLAMING}
 # Those that ask: they are answered by more than `ok`, and change nothing that was said.
 ASKING = RUNNING | TELLING.keys() | SEEKING.keys() | BLAMING.keys() | {"nogoods"}

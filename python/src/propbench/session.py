@@ -10,9 +10,9 @@ import sys
 import threading
 import time
 import weakref
-from collections.abc import Iterable
+from collections.abc import Iterable, Mapping
 from itertools import count
-from types import FrameType
+from types import FrameType, MappingProxyType
 from typing import Literal, overload
 
 from propbench.batch import Batch, as_lines
@@ -525,16 +525,22 @@ class Session(Closing):
         >>> print(found)
         (('ana', 'ben'),)
         """
-        return self._blamed("conflicts", count, seconds, progress)
+        return self._blamed(f"conflicts {count}", seconds, progress)
 
     def repairs(
-        self, count: int, *, seconds: float | None = None, progress: RunProgress | None = None
+        self,
+        count: int,
+        *,
+        by: Mapping[str, int] = MappingProxyType({}),
+        seconds: float | None = None,
+        progress: RunProgress | None = None,
     ) -> Blamed:
-        """So many minimal sets of believed premises to give up, so that the others can hold. All
-        else is as in `conflicts`.
+        """So many minimal sets of believed premises to give up, so that the others can hold; where
+        it is said what premises cost, in whole numbers, the cheapest ones. All else is as in
+        `conflicts`.
 
-            found = session.repairs(10)
-            print(found.sets, found.is_all)
+            found = session.repairs(10, by={"ana": 3})
+            print(found.sets, found.costs)
 
         >>> with Session() as session:
         ...     said = session.send_all(["cell x span", "tell ana x 1..5", "tell ben x 7"])
@@ -542,13 +548,12 @@ class Session(Closing):
         >>> print(sorted(found))
         [('ana',), ('ben',)]
         """
-        return self._blamed("repairs", count, seconds, progress)
+        said = "".join(f" {premise} {cost}" for premise, cost in by.items())
+        return self._blamed(f"repairs {count}{said and ' by'}{said}", seconds, progress)
 
-    def _blamed(
-        self, command: str, count: int, seconds: float | None, progress: RunProgress | None
-    ) -> Blamed:
+    def _blamed(self, line: str, seconds: float | None, progress: RunProgress | None) -> Blamed:
         """Minimal sets of premises."""
-        reply = self.send(f"{command} {count}", seconds=seconds, progress=progress)
+        reply = self.send(line, seconds=seconds, progress=progress)
         assert isinstance(reply, Blamed)
         return reply
 

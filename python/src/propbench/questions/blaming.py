@@ -4,9 +4,12 @@ What is told of them is proved of the program. The plans that show them to be mi
 a certificate is asked for, in a session of its own.
 """
 
-from collections.abc import Callable, Iterable, Iterator, Sequence
+from collections.abc import Callable, Iterable, Iterator, Mapping, Sequence
 from dataclasses import dataclass
+from fractions import Fraction
 from functools import partial
+from math import lcm
+from types import MappingProxyType
 
 from propbench.blamed import Blamed
 from propbench.clock import Clock
@@ -29,7 +32,24 @@ ALL = 10**9
 _SECONDS = 60.0
 # Of two questions the first has this part of the time.
 _SHARE = 0.7
+# What a premise may cost in a line at the most, and how long a line may be that says it.
+_DEAREST, _LONGEST = 10**9, 4_000
 Lines = frozenset[str]
+
+
+def by_cost(model: Model, weight: Mapping[str, float], kept: Iterable[str] = ()) -> str:
+    """What a line says of what premises cost, in whole numbers of the same ratios; nothing where
+    nothing costs anything else, or where no line can say it."""
+    given = [name for name in model.believed() if name not in {*kept}]
+    costs = [Fraction(str(weight.get(name, 1))) for name in given]
+    if all(cost == 1 for cost in costs):
+        return ""
+    scale = lcm(*(cost.denominator for cost in costs))
+    prices = [int(cost * scale) for cost in costs]
+    said = " by" + "".join(
+        f" {model.line_name(name)} {price}" for name, price in zip(given, prices)
+    )
+    return said if max(prices) <= _DEAREST and len(said.encode()) <= _LONGEST else ""
 
 
 @dataclass(frozen=True)
@@ -54,9 +74,16 @@ class Blaming:
     """Questions for minimal sets of premises, put to a program in the session of a seeker. What is
     told of cells counts there, too."""
 
-    def __init__(self, seeker: Seeker, kept: Sequence[str]) -> None:
-        """Those among what is believed, without what is kept."""
+    def __init__(
+        self,
+        seeker: Seeker,
+        kept: Sequence[str],
+        weight: Mapping[str, float] = MappingProxyType({}),
+    ) -> None:
+        """Those among what is believed, without what is kept; repairs by what premises cost, where
+        that can be said in a line."""
         self._seeker = seeker
+        self._by = by_cost(seeker.model, weight, kept)
         self._line = seeker.model.line_name
         self._given = tuple(map(self._line, seeker.model.believed()))
         self._kept = tuple(map(self._line, kept))
@@ -67,7 +94,7 @@ class Blaming:
         seeker = self._seeker
         seeker.reply = self._told.get(command, UNSETTLED)
         try:
-            seeker.ask(f"{command} {most}", seconds)
+            seeker.ask(f"{command} {most}{self._by if command == 'repairs' else ''}", seconds)
         finally:
             if isinstance(seeker.reply, Blamed):
                 self._told[command] = seeker.reply
@@ -109,12 +136,14 @@ def asked_by(
     clock: Clock,
     wanted: Sequence[tuple[str, int]],
     result: Callable[[Seeker, BlamedSets], Result],
+    weight: Mapping[str, float] = MappingProxyType({}),
 ) -> Result:
-    """The result of questions for so many sets of each command, beside what is kept."""
+    """The result of questions for so many sets of each command, beside what is kept; repairs by
+    their weight, where `by_cost` can say it."""
     names = set(premises_named(model, keep))
     kept = [name for name in model.believed() if name in names]
     with Seeker(model, clock, holding=kept) as seeker:
-        blaming = Blaming(seeker, kept)
+        blaming = Blaming(seeker, kept, weight)
         return tried_by(
             clock, lambda: blaming.ask_all(wanted), lambda: result(seeker, blaming.known())
         )

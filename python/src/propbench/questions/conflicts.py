@@ -6,7 +6,14 @@ from numbers import Real
 
 from propbench.clock import Clock, Progress
 from propbench.questions.asking import Result, premises_named, tried
-from propbench.questions.blaming import ALL, BlamedSets, asked_by, certificate_of, evidence_of
+from propbench.questions.blaming import (
+    ALL,
+    BlamedSets,
+    asked_by,
+    by_cost,
+    certificate_of,
+    evidence_of,
+)
 from propbench.questions.certificate import Certificate, Evidence
 from propbench.questions.exploring import Exploring, Refuted
 from propbench.questions.hitting import bits_of
@@ -211,9 +218,16 @@ def find_repairs(
     nothing is given up of what is kept."""
     _check_weight(model, weight)
     if blames(model):
-        clock, wanted = Clock(seconds, progress), [("repairs", ALL if weight else most)]
+        # (one more of the cheapest tells whether there are others; what no line says is sorted here)
+        said = by_cost(model, weight, premises_named(model, keep))
+        count = most if not weight else most + 1 if said else ALL
         return asked_by(
-            model, keep, clock, wanted, lambda by, told: _told_repairs(by, told, weight, most)
+            model,
+            keep,
+            Clock(seconds, progress),
+            [("repairs", count)],
+            lambda seeker, told: _told_repairs(seeker, told, weight, most),
+            weight,
         )
     return _searched(
         model,
