@@ -329,14 +329,14 @@ BUGS = [
     ),
     Bug(
         "questions/rooms.py",
-        "Numbers(point + 1, room.high)]",
-        "Numbers(point + 2, room.high)]",
+        "NumberRoom(point + 1, room.high)]",
+        "NumberRoom(point + 2, room.high)]",
         "cases::cases_have_each_number_once",
     ),
     Bug(
         "questions/rooms.py",
-        "Numbers(middle + 1, room.high)]",
-        "Numbers(middle + 2, room.high)]",
+        "NumberRoom(middle + 1, room.high)]",
+        "NumberRoom(middle + 2, room.high)]",
         "cases::cases_have_each_number_once",
     ),
     Bug(

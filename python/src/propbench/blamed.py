@@ -5,7 +5,8 @@ from dataclasses import dataclass
 
 from propbench.words import named, names_in
 
-# How a line begins that tells a set, by the command; and one of premises that may not all be needed.
+# How a line begins that tells a set, by the command; and one of premises that may not all be
+# needed.
 _MARKS = {"conflicts": "conflict: ", "repairs": "repair: "}
 _UNSETTLED = "unsettled: "
 _OTHERS = {"others none": True, "others unknown": False}
@@ -15,7 +16,8 @@ _OTHERS = {"others none": True, "others unknown": False}
 class Blamed:
     """Sets of believed premises, as propwide tells them: by `conflicts` minimal ones that no points
     satisfy, by `repairs` minimal ones to give up so that points satisfy the rest. Those that are
-    `unsettled` may be no minimal ones. Whether there are no others `is_all` says, where it is known.
+    `unsettled` may be no minimal ones. Whether there are no others `is_all` says, where it is
+    known.
 
     >>> print(Blamed("conflicts", (("ana", "ben"), ("cid",)), frozenset({1}), False))
     conflicts 2

@@ -367,9 +367,9 @@ def _checked(options: argparse.Namespace) -> int:
 def _blamed(options: argparse.Namespace) -> int:
     from pathlib import Path
 
-    from propbench.flatzinc.blame import Asked, blame_file
+    from propbench.flatzinc.blame import BlameOptions, blame_file
 
-    asked = Asked(
+    asked = BlameOptions(
         options.keep,
         options.most,
         options.seconds,
@@ -382,10 +382,10 @@ def _blamed(options: argparse.Namespace) -> int:
 
 def _planned(options: argparse.Namespace) -> int:
     from propbench.planning.brief import Given
-    from propbench.planning.command import Asked, plan_file
+    from propbench.planning.command import PlanOptions, plan_file
     from propbench.planning.sheets import NoSheetReader
 
-    asked = Asked(
+    asked = PlanOptions(
         Given(options.start, options.off, options.days, options.today),
         options.give_up,
         options.what_if,

@@ -227,14 +227,14 @@ class Element(Expression):
         return Truth(among(self._node, elements))
 
 
-class Symbol(Expression):
+class SymbolExpression(Expression):
     """A symbol: any name; `==` and `!=`."""
 
     # (as in Number)
-    def __eq__(self, other: "Symbol | str") -> "Truth":  # type: ignore[override]
+    def __eq__(self, other: "SymbolExpression | str") -> "Truth":  # type: ignore[override]
         return _compared(Op.EQUAL, self, other)
 
-    def __ne__(self, other: "Symbol | str") -> "Truth":  # type: ignore[override]
+    def __ne__(self, other: "SymbolExpression | str") -> "Truth":  # type: ignore[override]
         return _compared(Op.UNEQUAL, self, other)
 
     __hash__ = object.__hash__
@@ -337,7 +337,7 @@ def implies(condition: "Truth | bool", consequence: "Truth | bool") -> Truth:
     return Truth(_folded(Op.IMPLIES, (first, second)))
 
 
-_Kind = TypeVar("_Kind", Number, Truth, Element, Symbol)
+_Kind = TypeVar("_Kind", Number, Truth, Element, SymbolExpression)
 
 
 @overload
@@ -474,4 +474,6 @@ def expression_of(made: Node) -> Expression:
     """The expression of a node, by its kind."""
     if isinstance(made.kind, Domain):
         return Element(made)
-    return {Plain.NUMBER: Number, Plain.TRUTH: Truth, Plain.SYMBOL: Symbol}[made.kind](made)
+    return {Plain.NUMBER: Number, Plain.TRUTH: Truth, Plain.SYMBOL: SymbolExpression}[made.kind](
+        made
+    )

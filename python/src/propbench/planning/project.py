@@ -312,8 +312,8 @@ class Project:
             return premise
         if begin >= end:
             raise ValueError(
-                f"{person} can't be away from {_day_text(first)} to {_day_text(last)}: the second is"
-                " the day of the return"
+                f"{person} can't be away from {_day_text(first)} to {_day_text(last)}:"
+                " the second is the day of the return"
             )
         premise = under or f"{person} away {self._said(first)} to {self._said(last)}"
         away = Away(person, begin, end, premise, self._span(begin, end))
@@ -661,7 +661,7 @@ class Project:
         '2026-03-09'
         """
         if self.calendar is None:
-            raise ValueError("the plan has no calendar: give w.plan a start")
+            raise ValueError("the plan has no calendar: give w.project a start")
         return self.calendar.date_of(day)
 
     def schedule(self, plan: Planned | Plan) -> "Schedule":

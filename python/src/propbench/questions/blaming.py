@@ -11,7 +11,7 @@ from functools import partial
 from propbench.blamed import Blamed
 from propbench.clock import Clock
 from propbench.points import Points
-from propbench.questions.asking import Result, premises_named, tried_by
+from propbench.questions.asking import AnyResult, premises_named, tried_by
 from propbench.questions.certificate import OPEN, Certificate, Evidence
 from propbench.questions.kept import Base, begun
 from propbench.questions.model import Model
@@ -108,8 +108,8 @@ def asked_by(
     keep: str | Iterable[str],
     clock: Clock,
     wanted: Sequence[tuple[str, int]],
-    result: Callable[[Seeker, BlamedSets], Result],
-) -> Result:
+    result: Callable[[Seeker, BlamedSets], AnyResult],
+) -> AnyResult:
     """The result of questions for so many sets of each command, beside what is kept."""
     names = set(premises_named(model, keep))
     kept = [name for name in model.believed() if name in names]

@@ -5,7 +5,7 @@ from dataclasses import dataclass, replace
 from numbers import Real
 
 from propbench.clock import Clock, Progress
-from propbench.questions.asking import Result, premises_named, tried
+from propbench.questions.asking import AnyResult, premises_named, tried
 from propbench.questions.blaming import ALL, BlamedSets, asked_by, certificate_of, evidence_of
 from propbench.questions.certificate import Certificate, Evidence
 from propbench.questions.exploring import Exploring, Refuted
@@ -145,45 +145,52 @@ def _given(kept: Sequence[str]) -> str:
     return "what always holds" if not kept else "what always holds with what is kept"
 
 
-def find_conflicts(
-    model: Model,
-    keep: str | Iterable[str],
-    most: int,
-    seconds: float | None,
-    progress: Progress | None,
-) -> Conflicts:
-    """The minimal sets of believed premises that can't all hold beside those that are kept, so many
-    at the most."""
-    clock, texts = Clock(seconds, progress), _texts(model)
+@dataclass(frozen=True)
+class SetSearch:
+    """How minimal sets are looked for: so many of a sort at the most, beside premises that are
+    kept, and in so many seconds."""
+
+    most: int
+    keep: str | Iterable[str] = ()
+    seconds: float | None = None
+    progress: Progress | None = None
+
+    def clock(self) -> Clock:
+        """A clock that begins now."""
+        return Clock(self.seconds, self.progress)
+
+
+def find_conflicts(model: Model, search: SetSearch) -> Conflicts:
+    """The minimal sets of believed premises that can't all hold beside those that are kept."""
+    clock, most, texts = search.clock(), search.most, _texts(model)
     if blames(model):
         wanted = [("conflicts", most)]
         return asked_by(
-            model, keep, clock, wanted, lambda by, told: _told_conflicts(by, told, texts, most)
+            model,
+            search.keep,
+            clock,
+            wanted,
+            lambda by, told: _told_conflicts(by, told, texts, most),
         )
     return _searched(
         model,
-        _explore(model, {}, keep, clock),
+        _explore(model, {}, search.keep, clock),
         lambda explored: len(explored.conflicts) < most,
         lambda explored: _conflicts(explored, texts, most),
     )
 
 
 def find_both(
-    model: Model,
-    texts: Mapping[str, str],
-    keep: str | Iterable[str],
-    most: int,
-    seconds: float | None,
-    progress: Progress | None = None,
+    model: Model, search: SetSearch, texts: Mapping[str, str] | None = None
 ) -> tuple[Conflicts, Repairs]:
-    """The minimal conflicts and the minimal repairs, so many of each at the most, from one search.
-    What premises say is told by these texts, where they have one."""
-    clock, said = Clock(seconds, progress), {**_texts(model), **texts}
+    """The minimal conflicts and the minimal repairs, from one search. What premises say is told by
+    these texts, where they have one."""
+    clock, most, said = search.clock(), search.most, {**_texts(model), **(texts or {})}
     if blames(model):
         wanted = [("conflicts", most), ("repairs", most)]
         return asked_by(
             model,
-            keep,
+            search.keep,
             clock,
             wanted,
             lambda by, told: (
@@ -193,31 +200,29 @@ def find_both(
         )
     return _searched(
         model,
-        _explore(model, {}, keep, clock),
+        _explore(model, {}, search.keep, clock),
         lambda explored: max(len(explored.conflicts), len(explored.repairs)) < most,
         lambda explored: (_conflicts(explored, said, most), _repairs(explored, {}, most)),
     )
 
 
-def find_repairs(
-    model: Model,
-    weight: Mapping[str, float],
-    keep: str | Iterable[str],
-    most: int,
-    seconds: float | None,
-    progress: Progress | None,
-) -> Repairs:
+def find_repairs(model: Model, weight: Mapping[str, float], search: SetSearch) -> Repairs:
     """The minimal sets of believed premises without which the others have a plan, by their cost;
     nothing is given up of what is kept."""
     _check_weight(model, weight)
+    clock, most = search.clock(), search.most
     if blames(model):
-        clock, wanted = Clock(seconds, progress), [("repairs", ALL if weight else most)]
+        wanted = [("repairs", ALL if weight else most)]
         return asked_by(
-            model, keep, clock, wanted, lambda by, told: _told_repairs(by, told, weight, most)
+            model,
+            search.keep,
+            clock,
+            wanted,
+            lambda by, told: _told_repairs(by, told, weight, most),
         )
     return _searched(
         model,
-        _explore(model, weight, keep, Clock(seconds, progress)),
+        _explore(model, weight, search.keep, clock),
         lambda explored: len(explored.repairs) < most,
         lambda explored: _repairs(explored, weight, most),
     )
@@ -333,8 +338,8 @@ def _searched(
     model: Model,
     explored: Exploring,
     lacks: Callable[[Exploring], bool],
-    result: Callable[[Exploring], Result],
-) -> Result:
+    result: Callable[[Exploring], AnyResult],
+) -> AnyResult:
     """The result of a search that goes on while something is lacking. What it has found out is kept
     where it ends by itself, and all of it is sure."""
     kept, trial = model.session.kept, explored.trial

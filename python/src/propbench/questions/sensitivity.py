@@ -15,7 +15,7 @@ from propbench.questions.checker import MOST
 from propbench.questions.ends import Ending
 from propbench.questions.model import Model
 from propbench.questions.outcomes import Fits
-from propbench.questions.scenarios import Asking, Row
+from propbench.questions.scenarios import AskedTable, Row
 from propbench.questions.seeking import Claims, Seeker, Unlike, seeks
 from propbench.questions.shown import Shown, shortened
 from propbench.questions.trial import Trial
@@ -83,7 +83,7 @@ def of_answers(
         if halves := tuple(_halves(model, premise, told.get(model.line_name(premise), []))):
             scenarios[premise, _HALF] = Change(tell=halves)
     keys = {str(number): key for number, key in enumerate(scenarios)}
-    asking = Asking(bench, dict(zip(keys, scenarios.values())), [name], clock)
+    asking = AskedTable(bench, dict(zip(keys, scenarios.values())), [name], clock)
 
     def result() -> Sensitivity:
         table = asking.result()

@@ -13,8 +13,8 @@ from propbench.program import OutOfTime
 from propbench.questions.checker import MOST, digits
 from propbench.questions.model import Model, Plan
 from propbench.questions.rooms import (
-    Names,
-    Numbers,
+    NameRoom,
+    NumberRoom,
     Room,
     choices_in,
     digits_of,
@@ -37,7 +37,7 @@ _LAST = 4 * MOST
 _PART = 3
 
 # What a truth may be.
-_EITHER = Names(("no", "yes"))
+_EITHER = NameRoom(("no", "yes"))
 
 # A cell of the user's, and what it is supposed to be.
 Case = tuple[str, Room]
@@ -173,7 +173,7 @@ class Trial(Closing):
         """The values that the declaration of a cell leaves; None for a symbol."""
         candidates = self.model.candidates(cell)
         if isinstance(candidates, range) and candidates:
-            return Numbers(candidates[0], candidates[-1])
+            return NumberRoom(candidates[0], candidates[-1])
         return self.whole[cell]
 
     def _elements(self, cell: str) -> list[str] | None:
@@ -331,7 +331,7 @@ class Trial(Closing):
 
     def _cover(self, line: str, room: Room, parts: list[list[str]] | None) -> None:
         if parts is None:
-            assert isinstance(room, Numbers)
+            assert isinstance(room, NumberRoom)
             name = f"{self.mark}c{len(self.choices)}"
             made = digits(line, [room.low, room.high], name)
             self.choices.append((line, ""))
@@ -373,6 +373,6 @@ def _held_in(reply: Reply) -> Held:
 def _lowest(held: Held, whole: Room | None) -> str | None:
     """The first of the values that are left, as a line says it; None for a symbol."""
     room = room_left(held, whole)
-    if isinstance(room, Numbers):
+    if isinstance(room, NumberRoom):
         return str(room.low if whole != room else 0)
     return room.names[0] if room else None

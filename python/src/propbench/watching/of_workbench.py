@@ -24,7 +24,7 @@ from propbench.model.saving import saved
 from propbench.plain import PlainWorkbench
 from propbench.questions.asking import so_far
 from propbench.questions.bounding import Optimum
-from propbench.questions.conflicts import find_both
+from propbench.questions.conflicts import SetSearch, find_both
 from propbench.replies import Called, Contradiction, Value, Worldview
 from propbench.runs import RunProgress
 from propbench.session import Session
@@ -40,10 +40,10 @@ from propbench.watching.network import (
     NetworkSeen,
     Premise,
     Reason,
-    StatedSeen,
     SeenNow,
-    ValueSeen,
+    StatedSeen,
     Use,
+    ValueSeen,
 )
 from propbench.watching.owned import Owned, is_use, wording_of
 from propbench.watching.steps import CallInWords, RunReading, Steps
@@ -153,9 +153,8 @@ class WorkbenchWatched:
 
     def mend(self, progress: Progress | None = None, seconds: float | None = None) -> Mending:
         model = self.workbench.model
-        conflicts, repairs = so_far(
-            lambda: find_both(model, {}, (), _MOST_MENDS, seconds, progress), tuple
-        )
+        search = SetSearch(_MOST_MENDS, seconds=seconds, progress=progress)
+        conflicts, repairs = so_far(lambda: find_both(model, search), tuple)
         return Mending(
             tuple(each.names for each in conflicts),
             tuple(each.names for each in repairs),
