@@ -1,6 +1,7 @@
 """How the package is kept: a public name stands for one thing, functions and lines are short."""
 
 import ast
+import re
 from collections import defaultdict
 from collections.abc import Iterator
 from pathlib import Path
@@ -101,6 +102,24 @@ def test_a_name_stands_for_one_thing() -> None:
                 homes[name].add(file)
     twice = {name: files for name, files in homes.items() if len(files) > 1}
     assert set(twice) == TWICE, {name: twice.get(name) for name in set(twice) ^ TWICE}
+
+
+def unused_of(tree: ast.Module) -> set[str]:
+    """The names of a module's own, `_so`, that are never used in it."""
+    defined = {it.name for it in tree.body if isinstance(it, ast.ClassDef | Function)}
+    for each in ast.walk(ast.Module([it for it in tree.body if isinstance(it, ast.Assign)], [])):
+        if isinstance(each, ast.Name) and isinstance(each.ctx, ast.Store):
+            defined.add(each.id)
+    used = {
+        it.id for it in ast.walk(tree) if isinstance(it, ast.Name) and isinstance(it.ctx, ast.Load)
+    }
+    return {name for name in defined - used if re.match("_[^_]", name)}
+
+
+def test_what_a_module_keeps_to_itself_is_used() -> None:
+    assert {file: names for file, tree in TREES.items() if (names := unused_of(tree))} == {}
+    text = "_a = 1\n_b, _c = 2, 3\ndef _d(): return _c\nclass _E: _f = 4\nx = 5\n"
+    assert unused_of(ast.parse(text)) == {"_a", "_b", "_d", "_E"}
 
 
 def test_functions_are_short() -> None:
