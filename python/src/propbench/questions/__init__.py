@@ -195,7 +195,7 @@ class Questions:
     ) -> Optimum | Optima:
         """The least value of a cell in any plan. Raises ValueError where there is no such cell, and
         TypeError where it holds no numbers. Where nothing fits, `value` is None and `proved` is
-        True.
+        True. What stands behind `proved`, docs/CLAIMS.md tells in "propwide's own lines".
 
         Of several cells, `w.least([end, cost])`, it is the least of the first, then that of the
         second in the plans that have it, and so on.

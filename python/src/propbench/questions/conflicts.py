@@ -53,7 +53,8 @@ class Repair(Premises):
 
 
 class Conflicts(Shown, list[Conflicting]):
-    """Conflicts among the premises that are believed; all there are where it is `complete`.
+    """Conflicts among the premises that are believed: minimal sets that can't all hold. These are
+    all there are where it is `complete`.
 
     >>> w = Workbench()
     >>> x = w.number("x", 0, 9)
@@ -100,7 +101,8 @@ class Conflicts(Shown, list[Conflicting]):
 
 
 class Repairs(Shown, list[Repair]):
-    """Repairs of what is believed, the cheapest first; all there are where it is `complete`.
+    """Repairs of what is believed: minimal sets of premises to give up so that the others fit, the
+    cheapest first. These are all there are where it is `complete`.
 
     >>> w = Workbench()
     >>> x = w.number("x", 0, 9)
