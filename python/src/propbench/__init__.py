@@ -1,7 +1,7 @@
 """propbench: propagator networks whose answers are proved, from Python.
 
 A `Workbench` has cells, expressions, and premises: `help(Workbench)` tells what it does, by what it
-is for. `w.project()` makes a `Project` of tasks and people, `w.measured()` a `Quantity` in a unit. A
+is for. `w.project()` makes a `Project` of tasks and people, `w.measured()` a `Quantity`. A
 `Session` is the program as an object.
 
     >>> w = Workbench()
