@@ -43,34 +43,26 @@ def first_lines() -> Optional[str]:
     return f"{odd}" if odd else None
 
 
-TYPED_TESTS = ["conftest", "documents", "driver", "first_start", "gate", "handbook", "lines"]
-TYPED_TESTS += ["networks"]
-TYPED_TESTS += ["package", "pages", "peers", "pipe", "points", "puzzles", "relations", "scripts"]
-TYPED_TESTS += ["searches", "solving", "spoiled_solving", "talking", "test_sessions", "versions"]
-TYPED_TESTS += ["changes", "changing", "questions", "spoiled_changing"]
-TYPED_TESTS += ["many_rules", "row_rules", "wide_puzzles", "wide_rules"]
-# Scripts and modules that are typed and laid out by black, by the folder that they are looked at
-# in.
+# Scripts and modules by the folder that they are looked at in: those that are typed, and those that
+# are laid out by black. (tools/python_gate looks at tests/.)
 TYPED = {
     "tools/start": ["*.py", "../../propbench", "../../propwide"],
     "tools/book": ["making.py", "../handbook"],
     "tools/deb": ["*.py", "../package"],
-    "tools": ["pipe_speed", "python_gate", "release", "steps"],
-    "tests": [f"{it}.py" for it in TYPED_TESTS],
+    "tools": ["build", "pipe_speed", "planted", "python_gate", "release", "steps", "timed"]
+    + ["unproved", "wrong_bodies"],
 }
-# (older modules of tests/ have no types)
+LAID_OUT = {"tools": [*os.listdir(f"{TOP}/tools"), "../propbench", "../propwide"]}
 MYPY = ["--strict", "--scripts-are-modules", "--follow-imports=silent"]
 MYPY += ["--cache-dir", f"{TOP}/out/mypy"]
 BLACK = ["--check", "--quiet", "--diff", "--line-length", "100"]
 
 
-def found_by(module: str, words: list[str]) -> Optional[str]:
+def found_by(module: str, words: list[str], looked_at: dict[str, list[str]]) -> Optional[str]:
     """What a module of Debian's Python finds in them, folder by folder, or None."""
-    env = {
-        **os.environ,
-        "MYPYPATH": ":".join(f"{TOP}/tools/{it}" for it in ("start", "book", "deb")),
-    }
-    for folder, patterns in TYPED.items():
+    paths = ("tools/start", "tools/book", "tools/deb", "python/planted")
+    env = {**os.environ, "MYPYPATH": ":".join(f"{TOP}/{it}" for it in paths)}
+    for folder, patterns in looked_at.items():
         place = f"{TOP}/{folder}"
         names = [it for each in patterns for it in sorted(glob.glob(each, root_dir=place))]
         command = ["/usr/bin/python3", "-m", module, *words, *names]
@@ -81,11 +73,11 @@ def found_by(module: str, words: list[str]) -> Optional[str]:
 
 
 def types_hold() -> Optional[str]:
-    return found_by("mypy", MYPY)
+    return found_by("mypy", MYPY, TYPED)
 
 
 def layout_holds() -> Optional[str]:
-    return found_by("black", BLACK)
+    return found_by("black", BLACK, LAID_OUT)
 
 
 def steps_tells() -> Optional[str]:

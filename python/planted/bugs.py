@@ -329,8 +329,8 @@ BUGS = [
     ),
     Bug(
         "questions/rooms.py",
-        "NumberRoom(point + 1, room.high)]",
-        "NumberRoom(point + 2, room.high)]",
+        "NumberRoom(point + 1, room.high),",
+        "NumberRoom(point + 2, room.high),",
         "cases::cases_have_each_number_once",
     ),
     Bug(

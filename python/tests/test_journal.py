@@ -294,14 +294,14 @@ def test_a_closed_terminal_is_a_cut(state: Path, monkeypatch: pytest.MonkeyPatch
 PAGE = """
 from propbench.files import OpenedFile
 from propbench.journal import Journal
-from propbench.page.asking import Asking
+from propbench.page.asking import ServedNetwork
 from propbench.running import RunAs
 from propbench.watching.opening import opened
 path = sys.argv[1]
 with opened(path, RunAs()) as watched:
     file = OpenedFile(path)
     file.journal = Journal("page", path, file.checksum)
-    asking = Asking(watched, path, file)
+    asking = ServedNetwork(watched, path, file)
     for premise in sys.argv[2:]:
         asking.do({"what": "believe", "premise": premise, "believed": False})
     kill()
