@@ -50,7 +50,7 @@ TYPED = {
     "tools/book": ["making.py", "../handbook"],
     "tools/deb": ["*.py", "../package"],
     "tools": ["build", "pipe_speed", "planted", "python_gate", "release", "steps", "timed"]
-    + ["unproved", "wrong_bodies"],
+    + ["growth", "unproved", "wrong_bodies"],
 }
 LAID_OUT = {"tools": [*os.listdir(f"{TOP}/tools"), "../propbench", "../propwide"]}
 MYPY = ["--strict", "--scripts-are-modules", "--follow-imports=silent"]
