@@ -43,26 +43,24 @@ def first_lines() -> Optional[str]:
     return f"{odd}" if odd else None
 
 
-# Scripts and modules by the folder that they are looked at in: those that are typed, and those that
-# are laid out by black. (tools/python_gate looks at tests/.)
-TYPED = {
+# What is typed and laid out by black, by the folder that it is looked at in. (tools/python_gate
+# looks at tests/.)
+LOOKED_AT = {
+    "tools": [it for it in os.listdir(f"{TOP}/tools") if os.path.isfile(f"{TOP}/tools/{it}")],
     "tools/start": ["*.py", "../../propbench", "../../propwide"],
-    "tools/book": ["making.py", "../handbook"],
-    "tools/deb": ["*.py", "../package"],
-    "tools": ["build", "pipe_speed", "planted", "python_gate", "release", "steps", "timed"]
-    + ["growth", "unproved", "wrong_bodies"],
+    "tools/book": ["making.py"],
+    "tools/deb": ["*.py"],
 }
-LAID_OUT = {"tools": [*os.listdir(f"{TOP}/tools"), "../propbench", "../propwide"]}
 MYPY = ["--strict", "--scripts-are-modules", "--follow-imports=silent"]
 MYPY += ["--cache-dir", f"{TOP}/out/mypy"]
 BLACK = ["--check", "--quiet", "--diff", "--line-length", "100"]
 
 
-def found_by(module: str, words: list[str], looked_at: dict[str, list[str]]) -> Optional[str]:
+def found_by(module: str, words: list[str]) -> Optional[str]:
     """What a module of Debian's Python finds in them, folder by folder, or None."""
     paths = ("tools/start", "tools/book", "tools/deb", "python/planted")
     env = {**os.environ, "MYPYPATH": ":".join(f"{TOP}/{it}" for it in paths)}
-    for folder, patterns in looked_at.items():
+    for folder, patterns in LOOKED_AT.items():
         place = f"{TOP}/{folder}"
         names = [it for each in patterns for it in sorted(glob.glob(each, root_dir=place))]
         command = ["/usr/bin/python3", "-m", module, *words, *names]
@@ -73,11 +71,11 @@ def found_by(module: str, words: list[str], looked_at: dict[str, list[str]]) -> 
 
 
 def types_hold() -> Optional[str]:
-    return found_by("mypy", MYPY, TYPED)
+    return found_by("mypy", MYPY)
 
 
 def layout_holds() -> Optional[str]:
-    return found_by("black", BLACK, LAID_OUT)
+    return found_by("black", BLACK)
 
 
 def steps_tells() -> Optional[str]:
