@@ -10,11 +10,10 @@ from propbench.model.answers import Answer
 from propbench.model.nodes import Declared
 from propbench.questions.asking import tried
 from propbench.questions.certificate import Certificate, Evidence
-from propbench.questions.checker import MOST
 from propbench.questions.clock import Clock, Progress
 from propbench.questions.model import Model
 from propbench.questions.outcomes import Fork
-from propbench.questions.rooms import NumberRoom
+from propbench.questions.rooms import NumberRoom, beyond
 from propbench.questions.trial import Trial
 from propbench.replies import Value
 
@@ -92,7 +91,7 @@ def find_shaved(
         line = trial.cell_line[name]
         sides = {
             str(outside): Fork(line, tuple(_cases(outside, begun, slices)))
-            for outside in (NumberRoom(-MOST, room.low - 1), NumberRoom(room.high + 1, MOST))
+            for outside in beyond(room)
         }
         certificate = _shown_to_fail(trial, believed, line, sides)
         return Shaved(**vars(told), complete=not clock.is_over(), _certificate=certificate)
@@ -121,10 +120,11 @@ def _cases(
 ) -> list[tuple[str, Fork | None]]:
     """What lies outside in cases: what one run leaves out, and the slices that were taken off."""
     cases: list[tuple[str, Fork | None]] = []
-    if outside.low == -MOST:
-        cases.append((str(NumberRoom(-MOST, begun.low - 1)), None))
+    below, above = beyond(begun)
+    if outside.low == below.low:
+        cases.append((str(below), None))
     else:
-        cases.append((str(NumberRoom(begun.high + 1, MOST)), None))
+        cases.append((str(above), None))
     for text, tree in slices:
         low = int(text.split("..")[0])
         if outside.low <= low <= outside.high:

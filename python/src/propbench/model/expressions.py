@@ -11,7 +11,7 @@ from operator import index
 from typing import NoReturn, SupportsIndex, TypeVar, cast, overload
 
 from propbench.model.definedness import has_value
-from propbench.model.kinds import MOST, Domain, Kind, Plain, Point, kind_text
+from propbench.model.kinds import Domain, Kind, Plain, Point, kind_text
 from propbench.model.meaning import value_of
 from propbench.model.nodes import (
     FALSE,
@@ -27,6 +27,7 @@ from propbench.model.nodes import (
 )
 from propbench.model.core import among
 from propbench.model.writing import text_of
+from propbench.words import MOST_NUMBER
 
 
 # A number is raised to so much at the most.
@@ -284,8 +285,8 @@ def _checked_number(value: object) -> int:
     if isinstance(value, bool) or not isinstance(value, (int, SupportsIndex)):
         raise TypeError(f"{value!r} is no whole number")
     number = index(value)
-    if abs(number) > MOST:
-        told = str(number) if abs(number) < MOST**3 else "a number of so many digits"
+    if abs(number) > MOST_NUMBER:
+        told = str(number) if abs(number) < MOST_NUMBER**3 else "a number of so many digits"
         raise ValueError(f"{told} lies beyond 10^18 either way")
     return number
 

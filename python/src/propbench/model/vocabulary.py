@@ -7,7 +7,7 @@ from propbench.model.naming import LineNames
 
 _PLAIN = {Plain.NUMBER: "span", Plain.TRUTH: "truth", Plain.SYMBOL: "symbol"}
 # Whether an expression over elements is one of some: the workbench's own domain.
-SIDES = Domain("_side", ("in", "out"))
+INSIDE = Domain("_side", ("in", "out"))
 
 
 class Vocabulary:
@@ -20,7 +20,7 @@ class Vocabulary:
         self.domains = LineNames(is_taken_as_name)
         self.symbols = LineNames(is_taken_as_name)
         self._elements: dict[Domain, LineNames] = {}
-        self._own: dict[tuple[str, ...], Domain] = {SIDES.elements: SIDES}
+        self._own: dict[tuple[str, ...], Domain] = {INSIDE.elements: INSIDE}
 
     def elements(self, domain: Domain) -> LineNames:
         """The names of a domain's elements."""

@@ -4,7 +4,6 @@ from collections.abc import Mapping, Sequence
 from dataclasses import dataclass, field, replace
 
 from propbench.questions.certificate import Certificate, Evidence
-from propbench.questions.checker import MOST
 from propbench.questions.model import Model, Plan
 from propbench.questions.outcomes import Cannot, Fits, Fork
 from propbench.questions.rooms import NumberRoom
@@ -13,6 +12,7 @@ from propbench.questions.shown import NOT_REFUTED
 from propbench.questions.searching import decided
 from propbench.questions.trial import Trial
 from propbench.showing import quoted
+from propbench.words import MOST_NUMBER
 
 LEAST, GREATEST = "least", "greatest"
 
@@ -124,18 +124,18 @@ class Bounding:
     @property
     def bound(self) -> int | None:
         """A number beyond which nothing fits, None where none is known."""
-        return None if self._low == -MOST else self._sign * self._low
+        return None if self._low == -MOST_NUMBER else self._sign * self._low
 
     @property
     def beyond_value(self) -> NumberRoom | None:
         """The values that are better than the best that was found, None where there are none."""
-        if self._best is None or self._best == -MOST:
+        if self._best is None or self._best == -MOST_NUMBER:
             return None
         return self.beyond(self._best - 1)
 
     def beyond(self, most: int) -> NumberRoom:
         """The values up to one, seen from this end."""
-        return NumberRoom(-MOST, most) if self._sign == 1 else NumberRoom(-most, MOST)
+        return NumberRoom(-MOST_NUMBER, most) if self._sign == 1 else NumberRoom(-most, MOST_NUMBER)
 
     def run(self, known: Fits | None = None) -> None:
         """Closes in on the optimum, until it is found or the time is over; from a plan, where one
@@ -152,7 +152,7 @@ class Bounding:
         value = fits.plan[self.cell]
         assert isinstance(value, int)
         self._best, self.fits = self._sign * value, fits
-        self.proved = self._best == -MOST
+        self.proved = self._best == -MOST_NUMBER
         self.trial.clock.tell(f"{self.cell}: {value} found, {self.bound} is the bound")
 
     def _close_in(self, best: int) -> bool:

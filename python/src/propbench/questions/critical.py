@@ -9,7 +9,6 @@ from propbench.questions.asking import CellLike, tried, tried_by, whole_named
 from propbench.questions.blaming import BlamedSets, Blaming, certificate_of, evidence_of
 from propbench.questions.bounding import GREATEST, LEAST, Bounding, Optimum, bounding_in
 from propbench.questions.certificate import Certificate, Evidence
-from propbench.questions.checker import MOST
 from propbench.questions.conflicts import Premises
 from propbench.questions.ends import Ending
 from propbench.questions.exploring import Exploring, Refuted
@@ -22,6 +21,7 @@ from propbench.questions.seeking import Claims, Seeker, Unlike, blames, seeks
 from propbench.questions.shown import NOT_REFUTED, Shown, shortened
 from propbench.questions.trial import Trial
 from propbench.values import Span
+from propbench.words import MOST_NUMBER
 
 
 @dataclass(frozen=True, repr=False)
@@ -213,9 +213,13 @@ def _critical_by(seeker: Seeker, cell: str, sort: str) -> Critical:
     def run() -> None:
         ending.run()
         value = ending.value
-        if value is None or abs(value) == MOST:
+        if value is None or abs(value) == MOST_NUMBER:
             return
-        room = NumberRoom(-MOST, value - 1) if sort == LEAST else NumberRoom(value + 1, MOST)
+        room = (
+            NumberRoom(-MOST_NUMBER, value - 1)
+            if sort == LEAST
+            else NumberRoom(value + 1, MOST_NUMBER)
+        )
         with seeker.supposing({seeker.lines[cell]: Span(room.low, room.high)}):
             beyond.append(room)
             blaming.ask("conflicts", 1)

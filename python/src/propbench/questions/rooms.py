@@ -6,11 +6,11 @@ A room is read from a reply, and written as a line says it: `3..5`, `{red blue}`
 from collections.abc import Sequence
 from dataclasses import dataclass
 
-from propbench.questions.checker import MOST, SIDES
 from propbench.values import Elements, Held, Span, Symbol
+from propbench.words import MOST_NUMBER, MOST_SIDES
 
 # A number with more values than this is not chosen digit by digit, but halved.
-_MOST_CHOSEN = SIDES**7
+_MOST_CHOSEN = MOST_SIDES**7
 
 
 @dataclass(frozen=True)
@@ -41,7 +41,12 @@ class NameRoom:
 
 
 Room = NumberRoom | NameRoom
-ALL_NUMBERS = NumberRoom(-MOST, MOST)
+ALL_NUMBERS = NumberRoom(-MOST_NUMBER, MOST_NUMBER)
+
+
+def beyond(room: NumberRoom) -> tuple[NumberRoom, NumberRoom]:
+    """The numbers below those of a room, and those above."""
+    return NumberRoom(-MOST_NUMBER, room.low - 1), NumberRoom(room.high + 1, MOST_NUMBER)
 
 
 def whole_room(elements: Sequence[str] | None, kind: str) -> Room | None:
@@ -70,20 +75,22 @@ def choices_in(room: Room) -> list[list[str]] | None:
     """The sides of choices that together leave one value of the room: of its values, or of rows and
     columns of names. None for more numbers, which are chosen by digits."""
     if isinstance(room, NumberRoom):
-        if len(room) > SIDES:
+        if len(room) > MOST_SIDES:
             return None
         return [[str(number) for number in range(room.low, room.high + 1)]]
     names = room.names
-    if len(names) <= SIDES:
+    if len(names) <= MOST_SIDES:
         return [list(names)]
-    rows = [names[i : i + SIDES] for i in range(0, len(names), SIDES)]
-    columns = [names[i::SIDES] for i in range(SIDES)]
+    rows = [names[i : i + MOST_SIDES] for i in range(0, len(names), MOST_SIDES)]
+    columns = [names[i::MOST_SIDES] for i in range(MOST_SIDES)]
     return [[str(Elements(part)) for part in parts] for parts in (rows, columns)]
 
 
 def digits_of(room: Room) -> int:
     """How many digits to the base of 8 tell the numbers of a room apart; 0 for too many numbers."""
-    return 0 if len(room) > _MOST_CHOSEN else next(n for n in range(8) if SIDES ** n >= len(room))
+    return (
+        0 if len(room) > _MOST_CHOSEN else next(n for n in range(8) if MOST_SIDES ** n >= len(room))
+    )
 
 
 def values_of(room: Room) -> list[Room]:

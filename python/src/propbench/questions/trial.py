@@ -10,7 +10,7 @@ from collections.abc import Callable, Collection, Iterable, Sequence
 from propbench.clock import Clock
 from propbench.closing import Closing
 from propbench.program import OutOfTime
-from propbench.questions.checker import MOST, digits
+from propbench.questions.checker import digits
 from propbench.questions.model import Model, Plan
 from propbench.questions.rooms import (
     NameRoom,
@@ -24,7 +24,7 @@ from propbench.questions.rooms import (
 )
 from propbench.replies import Contradiction, Reply, Settled, Unsettled, Value
 from propbench.values import Held, Nothing, Span
-from propbench.words import is_silent
+from propbench.words import MOST_NUMBER, is_silent
 
 # A run takes so many steps before the clock is looked at, and the trial has so many choices and
 # premises of its own at most.
@@ -32,7 +32,7 @@ _STEPS, _CHOICES, _CASES = 20_000, 64, 2000
 # So many choices are kept for cells.
 _KEPT = 8
 # Forks of which it isn't known how much room they leave come behind all others.
-_LAST = 4 * MOST
+_LAST = 4 * MOST_NUMBER
 # Of the cells that have more than one value, this part is covered before the next look.
 _PART = 3
 

@@ -17,7 +17,7 @@ from propbench.model.events import (
     ValueChoice,
     values_text,
 )
-from propbench.model.kinds import MOST, Plain, kind_text, point_text
+from propbench.model.kinds import Plain, kind_text, point_text
 from propbench.model.nodes import Declared, cells_in
 from propbench.model.reading import Reader
 from propbench.model.saving import saved
@@ -47,6 +47,7 @@ from propbench.watching.network import (
 )
 from propbench.watching.owned import Owned, is_use, wording_of
 from propbench.watching.steps import CallInWords, RunReading, Steps
+from propbench.words import MOST_NUMBER
 
 # What is said of a plan.
 PLAN = "Each constraint was evaluated on this plan."
@@ -247,8 +248,8 @@ def _declared(cell: Declared) -> StatedSeen:
         return StatedSeen(f"{cell.name} is {kind_text(cell.kind)}", cell.name)
     if (cell.low, cell.high) == (None, None):
         return StatedSeen(f"{cell.name} is a number")
-    low = -MOST if cell.low is None else cell.low
-    high = MOST if cell.high is None else cell.high
+    low = -MOST_NUMBER if cell.low is None else cell.low
+    high = MOST_NUMBER if cell.high is None else cell.high
     return StatedSeen(f"{cell.name} = {values_text(cell, (low, high))}", cell.name)
 
 
