@@ -11,6 +11,7 @@ from conftest import REPOSITORY
 
 SOURCES = Path(propbench.__file__).resolve().parent
 Function = ast.FunctionDef | ast.AsyncFunctionDef
+_FUNCTIONS = (ast.FunctionDef, ast.AsyncFunctionDef)
 TREES = {
     path.relative_to(SOURCES).as_posix(): ast.parse(path.read_text("utf-8"))
     for path in sorted(SOURCES.rglob("*.py"))
@@ -63,7 +64,7 @@ def functions_of(node: ast.AST, within: str = "") -> Iterator[tuple[str, Functio
         inside = within
         if isinstance(each, ast.ClassDef):
             inside = f"{within}{each.name}."
-        elif isinstance(each, Function):
+        elif isinstance(each, _FUNCTIONS):
             yield f"{within}{each.name}", each
         yield from functions_of(each, inside)
 
@@ -126,7 +127,8 @@ def test_a_name_stands_for_one_thing() -> None:
 
 def unused_of(tree: ast.Module) -> set[str]:
     """The names of a module's own, `_so`, that are never used in it."""
-    defined = {it.name for it in tree.body if isinstance(it, ast.ClassDef | Function)}
+    kinds = (ast.ClassDef, *_FUNCTIONS)
+    defined = {it.name for it in tree.body if isinstance(it, kinds)}
     for each in ast.walk(ast.Module([it for it in tree.body if isinstance(it, ast.Assign)], [])):
         if isinstance(each, ast.Name) and isinstance(each.ctx, ast.Store):
             defined.add(each.id)
