@@ -161,7 +161,10 @@ class Draw:
 
 def shrunk(acts: list[Act], is_wrong: Callable[[list[Act]], bool]) -> list[Act]:
     """What is left of the acts where as many are left out as leave something wrong: none of those
-    left can be left out by itself."""
+    left can be left out by itself.
+
+    (Hypothesis shrinks only what it has drawn itself. Given the chances of a session, `randoms()`,
+    it was not done after two minutes and a thousand runs, where this takes some ten seconds.)"""
     size = len(acts)
     while size:
         before, at = len(acts), 0

@@ -300,45 +300,53 @@ def pages_are_clean(program: str) -> Optional[str]:
     return f"propdesk.1 lacks {lacks}" if lacks else None
 
 
+# Has bash complete a line as it does at the key for it, and write what that gives.
 COMPLETES = """\
 . "$0"
-COMP_WORDS=("$@"); COMP_CWORD=$(($# - 1)); COMPREPLY=()
-$(complete -p "$1" | sed 's/.*-F \\([^ ]*\\) .*/\\1/') "$1" "${@: -1}" "${@: -2:1}"
+COMP_LINE=$1 COMP_POINT=${#1} COMP_TYPE=9 COMPREPLY=()
+command=${1%% *}
+$(complete -p "$command" | sed 's/.*-F \\([^ ]*\\) .*/\\1/') "$command"
 printf '%s\\n' "${COMPREPLY[@]}"
 """
 
 
-def offered(program: str, *words: str) -> list[str]:
-    """What bash offers in the place of the last word."""
-    file = f"{unpacked(program)}/usr/share/bash-completion/completions/{words[0]}"
-    return output_of("bash", "-c", COMPLETES, file, *words).split()
+def offered(program: str, line: str) -> list[str]:
+    """What bash offers at the end of a line."""
+    files = f"{unpacked(program)}/usr"
+    env = {
+        **os.environ,
+        "PATH": f"{files}/bin:/usr/bin:/bin",
+        "PYTHONPATH": f"{files}/lib/python3/dist-packages",
+        "PYTHONDONTWRITEBYTECODE": "1",
+    }
+    script = f"{files}/share/bash-completion/completions/{line.split(' ', maxsplit=1)[0]}"
+    return ran(["bash", "-c", COMPLETES, script, line], env=env).stdout.decode().split()
 
 
 def completion_offers(program: str) -> Optional[str]:
     """Options and orders of the program; and of propdesk what it can do."""
+    orders = ["fifo", "lifo", "mixed"]
     wanted = {
-        ("propbench", "--o"): ["--order"],
-        ("propbench", "--order", ""): ["fifo", "lifo", "mixed"],
-        ("propbench", "--order", "=", "m"): ["mixed"],
-        ("propbench", "--order", "lifo", "--s"): ["--seed"],
-        ("propbench", "--limit", ""): [],
-        ("propwide", "--order", ""): ["fifo", "lifo", "mixed"],
+        "propbench --o": ["--order"],
+        "propbench --order ": orders,
+        "propwide --order=m": ["mixed"],
+        "propwide --limit ": [],
+        "propdesk s": ["shell"],
+        "propdesk run some.prop --order ": orders,
+        "propdesk run --l": ["--limit"],
     }
-    for words, offers in wanted.items():
-        if offered(program, *words) != offers:
-            return f"{words}: {offered(program, *words)}, wanted {offers}"
-    told = re.findall(r"--\w+", ran([program, "--help"]).stdout.decode())
-    if offered(program, "propbench", "--") != told:
-        return f"{offered(program, 'propbench', '--')}, wanted {told}"
-    offers = offered(program, "propdesk", "")
-    if not {"run", "shell", "--help"} <= {*offers}:
-        return f"propdesk: {offers}"
-    offers = offered(program, "propdesk", "run", "some.prop", "--order", "")
-    if offers != ["fifo", "lifo", "mixed"] or offered(program, "propdesk", "run", "x"):
-        return f"propdesk run: {offers}"
-    if "--limit" not in offered(program, "propdesk", "run", "--l"):
-        return "propdesk run: no --limit"
+    for line, offers in wanted.items():
+        if (found := offered(program, line)) != offers:
+            return f"{line}: {found}, wanted {offers}"
     return None
+
+
+def lintian_is_silent(program: str) -> Optional[str]:
+    """Debian's lintian finds nothing in it that is wrong or doubtful."""
+    if not shutil.which("lintian"):
+        return "lintian isn't there: apt-get install lintian"
+    done = ran(["lintian", "--allow-root", package(program)])
+    return done.stdout.decode() or done.stderr.decode() or None
 
 
 # Lines of a session, and what stands under some column of them: the group, or nothing.
@@ -483,6 +491,7 @@ HOLDS: dict[str, Callable[[str], Optional[str]]] = {
     "links of the documents": links_hold,
     "man pages": pages_are_clean,
     "bash completion": completion_offers,
+    "lintian finds nothing": lintian_is_silent,
     "vim's colours": vim_colours,
     "pygments' lexers": pygments_knows,
     "nothing is left once it is removed": removed,

@@ -14,8 +14,9 @@ import re
 from dataclasses import dataclass, field, replace
 from itertools import product
 
-import drawn
 from typing import AbstractSet, Any, Callable, Collection, Iterator, Optional
+
+import drawn
 from drawn import OK, Exactly, Unending
 from formulas import (
     CLASH,

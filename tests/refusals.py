@@ -65,8 +65,14 @@ static int is_interrupted(void) {
 
 static long failed(int why) { *__errno_location() = why; return -1; }
 
-void *malloc(size n) { is_refused('c'); return is_refused('m') ? (failed(12), (void *)0) : __libc_malloc(n); }
-void *realloc(void *p, size n) { is_refused('c'); return is_refused('m') ? (failed(12), (void *)0) : __libc_realloc(p, n); }
+void *malloc(size n) {
+    is_refused('c');
+    return is_refused('m') ? (failed(12), (void *)0) : __libc_malloc(n);
+}
+void *realloc(void *p, size n) {
+    is_refused('c');
+    return is_refused('m') ? (failed(12), (void *)0) : __libc_realloc(p, n);
+}
 long read(int f, void *to, size n) {
     if (f != 0) return __read(f, to, n);
     if (is_interrupted()) return failed(4);
@@ -325,12 +331,14 @@ class EachCut(Refusals):
 HUNGRY = [
     "compounds: the same and by its fall",
     "choices: the second side where the first clashes, and back where that no longer does",
-    "choices: premises and sides that lie far apart: back over sixteen choices that clash with nothing",
+    "choices: premises and sides that lie far apart: "
+    "back over sixteen choices that clash with nothing",
     "compounds: a definition with a local cell, and what is refused",
     "compounds: elements that are alike",
     "cores: two that are needed, and one that is not",
     "forgetting: a contradiction, and one of its two premises is forgotten",
-    "forgetting: a choice goes back to its first side, and what was learned without the premise stays",
+    "forgetting: a choice goes back to its first side, "
+    "and what was learned without the premise stays",
 ]
 
 # The session on devices that fail.

@@ -43,22 +43,14 @@ def first_lines() -> Optional[str]:
     return f"{odd}" if odd else None
 
 
-TYPED_TESTS = ["conftest", "documents", "driver", "first_start", "gate", "handbook", "lines"]
-TYPED_TESTS += ["networks"]
-TYPED_TESTS += ["package", "pages", "peers", "pipe", "points", "puzzles", "relations", "scripts"]
-TYPED_TESTS += ["searches", "solving", "spoiled_solving", "talking", "test_sessions", "versions"]
-TYPED_TESTS += ["blaming", "changes", "changing", "asked", "spoiled_blaming", "spoiled_changing"]
-TYPED_TESTS += ["many_rules", "row_rules", "wide_puzzles", "wide_rules"]
-# Scripts and modules that are typed and laid out by black, by the folder that they are looked at
-# in.
-TYPED = {
+# What is typed and laid out by black, by the folder that it is looked at in. (tools/python_gate
+# looks at tests/.)
+LOOKED_AT = {
+    "tools": [it for it in os.listdir(f"{TOP}/tools") if os.path.isfile(f"{TOP}/tools/{it}")],
     "tools/start": ["*.py", "../../propbench", "../../propwide"],
-    "tools/book": ["making.py", "../handbook"],
-    "tools/deb": ["*.py", "../package"],
-    "tools": ["pipe_speed", "python_gate", "release", "steps"],
-    "tests": [f"{it}.py" for it in TYPED_TESTS],
+    "tools/book": ["making.py"],
+    "tools/deb": ["*.py"],
 }
-# (older modules of tests/ have no types)
 MYPY = ["--strict", "--scripts-are-modules", "--follow-imports=silent"]
 MYPY += ["--cache-dir", f"{TOP}/out/mypy"]
 BLACK = ["--check", "--quiet", "--diff", "--line-length", "100"]
@@ -66,11 +58,9 @@ BLACK = ["--check", "--quiet", "--diff", "--line-length", "100"]
 
 def found_by(module: str, words: list[str]) -> Optional[str]:
     """What a module of Debian's Python finds in them, folder by folder, or None."""
-    env = {
-        **os.environ,
-        "MYPYPATH": ":".join(f"{TOP}/tools/{it}" for it in ("start", "book", "deb")),
-    }
-    for folder, patterns in TYPED.items():
+    paths = ("tools/start", "tools/book", "tools/deb", "python/planted")
+    env = {**os.environ, "MYPYPATH": ":".join(f"{TOP}/{it}" for it in paths)}
+    for folder, patterns in LOOKED_AT.items():
         place = f"{TOP}/{folder}"
         names = [it for each in patterns for it in sorted(glob.glob(each, root_dir=place))]
         command = ["/usr/bin/python3", "-m", module, *words, *names]

@@ -24,10 +24,10 @@ sys.path += [str(PYTHON / "src")]
 
 from marco import Sets, marco  # noqa: E402
 from propbench import Workbench  # noqa: E402
-from propbench.flatzinc.blame import Asked, blamed  # noqa: E402
+from propbench.flatzinc.blame import BlameOptions, blamed  # noqa: E402
 from propbench.flatzinc.building import BLAMED, Built  # noqa: E402
 from propbench.flatzinc.compiling import Compiled, compiled  # noqa: E402
-from propbench.flatzinc.terms import Flat, Name, Term, Text  # noqa: E402
+from propbench.flatzinc.terms import Flat, FlatTerm, Name, Text  # noqa: E402
 from spent import Spent  # noqa: E402
 
 MODEL = PYTHON / "tests/models/projects/project.mzn"
@@ -84,18 +84,18 @@ class Translated:
             else:
                 self.solver.add(self.says(each.name, each.args))
 
-    def of(self, term: Term) -> z3.ExprRef:
+    def of(self, term: FlatTerm) -> z3.ExprRef:
         found = self.flat.resolved(term)
         if isinstance(found, bool):
             return z3.BoolVal(found)
         return self.known[found.text] if isinstance(found, Name) else z3.IntVal(found)
 
-    def all(self, term: Term) -> list[z3.ExprRef]:
+    def all(self, term: FlatTerm) -> list[z3.ExprRef]:
         found = self.flat.resolved(term)
         assert isinstance(found, tuple)
         return [self.of(each) for each in found]
 
-    def says(self, name: str, args: tuple[Term, ...]) -> z3.BoolRef:
+    def says(self, name: str, args: tuple[FlatTerm, ...]) -> z3.BoolRef:
         if name.endswith("_reif"):
             return self.of(args[-1]) == self.says(name[:-5], args[:-1])
         if name == "int_lin_le":
@@ -130,7 +130,7 @@ def ours(made: Compiled, most: float, count: int) -> tuple[Sets, Sets, bool]:
     """The same by the workbench, so many of each at the most."""
     with Workbench() as workbench:
         built = Built(made.flat, workbench)
-        conflicts, repairs = blamed(built, made, Asked(most=count, seconds=most))
+        conflicts, repairs = blamed(built, made, BlameOptions(most=count, seconds=most))
         found = {frozenset(each) for each in conflicts}, {frozenset(each) for each in repairs}
         return (*found, repairs.complete)
 

@@ -57,8 +57,8 @@ def skills_of(seed: int, tasks: int = 40, people: int = 8) -> Asked:
 def absences_of(
     seed: int, tasks: int = 30, people: int = 4, aways: int = 12, either: int = 1
 ) -> Asked:
-    """Tasks of people who are away now and then, of which they hear in the end; each by whoever of so
-    many suits best."""
+    """Tasks of people who are away now and then, of which they hear in the end; each by whoever of
+    so many suits best."""
     draw, w = random.Random(seed), Workbench()
     names = [f"p{number}" for number in range(people)]
     p = w.project(days=200, people=names)

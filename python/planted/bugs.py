@@ -213,8 +213,8 @@ BUGS = [
     # Choices, premises and answers.
     Bug(
         "model/choosing.py",
-        "sides[0] * SIDES + sides[1]",
-        "sides[1] * SIDES + sides[0]",
+        "sides[0] * MOST_SIDES + sides[1]",
+        "sides[1] * MOST_SIDES + sides[0]",
         "workbench::many_alternatives",
     ),
     Bug(
@@ -298,8 +298,8 @@ BUGS = [
     ),
     Bug(
         "model/answers.py",
-        "None if value.low == -MOST else value.low",
-        "None if value.low == MOST else value.low",
+        "None if value.low == -MOST_NUMBER else value.low",
+        "None if value.low == MOST_NUMBER else value.low",
         "workbench::ends_that_are_not_known",
     ),
     # Questions.
@@ -329,14 +329,14 @@ BUGS = [
     ),
     Bug(
         "questions/rooms.py",
-        "Numbers(point + 1, room.high)]",
-        "Numbers(point + 2, room.high)]",
+        "NumberRoom(point + 1, room.high),",
+        "NumberRoom(point + 2, room.high),",
         "cases::cases_have_each_number_once",
     ),
     Bug(
         "questions/rooms.py",
-        "Numbers(middle + 1, room.high)]",
-        "Numbers(middle + 2, room.high)]",
+        "NumberRoom(middle + 1, room.high)]",
+        "NumberRoom(middle + 2, room.high)]",
         "cases::cases_have_each_number_once",
     ),
     Bug(

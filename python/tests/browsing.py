@@ -40,7 +40,8 @@ def new_browser() -> Any:
     lacking = [name for name in (_DRIVER, _BROWSER) if not shutil.which(name)]
     if lacking:
         pytest.fail(
-            f"the page's tests need {' and '.join(lacking)}: apt-get install chromium chromium-driver"
+            f"the page's tests need {' and '.join(lacking)}:"
+            " apt-get install chromium chromium-driver"
         )
     options = Options()
     for word in ("headless=new", "no-sandbox", "disable-dev-shm-usage", "disable-gpu"):

@@ -43,7 +43,6 @@ EVIDENCE: dict[str, Any] = {
     ],
     "trees": [],
 }
-FORK = ["hue", [["red", None], ["green", {**PLAN, "hue": "green"}]]]
 SETS = {"given": ["Ana", "cheap", "evil"], "keep": [], "told": [], "full": True}
 HONEST: dict[str, list[Any]] = {
     "fits": ["fits", {"given": ["Ana"], "told": [["cost", "0..7"], ["hue", "{green red}"]]}],

@@ -326,7 +326,7 @@ class Standing:
             self.say(f"{person} does one thing at a time", bound, True)
 
     def _days_off(self, person: str, doing: Sequence[str]) -> list[Recipe]:
-        """How many days before the end somebody is away, from each end of an absence to the next."""
+        """How many days before the end somebody is away, from an absence's ends to the next."""
         p, found = self._project(), list[Recipe]()
         aways = list(dict.fromkeys(each for each in p.away if each[0] == person))
         ends = sorted({day for each in aways for day in each[1:3]})

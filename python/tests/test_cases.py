@@ -8,8 +8,8 @@ from propbench import Session, Workbench
 from propbench.model.shrinking import shrunk
 from propbench.questions.checker import covers
 from propbench.questions.rooms import (
-    Names,
-    Numbers,
+    NameRoom,
+    NumberRoom,
     Room,
     around,
     choices_in,
@@ -24,18 +24,18 @@ ENDS = [(low, high) for low in range(-2, 6) for high in range(low, 6)]
 def numbers_in(rooms: list[Room]) -> list[int]:
     """All numbers of some rooms, in order."""
     return sorted(
-        n for room in rooms if isinstance(room, Numbers) for n in range(room.low, room.high + 1)
+        n for room in rooms if isinstance(room, NumberRoom) for n in range(room.low, room.high + 1)
     )
 
 
 def test_cases_have_each_number_once() -> None:
     for low, high in ENDS:
-        room, wanted = Numbers(low, high), list(range(low, high + 1))
+        room, wanted = NumberRoom(low, high), list(range(low, high + 1))
         assert len(room) == len(wanted) and numbers_in(values_of(room)) == wanted
         for value in wanted:
             assert numbers_in(around(room, str(value))) == wanted
             for last in range(value, high + 1):
-                parts = halves(room, Numbers(value, last))
+                parts = halves(room, NumberRoom(value, last))
                 assert numbers_in(parts) == wanted
                 # (both are smaller, where what is held is more than one number)
                 assert value == last or all(len(part) < len(room) for part in parts)
@@ -43,11 +43,11 @@ def test_cases_have_each_number_once() -> None:
 
 def test_cases_have_each_name_once() -> None:
     for count in range(2, 20):
-        room = Names(tuple(f"n{number}" for number in range(count)))
+        room = NameRoom(tuple(f"n{number}" for number in range(count)))
         for some in ([room.names[0]], [room.names[-1]], room.names[: count // 2]):
-            parts = [*around(room, some[0])], halves(room, Names((*some, room.names[-1])))
+            parts = [*around(room, some[0])], halves(room, NameRoom((*some, room.names[-1])))
             for each in parts:
-                names = [name for part in each if isinstance(part, Names) for name in part.names]
+                names = [name for part in each if isinstance(part, NameRoom) for name in part.names]
                 assert sorted(names) == sorted(room.names)
         chosen = choices_in(room)
         assert chosen
@@ -58,7 +58,7 @@ def test_cases_have_each_name_once() -> None:
 
 def test_digits_tell_numbers_apart() -> None:
     for size in (2, 8, 9, 64, 65, 512, 513):
-        needed = digits_of(Numbers(5, 4 + size))
+        needed = digits_of(NumberRoom(5, 4 + size))
         assert 8**needed >= size > 8 ** (needed - 1)
 
 

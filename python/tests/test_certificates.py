@@ -405,7 +405,8 @@ def test_what_is_claimed_is_told_in_words(
         "price = 300; days = 5,"
     )
     assert told("table", "plan")[1] == (
-        "- With Ana and cheap, the program is asked where days = 7..9, and answers cost = 2100..2400."
+        "- With Ana and cheap, the program is asked where days = 7..9, "
+        "and answers cost = 2100..2400."
     )
     assert any("--base FILE compares" in line for line in told("least"))
     assert told("least", "all")[0] == (

@@ -21,7 +21,7 @@ from conftest import REPOSITORY
 from propbench import Session, Workbench
 from propbench.files import ChangedSince, OpenedFile, write_file
 from propbench.flatzinc.picture import draw
-from propbench.page.asking import Asking
+from propbench.page.asking import ServedNetwork
 from propbench.shell import Shell
 from propbench.watching.of_session import SessionWatched
 from propbench.watching.of_workbench import WorkbenchWatched
@@ -99,7 +99,7 @@ def draw_from_shell(path: Path) -> None:
 
 def save_from_page(path: Path) -> None:
     with long_workbench() as w:
-        asking = Asking(WorkbenchWatched(w), "plan", OpenedFile(str(path)))
+        asking = ServedNetwork(WorkbenchWatched(w), "plan", OpenedFile(str(path)))
         try:
             asking.do({"what": "save"})
         except ValueError as error:
@@ -321,16 +321,16 @@ def test_a_file_of_which_the_shell_has_a_part_is_not_lost(tmp_path: Path) -> Non
 
 
 @pytest.fixture
-def asking(tmp_path: Path) -> Iterator[Asking]:
+def asking(tmp_path: Path) -> Iterator[ServedNetwork]:
     """What a page of a file asks."""
     (tmp_path / "plan.prop").write_text("cell x span\ntell ana x 3\n")
     with Session() as session:
         session.send_all(["cell x span", "tell ana x 3"])
         watched = SessionWatched(session, session.lines)
-        yield Asking(watched, "plan.prop", OpenedFile(str(tmp_path / "plan.prop")))
+        yield ServedNetwork(watched, "plan.prop", OpenedFile(str(tmp_path / "plan.prop")))
 
 
-def test_the_page_sees_a_change(asking: Asking, tmp_path: Path) -> None:
+def test_the_page_sees_a_change(asking: ServedNetwork, tmp_path: Path) -> None:
     path = tmp_path / "plan.prop"
     asking.do({"what": "believe", "premise": "ana", "believed": False})
     path.write_text("cell x span\ntell ana x 4\n")
@@ -350,7 +350,7 @@ def test_the_page_sees_a_change(asking: Asking, tmp_path: Path) -> None:
     assert path.read_text() == "cell x span\ntell ana x 4\n"
 
 
-def test_the_page_overwrites_by_a_word(asking: Asking, tmp_path: Path) -> None:
+def test_the_page_overwrites_by_a_word(asking: ServedNetwork, tmp_path: Path) -> None:
     path = tmp_path / "plan.prop"
     path.write_text("cell y span\n")
     assert asking.do({"what": "save", "overwrite": "yes"})["saved"] is None
@@ -365,7 +365,7 @@ def test_a_page_of_standard_input_asks_for_a_name(
     with Session() as session:
         session.send("cell x span")
         watched = SessionWatched(session, session.lines)
-        asking = Asking(watched, "standard input", OpenedFile("-"))
+        asking = ServedNetwork(watched, "standard input", OpenedFile("-"))
         told = asking.do({"what": "save"})
         assert (told["saved"], told["says"]) == (None, "What shall the file be called?")
         assert os.listdir(tmp_path) == []

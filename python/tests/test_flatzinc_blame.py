@@ -16,7 +16,7 @@ from propbench.flatzinc.building import Built
 from propbench.flatzinc.compiling import compiled
 from propbench.flatzinc.grammar import read
 from propbench.flatzinc.marking import label_of, marked, relaxed
-from propbench.questions.conflicts import find_both
+from propbench.questions.conflicts import SetSearch, find_both
 
 Sets = set[frozenset[str]]
 
@@ -55,7 +55,7 @@ def test_conflicts_and_repairs_are_those_of_brute_force(program: str, drawn: Dra
     right = conflicts_and_repairs(drawn)
     with Workbench(program) as workbench:
         Built(read(with_marks(drawn)), workbench)
-        conflicts, repairs = find_both(workbench.model, {}, [], 1000, None)
+        conflicts, repairs = find_both(workbench.model, SetSearch(1000))
     assert conflicts.complete and repairs.complete
     assert {frozenset(each) for each in conflicts} == right[0]
     assert {frozenset(each) for each in repairs} == right[1]

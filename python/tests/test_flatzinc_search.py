@@ -16,7 +16,7 @@ from propbench import Workbench
 from propbench.flatzinc.building import Built
 from propbench.flatzinc.command import main
 from propbench.flatzinc.grammar import read
-from propbench.flatzinc.seeking import Way
+from propbench.flatzinc.seeking import SearchWay
 from propbench.flatzinc.solving import Wanted, solve
 
 # The longest of ten sticks that a truck of 100 takes together: so many choices that one by one
@@ -84,7 +84,7 @@ def test_each_better_one_is_told(wide: str) -> None:
     told: list[object] = []
     with Workbench(wide) as workbench:
         found = solve(
-            Built(read(ruler(6, 40)), workbench), Wanted(way=Way(is_each=True)), told.append
+            Built(read(ruler(6, 40)), workbench), Wanted(way=SearchWay(is_each=True)), told.append
         )
     lengths = [plan["m5"] for plan in found.plans]
     # (17 is the length of the best ruler of six marks)

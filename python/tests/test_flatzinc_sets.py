@@ -96,7 +96,8 @@ def test_sets_are_printed_as_minizinc_does(
     )
     assert main([str(file), "--program", program]) == 0
     assert capsys.readouterr().out == (
-        "s = {2,5};\nt = 1..3;\nu = {};\nall = array2d(1..2,0..1,[{2,5},1..3,{},7..7]);\n----------\n"
+        "s = {2,5};\nt = 1..3;\nu = {};\n"
+        "all = array2d(1..2,0..1,[{2,5},1..3,{},7..7]);\n----------\n"
     )
 
 
@@ -165,8 +166,9 @@ class TestByMiniZinc:
     @pytest.mark.parametrize("name", GLOBALS)
     def test_a_global_by_the_library(self, program: str, tmp_path: Path, name: str) -> None:
         constraint, is_right = GLOBALS[name]
-        text = f'include "globals.mzn";\narray[1..2] of var set of 1..3: s;\nconstraint {constraint};\n'
-        found = self.run(program, tmp_path, text + "solve satisfy;\n", "-a")
+        text = 'include "globals.mzn";\narray[1..2] of var set of 1..3: s;\n'
+        text += f"constraint {constraint};\nsolve satisfy;\n"
+        found = self.run(program, tmp_path, text, "-a")
         pairs = {tuple(map(_elements, each["s"])) for each in found}  # type: ignore
         sets = [frozenset(n for n in (1, 2, 3) if bits >> n & 1) for bits in range(0, 16, 2)]
         assert len(found) == len(pairs)

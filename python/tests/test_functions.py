@@ -285,7 +285,7 @@ def test_where_a_function_has_no_value(w: Workbench) -> None:
         (y == y ** Fraction(1, 3), "where that is less than 0, and it may be -5..5"),
         (
             y == p.sin(x),
-            "`sin(x)` can't be told for `x` over more than 16 half turns, and it may be 0..500: give",
+            "`sin(x)` can't be told for `x` over more than 16 half turns, and it may be 0..500: ",
         ),
         (y == steps(x), "for `x` beyond its points, which reach over 1..2, and it may be 0..500"),
         (

@@ -65,7 +65,8 @@ HOW = [
         ),
     ),
     (
-        "how 4\nsides:\nd = {tue wed} because because\ntold: because\nd = {tue wed} because because",
+        "how 4\nsides:\nd = {tue wed} because because\n"
+        "told: because\nd = {tue wed} because because",
         How(
             (),
             "d",

@@ -21,7 +21,7 @@ from propbench import journal as journals
 from propbench.desk import main
 from propbench.files import OpenedFile
 from propbench.journal import Journal, left
-from propbench.page.asking import Asking
+from propbench.page.asking import ServedNetwork
 from propbench.shell import Shell
 from propbench.watching import SeenNow, Watched
 
@@ -294,14 +294,14 @@ def test_a_closed_terminal_is_a_cut(state: Path, monkeypatch: pytest.MonkeyPatch
 PAGE = """
 from propbench.files import OpenedFile
 from propbench.journal import Journal
-from propbench.page.asking import Asking
+from propbench.page.asking import ServedNetwork
 from propbench.running import RunAs
 from propbench.watching.opening import opened
 path = sys.argv[1]
 with opened(path, RunAs()) as watched:
     file = OpenedFile(path)
     file.journal = Journal("page", path, file.checksum)
-    asking = Asking(watched, path, file)
+    asking = ServedNetwork(watched, path, file)
     for premise in sys.argv[2:]:
         asking.do({"what": "believe", "premise": premise, "believed": False})
     kill()
@@ -331,12 +331,12 @@ def served(monkeypatch: pytest.MonkeyPatch) -> Served:
     """Runs `propdesk page` with these words, but for the server, and gives what it was to serve."""
 
     def run(
-        *words: str, does: Callable[[Asking], object] = lambda asking: None
+        *words: str, does: Callable[[ServedNetwork], object] = lambda asking: None
     ) -> dict[str, object]:
         found: dict[str, object] = {}
 
         def serve(watched: Watched, title: str, *, path: OpenedFile, port: int) -> None:
-            asking = Asking(watched, title, path)
+            asking = ServedNetwork(watched, title, path)
             found.update(asking.state())
             does(asking)
 
@@ -367,7 +367,7 @@ def test_a_page_goes_on_after_a_kill(
 def test_a_change_is_kept_before_it_is_looked_what_follows(
     plan: str, served: Served, state: Path, monkeypatch: pytest.MonkeyPatch
 ) -> None:
-    def change(asking: Asking) -> None:
+    def change(asking: ServedNetwork) -> None:
         kept: list[bool] = []
 
         def look() -> SeenNow:
@@ -391,7 +391,7 @@ def test_a_page_goes_on_from_what_it_has_saved(
 ) -> None:
     """Also under another name."""
 
-    def change(asking: Asking) -> None:
+    def change(asking: ServedNetwork) -> None:
         asking.do({"what": "believe", "premise": "ana", "believed": False})
         assert asking.do({"what": "save"})["saved"] == plan
         asking.do({"what": "believe", "premise": "ben", "believed": False})
@@ -413,7 +413,7 @@ def test_a_page_that_goes_on_sees_what_another_changed(
     changed = Path(plan).read_text() + "# of somebody else\n"
     Path(plan).write_text(changed)
 
-    def save(asking: Asking) -> None:
+    def save(asking: ServedNetwork) -> None:
         told = asking.do({"what": "save"})
         assert told["saved"] is None and "- # of somebody else" in str(told["difference"])
 

@@ -46,7 +46,8 @@ def test_a_notebook(environment: None) -> None:
     shown = outputs(
         [
             "%load_ext propbench.notebook",
-            "%%propbench\ncell x span\ncell y span\n# twice\nattach adder x x y\ntell ana x 3..5\nwhy y",
+            "%%propbench\ncell x span\ncell y span\n# twice\n"
+            "attach adder x x y\ntell ana x 3..5\nwhy y",
             "%%propbench\nask x\nkick anna\nask y",
             "%%propbench other\nworldview",
             "(session.lines, str(other.send('settle')))",

@@ -392,7 +392,8 @@ def test_the_keyboard(example: Shown) -> None:
     drawing.send_keys("0")
     unnamed = example.js(
         "return [...document.querySelectorAll('button, input, a, summary')].filter(it =>"
-        " it.offsetParent && !(it.textContent.trim() || it.ariaLabel || (it.labels && it.labels.length)))"
+        " it.offsetParent && !(it.textContent.trim() || it.ariaLabel"
+        " || (it.labels && it.labels.length)))"
         ".map(it => it.outerHTML)"
     )
     assert unnamed == []

@@ -174,8 +174,8 @@ def test_days_off_count_in_what_is_left() -> None:
 
 
 def test_each_plan_is_told_once() -> None:
-    """Of two tasks of a day with days off, also where these are given up: what bounds the end has no
-    values of its own."""
+    """Of two tasks of a day with days off, also where these are given up: what bounds the end has
+    no values of its own."""
     with Workbench() as w:
         p = w.project(days=5, people="ana")
         p.resource("hall", 2)

@@ -78,7 +78,7 @@ def test_numbers_stand_where_there_are_no_dates() -> None:
             "  who  does\n"
             "  ana  0 to 3 letter"
         )
-        with pytest.raises(ValueError, match="no calendar, so no dates: give w.plan a start"):
+        with pytest.raises(ValueError, match="no calendar, so no dates: give w.project a start"):
             w.least(p.end).to_ics()
 
 

@@ -211,10 +211,13 @@ def test_what_ifs(ran: Ran, tmp_path: Path) -> None:
     path.write_text("task,days,who,after,cost\nfloor,3,Ben,,\npaint,2,Ana,floor,70\n")
     days = ["--start", "2026-03-06", "--off", "weekends"]
     told = {
-        "ben ill 9-10 March": "on Mon 16 Mar 2026.\n2 tasks moved, and all is done 2 days of work la",
-        "Floor takes 1": "on Tue 10 Mar 2026.\n2 tasks moved, and all is done 2 days of work sooner:",
+        "ben ill 9-10 March": "on Mon 16 Mar 2026.\n"
+        "2 tasks moved, and all is done 2 days of work later:",
+        "Floor takes 1": "on Tue 10 Mar 2026.\n"
+        "2 tasks moved, and all is done 2 days of work sooner:",
         "floor takes 3 days": "on Thu 12 Mar 2026.\nNothing moved.",
-        "paint not before 12 March": "on Fri 13 Mar 2026.\n1 task moved, and all is done 1 day of wo",
+        "paint not before 12 March": "on Fri 13 Mar 2026.\n"
+        "1 task moved, and all is done 1 day of work later:",
         "without paint after floor": "on Tue 10 Mar 2026.\n1 task moved, and all is done 2 days of",
     }
     for text, says in told.items():

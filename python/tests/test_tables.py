@@ -85,7 +85,8 @@ def test_a_table_states_what_reads_would(w: Workbench, table: Callable[[str], Pa
 @pytest.mark.parametrize(
     "text",
     [
-        "\ufeffQuantity;Value;UNIT;uncertainty\r\nmass;100,0;g;0,2\r\n;;;\r\nvolume;7,0 +- 0,1;;\r\n",
+        "\ufeffQuantity;Value;UNIT;uncertainty\r\n"
+        "mass;100,0;g;0,2\r\n;;;\r\nvolume;7,0 +- 0,1;;\r\n",
         "quantity\tvalue\tunit\tuncertainty\t\nmass\t100,0\tg\t0,2\t\nvolume\t7,0\tcm3\t0,1\t\n",
     ],
 )
@@ -165,7 +166,7 @@ def test_ten_thousand_readings_of_a_hundred_quantities() -> None:
 WRONG = {
     "mass,100,0,g,0.2,b": "row 2: it has 6 cells, and the head 5",
     '"mass","100,0",g,0.2,b': "row 2, column `value`: '100,0': write a point, or read it with `dec",
-    "mas,100.0,g,0.2,b": "row 2, column `quantity`: no quantity is called `mas`: did you mean `mass`?",
+    "mas,100.0,g,0.2,b": "row 2, column `quantity`: no quantity is called `mas`: did you mean `ma",
     ",100.0,g,0.2,b": "row 2, column `quantity`: the cell is empty",
     "mass,,g,0.2,b": "row 2, column `value`: the cell is empty",
     "mass,100.0,cm,0.2,b": "row 2, column `unit`: '100.0 cm",
@@ -174,7 +175,7 @@ WRONG = {
     "mass,100.0,g,little,b": "row 2, column `uncertainty`: ",
     "mass,some,g,0.2,b": "row 2, column `value`: ",
     "mass,100.0 g,g,,b": "row 2, column `unit`: the value has its unit with it",
-    'mass,100.0,g,"0,5",b': "row 2, column `uncertainty`: '0,5': write a point, or read it with `dec",
+    'mass,100.0,g,"0,5",b': "row 2, column `uncertainty`: '0,5': write a point, or read it with ",
     'mass,"1,234.5",g,1,b': "row 2, column `value`: '1,234.5': leave out what stands between thou",
     "mass,1.0,g,,b\nmass,1.0,g,,b": "row 3, column `premise`: `b` is that of row 2 too",
     "mass,1.0,g,,venue": "row 2, column `premise`: `venue` is a choice",

@@ -12,7 +12,7 @@ from hypothesis import strategies as st
 from propbench import Conflict, Refused, Session, Workbench
 from propbench.desk import main
 from propbench.flatzinc.picture import dot_of
-from propbench.questions.conflicts import find_both
+from propbench.questions.conflicts import SetSearch, find_both
 from propbench.shell import Shell
 from propbench.showing import cut, printable
 
@@ -152,7 +152,7 @@ def test_blame_and_its_picture_have_none(
         w.tell(NAME, x, 3)
         w.tell("other", x, 4)
         assert is_clean(w.picture().dot)
-        assert is_clean(dot_of(*find_both(w.model, {}, [], 10, None), {NAME: NAME}))
+        assert is_clean(dot_of(*find_both(w.model, SetSearch(10)), {NAME: NAME}))
         with pytest.raises(Conflict) as found:
             x.ask()
         assert is_clean(str(found.value))

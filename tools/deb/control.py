@@ -1,19 +1,17 @@
-"""What Debian's installer reads of the package: what it is, what it needs, what it does besides."""
-import hashlib
-import re
+"""The folder debian/ of the package, and what Debian's debhelper makes of it."""
+
+import email.utils
+import glob
+import os
+import shutil
 import subprocess
+import textwrap
 
-from proved import PROGRAMS
+import tree
+from manual import TOP
 
-MAINTAINER = "Weirnoos maintainers <maintainers@users.noreply.weirnoos.example>"
-SAYS = """\
- Cells gather partial information, procedures between them carry it in every
- direction, and each piece keeps the premises that it rests on: after the
- propagator networks of Radul and Sussman. One line in, one reply out: what
- follows, why, from which premises that could not be left out, which of them
- can't all hold, and which of several choices fit.
- .
-"""
+# What stands in it whatever is packaged: the fields, the copyright, and how it is made.
+FOLDER = f"{TOP}/tools/deb/debian"
 PROVED = """\
  Every answer is proved: the programs in this package were built only once each
  of their functions was proved to meet its contract.
@@ -22,64 +20,47 @@ UNPROVED = """\
  A program in this package is NOT the proved one: it was given to the packager
  as a file, so nothing is known of how it was built.
 """
-COMPILES = """\
-#!/bin/sh
-set -e
-if [ "$1" = configure ] && command -v py3compile >/dev/null 2>&1; then
-    py3compile -p propbench
-fi
-"""
-CLEANS = """\
-#!/bin/sh
-set -e
-if command -v py3clean >/dev/null 2>&1; then
-    py3clean -p propbench
-fi
+CHANGES = """\
+propbench ({version}) unstable; urgency=medium
+
+{changes}
+
+ -- {maintainer}  {date}
 """
 
 
-def needs(files: dict[str, bytes]) -> str:
-    """The packages that have to be there, the C library as new as the programs' symbols ask for."""
-    programs = b"".join(files.get(f"usr/bin/{it}", b"") for it in PROGRAMS)
-    found = re.findall(rb"GLIBC_(\d+)\.(\d+)\b", programs)
-    newest = max((int(major), int(minor)) for major, minor in found)
-    return f"libc6 (>= {newest[0]}.{newest[1]}), python3 (>= 3.10)"
-
-
-def architecture() -> str:
-    words = ["dpkg", "--print-architecture"]
-    return subprocess.run(words, capture_output=True, text=True, check=True).stdout.strip()
-
-
-def control(files: dict[str, bytes], version: str, is_proved: bool) -> str:
-    """The file control. Its size is in kilobytes, each file rounded up, as Debian wants it."""
-    fields = {
-        "Package": "propbench",
-        "Version": version,
-        "Architecture": architecture(),
-        "Maintainer": MAINTAINER,
-        "Installed-Size": sum(-(-len(it) // 1024) for it in files.values()),
-        "Depends": needs(files),
-        "Recommends": "graphviz, python3-mpmath, python3-prompt-toolkit, python3-pygments",
-        "Suggests": "jupyter-notebook, minizinc, python3-odf, python3-openpyxl, python3-scipy",
-        "Section": "math",
-        "Priority": "optional",
-        "Description": "workbench for propagator networks with truth maintenance",
+def laid_out(build: tree.Build, room: str) -> None:
+    """Puts all that debhelper reads into a folder: debian/, and what the package holds in tree/."""
+    tree.laid_out(tree.files(build), f"{room}/tree", build.moment)
+    shutil.copytree(FOLDER, f"{room}/debian")
+    os.chmod(f"{room}/debian/rules", 0o755)
+    with open(f"{room}/debian/control", "a+", encoding="utf-8") as it:
+        it.write(PROVED if build.is_proved else UNPROVED)
+        it.seek(0)
+        maintainer = it.read().partition("\nMaintainer: ")[2].partition("\n")[0]
+    told = {
+        "version": build.version,
+        "changes": textwrap.fill(f"  * {build.changes}", 78, subsequent_indent="    "),
+        "maintainer": maintainer,
+        "date": email.utils.formatdate(build.moment),
     }
-    told = "".join(f"{name}: {value}\n" for name, value in fields.items())
-    return told + SAYS + (PROVED if is_proved else UNPROVED)
+    with open(f"{room}/debian/changelog", "w", encoding="utf-8") as it:
+        it.write(CHANGES.format(**told))
 
 
-def sums(files: dict[str, bytes]) -> str:
-    return "".join(f"{hashlib.md5(text).hexdigest()}  {path}\n" for path, text in files.items())
+def packed(build: tree.Build, room: str) -> str:
+    """The path of the package that is made of a build within an empty folder.
 
-
-def of_package(files: dict[str, bytes], version: str, is_proved: bool) -> dict[str, bytes]:
-    """The files of DEBIAN/, by their paths."""
-    found = {
-        "control": control(files, version, is_proved),
-        "md5sums": sums(files),
-        "postinst": COMPILES,
-        "prerm": CLEANS,
-    }
-    return {f"DEBIAN/{name}": text.encode() for name, text in found.items()}
+    Errors: OSError with what debhelper said, or where a page of the manual or the handbook can't be
+    made."""
+    source = f"{room}/propbench"
+    os.makedirs(source)
+    laid_out(build, source)
+    environment = {**os.environ, "SOURCE_DATE_EPOCH": str(build.moment), "LC_ALL": "C.UTF-8"}
+    done = subprocess.run(
+        ["debian/rules", "binary"], cwd=source, env=environment, capture_output=True, text=True
+    )
+    made = glob.glob(f"{room}/*.deb")
+    if done.returncode or len(made) != 1:
+        raise OSError(done.stderr.strip() or done.stdout.strip())
+    return made[0]

@@ -1,16 +1,13 @@
 """What the package holds: each path in it, and the bytes that stand there."""
 import glob
-import gzip
 import hashlib
 import json
 import os
-import stat
 import subprocess
 import tempfile
 import tomllib
 from dataclasses import dataclass
 
-import completion
 import making
 import manual
 from manual import TOP, document
@@ -44,11 +41,8 @@ from propbench.flatzinc.command import main
 
 sys.exit(main())
 """
-COPYRIGHT = """\
-Format: https://www.debian.org/doc/packaging-manuals/copyright-format/1.0/
-Upstream-Name: propbench
-Comment: The repository of propbench names no licence.
-"""
+# What MiniZinc calls where the package is of Python alone, which installs no manual either.
+ELSEWHERE = "flatzinc/fzn-propbench"
 
 
 @dataclass
@@ -68,11 +62,6 @@ class Build:
 def read(path: str) -> bytes:
     with open(path, "rb") as it:
         return it.read()
-
-
-def packed(text: str | bytes) -> bytes:
-    """A text by gzip, without the name and the time that it would bear."""
-    return gzip.compress(text.encode() if isinstance(text, str) else text, 9, mtime=0)
 
 
 def tracked(folder: str, pattern: str) -> list[str]:
@@ -108,15 +97,20 @@ def of_python(build: Build) -> dict[str, bytes]:
     files = {
         f"{MODULES}/{os.path.relpath(path, PYTHON)}": read(path)
         for path in tracked("python/src/propbench", "**/*")
+        if not path.endswith(ELSEWHERE)
     }
     files |= metadata()
     files["usr/bin/propdesk"] = DESK.encode()
     page = manual.of_desk(build.version, build.moment)
-    files["usr/share/man/man1/propdesk.1.gz"] = packed(page)
-    commands = {it: manual.desk_help(it) for it in manual.desk_commands()}
-    offers = completion.script("propdesk", manual.desk_help(), commands)
-    files[f"{COMPLETIONS}/propdesk"] = offers.encode()
+    files["usr/share/man/man1/propdesk.1"] = page.encode()
+    files[f"{COMPLETIONS}/propdesk"] = offers("propdesk")
     return files
+
+
+def offers(name: str) -> bytes:
+    """What has bash ask propdesk what may come next behind a command. Errors: OSError."""
+    words = ["register-python-argcomplete", "--no-defaults", "--external", "propdesk", name]
+    return manual.ran(words).encode()
 
 
 def of_minizinc(build: Build) -> dict[str, bytes]:
@@ -127,7 +121,7 @@ def of_minizinc(build: Build) -> dict[str, bytes]:
     page = manual.of_solver(build.version, build.moment)
     return {
         SOLVER: SOLVES.encode(),
-        "usr/share/man/man1/fzn-propbench.1.gz": packed(page),
+        "usr/share/man/man1/fzn-propbench.1": page.encode(),
         "usr/share/minizinc/solvers/propbench.msc": f"{json.dumps(told, indent=2)}\n".encode(),
     }
 
@@ -135,11 +129,10 @@ def of_minizinc(build: Build) -> dict[str, bytes]:
 def of_program(build: Build, name: str) -> dict[str, bytes]:
     """A program, its page, and what bash offers behind it."""
     page = manual.of_program(name, build.programs[name], build.version, build.moment)
-    told = document(f"tools/start/texts/{name}.help")
     return {
         f"usr/bin/{name}": read(build.programs[name]),
-        f"usr/share/man/man1/{name}.1.gz": packed(page),
-        f"{COMPLETIONS}/{name}": completion.script(name, told, {}).encode(),
+        f"usr/share/man/man1/{name}.1": page.encode(),
+        f"{COMPLETIONS}/{name}": offers(name),
     }
 
 
@@ -184,8 +177,6 @@ def files(build: Build) -> dict[str, bytes]:
         f"{VIM}/syntax/propbench.vim": read(f"{TOP}/tools/deb/propbench.vim"),
         f"{VIM}/ftdetect/propbench.vim": DETECTS.encode(),
         f"{VIM}/ftplugin/propbench.vim": NOTES.encode(),
-        f"{DOC}/copyright": COPYRIGHT.encode(),
-        f"{DOC}/changelog.gz": packed(build.changes),
         **{path: it for name in build.programs for path, it in of_program(build, name).items()},
         **of_proof(build),
         **of_documents(),
@@ -197,28 +188,10 @@ def files(build: Build) -> dict[str, bytes]:
 
 
 def laid_out(found: dict[str, bytes], root: str, moment: int) -> None:
-    """Writes the files below a folder, with the same modes and times on every machine."""
+    """Writes the files below a folder, with the same times on every machine."""
     for path, text in found.items():
         file = f"{root}/{path}"
         os.makedirs(os.path.dirname(file), exist_ok=True)
         with open(file, "wb") as it:
             it.write(text)
-    for folder, _, names in os.walk(root, topdown=False):
-        for name in names:
-            path = os.path.relpath(f"{folder}/{name}", root)
-            is_run = path.startswith("usr/bin/") or path in ("DEBIAN/postinst", "DEBIAN/prerm")
-            os.chmod(f"{folder}/{name}", 0o755 if is_run else 0o644)
-            os.utime(f"{folder}/{name}", (moment, moment))
-        os.chmod(folder, stat.S_IFDIR | 0o755)
-        os.utime(folder, (moment, moment))
-
-
-def built(root: str, to: str, moment: int) -> None:
-    """Makes the package of what lies below a folder, all of it owned by root.
-
-    Errors: OSError with what dpkg-deb said."""
-    words = ["dpkg-deb", "--root-owner-group", "-Zxz", "--threads-max=1", "--build", root, to]
-    path = {**os.environ, "SOURCE_DATE_EPOCH": str(moment), "LC_ALL": "C.UTF-8"}
-    done = subprocess.run(words, env=path, capture_output=True, text=True)
-    if done.returncode:
-        raise OSError(done.stderr.strip())
+        os.utime(file, (moment, moment))

@@ -1,9 +1,8 @@
 """propbench: propagator networks whose answers are proved, from Python.
 
-A `Workbench` has cells, expressions, and premises; a `Session` is the program as an object. What
-follows, and what can't be, is the program's reply. This package works out which lines say a
-constraint, which word of a line is at fault and what to complete; and that a plan fits is said only
-where each constraint holds on it, as it evaluates them (`violated` in model/seam.py).
+A `Workbench` has cells, expressions, and premises: `help(Workbench)` tells what it does, by what it
+is for. `w.project()` makes a `Project` of tasks and people, `w.measured()` a `Quantity`. A
+`Session` is the program as an object.
 
     >>> w = Workbench()
     >>> days, price = w.number("days", 0, 60), w.number("price", 0, 9000)
@@ -12,7 +11,13 @@ where each constraint holds on it, as it evaluates them (`violated` in model/sea
     >>> print(days.ask())
     days = 0..5 because of cheap
 
-What is raised stands in `propbench.errors`, what a session replies in `propbench.replies`.
+What follows, and what can't be, is the program's reply. This package works out which lines say a
+constraint, which word of a line is at fault and what to complete; and that a plan fits is said only
+where each constraint holds on it, as it evaluates them (`violated` in model/seam.py).
+
+What is raised stands in `propbench.errors`, what a session replies in `propbench.replies`. The
+handbook is docs/ of the sources, /usr/share/doc/propbench/docs of the Debian package: CLAIMS.md
+tells what is proved, PIPE.md how another program drives this one, HOSTING.md how one embeds it.
 """
 
 from typing import TYPE_CHECKING

@@ -6,8 +6,8 @@ from dataclasses import dataclass
 
 from propbench.words import named, names_in
 
-# How a line begins that tells a set, by the command; and one of premises that may not all be needed.
-# What a repair costs stands before the colon, where that was asked for.
+# How a line begins that tells a set, by the command; and one of premises that may not all be
+# needed. What a repair costs stands before the colon, where that was asked for.
 _MARKS = {"conflicts": "conflict", "repairs": "repair"}
 _UNSETTLED = "unsettled"
 _LINE = re.compile(r"(conflict|repair|unsettled)(?: (\d+))?: (.*)")
@@ -18,8 +18,8 @@ _OTHERS = {"others none": True, "others unknown": False}
 class Blamed:
     """Sets of believed premises, as propwide tells them: by `conflicts` minimal ones that no points
     satisfy, by `repairs` minimal ones to give up so that points satisfy the rest. Those that are
-    `unsettled` may be no minimal ones. Whether there are no others `is_all` says, where it is known.
-    Of the cheapest repairs `costs` has what each costs.
+    `unsettled` may be no minimal ones. Whether there are no others `is_all` says, where it is
+    known. Of the cheapest repairs `costs` has what each costs.
 
     >>> print(Blamed("conflicts", (("ana", "ben"), ("cid",)), frozenset({1}), False))
     conflicts 2

@@ -65,6 +65,14 @@ def parser() -> argparse.ArgumentParser:
     return top
 
 
+def program_parser() -> argparse.ArgumentParser:
+    """What the programs themselves read, to be offered by a shell."""
+    reader = argparse.ArgumentParser()
+    _add_begin(reader)
+    reader.add_argument("-V", "--version", action="store_true")
+    return reader
+
+
 def _add_run(to: argparse.ArgumentParser) -> None:
     to.add_argument("file", metavar="FILE", help="the file, or - for standard input")
     to.add_argument(
@@ -322,7 +330,13 @@ _COMMANDS: dict[str, tuple[str, str, Callable[[argparse.ArgumentParser], None]]]
 def main(words: Sequence[str] | None = None) -> int:
     """Does what the words of a command line say, those of this process where none are given, and
     gives the exit status."""
-    options = parser().parse_args(words)
+    reader = parser()
+    if "_ARGCOMPLETE" in os.environ:
+        from propbench.offering import offer
+
+        offer(reader, program_parser())
+        return 0
+    options = reader.parse_args(words)
     from propbench.finding import NoProgram
     from propbench.program import OutOfTime, ProgramEnded
     from propbench.refusals import Refused
@@ -367,9 +381,9 @@ def _checked(options: argparse.Namespace) -> int:
 def _blamed(options: argparse.Namespace) -> int:
     from pathlib import Path
 
-    from propbench.flatzinc.blame import Asked, blame_file
+    from propbench.flatzinc.blame import BlameOptions, blame_file
 
-    asked = Asked(
+    asked = BlameOptions(
         options.keep,
         options.most,
         options.seconds,
@@ -382,10 +396,10 @@ def _blamed(options: argparse.Namespace) -> int:
 
 def _planned(options: argparse.Namespace) -> int:
     from propbench.planning.brief import Given
-    from propbench.planning.command import Asked, plan_file
+    from propbench.planning.command import PlanOptions, plan_file
     from propbench.planning.sheets import NoSheetReader
 
-    asked = Asked(
+    asked = PlanOptions(
         Given(options.start, options.off, options.days, options.today),
         options.give_up,
         options.what_if,

@@ -9,9 +9,8 @@ from collections.abc import Callable, Generator
 from dataclasses import dataclass
 from enum import Enum
 
-from propbench.words import Token, tokens_of
+from propbench.words import MOST_SIDES, Token, tokens_of
 
-MOST_SIDES = 8
 KINDS = ("span", "truth", "symbol")
 
 

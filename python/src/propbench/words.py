@@ -10,6 +10,7 @@ from dataclasses import dataclass
 
 MOST_BYTES = 4096
 MOST_NUMBER = 10**18
+MOST_SIDES = 8
 MOST_SCALE = 10**9
 MOST_STEPS = 10**15
 

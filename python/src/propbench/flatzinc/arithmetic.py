@@ -16,7 +16,7 @@ from propbench.model.ranges import range_of
 YES, NO = Truth(TRUE), Truth(FALSE)
 # Beyond so many values from zero on an exponent is too open to be gone through.
 _MOST_POWERS = 64
-Some = TypeVar("Some", Number, Truth)
+NumberOrTruth = TypeVar("NumberOrTruth", Number, Truth)
 
 
 def constant(value: int) -> Number:
@@ -140,7 +140,7 @@ def _inverse(base: Number, exponent: Number) -> Number:
     return if_else((base == 1) | (base == -1), odd_power, constant(0))
 
 
-def picked(index: Number, first: int, values: Sequence[Some]) -> Some:
+def picked(index: Number, first: int, values: Sequence[NumberOrTruth]) -> NumberOrTruth:
     """Of these values, which are numbered from the first on, the one that the index says."""
     low, high = range_of(index.node)
     begin, end = max(low - first, 0), min(high - first + 1, len(values))
@@ -148,7 +148,7 @@ def picked(index: Number, first: int, values: Sequence[Some]) -> Some:
     return _picked(index, first + begin if begin < end else first, kept)
 
 
-def _picked(index: Number, first: int, values: Sequence[Some]) -> Some:
+def _picked(index: Number, first: int, values: Sequence[NumberOrTruth]) -> NumberOrTruth:
     if all(each.node is values[0].node for each in values):
         return values[0]
     half = len(values) // 2

@@ -17,7 +17,7 @@ from propbench.replies import Reply
 
 
 @dataclass
-class Told:
+class FoundSolutions:
     """What was found: `take` is called with each solution that is wanted, when it is found, and
     `is_complete` says that there are no others, or no better ones."""
 
@@ -32,7 +32,7 @@ class Told:
         self.take(dict(plan))
 
 
-class Asked(Protocol):
+class SolutionQuestion(Protocol):
     """A question for solutions."""
 
     def line(self, seeker: Seeker, is_free: bool) -> str:
@@ -55,10 +55,10 @@ class Asked(Protocol):
 
 
 @dataclass
-class AnySolution(Asked):
+class AnySolution(SolutionQuestion):
     """The question for some solution; where that `is_all` there is, it is the only one."""
 
-    told: Told
+    told: FoundSolutions
     is_all: bool = False
 
     @property
@@ -92,10 +92,10 @@ class AnySolution(Asked):
 
 
 @dataclass
-class ManySolutions(Asked):
+class ManySolutions(SolutionQuestion):
     """The question for solutions that differ at some cells, so many at the most."""
 
-    told: Told
+    told: FoundSolutions
     show: list[str]
     most: int
     # The solutions that were told, by their values at these cells, and how many the program told.
@@ -156,10 +156,10 @@ class ManySolutions(Asked):
 
 
 @dataclass
-class BestSolution(Asked):
+class BestSolution(SolutionQuestion):
     """The question for the least or greatest value of a number in any solution."""
 
-    told: Told
+    told: FoundSolutions
     cell: str
     sort: str
     sign: int

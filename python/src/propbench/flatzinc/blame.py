@@ -20,7 +20,14 @@ from propbench.flatzinc.webpage import page_of
 from propbench.flatzinc.solving import Wanted, solve
 from propbench.flatzinc.writing import solution
 from propbench.plain import PlainWorkbench
-from propbench.questions.conflicts import Conflicts, Repair, Repairs, find_both, find_repairs
+from propbench.questions.conflicts import (
+    Conflicts,
+    Repair,
+    Repairs,
+    SetSearch,
+    find_both,
+    find_repairs,
+)
 from propbench.showing import printable, shown
 
 
@@ -29,7 +36,7 @@ _SHARE = 0.75
 
 
 @dataclass(frozen=True)
-class Asked:
+class BlameOptions:
     """What is asked of a model: which constraints to keep, and how much of all that there is."""
 
     keep: Sequence[str] = ()
@@ -40,7 +47,7 @@ class Asked:
     relax: Path | None = None
 
 
-def blame_file(model: Path, data: Sequence[Path], asked: Asked, program: str | None) -> int:
+def blame_file(model: Path, data: Sequence[Path], asked: BlameOptions, program: str | None) -> int:
     """Prints the conflicts and repairs of a model, and a solution without what the cheapest gives
     up. Gives the exit status: 0, and 1 where it wasn't found out in time, or no certificate can
     show it. Raises ValueError, OSError, and as `Session` does."""
@@ -77,7 +84,7 @@ def _relax(path: Path, made: Compiled, repairs: Repairs) -> None:
     write_file(path, made.without(repairs[0]))
 
 
-def blamed(built: Built, made: Compiled, asked: Asked) -> tuple[Conflicts, Repairs]:
+def blamed(built: Built, made: Compiled, asked: BlameOptions) -> tuple[Conflicts, Repairs]:
     """The conflicts and repairs among the constraints of a model."""
     keep = [name for name in built.workbench.premises if _is_kept(name, asked.keep)]
     model = built.workbench.model
@@ -86,11 +93,11 @@ def blamed(built: Built, made: Compiled, asked: Asked) -> tuple[Conflicts, Repai
     if is_stepwise:
         # (what can't hold of real numbers is asked for)
         built.workbench.kick(EXACT)
-    conflicts, repairs = find_both(model, made.texts, keep, asked.most, seconds)
+    conflicts, repairs = find_both(model, SetSearch(asked.most, keep, seconds), made.texts)
     weights = {name: it for name, it in made.weights.items() if name in built.workbench.premises}
     if weights:
-        left = clock.seconds_left()
-        repairs = find_repairs(model, weights, keep, asked.most, left, None)
+        search = SetSearch(asked.most, keep, clock.seconds_left())
+        repairs = find_repairs(model, weights, search)
     if is_stepwise:
         built.workbench.bring(EXACT)
     return conflicts, repairs

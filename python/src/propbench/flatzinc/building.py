@@ -19,10 +19,10 @@ from propbench.flatzinc.terms import (
     Call,
     Constraint,
     Flat,
+    FlatTerm,
     Name,
     NotSupported,
     Numbers,
-    Term,
     Text,
     Variable,
 )
@@ -181,7 +181,7 @@ class Built:
 
     # --- what terms stand for ---
 
-    def number(self, term: Term) -> Number:
+    def number(self, term: FlatTerm) -> Number:
         """A number: a truth counts as 0 or 1, and an element is looked up."""
         found = self._value(term)
         if isinstance(found, Element):
@@ -191,7 +191,7 @@ class Built:
             return constant(int(found.node is YES.node)) if _is_plain(found) else count([found])
         return found
 
-    def truth(self, term: Term) -> Truth:
+    def truth(self, term: FlatTerm) -> Truth:
         """A truth: a number of 0 or 1 counts as one."""
         found = self._value(term)
         return found if isinstance(found, Truth) else self.number(term) >= 1
@@ -202,21 +202,21 @@ class Built:
         assert isinstance(found, Number)
         return found
 
-    def elements(self, term: Term) -> list[Term]:
+    def elements(self, term: FlatTerm) -> list[FlatTerm]:
         """The elements of an array, as they stand."""
         array = self.flat.resolved(term)
         assert isinstance(array, tuple), f"no array: {term!r}"
         return list(array)
 
-    def numbers(self, term: Term) -> list[Number]:
+    def numbers(self, term: FlatTerm) -> list[Number]:
         """An array of numbers."""
         return [self.number(each) for each in self.elements(term)]
 
-    def truths(self, term: Term) -> list[Truth]:
+    def truths(self, term: FlatTerm) -> list[Truth]:
         """An array of truths."""
         return [self.truth(each) for each in self.elements(term)]
 
-    def constants(self, term: Term) -> list[int]:
+    def constants(self, term: FlatTerm) -> list[int]:
         """An array of constants."""
         found = [self.flat.resolved(each) for each in self.elements(term)]
         return [int(each) for each in found if isinstance(each, int)]
@@ -266,7 +266,7 @@ class Built:
             ]
         )
 
-    def looked_up(self, index: Term, row: Sequence[int]) -> tuple[Number, Truth] | None:
+    def looked_up(self, index: FlatTerm, row: Sequence[int]) -> tuple[Number, Truth] | None:
         """The entry of a row by an index that is an element; None where it is none."""
         found = self.flat.resolved(index)
         made = self._value(found) if isinstance(found, Name) else None
@@ -287,7 +287,7 @@ class Built:
         domain = self._domain(tuple(range(1, count + 1)))
         return self.workbench.element(f"row of table {self._rows}", domain)
 
-    def _is_in(self, made: Element | str, term: Term) -> Truth:
+    def _is_in(self, made: Element | str, term: FlatTerm) -> Truth:
         """That an element's number is in a set."""
         values = self.values(term)
         if values is not None:
@@ -306,7 +306,7 @@ class Built:
         is_place = self._one_of(made, Numbers.span(1, len(sets)))
         return every([is_place, is_same(Members(found), member)])
 
-    def _elements(self, term: Term) -> list[Element | str]:
+    def _elements(self, term: FlatTerm) -> list[Element | str]:
         """The element that a term stands for, as a list; an empty one where it is none."""
         found = self.flat.resolved(term)
         if isinstance(found, int):
@@ -320,12 +320,12 @@ class Built:
         kept = [each for each in names if values.has(int(each))]
         return made.among(*kept) if kept else NO
 
-    def values(self, term: Term) -> Numbers | None:
+    def values(self, term: FlatTerm) -> Numbers | None:
         """A constant set; None for a variable."""
         found = self.flat.resolved(term)
         return found if isinstance(found, Numbers) else None
 
-    def members(self, term: Term) -> Members:
+    def members(self, term: FlatTerm) -> Members:
         """A set."""
         values = self.values(term)
         if values is not None:
@@ -334,11 +334,11 @@ class Built:
         assert isinstance(found, Name), f"no set: {term!r}"
         return Members(self.sets[found.text])
 
-    def sets_of(self, term: Term) -> list[Members]:
+    def sets_of(self, term: FlatTerm) -> list[Members]:
         """An array of sets."""
         return [self.members(each) for each in self.elements(term)]
 
-    def _value(self, term: Term) -> Number | Truth | Element:
+    def _value(self, term: FlatTerm) -> Number | Truth | Element:
         found = self.flat.resolved(term)
         if isinstance(found, bool):
             return YES if found else NO
@@ -487,7 +487,7 @@ def _kept(flat: Flat) -> Iterable[Name]:
         yield from _names_in((each,), flat)
 
 
-def _names_in(terms: Iterable[Term], flat: Flat | None = None) -> Iterable[Name]:
+def _names_in(terms: Iterable[FlatTerm], flat: Flat | None = None) -> Iterable[Name]:
     for term in terms:
         found = flat.resolved(term) if flat else term
         if isinstance(found, Name):

@@ -13,7 +13,7 @@ from contextlib import contextmanager
 from propbench.finding import NoProgram
 from propbench.flatzinc.building import Built
 from propbench.flatzinc.grammar import read
-from propbench.flatzinc.seeking import Way
+from propbench.flatzinc.seeking import SearchWay
 from propbench.flatzinc.solving import ALL, Wanted, solve
 from propbench.flatzinc.terms import NotSupported
 from propbench.flatzinc.writing import SOLUTION, UNKNOWN, ending, solution, statistics
@@ -89,7 +89,7 @@ def _solved(options: argparse.Namespace) -> int:
 
 
 def _options(words: list[str]) -> argparse.Namespace:
-    """The options of a command line. (Of a word like `-node` none is taken to be -n with a value.)"""
+    """The options of a command line. (No word like `-node` is taken to be -n with a value.)"""
     read = parser()
     unknown = [word for word in words if len(word) > 2 and word[0] == "-" and word[1].isalpha()]
     if unknown:
@@ -136,7 +136,7 @@ def _wanted(options: argparse.Namespace, taken: float) -> Wanted:
     """What is asked for, after so many seconds."""
     most = ALL if options.all and options.n is None else options.n or 1
     left = None if options.t is None else max(0.0, options.t / 1000 - taken)
-    way = Way(options.intermediate or options.all, options.p, options.r or 0)
+    way = SearchWay(options.intermediate or options.all, options.p, options.r or 0)
     return Wanted(most, left, options.free, way)
 
 

@@ -10,7 +10,7 @@ from pathlib import Path
 
 from propbench.finding import NoProgram
 from propbench.flatzinc.grammar import read
-from propbench.flatzinc.marking import Model, label_of, marked, relaxed
+from propbench.flatzinc.marking import MarkedModel, label_of, marked, relaxed
 from propbench.flatzinc.terms import BLAMED, Flat, Text
 
 CONFIGURATION = Path(__file__).parent / "propbench.msc"
@@ -30,7 +30,7 @@ class Compiled:
     texts: dict[str, str]
     weights: dict[str, float] = field(default_factory=dict)
     source: str = ""
-    model: Model = Model("", ())
+    model: MarkedModel = MarkedModel("", ())
     marks: dict[str, str] = field(default_factory=dict)
 
     def without(self, labels: Iterable[str]) -> str:

@@ -22,7 +22,7 @@ from propbench.flatzinc.arithmetic import (
     within,
 )
 from propbench.flatzinc.rooms import rooms_of
-from propbench.flatzinc.terms import Constraint, Flat, Name, NotSupported, Numbers, Term
+from propbench.flatzinc.terms import Constraint, Flat, FlatTerm, Name, NotSupported, Numbers
 from propbench.model.expressions import Number, Truth, implies, maximum, minimum
 from propbench.model.ranges import range_of
 
@@ -61,13 +61,13 @@ class FloatSaid:
 class FloatValues(Protocol):
     """What terms of a model stand for in a workbench."""
 
-    def number(self, term: Term) -> Number:
+    def number(self, term: FlatTerm) -> Number:
         """A whole number."""
 
-    def truth(self, term: Term) -> Truth:
+    def truth(self, term: FlatTerm) -> Truth:
         """A truth."""
 
-    def elements(self, term: Term) -> list[Term]:
+    def elements(self, term: FlatTerm) -> list[FlatTerm]:
         """The elements of an array, as they stand."""
 
     def steps(self, name: str) -> Number:
@@ -172,7 +172,7 @@ class _Reading:
         """How many steps make one."""
         return self.floats.per_unit
 
-    def amount(self, term: Term) -> FloatAmount:
+    def amount(self, term: FlatTerm) -> FloatAmount:
         """A constant, or the steps of a float."""
         found = self.floats._flat.resolved(term)
         if isinstance(found, (Fraction, int)):
@@ -182,11 +182,11 @@ class _Reading:
         fixed = self.floats.fixed(found.text)
         return self.values.steps(found.text) if fixed is None else fixed
 
-    def amounts(self, term: Term) -> list[FloatAmount]:
+    def amounts(self, term: FlatTerm) -> list[FloatAmount]:
         """An array of these."""
         return [self.amount(each) for each in self.values.elements(term)]
 
-    def constants(self, term: Term) -> list[Fraction]:
+    def constants(self, term: FlatTerm) -> list[Fraction]:
         """An array of constants."""
         found = [self.amount(each) for each in self.values.elements(term)]
         return [each for each in found if isinstance(each, Fraction)]
@@ -240,7 +240,7 @@ def _largest(total: Fraction) -> int:
 
 # --- sums and comparisons ---
 
-FloatSays = Callable[[_Reading, tuple[Term, ...]], FloatSaid]
+FloatSays = Callable[[_Reading, tuple[FlatTerm, ...]], FloatSaid]
 
 
 def _sum_at_most(made: _Sum) -> FloatSaid:
@@ -262,14 +262,14 @@ def _sum_equal(made: _Sum) -> FloatSaid:
 
 
 def _sums(compare: Callable[[_Sum], FloatSaid]) -> FloatSays:
-    def says(reading: _Reading, args: tuple[Term, ...]) -> FloatSaid:
+    def says(reading: _Reading, args: tuple[FlatTerm, ...]) -> FloatSaid:
         [bound] = reading.constants((args[2],))
         return compare(reading.sum(reading.constants(args[0]), reading.amounts(args[1]), bound))
 
     return says
 
 
-def _at_most(reading: _Reading, args: tuple[Term, ...]) -> FloatSaid:
+def _at_most(reading: _Reading, args: tuple[FlatTerm, ...]) -> FloatSaid:
     """Of two the greater one has no lower step."""
     left, right = (reading.amount(each) for each in args)
     if isinstance(left, Fraction) and isinstance(right, Fraction):
@@ -283,11 +283,11 @@ def _at_most(reading: _Reading, args: tuple[Term, ...]) -> FloatSaid:
     return FloatSaid(exact, one <= other, other <= one)
 
 
-def _less(reading: _Reading, args: tuple[Term, ...]) -> FloatSaid:
+def _less(reading: _Reading, args: tuple[FlatTerm, ...]) -> FloatSaid:
     return _at_most(reading, (args[1], args[0])).opposite
 
 
-def _equal(reading: _Reading, args: tuple[Term, ...]) -> FloatSaid:
+def _equal(reading: _Reading, args: tuple[FlatTerm, ...]) -> FloatSaid:
     left, right = (reading.amount(each) for each in args)
     if isinstance(left, Fraction) and isinstance(right, Fraction):
         return FloatSaid.always(YES if left == right else NO)
@@ -295,11 +295,11 @@ def _equal(reading: _Reading, args: tuple[Term, ...]) -> FloatSaid:
     return FloatSaid(same, same)
 
 
-def _unequal(reading: _Reading, args: tuple[Term, ...]) -> FloatSaid:
+def _unequal(reading: _Reading, args: tuple[FlatTerm, ...]) -> FloatSaid:
     return _equal(reading, args).opposite
 
 
-def _from_whole(reading: _Reading, args: tuple[Term, ...]) -> FloatSaid:
+def _from_whole(reading: _Reading, args: tuple[FlatTerm, ...]) -> FloatSaid:
     whole, amount = reading.values.number(args[0]), reading.amount(args[1])
     if isinstance(amount, Number):
         return FloatSaid.always(whole * reading.unit == amount)
@@ -309,12 +309,12 @@ def _from_whole(reading: _Reading, args: tuple[Term, ...]) -> FloatSaid:
 # --- functions ---
 
 
-def _plus(reading: _Reading, args: tuple[Term, ...]) -> FloatSaid:
+def _plus(reading: _Reading, args: tuple[FlatTerm, ...]) -> FloatSaid:
     ones = [Fraction(1), Fraction(1), Fraction(-1)]
     return _sum_equal(reading.sum(ones, [reading.amount(each) for each in args], Fraction(0)))
 
 
-def _times(reading: _Reading, args: tuple[Term, ...]) -> FloatSaid:
+def _times(reading: _Reading, args: tuple[FlatTerm, ...]) -> FloatSaid:
     one, other, whole = (reading.amount(each) for each in args)
     if isinstance(one, Fraction) or isinstance(other, Fraction):
         factor, amount = (one, other) if isinstance(one, Fraction) else (other, one)
@@ -341,7 +341,7 @@ def _size(number: Number) -> Number:
     return number if range_of(number.node)[0] >= 0 else abs(number)
 
 
-def _divided(reading: _Reading, args: tuple[Term, ...]) -> FloatSaid:
+def _divided(reading: _Reading, args: tuple[FlatTerm, ...]) -> FloatSaid:
     whole, divisor, quotient = args
     by = reading.amount(divisor)
     if isinstance(by, Fraction):
@@ -353,13 +353,13 @@ def _divided(reading: _Reading, args: tuple[Term, ...]) -> FloatSaid:
     return FloatSaid(every([said.exact, by != 0]), said.loose)
 
 
-def _root(reading: _Reading, args: tuple[Term, ...]) -> FloatSaid:
+def _root(reading: _Reading, args: tuple[FlatTerm, ...]) -> FloatSaid:
     squared, root = reading.steps(reading.amount(args[0])), reading.steps(reading.amount(args[1]))
     said, is_root = _product(reading, root, root, squared), root >= 0
     return FloatSaid(every([said.exact, is_root]), every([said.loose, is_root]))
 
 
-def _power(reading: _Reading, args: tuple[Term, ...]) -> FloatSaid:
+def _power(reading: _Reading, args: tuple[FlatTerm, ...]) -> FloatSaid:
     exponent = reading.amount(args[1])
     if exponent == 2:
         return _times(reading, (args[0], args[0], args[2]))
@@ -374,7 +374,7 @@ def _found(give: Callable[[list[Number]], Number]) -> FloatSays:
     """A function that gives the step of its value for the steps of its arguments: one that keeps
     the order of numbers, and gives one of these."""
 
-    def says(reading: _Reading, args: tuple[Term, ...]) -> FloatSaid:
+    def says(reading: _Reading, args: tuple[FlatTerm, ...]) -> FloatSaid:
         *given, value = (reading.steps(reading.amount(each)) for each in args)
         return FloatSaid.always(give(given) == value)
 
@@ -382,14 +382,14 @@ def _found(give: Callable[[list[Number]], Number]) -> FloatSays:
 
 
 def _found_of_array(give: Callable[[list[Number]], Number]) -> FloatSays:
-    def says(reading: _Reading, args: tuple[Term, ...]) -> FloatSaid:
+    def says(reading: _Reading, args: tuple[FlatTerm, ...]) -> FloatSaid:
         value, given = reading.amount(args[0]), reading.amounts(args[1])
         return FloatSaid.always(give([*map(reading.steps, given)]) == reading.steps(value))
 
     return says
 
 
-def _element(reading: _Reading, args: tuple[Term, ...]) -> FloatSaid:
+def _element(reading: _Reading, args: tuple[FlatTerm, ...]) -> FloatSaid:
     index, given = reading.values.number(args[0]), reading.amounts(args[1])
     found = picked(index, 1, [reading.steps(each) for each in given])
     is_index = within(index, Numbers.span(1, len(given)))

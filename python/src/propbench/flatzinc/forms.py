@@ -14,11 +14,11 @@ from propbench.flatzinc.terms import (
     Array,
     Constraint,
     Flat,
+    FlatTerm,
     Name,
     NotSupported,
     Numbers,
     Sort,
-    Term,
     Text,
     Variable,
 )
@@ -186,7 +186,7 @@ def _takes(constraint: Constraint) -> str:
     return _TAKES[name]
 
 
-def _is_of(sort: str, found: Term, flat: Flat) -> bool:
+def _is_of(sort: str, found: FlatTerm, flat: Flat) -> bool:
     """Whether an argument is of a sort; names in it are looked at elsewhere."""
     if sort == "v":
         is_other = _is_set(flat, found) or _is_float(flat, found)
@@ -203,33 +203,33 @@ def _is_of(sort: str, found: Term, flat: Flat) -> bool:
     return isinstance(found, int if sort == "c" else Text)
 
 
-def _is_number(flat: Flat, found: Term, sorts: tuple[Sort, ...] = (Sort.NUMBER,)) -> bool:
+def _is_number(flat: Flat, found: FlatTerm, sorts: tuple[Sort, ...] = (Sort.NUMBER,)) -> bool:
     if isinstance(found, Name):
         return flat.variables[found.text].sort in sorts
     return isinstance(found, int | Fraction)
 
 
-def _is_float(flat: Flat, found: Term) -> bool:
+def _is_float(flat: Flat, found: FlatTerm) -> bool:
     if isinstance(found, Name):
         return found.text in flat.variables and flat.variables[found.text].is_float
     return isinstance(found, Fraction)
 
 
-def _is_set(flat: Flat, found: Term) -> bool:
+def _is_set(flat: Flat, found: FlatTerm) -> bool:
     if isinstance(found, Name):
         return found.text in flat.variables and flat.variables[found.text].is_set
     return isinstance(found, Numbers)
 
 
-def _elements(found: Term) -> Sequence[Term]:
+def _elements(found: FlatTerm) -> Sequence[FlatTerm]:
     return found if isinstance(found, tuple) else ()
 
 
-def _of_array(flat: Flat, term: Term) -> Sequence[Term]:
+def _of_array(flat: Flat, term: FlatTerm) -> Sequence[FlatTerm]:
     return _elements(flat.resolved(term))
 
 
-def _check_values(flat: Flat, terms: Iterable[Term], line: int) -> None:
+def _check_values(flat: Flat, terms: Iterable[FlatTerm], line: int) -> None:
     """Raises NotSupported where one of these is neither a constant nor a declared variable."""
     for each in terms:
         found = flat.resolved(each)

@@ -14,13 +14,13 @@ from propbench.flatzinc.terms import (
     Call,
     Constraint,
     Flat,
+    FlatTerm,
     Goal,
     Name,
     NotSupported,
     Numbers,
     Reals,
     Sort,
-    Term,
     Text,
     Variable,
 )
@@ -228,7 +228,7 @@ class _Reader:
             raise self._error("a kind is bool, int, float, or a set of numbers")
         return Sort.NUMBER, values
 
-    def _annotations(self) -> tuple[Term, ...]:
+    def _annotations(self) -> tuple[FlatTerm, ...]:
         found = []
         while self._is("::"):
             found.append(self._term())
@@ -236,7 +236,7 @@ class _Reader:
 
     # --- terms ---
 
-    def _term(self) -> Term:
+    def _term(self) -> FlatTerm:
         self._deep += 1
         if self._deep > _DEEPEST:
             raise self._error(f"brackets lie more than {_DEEPEST} deep within one another")
@@ -244,7 +244,7 @@ class _Reader:
         self._deep -= 1
         return found
 
-    def _term_within(self) -> Term:
+    def _term_within(self) -> FlatTerm:
         word = self._take()
         if word.sort == "number" and len(word.text) > _LONGEST:
             raise NotSupported(word.line, f"a number has more than {_LONGEST} letters")
@@ -266,7 +266,7 @@ class _Reader:
             return Numbers.of(self._list(self._number, "}"))
         raise NotSupported(word.line, f"a value is wanted, and not {_said(word)}")
 
-    def _args(self) -> tuple[Term, ...]:
+    def _args(self) -> tuple[FlatTerm, ...]:
         return tuple(self._list(self._term, ")"))
 
     def _real(self) -> Fraction:

@@ -13,7 +13,8 @@ from dataclasses import dataclass, field
 from propbench.flatzinc.terms import BLAMED
 
 _TOKEN = re.compile(
-    r"(?P<silent>\s+|%[^\n]*|/\*.*?\*/)|(?P<text>\"(?:[^\"\\]|\\.)*\")|(?P<name>[A-Za-z_]\w*|'[^'\n]*')"
+    r"(?P<silent>\s+|%[^\n]*|/\*.*?\*/)|(?P<text>\"(?:[^\"\\]|\\.)*\")"
+    r"|(?P<name>[A-Za-z_]\w*|'[^'\n]*')"
     r"|(?P<number>[0-9]+(?:\.[0-9]+)?)|(?P<mark><->|->|<-|/\\|\\/|::|\.\.|[<>=!]=|.)",
     re.DOTALL,
 )
@@ -60,7 +61,7 @@ class Marked:
 
 
 @dataclass(frozen=True)
-class Model:
+class MarkedModel:
     """A model with marks, and its constraints by the numbers of these."""
 
     text: str
@@ -71,7 +72,7 @@ class Model:
         return self.constraints[int(mark.partition("|")[0])]
 
 
-def marked(text: str) -> Model:
+def marked(text: str) -> MarkedModel:
     """The model with a mark at each constraint."""
     marking = _Marking(text)
     for item in _items(text):
@@ -80,12 +81,12 @@ def marked(text: str) -> Model:
     return marking.model()
 
 
-def label_of(model: Model, mark: str) -> tuple[str, str]:
+def label_of(model: MarkedModel, mark: str) -> tuple[str, str]:
     """What the constraint of a mark is called, and how it is written."""
     return model.of(mark).label(mark.partition("|")[2]), model.of(mark).text
 
 
-def relaxed(text: str, model: Model, given_up: Iterable[str]) -> str:
+def relaxed(text: str, model: MarkedModel, given_up: Iterable[str]) -> str:
     """The model's text without the constraints of some marks: in a loop without those of the values
     that the marks tell. What is given up stands in a note behind it."""
     without: dict[int, list[str]] = {}
@@ -185,7 +186,7 @@ class _Marking:
         self._put.append((tokens[0].start, f"{BLAMED}(", 0))
         self._put.append((tokens[-1].end, f", {mark})", 0))
 
-    def model(self) -> Model:
+    def model(self) -> MarkedModel:
         """The model with all marks."""
         parts, since = [], 0
         for place, text, length in self._put:
@@ -198,7 +199,7 @@ class _Marking:
             )
             for number, (piece, line) in enumerate(zip(self._pieces, lines))
         ]
-        return Model("".join([*parts, self._text[since:]]), tuple(constraints))
+        return MarkedModel("".join([*parts, self._text[since:]]), tuple(constraints))
 
     def _marked(self, piece: "_Piece", line: int, part: int) -> Marked:
         place = piece.tokens[0].start, piece.tokens[-1].end

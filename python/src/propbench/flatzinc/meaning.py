@@ -12,7 +12,7 @@ from propbench.flatzinc import arithmetic, sets
 from propbench.flatzinc.arithmetic import every, picked, same_truth, sides_of, some, sum_of
 from propbench.flatzinc.forms import called
 from propbench.flatzinc.sets import Members
-from propbench.flatzinc.terms import TABLE, Constraint, Name, NotSupported, Numbers, Term
+from propbench.flatzinc.terms import TABLE, Constraint, FlatTerm, Name, NotSupported, Numbers
 from propbench.model.expressions import (
     Expression,
     Number,
@@ -31,45 +31,45 @@ _AT_ONCE = 8
 class Terms(Protocol):
     """What terms stand for in a workbench."""
 
-    def number(self, term: Term) -> Number:
+    def number(self, term: FlatTerm) -> Number:
         """A number."""
 
-    def truth(self, term: Term) -> Truth:
+    def truth(self, term: FlatTerm) -> Truth:
         """A truth."""
 
-    def elements(self, term: Term) -> list[Term]:
+    def elements(self, term: FlatTerm) -> list[FlatTerm]:
         """The elements of an array, as they stand."""
 
-    def numbers(self, term: Term) -> list[Number]:
+    def numbers(self, term: FlatTerm) -> list[Number]:
         """An array of numbers."""
 
-    def truths(self, term: Term) -> list[Truth]:
+    def truths(self, term: FlatTerm) -> list[Truth]:
         """An array of truths."""
 
-    def constants(self, term: Term) -> list[int]:
+    def constants(self, term: FlatTerm) -> list[int]:
         """An array of constants."""
 
     def told_apart(self, constraint: Constraint) -> Truth | None:
         """What a constraint says of variables that are elements; None where they are none."""
 
-    def values(self, term: Term) -> Numbers | None:
+    def values(self, term: FlatTerm) -> Numbers | None:
         """A constant set; None for a variable."""
 
-    def members(self, term: Term) -> Members:
+    def members(self, term: FlatTerm) -> Members:
         """A set."""
 
-    def sets_of(self, term: Term) -> list[Members]:
+    def sets_of(self, term: FlatTerm) -> list[Members]:
         """An array of sets."""
 
     def fresh(self, high: int) -> Number:
         """A number from 1 on that no variable has."""
 
-    def looked_up(self, index: Term, row: Sequence[int]) -> tuple[Number, Truth] | None:
+    def looked_up(self, index: FlatTerm, row: Sequence[int]) -> tuple[Number, Truth] | None:
         """The entry of a row of constants by an index that is an element, and that there is one;
         None where the index is none."""
 
 
-Args = tuple[Term, ...]
+Args = tuple[FlatTerm, ...]
 # What a constraint says of its arguments; what a function gives for all but the one it defines.
 Says = Callable[[Terms, Args], Truth]
 Gives = Callable[[Terms, Args], "tuple[Number | Truth, Truth] | None"]

@@ -8,7 +8,7 @@ from collections.abc import Iterator
 from dataclasses import dataclass
 
 from propbench.flatzinc.building import Built
-from propbench.flatzinc.terms import Call, Name, Term
+from propbench.flatzinc.terms import Call, FlatTerm, Name
 from propbench.model.cells import Cell
 
 _SEARCHES = ("int_search", "bool_search", "set_search")
@@ -33,7 +33,7 @@ def order_of(built: Built, is_free: bool = False) -> list[Group]:
     return [*groups, Group(others, False)]
 
 
-def _groups(built: Built, annotation: Term) -> Iterator[Group]:
+def _groups(built: Built, annotation: FlatTerm) -> Iterator[Group]:
     if not isinstance(annotation, Call):
         return
     if annotation.name == "seq_search":
@@ -49,13 +49,13 @@ def _groups(built: Built, annotation: Term) -> Iterator[Group]:
             yield Group(cells, is_from_top)
 
 
-def _cells(built: Built, variables: Term) -> Iterator[Cell]:
+def _cells(built: Built, variables: FlatTerm) -> Iterator[Cell]:
     for each in _elements(built, variables):
         if isinstance(each, Name):
             yield from built.cells_of(each.text)
 
 
-def _elements(built: Built, term: Term) -> tuple[Term, ...]:
+def _elements(built: Built, term: FlatTerm) -> tuple[FlatTerm, ...]:
     """The elements of an array in an annotation, which is only a hint: none where it is none."""
     found = built.flat.resolved(term)
     return found if isinstance(found, tuple) else ()

@@ -7,7 +7,7 @@ from collections.abc import Callable, Sequence
 from fractions import Fraction
 from math import sqrt
 
-from propbench.flatzinc.terms import Constraint, Flat, Name, Term
+from propbench.flatzinc.terms import Constraint, Flat, FlatTerm, Name
 from propbench.model.kinds import Point
 
 # What a variable is in a solution.
@@ -41,26 +41,26 @@ class _Reading:
                 return Fraction(0) if is_open else _OPPOSITE[plain](self, args[:-1])
         return _OFF[name](self, args) if name in _OFF else Fraction(0)
 
-    def of(self, term: Term) -> Fraction:
+    def of(self, term: FlatTerm) -> Fraction:
         """A value."""
         found = self._flat.resolved(term)
         value = self._values(found.text) if isinstance(found, Name) else found
         assert isinstance(value, (int, Fraction, str))
         return Fraction(value)
 
-    def all_of(self, term: Term) -> list[Fraction]:
+    def all_of(self, term: FlatTerm) -> list[Fraction]:
         """An array of values."""
         found = self._flat.resolved(term)
         assert isinstance(found, tuple)
         return [self.of(each) for each in found]
 
-    def above(self, args: Sequence[Term]) -> Fraction:
+    def above(self, args: Sequence[FlatTerm]) -> Fraction:
         """By how much a sum by factors is above its bound."""
         pairs = zip(self.all_of(args[0]), self.all_of(args[1]))
         return sum((it * each for it, each in pairs), Fraction(0)) - self.of(args[2])
 
 
-_Off = Callable[[_Reading, Sequence[Term]], Fraction]
+_Off = Callable[[_Reading, Sequence[FlatTerm]], Fraction]
 _NONE = Fraction(0)
 
 
@@ -79,7 +79,7 @@ def _value(give: Callable[..., Fraction]) -> _Off:
     )
 
 
-def _quotient(reading: _Reading, args: Sequence[Term]) -> Fraction:
+def _quotient(reading: _Reading, args: Sequence[FlatTerm]) -> Fraction:
     whole, by, value = (reading.of(each) for each in args)
     # (by zero there is no value, which nothing comes near to)
     return _far(whole / by, value) if by else Fraction(10**9)
@@ -117,7 +117,7 @@ def _power(base: Fraction, exponent: Fraction) -> Fraction:
     return _root(base) if exponent.denominator == 2 else Fraction(base ** int(exponent))
 
 
-def _element(reading: _Reading, args: Sequence[Term]) -> Fraction:
+def _element(reading: _Reading, args: Sequence[FlatTerm]) -> Fraction:
     values = reading.all_of(args[1])
     return _far(values[int(reading.of(args[0])) - 1], reading.of(args[2]))
 

@@ -8,7 +8,7 @@ from fractions import Fraction
 from itertools import product
 from math import ceil, isqrt
 
-from propbench.flatzinc.terms import Constraint, Flat, Name, NotSupported, Reals, Term
+from propbench.flatzinc.terms import Constraint, Flat, FlatTerm, Name, NotSupported, Reals
 from propbench.showing import printable
 
 # An end of what may be without end is None.
@@ -54,7 +54,7 @@ class _Rooms:
                 _LOOKS[each.name](self, each.args)
         return self._is_new
 
-    def of(self, term: Term) -> FloatEnds:
+    def of(self, term: FlatTerm) -> FloatEnds:
         """The ends of a value."""
         found = self._flat.resolved(term)
         if isinstance(found, (Fraction, int)):
@@ -68,11 +68,11 @@ class _Rooms:
             return _OPEN
         return Fraction(values.ranges[0][0]), Fraction(values.ranges[-1][1])
 
-    def of_all(self, term: Term) -> list[FloatEnds]:
+    def of_all(self, term: FlatTerm) -> list[FloatEnds]:
         """The ends of each element of an array."""
         return [self.of(each) for each in self._array(term)]
 
-    def narrow(self, term: Term, low: End, high: End) -> None:
+    def narrow(self, term: FlatTerm, low: End, high: End) -> None:
         """Takes in ends of a variable that has none there yet."""
         found = self._flat.resolved(term)
         if isinstance(found, Name) and found.text in self.ends:
@@ -81,28 +81,32 @@ class _Rooms:
             self._is_new = self._is_new or after != before
             self.ends[found.text] = (after[0], after[1])
 
-    def _array(self, term: Term) -> Sequence[Term]:
+    def _array(self, term: FlatTerm) -> Sequence[FlatTerm]:
         found = self._flat.resolved(term)
         return found if isinstance(found, tuple) else ()
 
     # --- by constraints ---
 
-    def _equal(self, args: Sequence[Term]) -> None:
+    def _equal(self, args: Sequence[FlatTerm]) -> None:
         self.narrow(args[0], *self.of(args[1]))
         self.narrow(args[1], *self.of(args[0]))
 
-    def _at_most(self, args: Sequence[Term]) -> None:
+    def _at_most(self, args: Sequence[FlatTerm]) -> None:
         self.narrow(args[0], None, self.of(args[1])[1])
         self.narrow(args[1], self.of(args[0])[0], None)
 
-    def _sum(self, args: Sequence[Term], is_equal: bool) -> None:
+    def _sum(self, args: Sequence[FlatTerm], is_equal: bool) -> None:
         """The ends of each by those of all others, of which the sum by factors is no more."""
         given = map(self._flat.resolved, self._array(args[0]))
         factors = [Fraction(it) for it in given if isinstance(it, (Fraction, int))]
         self.sum(factors, self._array(args[1]), self.of(args[2]), is_equal)
 
     def sum(
-        self, factors: Sequence[Fraction], terms: Sequence[Term], bound: FloatEnds, is_equal: bool
+        self,
+        factors: Sequence[Fraction],
+        terms: Sequence[FlatTerm],
+        bound: FloatEnds,
+        is_equal: bool,
     ) -> None:
         """The same of a sum that is no more than a bound, or is the same."""
         parts = [_times(self.of(each), (it, it)) for it, each in zip(factors, terms)]
@@ -113,17 +117,17 @@ class _Rooms:
             if factor:
                 self.narrow(term, *_times(left, (1 / factor, 1 / factor)))
 
-    def _plus(self, args: Sequence[Term]) -> None:
+    def _plus(self, args: Sequence[FlatTerm]) -> None:
         ones = [Fraction(1), Fraction(1), Fraction(-1)]
         self.sum(ones, args, (Fraction(0), Fraction(0)), True)
 
-    def _product(self, args: Sequence[Term]) -> None:
+    def _product(self, args: Sequence[FlatTerm]) -> None:
         one, other, whole = (self.of(each) for each in args)
         self.narrow(args[2], *_times(one, other))
         self.narrow(args[0], *_times(whole, _inverse(other)))
         self.narrow(args[1], *_times(whole, _inverse(one)))
 
-    def _quotient(self, args: Sequence[Term]) -> None:
+    def _quotient(self, args: Sequence[FlatTerm]) -> None:
         self._product((args[2], args[1], args[0]))
         by, (low, high) = args[1], self.of(args[0])
         if isinstance(by, Name) and by.text in self._whole and low is not None and high is not None:
@@ -131,38 +135,41 @@ class _Rooms:
             most = max(-low, high, Fraction(0))
             self.narrow(args[2], -most, most)
 
-    def _greatest(self, args: Sequence[Term]) -> None:
+    def _greatest(self, args: Sequence[FlatTerm]) -> None:
         self._extreme(args[2], [self.of(each) for each in args[:2]], max)
         for each in args[:2]:
             self.narrow(each, None, self.of(args[2])[1])
 
-    def _least(self, args: Sequence[Term]) -> None:
+    def _least(self, args: Sequence[FlatTerm]) -> None:
         self._extreme(args[2], [self.of(each) for each in args[:2]], min)
         for each in args[:2]:
             self.narrow(each, self.of(args[2])[0], None)
 
     def _extreme(
-        self, term: Term, ends: Sequence[FloatEnds], choose: Callable[[list[Fraction]], Fraction]
+        self,
+        term: FlatTerm,
+        ends: Sequence[FloatEnds],
+        choose: Callable[[list[Fraction]], Fraction],
     ) -> None:
         lows, highs = [low for low, _ in ends], [high for _, high in ends]
         known = [[it for it in some if it is not None] for some in (lows, highs)]
         made = [choose(some) if len(some) == len(ends) else None for some in known]
         self.narrow(term, made[0], made[1])
 
-    def _absolute(self, args: Sequence[Term]) -> None:
+    def _absolute(self, args: Sequence[FlatTerm]) -> None:
         low, high = self.of(args[0])
         most = None if low is None or high is None else max(-low, high, Fraction(0))
         self.narrow(args[1], Fraction(0), most)
         most = self.of(args[1])[1]
         self.narrow(args[0], None if most is None else -most, most)
 
-    def _root(self, args: Sequence[Term]) -> None:
+    def _root(self, args: Sequence[FlatTerm]) -> None:
         squared, root = self.of(args[0])[1], self.of(args[1])[1]
         self.narrow(args[0], Fraction(0), None if root is None else root * root)
         over = None if squared is None else Fraction(isqrt(ceil(max(squared, Fraction(0)))) + 1)
         self.narrow(args[1], Fraction(0), over)
 
-    def _power(self, args: Sequence[Term]) -> None:
+    def _power(self, args: Sequence[FlatTerm]) -> None:
         exponent = self._flat.resolved(args[1])
         if not isinstance(exponent, (Fraction, int)) or exponent not in range(1, 64):
             return
@@ -172,13 +179,15 @@ class _Rooms:
             found = _times(found, ends)
         self.narrow(args[2], *found)
 
-    def _element(self, args: Sequence[Term]) -> None:
+    def _element(self, args: Sequence[FlatTerm]) -> None:
         ends = [it for both in self.of_all(args[1]) for it in both]
         known = [it for it in ends if it is not None]
         if known and len(known) == len(ends):
             self.narrow(args[2], min(known), max(known))
 
-    def _of_array(self, args: Sequence[Term], choose: Callable[[list[Fraction]], Fraction]) -> None:
+    def _of_array(
+        self, args: Sequence[FlatTerm], choose: Callable[[list[Fraction]], Fraction]
+    ) -> None:
         self._extreme(args[0], self.of_all(args[1]), choose)
 
 
@@ -219,7 +228,7 @@ def _inverse(ends: FloatEnds) -> FloatEnds:
     return 1 / high, 1 / low
 
 
-_Look = Callable[[_Rooms, Sequence[Term]], None]
+_Look = Callable[[_Rooms, Sequence[FlatTerm]], None]
 _LOOKS: dict[str, _Look] = {
     "float_eq": _Rooms._equal,
     "int2float": lambda rooms, args: rooms._equal(args),

@@ -10,7 +10,7 @@ from dataclasses import dataclass, field
 from threading import Event, Lock
 
 from propbench.closing import Closing
-from propbench.flatzinc.asking import Asked
+from propbench.flatzinc.asking import SolutionQuestion
 from propbench.points import Several
 from propbench.questions.clock import Clock
 from propbench.questions.model import Model
@@ -28,7 +28,7 @@ _MOST = 64
 
 
 @dataclass(frozen=True)
-class Way:
+class SearchWay:
     """How the program searches: in short slices where each better solution is wanted, and so many
     searches side by side, by orders of calls from a seed on."""
 
@@ -46,7 +46,7 @@ class _One:
     """One of the searches, and what it has told of its question since it was asked."""
 
     seeker: Seeker
-    asked: Asked
+    asked: SolutionQuestion
     is_free: bool
     lock: Lock
     ended: Event
@@ -76,7 +76,7 @@ class _One:
                 raise _Ended
 
     def _is_news(self, reply: Reply) -> bool:
-        """Whether a slice has told something new; where it hasn't, whether the search stands still."""
+        """Whether a slice has told something new, and if not, whether the search stands still."""
         now = time.monotonic()
         self._slices += 1
         is_slow = now - self._since > self._slices * self.slice_of / _FASTEST
@@ -101,8 +101,8 @@ class Sought(Closing):
 
     model: Model
     clock: Clock
-    asked: Asked
-    way: Way
+    asked: SolutionQuestion
+    way: SearchWay
     _searches: list[_One] = field(default_factory=list)
     _opened: ExitStack = field(default_factory=ExitStack)
 

@@ -120,9 +120,9 @@ def is_at_most(one: Members, other: Members) -> Truth:
 
 @dataclass(frozen=True)
 class _Part:
-    """How two sets compare by some elements behind one another: the first that one of them alone has
-    tells it. Where that is in the first set, it is less if the other goes on behind it, else if it
-    doesn't go on itself."""
+    """How two sets compare by some elements behind one another: the first that one of them alone
+    has tells it. Where that is in the first set, it is less if the other goes on behind it, else if
+    it doesn't go on itself."""
 
     is_same: Truth
     is_less: Truth

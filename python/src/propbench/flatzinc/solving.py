@@ -9,11 +9,17 @@ from contextlib import closing, suppress
 from dataclasses import dataclass, field, replace
 from fractions import Fraction
 
-from propbench.flatzinc.asking import AnySolution, Asked, BestSolution, ManySolutions, Told
+from propbench.flatzinc.asking import (
+    AnySolution,
+    BestSolution,
+    FoundSolutions,
+    ManySolutions,
+    SolutionQuestion,
+)
 from propbench.flatzinc.building import Built
 from propbench.flatzinc.floats import EXACT
 from propbench.flatzinc.order import order_of
-from propbench.flatzinc.seeking import Sought, Way
+from propbench.flatzinc.seeking import SearchWay, Sought
 from propbench.flatzinc.terms import Name
 from propbench.model.cells import ElementCell, NumberCell
 from propbench.questions import Plan
@@ -36,13 +42,13 @@ Tell = Callable[[Plan], None]
 
 @dataclass(frozen=True)
 class Wanted:
-    """What is asked of a model: so many solutions at the most, or the best, in so many seconds, and in
-    what way; search annotations don't count where it `is_free`."""
+    """What is asked of a model: so many solutions at the most, or the best, in so many seconds, and
+    in what way; search annotations don't count where it `is_free`."""
 
     most: int = 1
     seconds: float | None = None
     is_free: bool = False
-    way: Way = Way()
+    way: SearchWay = SearchWay()
 
 
 @dataclass
@@ -59,9 +65,9 @@ class Solutions:
 
 
 def solve(built: Built, wanted: Wanted, tell: Tell | None = None) -> Solutions:
-    """So many solutions of the model at the most, or its best one; what was found in the time. Each is
-    told when it is found, and of a best one those before it, where they are wanted. An interrupt ends
-    the search as the end of its time does."""
+    """So many solutions of the model at the most, or its best one; what was found in the time. Each
+    is told when it is found, and of a best one those before it, where they are wanted. An interrupt
+    ends the search as the end of its time does."""
     groups, clock = order_of(built, wanted.is_free), Clock(wanted.seconds, None)
     built.workbench.try_first(*((group.cells, group.is_from_top) for group in groups))
     found = _sought(built, wanted, tell)
@@ -116,7 +122,7 @@ class _Search:
         self._steps = 0
         cells = built.cells.values()
         self._elements = {cell.name for cell in cells if isinstance(cell, ElementCell)}
-        self._told = Told(built.workbench.model, self._take)
+        self._told = FoundSolutions(built.workbench.model, self._take)
         self._asked = AnySolution(self._told) if is_any else self._question()
 
     def run(self) -> None:
@@ -144,13 +150,13 @@ class _Search:
             return Solutions(self._plans, is_complete, self._steps, asked.value)
         return Solutions(self._plans, is_complete, self._steps)
 
-    def _way(self) -> Way:
+    def _way(self) -> SearchWay:
         """How the program is to search."""
         # (of several solutions each would be told by all of them)
         is_many = isinstance(self._asked, ManySolutions)
         return replace(self._wanted.way, count=1) if is_many else self._wanted.way
 
-    def _question(self) -> Asked:
+    def _question(self) -> SolutionQuestion:
         built, goal = self._built, self._built.flat.goal
         named = goal.objective.text if isinstance(goal.objective, Name) else ""
         cell = built.cells.get(named)

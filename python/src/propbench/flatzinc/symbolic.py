@@ -6,7 +6,7 @@ variable is compared by `=`, `!=` and `all_different` alone, it is an element.
 
 from collections.abc import Iterable
 
-from propbench.flatzinc.terms import TABLE, Constraint, Flat, Name, Term
+from propbench.flatzinc.terms import TABLE, Constraint, Flat, FlatTerm, Name
 
 # A domain has so many elements at the most.
 _MOST = 64
@@ -15,7 +15,7 @@ LOOKED_UP = ("array_int_element", "array_bool_element")
 _DIFFERENCE = {(1, -1), (-1, 1)}
 
 
-def compared(flat: Flat, constraint: Constraint) -> list[Term] | None:
+def compared(flat: Flat, constraint: Constraint) -> list[FlatTerm] | None:
     """What a constraint compares by `=` and `!=` alone; None where it does more."""
     name, args = constraint.name.removesuffix("_reif"), constraint.args
     if name in ("int_eq", "int_ne"):
@@ -31,7 +31,7 @@ def compared(flat: Flat, constraint: Constraint) -> list[Term] | None:
 
 
 def domains(flat: Flat) -> dict[str, tuple[int, ...]]:
-    """The variables that are only told apart, with the values of all with which they are compared."""
+    """The variables that are only told apart, with the values of all that they are compared to."""
     groups = _Groups()
     counted: set[str] = set(_names(flat, [flat.goal.objective] if flat.goal.objective else []))
     for constraint in flat.constraints:
@@ -71,12 +71,12 @@ class _Groups:
     """Terms that are compared with one another: a constant belongs to no group but its own uses."""
 
     def __init__(self) -> None:
-        self._of: dict[Term, set[Term]] = {}
+        self._of: dict[FlatTerm, set[FlatTerm]] = {}
 
-    def join(self, terms: Iterable[Term]) -> None:
+    def join(self, terms: Iterable[FlatTerm]) -> None:
         """Takes in that these are compared."""
         given = list(terms)
-        joined: set[Term] = {each for each in given}
+        joined: set[FlatTerm] = {each for each in given}
         for each in given:
             if isinstance(each, Name):
                 joined |= self._of.get(each, set())
@@ -84,18 +84,18 @@ class _Groups:
             if isinstance(each, Name):
                 self._of[each] = joined
 
-    def all(self) -> list[set[Term]]:
+    def all(self) -> list[set[FlatTerm]]:
         """The groups that have a variable."""
         return list({id(group): group for group in self._of.values()}.values())
 
 
-def _array(flat: Flat, term: Term) -> tuple[Term, ...]:
+def _array(flat: Flat, term: FlatTerm) -> tuple[FlatTerm, ...]:
     found = flat.resolved(term)
     assert isinstance(found, tuple)
     return found
 
 
-def _names(flat: Flat, terms: Iterable[Term]) -> Iterable[str]:
+def _names(flat: Flat, terms: Iterable[FlatTerm]) -> Iterable[str]:
     for term in terms:
         found = flat.resolved(term)
         if isinstance(found, Name):

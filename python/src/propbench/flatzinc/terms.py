@@ -40,7 +40,7 @@ class Call:
     """A constraint or annotation with arguments."""
 
     name: str
-    args: tuple["Term", ...]
+    args: tuple["FlatTerm", ...]
 
 
 @dataclass(frozen=True)
@@ -97,7 +97,7 @@ class Reals:
         return self.low if self.low == self.high else None
 
 
-Term = Union[bool, int, Fraction, Name, Text, Call, Numbers, Reals, tuple["Term", ...]]
+FlatTerm = Union[bool, int, Fraction, Name, Text, Call, Numbers, Reals, tuple["FlatTerm", ...]]
 
 
 class Sort(Enum):
@@ -117,8 +117,8 @@ class Variable:
     name: str
     sort: Sort
     values: Numbers | None
-    annotations: tuple[Term, ...]
-    value: Term | None
+    annotations: tuple[FlatTerm, ...]
+    value: FlatTerm | None
     line: int
     reals: Reals = Reals(None, None)
 
@@ -147,7 +147,7 @@ class Constraint:
     """A constraint: its name, on what, and the variable that it defines, where it says so."""
 
     name: str
-    args: tuple[Term, ...]
+    args: tuple[FlatTerm, ...]
     defined: str | None
     line: int
 
@@ -157,7 +157,7 @@ class Array:
     """An array, and the index sets by which it is printed, where that is wanted."""
 
     name: str
-    elements: tuple[Term, ...]
+    elements: tuple[FlatTerm, ...]
     printed: tuple[Numbers, ...] | None
     line: int = 0
 
@@ -167,8 +167,8 @@ class Goal:
     """What is asked for: `satisfy`, `minimize` or `maximize`, of which variable, and how."""
 
     sort: str
-    objective: Term | None
-    annotations: tuple[Term, ...]
+    objective: FlatTerm | None
+    annotations: tuple[FlatTerm, ...]
     line: int
 
 
@@ -176,13 +176,13 @@ class Goal:
 class Flat:
     """A model in FlatZinc, all in the order of the file."""
 
-    parameters: dict[str, Term] = field(default_factory=dict)
+    parameters: dict[str, FlatTerm] = field(default_factory=dict)
     variables: dict[str, Variable] = field(default_factory=dict)
     arrays: dict[str, Array] = field(default_factory=dict)
     constraints: list[Constraint] = field(default_factory=list)
     goal: Goal = Goal("satisfy", None, (), 0)
 
-    def resolved(self, term: Term) -> Term:
+    def resolved(self, term: FlatTerm) -> FlatTerm:
         """A parameter's value, an array's elements; else the term itself."""
         if isinstance(term, Name):
             if term.text in self.parameters:
@@ -192,7 +192,7 @@ class Flat:
         return term
 
 
-def _name(term: Term) -> str | None:
+def _name(term: FlatTerm) -> str | None:
     if isinstance(term, Call):
         return term.name
     return term.text if isinstance(term, Name) else None

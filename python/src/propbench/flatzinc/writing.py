@@ -6,7 +6,7 @@ from fractions import Fraction
 from propbench.flatzinc.building import Built
 from propbench.flatzinc.residuals import off_by
 from propbench.flatzinc.solving import Solutions
-from propbench.flatzinc.terms import Name, Numbers, Term
+from propbench.flatzinc.terms import FlatTerm, Name, Numbers
 from propbench.questions import Plan
 
 # A float is written with so many digits behind the point at the most.
@@ -40,7 +40,7 @@ def solution(built: Built, plan: Plan) -> Iterator[str]:
 
 
 def statistics(built: Built, found: Solutions, times: Mapping[str, float]) -> Iterator[str]:
-    """Statistics by the names that MiniZinc has for them: `propagations` are steps of the program."""
+    """Statistics by the names that MiniZinc gives them: `propagations` are steps of the program."""
     variables = built.flat.variables.values()
     truths = sum(each.is_truth for each in variables)
     sets = sum(each.is_set for each in variables)
@@ -68,7 +68,7 @@ def _objective(built: Built, value: int) -> str:
     return _float(Fraction(value, built.floats.per_unit))
 
 
-def _value(built: Built, plan: Plan, term: Term) -> str:
+def _value(built: Built, plan: Plan, term: FlatTerm) -> str:
     found = built.flat.resolved(term)
     if isinstance(found, Name) and found.text in built.sets:
         cells = built.sets[found.text].items()

@@ -17,10 +17,9 @@ from propbench.model.answers import Conflict
 from propbench.model.events import Event, LawStated, Read
 from propbench.model.measures import Interval
 from propbench.questions.certificate import Certificate, Evidence
-from propbench.questions.checker import MOST
 from propbench.questions.clock import Clock
 from propbench.questions.model import Model
-from propbench.questions.rooms import Numbers
+from propbench.questions.rooms import beyond
 from propbench.questions.trial import Trial, mark_for
 
 # Of so many quantities at the most there are bars.
@@ -205,6 +204,6 @@ def certificate_of(model: Model, results: Results, clock: Clock) -> Certificate 
             if room is None:
                 continue
             given = evidence.lines_of(result.because)
-            for outside in (Numbers(-MOST, room.low - 1), Numbers(room.high + 1, MOST)):
+            for outside in beyond(room):
                 claims.append(("fails", {"given": given, "told": [[line, str(outside)]]}))
     return evidence.certificate(claims)

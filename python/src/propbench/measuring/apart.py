@@ -2,7 +2,7 @@
 
 from propbench.questions.clock import Clock
 from propbench.questions.model import Model
-from propbench.questions.rooms import Numbers, room_left
+from propbench.questions.rooms import NumberRoom, room_left
 from propbench.questions.trial import Trial
 from propbench.replies import Contradiction
 
@@ -10,7 +10,7 @@ from propbench.replies import Contradiction
 _MOST = 12
 
 
-def left_apart(model: Model, clock: Clock) -> list[dict[str, Numbers]]:
+def left_apart(model: Model, clock: Clock) -> list[dict[str, NumberRoom]]:
     """What is left for cells by name without each premise of a conflict in turn, where that is none
     then; nothing where there is no conflict. Raises OutOfTime."""
     believed = list(model.believed())
@@ -23,6 +23,6 @@ def left_apart(model: Model, clock: Clock) -> list[dict[str, Numbers]]:
             seen = trial.look([each for each in believed if each != name], [])
             if isinstance(seen, dict):
                 rooms = {cell: room_left(held, None) for cell, held in seen.items()}
-                kept = {cell: it for cell, it in rooms.items() if isinstance(it, Numbers)}
+                kept = {cell: it for cell, it in rooms.items() if isinstance(it, NumberRoom)}
                 found.append(kept)
         return found

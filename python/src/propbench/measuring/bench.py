@@ -51,7 +51,7 @@ from propbench.model.reading import Reader
 from propbench.program import OutOfTime
 from propbench.questions import Questions
 from propbench.questions.clock import Clock, Progress
-from propbench.questions.rooms import Numbers
+from propbench.questions.rooms import NumberRoom
 from propbench.replies import Contradiction, Settled, Value
 from propbench.values import Span
 
@@ -414,16 +414,18 @@ class Measuring(Questions):
             return False
         return True
 
-    def _left_for(self, cells: Sequence[Declared], clock: Clock) -> dict[Declared, Numbers]:
+    def _left_for(self, cells: Sequence[Declared], clock: Clock) -> dict[Declared, NumberRoom]:
         """What is left for cells; nothing where that isn't settled, or there is a conflict."""
         session, names = self._network.session, self._network.vocabulary.cells
         if not isinstance(session.send("settle", seconds=clock.seconds_left()), Settled):
             return {}
         asks = [f"ask {names.line(cell.name)}" for cell in cells]
-        found: dict[Declared, Numbers] = {}
+        found: dict[Declared, NumberRoom] = {}
         for cell, reply in zip(cells, session.look(asks, until=clock.last)):
             held = reply.value if isinstance(reply, Value) else None
-            found[cell] = Numbers(held.low, held.high) if isinstance(held, Span) else _whole(cell)
+            found[cell] = (
+                NumberRoom(held.low, held.high) if isinstance(held, Span) else _whole(cell)
+            )
         return found
 
     def _related(self, cell: Declared) -> list[str]:
@@ -469,7 +471,7 @@ class Measuring(Questions):
         """Readings by name, those in front that `outliers` tries to give up first."""
         return list(names)
 
-    def _told(self, quantity: Quantity, room: Numbers, names: Sequence[str]) -> MeasuredAnswer:
+    def _told(self, quantity: Quantity, room: NumberRoom, names: Sequence[str]) -> MeasuredAnswer:
         """What a cell that holds one of these numbers says, because of these premises."""
         lines = self._network.vocabulary.premises
         because = tuple(lines.line(name) for name in names)
@@ -597,7 +599,7 @@ class _Roots:
         return [RootMade(cell, root) for root, cell in self._made.items()]
 
 
-def _whole(cell: Declared) -> Numbers:
+def _whole(cell: Declared) -> NumberRoom:
     """All that a quantity's cell may be."""
     assert cell.low is not None and cell.high is not None
-    return Numbers(cell.low, cell.high)
+    return NumberRoom(cell.low, cell.high)

@@ -5,7 +5,7 @@ program contradicts that, in cases that cover it, the end is taken off.
 from collections.abc import Collection, Sequence
 
 from propbench.questions.outcomes import Fork
-from propbench.questions.rooms import Numbers, halves, room_left
+from propbench.questions.rooms import NumberRoom, halves, room_left
 from propbench.questions.trial import Case, Trial
 from propbench.replies import Contradiction
 from propbench.values import Held
@@ -47,12 +47,14 @@ class Narrowing:
             raise CantAllHold(seen.premises, None)
         self._base = seen if isinstance(seen, dict) else {}
 
-    def left(self, cell: str) -> Numbers | None:
+    def left(self, cell: str) -> NumberRoom | None:
         """What is left for a quantity by one run; None where nothing is known."""
         room = room_left(self._base[cell], None) if cell in self._base else None
-        return room if isinstance(room, Numbers) else None
+        return room if isinstance(room, NumberRoom) else None
 
-    def shaved(self, cell: str, room: Numbers) -> tuple[Numbers, list[tuple[str, Fork | None]]]:
+    def shaved(
+        self, cell: str, room: NumberRoom
+    ) -> tuple[NumberRoom, list[tuple[str, Fork | None]]]:
         """A room of a quantity without the slices at its ends that can't be, and these slices with
         the cases that show it. Raises Impossible where nothing is left."""
         slices: list[tuple[str, Fork | None]] = []
@@ -73,23 +75,23 @@ class Narrowing:
     def _cut(
         self,
         cell: str,
-        room: Numbers,
+        room: NumberRoom,
         size: int,
         depth: int,
         slices: list[tuple[str, Fork | None]],
-    ) -> Numbers:
+    ) -> NumberRoom:
         """The room without a slice of this size at either end, where that can't be."""
         low, high = room.low, room.high
-        first = Numbers(low, low + size - 1)
+        first = NumberRoom(low, low + size - 1)
         if self._is_refuted(cell, first, depth, slices):
             low += size
-        last = Numbers(high - size + 1, high)
+        last = NumberRoom(high - size + 1, high)
         if high - size >= low - 1 and self._is_refuted(cell, last, depth, slices):
             high -= size
-        return Numbers(low, high)
+        return NumberRoom(low, high)
 
     def _is_refuted(
-        self, cell: str, part: Numbers, depth: int, slices: list[tuple[str, Fork | None]]
+        self, cell: str, part: NumberRoom, depth: int, slices: list[tuple[str, Fork | None]]
     ) -> bool:
         refuted, tree = self.refuted(((cell, part),), depth)
         if refuted:
@@ -127,7 +129,7 @@ class Narrowing:
         first = told[0][0] if told else None
         for place, name in enumerate(self._related):
             room, base = room_left(seen[name], None), self.left(name)
-            if name == first or base is None or not isinstance(room, Numbers) or len(room) < 2:
+            if name == first or base is None or not isinstance(room, NumberRoom) or len(room) < 2:
                 continue
             share = len(room) / len(base) / (1 + place)
             if share > best:

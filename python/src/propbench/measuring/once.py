@@ -15,7 +15,7 @@ from propbench.measuring.shapes import Undefined
 from propbench.measuring.terms import Law, Real, RealSort, constant, power_of
 from propbench.measuring.units import BARE
 
-_ONE, _TWO = Fraction(1), Fraction(2)
+_TWO = Fraction(2)
 
 
 def divided_once(law: Law, bounds: BoundsOf) -> Linear | None:

@@ -12,7 +12,7 @@ from propbench.measuring.curves import Segments
 from propbench.measuring.stating import BendTold, told_pieces
 from propbench.model.events import Event
 from propbench.model.nodes import Declared
-from propbench.questions.rooms import Numbers
+from propbench.questions.rooms import NumberRoom
 
 # Into how many parts what is left for an argument is cut where it will be supposed in parts.
 SHAVED = 64
@@ -74,7 +74,7 @@ class Sharpening:
         ends = ((bend.argument, bend.value) for bend, _ in self.pieces)
         return list(dict.fromkeys(cell for pair in ends for cell in pair))
 
-    def finer(self, left: Mapping[Declared, Numbers]) -> list[BendTold]:
+    def finer(self, left: Mapping[Declared, NumberRoom]) -> list[BendTold]:
         """Pieces that are to be told next, by what is left for the cells."""
         found: list[BendTold] = []
         for (bend, under), told in self.pieces.items():
@@ -93,7 +93,7 @@ class Sharpening:
         return found
 
 
-def _ends(bend: Bend, argument: Numbers, value: Numbers) -> list[int]:
+def _ends(bend: Bend, argument: NumberRoom, value: NumberRoom) -> list[int]:
     """The ends of what is left for an argument, and what it is about at the ends for the value."""
     low, high = bend.whole
     begun, ended = min(max(argument.low, low), high), max(min(argument.high, high), low)
@@ -124,7 +124,7 @@ def _at_ends(bend: Bend, ends: Iterable[int], told: ToldPieces, near: int) -> It
                 yield found
 
 
-def _parts(bend: Bend, left: Numbers, told: ToldPieces, parts: int) -> Iterator[PiecePlace]:
+def _parts(bend: Bend, left: NumberRoom, told: ToldPieces, parts: int) -> Iterator[PiecePlace]:
     """Pieces that are as fine as so many parts of what is left for the argument, where lines aren't
     near yet."""
     low, high = bend.whole

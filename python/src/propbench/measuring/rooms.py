@@ -11,7 +11,7 @@ from propbench.model.measures import Interval
 from propbench.model.nodes import Declared
 from propbench.questions.clock import Clock
 from propbench.questions.model import Model
-from propbench.questions.rooms import Numbers, room_left
+from propbench.questions.rooms import NumberRoom, room_left
 from propbench.questions.trial import Seen, Trial
 
 
@@ -49,15 +49,15 @@ def find_room(model: Model, stated: StatedLaw) -> GapSeen:
     return GapSeen(stated.law.text, share_of(told), widths)
 
 
-def _left(seen: Seen, cell: Declared) -> Numbers | None:
+def _left(seen: Seen, cell: Declared) -> NumberRoom | None:
     room = room_left(seen[cell.name], None) if isinstance(seen, dict) else None
-    return room if isinstance(room, Numbers) else None
+    return room if isinstance(room, NumberRoom) else None
 
 
-def _middle(seen: Seen, cell: Declared) -> Numbers | None:
+def _middle(seen: Seen, cell: Declared) -> NumberRoom | None:
     left = _left(seen, cell)
     middle = None if left is None else (left.low + left.high) // 2
-    return None if middle is None else Numbers(middle, middle)
+    return None if middle is None else NumberRoom(middle, middle)
 
 
 def share_of(told: LawInSteps) -> Fraction:

@@ -15,7 +15,7 @@ from propbench.questions.asking import tried
 from propbench.questions.certificate import Certificate
 from propbench.questions.clock import Clock, Progress
 from propbench.questions.model import Model
-from propbench.questions.rooms import Numbers
+from propbench.questions.rooms import NumberRoom
 from propbench.questions.shown import Shown, shortened
 from propbench.questions.trial import Case, Trial
 
@@ -121,4 +121,4 @@ def _halved(read: Read) -> Case:
     assert measure is not None
     middle, quarter = (reading.low + reading.high) / 2, (reading.high - reading.low) / 4
     halved = Reading(middle - quarter, middle + quarter, reading.written)
-    return read.cell.name, Numbers(*cells_of(measure, halved))
+    return read.cell.name, NumberRoom(*cells_of(measure, halved))

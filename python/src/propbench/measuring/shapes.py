@@ -32,7 +32,6 @@ DEGREES: Dimension = (("deg", Fraction(1)),)
 # Of a function that rises and falls so many curves are told at the most.
 _MOST_CURVES = 16
 _MAY_BE = ", and it may be {between}"
-_ONE = Fraction(1)
 
 
 class Undefined(ValueError):

@@ -10,11 +10,10 @@ from propbench.model.answers import Answer
 from propbench.model.nodes import Declared
 from propbench.questions.asking import tried
 from propbench.questions.certificate import Certificate, Evidence
-from propbench.questions.checker import MOST
 from propbench.questions.clock import Clock, Progress
 from propbench.questions.model import Model
 from propbench.questions.outcomes import Fork
-from propbench.questions.rooms import Numbers
+from propbench.questions.rooms import NumberRoom, beyond
 from propbench.questions.trial import Trial
 from propbench.replies import Value
 
@@ -52,7 +51,7 @@ class ShavedBench(Protocol):
         """The quantities that laws tie to this one, by name, those without readings in front."""
         ...
 
-    def _told(self, quantity: Quantity, room: Numbers, names: Sequence[str]) -> MeasuredAnswer:
+    def _told(self, quantity: Quantity, room: NumberRoom, names: Sequence[str]) -> MeasuredAnswer:
         """What a cell that holds one of these numbers says, because of these premises."""
         ...
 
@@ -70,7 +69,7 @@ def find_shaved(
     clock = Clock(seconds, progress)
     trial = Trial(model, believed, clock)
     narrowing = Narrowing(trial, believed, bench._related(quantity.declared))
-    state: dict[str, Numbers] = {}
+    state: dict[str, NumberRoom] = {}
     slices: list[tuple[str, Fork | None]] = []
 
     def run() -> None:
@@ -92,7 +91,7 @@ def find_shaved(
         line = trial.cell_line[name]
         sides = {
             str(outside): Fork(line, tuple(_cases(outside, begun, slices)))
-            for outside in (Numbers(-MOST, room.low - 1), Numbers(room.high + 1, MOST))
+            for outside in beyond(room)
         }
         certificate = _shown_to_fail(trial, believed, line, sides)
         return Shaved(**vars(told), complete=not clock.is_over(), _certificate=certificate)
@@ -117,14 +116,15 @@ def _shown_to_fail(
 
 
 def _cases(
-    outside: Numbers, begun: Numbers, slices: Sequence[tuple[str, Fork | None]]
+    outside: NumberRoom, begun: NumberRoom, slices: Sequence[tuple[str, Fork | None]]
 ) -> list[tuple[str, Fork | None]]:
     """What lies outside in cases: what one run leaves out, and the slices that were taken off."""
     cases: list[tuple[str, Fork | None]] = []
-    if outside.low == -MOST:
-        cases.append((str(Numbers(-MOST, begun.low - 1)), None))
+    below, above = beyond(begun)
+    if outside.low == below.low:
+        cases.append((str(below), None))
     else:
-        cases.append((str(Numbers(begun.high + 1, MOST)), None))
+        cases.append((str(above), None))
     for text, tree in slices:
         low = int(text.split("..")[0])
         if outside.low <= low <= outside.high:

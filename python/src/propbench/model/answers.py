@@ -3,10 +3,11 @@
 from collections.abc import Mapping
 from dataclasses import dataclass, field
 
-from propbench.model.kinds import MOST, point_text
+from propbench.model.kinds import point_text
 from propbench.model.measures import Interval
 from propbench.showing import printable
 from propbench.values import Elements, Impossible, Nothing, Span
+from propbench.words import MOST_NUMBER
 
 # What is left for a cell: one value where one is left, else all that are.
 Left = int | str | bool | Span | Elements | Nothing | Impossible | Interval
@@ -118,14 +119,14 @@ def numbers_left(span: Span) -> tuple[Span | int, int | None, int | None]:
     low, high = span.low, span.high
     if low == high:
         return low, low, low
-    return span, None if low == -MOST else low, None if high == MOST else high
+    return span, None if low == -MOST_NUMBER else low, None if high == MOST_NUMBER else high
 
 
 def ends_of(value: Left) -> tuple[int | None, int | None]:
     """The ends of a number, None where nothing is known."""
     if isinstance(value, Span):
-        low = None if value.low == -MOST else value.low
-        return low, None if value.high == MOST else value.high
+        low = None if value.low == -MOST_NUMBER else value.low
+        return low, None if value.high == MOST_NUMBER else value.high
     if isinstance(value, int) and not isinstance(value, bool):
         return value, value
     return None, None

@@ -7,7 +7,7 @@ from dataclasses import replace
 
 from propbench.clock import Clock
 from propbench.model.events import ConstraintChoice, Event, Required, Told
-from propbench.model.kinds import MOST, Plain
+from propbench.model.kinds import Plain
 from propbench.model.network import Network
 from propbench.model.nodes import Declared, Node, Op, cells_in
 from propbench.model.ranges import Range, Ranges, declared_range, range_of
@@ -16,6 +16,7 @@ from propbench.model.writing import text_of
 from propbench.program import OutOfTime
 from propbench.replies import Contradiction, Value
 from propbench.values import Span
+from propbench.words import MOST_NUMBER
 
 # Among so many constraints that hold always it is looked which of them can't.
 _MOST_LOOKED_AT = 1000
@@ -106,7 +107,7 @@ def _large(constraint: Node) -> Iterable[Node]:
     while waiting:
         each = waiting.pop()
         if each.kind is Plain.NUMBER and each.op not in (Op.CELL, Op.CONSTANT):
-            if MOST in (range_of(each)[1], -range_of(each)[0]):
+            if MOST_NUMBER in (range_of(each)[1], -range_of(each)[0]):
                 yield each
         fresh = [arg for arg in each.args if arg not in seen]
         seen.update(fresh)
@@ -115,7 +116,7 @@ def _large(constraint: Node) -> Iterable[Node]:
 
 def _is_beyond(range_: Range) -> bool:
     low, high = range_
-    return low > MOST or high < -MOST
+    return low > MOST_NUMBER or high < -MOST_NUMBER
 
 
 def _without(

@@ -3,7 +3,7 @@
 from typing import TYPE_CHECKING, Protocol
 
 from propbench.model.answers import Answer
-from propbench.model.expressions import Element, Expression, Number, Symbol, Truth
+from propbench.model.expressions import Element, Expression, Number, SymbolExpression, Truth
 from propbench.model.kinds import Domain
 from propbench.model.nodes import Declared, cell
 
@@ -147,7 +147,7 @@ class ElementCell(Cell, Element):
         return self._declared.kind.elements
 
 
-class SymbolCell(Cell, Symbol):
+class SymbolCell(Cell, SymbolExpression):
     """A cell for a symbol."""
 
 

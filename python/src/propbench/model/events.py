@@ -5,13 +5,14 @@ from dataclasses import dataclass
 from functools import cached_property
 from typing import TYPE_CHECKING, cast
 
-from propbench.model.kinds import MOST, Domain, Plain, Point, point_text
+from propbench.model.kinds import Domain, Plain, Point, point_text
 from propbench.model.meaning import PointsOf, holds
 from propbench.model.measures import text_of_number
 from propbench.model.nodes import Declared, Node
 from propbench.model.orders import Bound, first_held, orders_of
 from propbench.model.writing import text_of
 from propbench.showing import printable
+from propbench.words import MOST_NUMBER
 
 if TYPE_CHECKING:
     from propbench.measuring.readings import Reading
@@ -239,7 +240,7 @@ def values_text(cell: Declared, values: AlternativeValues) -> str:
 
 
 def _end(number: Point) -> str:
-    return "" if abs(int(number)) == MOST else str(number)
+    return "" if abs(int(number)) == MOST_NUMBER else str(number)
 
 
 def plain_values(cell: Declared, values: AlternativeValues) -> object:

@@ -11,7 +11,7 @@ from operator import index
 from typing import NoReturn, SupportsIndex, TypeVar, cast, overload
 
 from propbench.model.definedness import has_value
-from propbench.model.kinds import MOST, Domain, Kind, Plain, Point, kind_text
+from propbench.model.kinds import Domain, Kind, Plain, Point, kind_text
 from propbench.model.meaning import value_of
 from propbench.model.nodes import (
     FALSE,
@@ -27,6 +27,7 @@ from propbench.model.nodes import (
 )
 from propbench.model.core import among
 from propbench.model.writing import text_of
+from propbench.words import MOST_NUMBER
 
 
 # A number is raised to so much at the most.
@@ -227,14 +228,14 @@ class Element(Expression):
         return Truth(among(self._node, elements))
 
 
-class Symbol(Expression):
+class SymbolExpression(Expression):
     """A symbol: any name; `==` and `!=`."""
 
     # (as in Number)
-    def __eq__(self, other: "Symbol | str") -> "Truth":  # type: ignore[override]
+    def __eq__(self, other: "SymbolExpression | str") -> "Truth":  # type: ignore[override]
         return _compared(Op.EQUAL, self, other)
 
-    def __ne__(self, other: "Symbol | str") -> "Truth":  # type: ignore[override]
+    def __ne__(self, other: "SymbolExpression | str") -> "Truth":  # type: ignore[override]
         return _compared(Op.UNEQUAL, self, other)
 
     __hash__ = object.__hash__
@@ -284,8 +285,8 @@ def _checked_number(value: object) -> int:
     if isinstance(value, bool) or not isinstance(value, (int, SupportsIndex)):
         raise TypeError(f"{value!r} is no whole number")
     number = index(value)
-    if abs(number) > MOST:
-        told = str(number) if abs(number) < MOST**3 else "a number of so many digits"
+    if abs(number) > MOST_NUMBER:
+        told = str(number) if abs(number) < MOST_NUMBER**3 else "a number of so many digits"
         raise ValueError(f"{told} lies beyond 10^18 either way")
     return number
 
@@ -337,7 +338,7 @@ def implies(condition: "Truth | bool", consequence: "Truth | bool") -> Truth:
     return Truth(_folded(Op.IMPLIES, (first, second)))
 
 
-_Kind = TypeVar("_Kind", Number, Truth, Element, Symbol)
+_Kind = TypeVar("_Kind", Number, Truth, Element, SymbolExpression)
 
 
 @overload
@@ -474,4 +475,6 @@ def expression_of(made: Node) -> Expression:
     """The expression of a node, by its kind."""
     if isinstance(made.kind, Domain):
         return Element(made)
-    return {Plain.NUMBER: Number, Plain.TRUTH: Truth, Plain.SYMBOL: Symbol}[made.kind](made)
+    return {Plain.NUMBER: Number, Plain.TRUTH: Truth, Plain.SYMBOL: SymbolExpression}[made.kind](
+        made
+    )

@@ -6,9 +6,10 @@ from typing import TYPE_CHECKING, Any
 from propbench.given import names_given
 from propbench.model.events import AlternativeValues
 from propbench.model.expressions import point_of
-from propbench.model.kinds import MOST, Domain, Plain
+from propbench.model.kinds import Domain, Plain
 from propbench.model.measures import Measure
 from propbench.model.nodes import Declared
+from propbench.words import MOST_NUMBER
 
 if TYPE_CHECKING:
     from propbench.measuring.readings import Reading
@@ -48,7 +49,7 @@ def values_of(cell: Declared, value: object, high: object = None) -> Alternative
 def cells_of(measure: Measure, reading: "Reading") -> tuple[int, int]:
     """What the cell of a quantity may hold by a reading."""
     low, high = (measure.count(end) for end in (reading.low, reading.high))
-    return min(max(low, -MOST), MOST), min(max(high, -MOST), MOST)
+    return min(max(low, -MOST_NUMBER), MOST_NUMBER), min(max(high, -MOST_NUMBER), MOST_NUMBER)
 
 
 # (Any, for what a user gives may be anything: `reading_of` looks at what it is)

@@ -7,9 +7,10 @@ only what is stated of it has to be told under a premise.
 
 from weakref import WeakKeyDictionary
 
-from propbench.model.kinds import MOST, Plain
+from propbench.model.kinds import Plain
 from propbench.model.nodes import Node, Op
 from propbench.model.ranges import range_of, uncut_range_of
+from propbench.words import MOST_NUMBER
 
 _found: "WeakKeyDictionary[Node, bool]" = WeakKeyDictionary()
 
@@ -29,10 +30,10 @@ def _is_small(each: Node) -> bool:
     low, high = uncut_range_of(each)
     if each.op in (Op.QUOTIENT, Op.REMAINDER):
         # (the quotient times the divisor lies so far from zero at the most)
-        return sum(_farthest(arg) for arg in each.args) <= MOST
+        return sum(_farthest(arg) for arg in each.args) <= MOST_NUMBER
     if each.op is Op.SUM:
-        return sum(map(_farthest, each.args)) <= MOST
-    return -MOST <= low and high <= MOST
+        return sum(map(_farthest, each.args)) <= MOST_NUMBER
+    return -MOST_NUMBER <= low and high <= MOST_NUMBER
 
 
 def _farthest(each: Node) -> int:

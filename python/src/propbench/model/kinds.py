@@ -4,9 +4,6 @@ from dataclasses import dataclass
 from enum import Enum
 from math import inf
 
-# Numbers of the program lie between these, either way.
-MOST = 10**18
-
 # A value: a number, a truth, or the name of an element or symbol.
 Point = int | str | bool
 

@@ -7,8 +7,9 @@ number beyond 10^18 either way is none that the program holds: whatever needs it
 import operator
 from collections.abc import Callable, Mapping
 
-from propbench.model.kinds import MOST, Point, domain_of
+from propbench.model.kinds import Point, domain_of
 from propbench.model.nodes import Declared, Node, Op
+from propbench.words import MOST_NUMBER
 
 
 class Beyond(Exception):
@@ -76,7 +77,7 @@ def _sum(node: Node, numbers: list[int]) -> int:
     total = 0
     for number in numbers:
         total += number
-        if abs(total) > MOST:
+        if abs(total) > MOST_NUMBER:
             raise Beyond(node)
     return total
 
@@ -85,7 +86,7 @@ def _quotient(node: Node, numbers: list[int]) -> int:
     left, right = numbers
     if right == 0:
         raise NoValueThere
-    if abs(left // right * right) > MOST:
+    if abs(left // right * right) > MOST_NUMBER:
         raise Beyond(node)
     return left // right
 
@@ -170,7 +171,7 @@ def _connected(reading: _Reading, node: Node) -> bool:
 
 def _calculated(reading: _Reading, node: Node) -> int:
     found = _NUMBERS[node.op](node, [int(reading.value(arg)) for arg in node.args])
-    if abs(found) > MOST:
+    if abs(found) > MOST_NUMBER:
         raise Beyond(node)
     return found
 

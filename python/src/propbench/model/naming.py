@@ -12,7 +12,7 @@ INNER = "_"
 _LONGEST = MOST_BYTES // 64
 
 
-class Names:
+class LineNames:
     """The names of one sort, as those of cells are: texts of a user, and names on lines.
 
     A text that is a name of the language stands for itself; any other is mapped to one.

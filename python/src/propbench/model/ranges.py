@@ -6,11 +6,11 @@ A range may be wider than what is possible, never narrower.
 from collections.abc import Callable
 from weakref import WeakKeyDictionary
 
-from propbench.model.kinds import MOST
 from propbench.model.nodes import Declared, Node, Op
+from propbench.words import MOST_NUMBER
 
 Range = tuple[int, int]
-ALL: Range = (-MOST, MOST)
+ALL: Range = (-MOST_NUMBER, MOST_NUMBER)
 
 
 class Ranges:
@@ -49,7 +49,10 @@ class Ranges:
 
 def declared_range(cell: Declared) -> Range:
     """Between which numbers a cell lies, by what it was declared as."""
-    return (-MOST if cell.low is None else cell.low, MOST if cell.high is None else cell.high)
+    return (
+        -MOST_NUMBER if cell.low is None else cell.low,
+        MOST_NUMBER if cell.high is None else cell.high,
+    )
 
 
 # By what the cells were declared as.
@@ -67,7 +70,7 @@ def uncut_range_of(node: Node) -> Range:
 
 
 def _cut(number: int) -> int:
-    return min(max(number, -MOST), MOST)
+    return min(max(number, -MOST_NUMBER), MOST_NUMBER)
 
 
 def _hull(ranges: list[Range]) -> Range:

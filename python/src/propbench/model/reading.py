@@ -4,7 +4,7 @@ from collections.abc import Iterable, Mapping
 
 from propbench.model.answers import Answer, Left, numbers_left
 from propbench.model.choosing import alternative_of, alternatives_at, first_name
-from propbench.model.kinds import MOST, Domain
+from propbench.model.kinds import Domain
 from propbench.model.measured import MeasuredAnswer, interval_of
 from propbench.model.measures import Interval, Measure
 from propbench.model.nodes import Declared
@@ -13,6 +13,7 @@ from propbench.model.vocabulary import Vocabulary
 from propbench.replies import Value
 from propbench.showing import printable
 from propbench.values import Elements, Held, Impossible, Nothing, Span, Symbol
+from propbench.words import MOST_NUMBER
 
 
 class Reader:
@@ -30,8 +31,8 @@ class Reader:
             return Answer(
                 cell.name,
                 least if least == most else Span(least, most),
-                None if least == -MOST else least,
-                None if most == MOST else most,
+                None if least == -MOST_NUMBER else least,
+                None if most == MOST_NUMBER else most,
                 True,
                 self._vocabulary.premises.texts(rests_on),
             )

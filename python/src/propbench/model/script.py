@@ -15,11 +15,12 @@ from propbench.model.events import (
     ValueChoice,
     AlternativeValues,
 )
-from propbench.model.kinds import MOST, Domain, Plain
+from propbench.model.kinds import Domain, Plain
 from propbench.model.nodes import Declared
 from propbench.model.translation import Translation
 from propbench.model.vocabulary import Vocabulary
 from propbench.model.writer import Writer, span_text
+from propbench.words import MOST_NUMBER
 
 
 @dataclass(frozen=True)
@@ -89,8 +90,8 @@ class Script:
         elif cell.kind is Plain.TRUTH:
             self.writer.line(f"fix {name} {{no yes}}")
         elif (cell.low, cell.high) != (None, None):
-            low = -MOST if cell.low is None else cell.low
-            high = MOST if cell.high is None else cell.high
+            low = -MOST_NUMBER if cell.low is None else cell.low
+            high = MOST_NUMBER if cell.high is None else cell.high
             self.writer.line(f"fix {name} {span_text(low, high)}")
 
     def _context(self, premise: str) -> Context:

@@ -8,12 +8,13 @@ from propbench.model.context import Context
 from propbench.model.core import different, in_core
 from propbench.model.either import Either
 from propbench.model.harmless import is_harmless
-from propbench.model.kinds import MOST, Domain, Plain, domain_of
+from propbench.model.kinds import Domain, Plain, domain_of
 from propbench.model.nodes import FALSE, TRUE, Node, Op, negated
 from propbench.model.numbers import NumberWriter
 from propbench.model.truths import Truths
 from propbench.model.vocabulary import Vocabulary
 from propbench.model.writer import YES, Writer, span_text
+from propbench.words import MOST_NUMBER
 
 
 class Translation:
@@ -222,7 +223,7 @@ class Translation:
     def _narrow_number(self, each: Node, holds: bool, context: Context) -> None:
         """States or denies `left < right`, where one of them is a constant: as a range."""
         left, right = each.args
-        low, high = -MOST, MOST
+        low, high = -MOST_NUMBER, MOST_NUMBER
         if right.op is Op.CONSTANT:
             number, other = int(right.constant), left
             low, high = (low, number - 1) if holds else (number, high)

@@ -8,7 +8,7 @@ from propbench.model.kinds import Plain, domain_of, most_different
 from propbench.model.kit import DIFFER
 from propbench.model.nodes import FALSE, Node, Op, constant, node
 from propbench.model.relations import Relations
-from propbench.model.vocabulary import SIDES
+from propbench.model.vocabulary import INSIDE
 from propbench.model.writer import TRUTHS
 
 if TYPE_CHECKING:
@@ -121,9 +121,9 @@ class Truths:
         element = each.args[0]
         domain = domain_of(element.kind)
         pairs = [(name, "in" if name in each.entries else "out") for name in domain.elements]
-        relation = self._writer.relation(domain, SIDES, pairs)
-        side = self._writer.new_cell(SIDES)
-        inside = self._all.cell_of(constant("in", SIDES), context)
+        relation = self._writer.relation(domain, INSIDE, pairs)
+        side = self._writer.new_cell(INSIDE)
+        inside = self._all.cell_of(constant("in", INSIDE), context)
         self._writer.attach("link", self._all.cell_of(element, context), side, by=relation)
         self._writer.attach("alike", side, inside, cell)
 

@@ -3,11 +3,11 @@
 from collections.abc import Callable
 
 from propbench.model.kinds import Domain, Kind, Plain, Point
-from propbench.model.naming import Names
+from propbench.model.naming import LineNames
 
 _PLAIN = {Plain.NUMBER: "span", Plain.TRUTH: "truth", Plain.SYMBOL: "symbol"}
 # Whether an expression over elements is one of some: the workbench's own domain.
-SIDES = Domain("_side", ("in", "out"))
+INSIDE = Domain("_side", ("in", "out"))
 
 
 class Vocabulary:
@@ -15,17 +15,17 @@ class Vocabulary:
 
     def __init__(self, is_taken_as_name: Callable[[str], bool]) -> None:
         self._is_taken_as_name = is_taken_as_name
-        self.cells = Names(is_taken_as_name)
-        self.premises = Names(is_taken_as_name)
-        self.domains = Names(is_taken_as_name)
-        self.symbols = Names(is_taken_as_name)
-        self._elements: dict[Domain, Names] = {}
-        self._own: dict[tuple[str, ...], Domain] = {SIDES.elements: SIDES}
+        self.cells = LineNames(is_taken_as_name)
+        self.premises = LineNames(is_taken_as_name)
+        self.domains = LineNames(is_taken_as_name)
+        self.symbols = LineNames(is_taken_as_name)
+        self._elements: dict[Domain, LineNames] = {}
+        self._own: dict[tuple[str, ...], Domain] = {INSIDE.elements: INSIDE}
 
-    def elements(self, domain: Domain) -> Names:
+    def elements(self, domain: Domain) -> LineNames:
         """The names of a domain's elements."""
         if domain not in self._elements:
-            names = self._elements[domain] = Names(self._is_taken_as_name)
+            names = self._elements[domain] = LineNames(self._is_taken_as_name)
             for element in domain.elements:
                 names.line(element)
         return self._elements[domain]

@@ -8,10 +8,11 @@ from collections.abc import Callable, Iterable
 from dataclasses import dataclass
 
 from propbench.model.context import Context
-from propbench.model.kinds import MOST, Domain, Kind, Plain, Point
+from propbench.model.kinds import Domain, Kind, Plain, Point
 from propbench.model.kit import SWITCHED
 from propbench.model.naming import INNER
-from propbench.model.vocabulary import SIDES, Vocabulary
+from propbench.model.vocabulary import INSIDE, Vocabulary
+from propbench.words import MOST_NUMBER
 
 YES = "_yes"
 TRUTHS = "{yes no}"
@@ -182,7 +183,7 @@ class Writer:
         where there is one."""
         text = self.vocabulary.literal(value, kind)
         if not context.is_gated:
-            if kind is SIDES:
+            if kind is INSIDE:
                 self._declare_sides()
             return self.fixed(kind, text)
         since = self.position
@@ -211,7 +212,7 @@ class Writer:
 
     def between(self, cell: str, low: int, high: int, context: Context) -> None:
         """States that a number lies between two, where that tells anything."""
-        if (low, high) != (-MOST, MOST):
+        if (low, high) != (-MOST_NUMBER, MOST_NUMBER):
             self.narrow(cell, span_text(low, high), Plain.NUMBER, context)
 
     def link(self, outside: str, inside: str, context: Context) -> None:
@@ -240,7 +241,7 @@ class Writer:
     def relation(self, first: Domain, second: Domain, pairs: Iterable[tuple[str, str]]) -> str:
         """The name of a relation of these pairs. Raises ValueError where a line is too short for
         them, or where there are none."""
-        if second is SIDES:
+        if second is INSIDE:
             self._declare_sides()
         key = (first, second, frozenset(pairs))
         if key not in self._relations:
@@ -276,9 +277,9 @@ class Writer:
         self.made(domain.name, since)
 
     def _declare_sides(self) -> None:
-        if SIDES not in self._relations:
-            self._relations[SIDES] = SIDES.name
-            self.own_domain(SIDES)
+        if INSIDE not in self._relations:
+            self._relations[INSIDE] = INSIDE.name
+            self.own_domain(INSIDE)
 
     def _new_cell(self, words: str) -> str:
         name, since = self.new_name(), self.position

@@ -5,7 +5,7 @@ from propbench.model.nodes import Node, Op
 from propbench.showing import printable
 
 # How tightly a text holds together: from `implies(..)`, which always does, down to `==`.
-_WHOLE, _POWER, _UNARY, _TIMES, _PLUS, _AND, _XOR, _OR, _COMPARED = 9, 8, 7, 6, 5, 4, 3, 2, 1
+_WHOLE, _UNARY, _TIMES, _PLUS, _AND, _XOR, _OR, _COMPARED = 8, 7, 6, 5, 4, 3, 2, 1
 
 _BETWEEN = {
     Op.SUM: ("+", _PLUS),

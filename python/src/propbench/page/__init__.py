@@ -9,7 +9,7 @@ from contextlib import AbstractContextManager
 
 from propbench.closing import Closing
 from propbench.files import OpenedFile
-from propbench.page.asking import Asking
+from propbench.page.asking import ServedNetwork
 from propbench.page.server import Server
 from propbench.watching import Watched
 
@@ -29,7 +29,7 @@ class Page(Closing):
         `-` standard input, which is saved under a name that the page asks for. What is changed is
         kept in the file's journal, where there is one, until it is saved."""
         file = OpenedFile(path) if isinstance(path, str) else path
-        self._asking = Asking(watched, title, file)
+        self._asking = ServedNetwork(watched, title, file)
         self._server = Server(self._asking, port)
         self._thread = threading.Thread(target=self._server.serve_forever, daemon=True)
         self._thread.start()

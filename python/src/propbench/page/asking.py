@@ -22,9 +22,9 @@ from propbench.watching import (
     Frame,
     NetworkSeen,
     SeenNow,
-    ValueSeen,
     Steps,
     Use,
+    ValueSeen,
     Watched,
     bears,
 )
@@ -51,7 +51,7 @@ def _nobody() -> bool:
     return False
 
 
-class Asking:
+class ServedNetwork:
     """What is served: a session or a workbench, and the file that it came from, if any; one that
     has no name yet is UNNAMED."""
 
@@ -445,7 +445,7 @@ def _seen(seen: SeenNow) -> dict[str, object]:
 
 
 def _briefly(shown: ValueSeen) -> dict[str, object]:
-    """What is shown of each cell at once: of many reasons the first, and how many more there are."""
+    """What is shown of each cell at once: of many reasons the first, and how many are left."""
     return {
         "cell": shown.cell,
         "text": shown.text,

@@ -49,7 +49,7 @@ _JSON, _TEXT = "application/json", "text/plain; charset=utf-8"
 Gone = Callable[[], bool]
 
 
-class Asked(Protocol):
+class PageAnswerer(Protocol):
     """Who answers what a page asks: what is run for one that is gone is ended."""
 
     def state(self, is_gone: Gone) -> dict[str, object]:
@@ -86,7 +86,7 @@ class Server(ThreadingHTTPServer):
 
     daemon_threads = True
 
-    def __init__(self, asked: Asked, port: int) -> None:
+    def __init__(self, asked: PageAnswerer, port: int) -> None:
         """At this port of this machine, at any that is free where that is 0. Raises OSError, and
         TypeError and ValueError for what no port has."""
         if not isinstance(port, int):

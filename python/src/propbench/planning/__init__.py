@@ -1,4 +1,4 @@
-"""Plans of tasks that people do: a thin layer over a workbench, which speaks in tasks and wishes."""
+"""Plans of tasks that people do: a thin layer over a workbench, in words of tasks and wishes."""
 
 from propbench.planning.calendar import Calendar
 from propbench.planning.project import Project

@@ -1,5 +1,5 @@
-"""What a planner wants: tasks, people, absences, wishes, and the days of the plan, which are numbers
-here whether they were dates or not."""
+"""What a planner wants: tasks, people, absences, wishes, and the days of the plan, which are
+numbers here whether they were dates or not."""
 
 from dataclasses import dataclass, field
 
@@ -12,7 +12,7 @@ WISH, LEAVE, HELP = 1.0, 5.0, 20.0
 
 
 @dataclass(frozen=True)
-class Way:
+class NamedWay:
     """A way to do a task, by the name that it has where there are several."""
 
     name: str
@@ -21,14 +21,14 @@ class Way:
 
 
 @dataclass(frozen=True)
-class Job:
+class TaskWanted:
     """A task of a table. It begins on the day `earliest` or later, and ends before `latest`; `done`
     are its first day and that by which it was over, where it was done, and `left` the days that are
     left of one under way, with that on which it `began`. `people` do it, and some of each of the
     `groups`; it `pauses` while they are away, and `uses` so much of resources."""
 
     name: str
-    ways: tuple[Way, ...]
+    ways: tuple[NamedWay, ...]
     people: tuple[str, ...]
     after: tuple[str, ...]
     earliest: int | None
@@ -88,7 +88,7 @@ class Brief:
     works: dict[str, tuple[str, ...]] = field(default_factory=dict)
     resources: dict[str, tuple[int, float]] = field(default_factory=dict)
     rates: dict[str, int] = field(default_factory=dict)
-    jobs: dict[str, Job] = field(default_factory=dict)
+    jobs: dict[str, TaskWanted] = field(default_factory=dict)
     leaves: list[Leave] = field(default_factory=list)
     wishes: list[Wish] = field(default_factory=list)
     unread: list[str] = field(default_factory=list)

@@ -13,8 +13,8 @@ _ISO = re.compile(r"\d{4}-\d\d-\d\d")
 
 
 def date_given(given: object) -> date:
-    """A date that is given as such, or as a text (`2026-12-04`). Raises ValueError for another text,
-    and TypeError for what is neither."""
+    """A date that is given as such, or as a text (`2026-12-04`). Raises ValueError for another
+    text, and TypeError for what is neither."""
     if isinstance(given, date):
         return given.date() if isinstance(given, datetime) else given
     if not isinstance(given, str):

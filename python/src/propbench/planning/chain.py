@@ -41,7 +41,7 @@ class Link:
 
 
 @dataclass(frozen=True)
-class Room:
+class TaskRoom:
     """The days within which a task is done, and the last on which it begins."""
 
     first: int
@@ -72,7 +72,7 @@ class Chain(Shown):
         links: Sequence[Link],
         reasons: Reasons,
         others: Sequence[str],
-        rooms: Mapping[str, Room],
+        rooms: Mapping[str, TaskRoom],
     ) -> None:
         """The chain in a schedule, with premises that are no task's and nobody's."""
         self.schedule, self.links = schedule, tuple(links)
@@ -133,8 +133,8 @@ class Chain(Shown):
 
 
 def chain_of(project: "Project", schedule: Schedule, clock: Clock) -> Chain:
-    """What makes the end of a schedule that ends soonest, as far as there is time; half of it is for
-    the rooms. Raises ValueError where there is one that ends sooner."""
+    """What makes the end of a schedule that ends soonest, as far as there is time; half of it is
+    for the rooms. Raises ValueError where there is one that ends sooner."""
     w, left = project.workbench, clock.seconds_left()
     half = Clock(None if left is None else left / 2, clock.progress)
     reasons = reasons_of(project, schedule.end, half)
@@ -193,11 +193,13 @@ def _keep(project: "Project", premises: Sequence[str]) -> None:
             w.kick(premise)
 
 
-def _rooms(project: "Project", tasks: Sequence[str], value: int, clock: Clock) -> dict[str, Room]:
+def _rooms(
+    project: "Project", tasks: Sequence[str], value: int, clock: Clock
+) -> dict[str, TaskRoom]:
     """The room of each of these tasks in plans that end by a day, as far as there is time to find
     it."""
     w, name = project.workbench, project.unused("all ends as soon")
-    rooms: dict[str, Room] = {}
+    rooms: dict[str, TaskRoom] = {}
 
     def best(ask: Callable[..., Optimum], cell: NumberCell) -> int | None:
         found = ask(cell, seconds=clock.seconds_left(), progress=clock.progress)
@@ -209,7 +211,7 @@ def _rooms(project: "Project", tasks: Sequence[str], value: int, clock: Clock) -
             if ends[0] is not None and ends[1] is not None:
                 latest = best(w.greatest, task.start)
                 if latest is not None:
-                    rooms[task.name] = Room(ends[0], ends[1], latest)
+                    rooms[task.name] = TaskRoom(ends[0], ends[1], latest)
     return rooms
 
 

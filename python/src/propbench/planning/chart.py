@@ -11,7 +11,7 @@ from propbench.planning.exports import ENDINGS
 from propbench.planning.schedule import Entry, Schedule
 from propbench.planning.tasks import Away
 from propbench.questions.asking import tried, tried_by
-from propbench.questions.bounding import LEAST, GREATEST, Bounding, Optimum
+from propbench.questions.bounding import GREATEST, LEAST, Bounding, Optimum
 from propbench.questions.clock import Clock, Progress
 from propbench.questions.ends import Ending
 from propbench.questions.model import Plan
@@ -100,8 +100,8 @@ def drawn(schedule: Schedule, rooms: Mapping[str, tuple[int, int]], days: int) -
 def rooms_of(
     project: "Project", clock: Clock, tasks: Collection[str]
 ) -> dict[str, tuple[int, int]]:
-    """For each of these tasks the first day on which it starts in any plan, and the last on which it ends, as
-    far as there is time to find both."""
+    """For each of these tasks the first day on which it starts in any plan, and the last on which
+    it ends, as far as there is time to find both."""
     model = project.workbench.model
     if seeks(model):
         with Seeker(model, clock) as seeker:
@@ -173,14 +173,14 @@ def _row(schedule: Schedule, entry: Entry, room: tuple[int, int] | None, top: in
     label = told if len(told) <= _LETTERS else f"{told[: _LETTERS - 1]}\u2026"
     parts = [f'<text x="4" y="{top + 16}">{escape(label)}</text>']
     parts += [
-        _bar(away.first, away.last, top + 2, 20, "#eeddcc", _said_of(schedule, away))
+        _bar((away.first, away.last), (top + 2, 20), "#eeddcc", _said_of(schedule, away))
         for away in schedule.staff.aways
         if away.person in entry.needs and away.last <= schedule.staff.days
     ]
     if room is not None:
         within = schedule.days_said(*room)
         says += f", in any plan {within if schedule.calendar else f'from {within}'}"
-        parts.append(_bar(*room, top + 9, 6, "#bbbbbb", ""))
+        parts.append(_bar(room, (top + 9, 6), "#bbbbbb"))
     if back := [
         away.person
         for away in schedule.staff.aways
@@ -192,8 +192,8 @@ def _row(schedule: Schedule, entry: Entry, room: tuple[int, int] | None, top: in
         known = (*schedule.people, *schedule.staff.resources)
         colour = _COLOURS[known.index(entry.needs[0]) % len(_COLOURS)]
     if entry.pauses:
-        parts.append(_bar(entry.start, entry.end, top + 11, 2, colour, ""))
-    return [*parts, *(_bar(*part, top + 4, 16, colour, says) for part in entry.parts)]
+        parts.append(_bar((entry.start, entry.end), (top + 11, 2), colour))
+    return [*parts, *(_bar(part, (top + 4, 16), colour, says) for part in entry.parts)]
 
 
 def _said_of(schedule: Schedule, away: Away) -> str:
@@ -207,7 +207,9 @@ def _when(schedule: Schedule, start: int, end: int) -> str:
     return said if schedule.calendar else f"day {said}"
 
 
-def _bar(start: int, end: int, top: int, height: int, colour: str, says: str) -> str:
+def _bar(days: tuple[int, int], lies: tuple[int, int], colour: str, says: str = "") -> str:
+    """A bar from one day to another, which lies at a height and is so high."""
+    (start, end), (top, height) = days, lies
     x, width = _NAMES + start * _DAY, max(2, (end - start) * _DAY)
     title = f"<title>{says}</title>" if says else ""
     return (

@@ -7,7 +7,7 @@ from pathlib import Path
 from propbench.planning.brief import Given
 from propbench.outputs import check_ending
 from propbench.planning.exports import ENDINGS
-from propbench.planning.planner import Plan, best_of, goals_of, plan_of, taking
+from propbench.planning.planner import WeighedProject, best_of, goals_of, plan_of, taking
 from propbench.planning.project import Project
 from propbench.planning.reading import brief_of
 from propbench.planning.schedule import Schedule
@@ -25,10 +25,10 @@ _SPARE = 400
 
 
 @dataclass(frozen=True)
-class Asked:
+class PlanOptions:
     """What is asked of a plan: to give up the cheapest that stands in the way, what to suppose, why
-    it ends no sooner, where to write it, how long all that may take, and between which goals to trade
-    in its place."""
+    it ends no sooner, where to write it, how long all that may take, and between which goals to
+    trade in its place."""
 
     given: Given = Given()
     gives_up: bool = False
@@ -39,7 +39,7 @@ class Asked:
     goals: Sequence[str] = ()
 
 
-def plan_file(path: str, asked: Asked, program: str | None) -> int:
+def plan_file(path: str, asked: PlanOptions, program: str | None) -> int:
     """Plans what the tables of a file or a folder want, tells the schedule and writes it; and gives
     the exit status: 1 where there is no plan, or none was found in time. Raises SheetError and
     ValueError for what can't be taken, OSError, NoSheetReader, and as `Workbench` does."""
@@ -74,7 +74,7 @@ def plan_file(path: str, asked: Asked, program: str | None) -> int:
     return 0
 
 
-def _trade(plan: Plan, goals: Sequence[CellLike], asked: Asked) -> None:
+def _trade(plan: WeighedProject, goals: Sequence[CellLike], asked: PlanOptions) -> None:
     """Tells what one goal costs the other, and writes it."""
     first, second = goals
     found = plan.project.workbench.trade_off(first, second, seconds=asked.seconds)
@@ -90,7 +90,7 @@ def _trade(plan: Plan, goals: Sequence[CellLike], asked: Asked) -> None:
         print(f"The trade-off is in {printable(file)}.")
 
 
-def _tell(project: Project, best: Optimum | Optima, title: str, asked: Asked) -> None:
+def _tell(project: Project, best: Optimum | Optima, title: str, asked: PlanOptions) -> None:
     """Prints the schedule, and writes it."""
     schedule = project.schedule(best)
     print(shown(str(schedule)))
@@ -109,7 +109,7 @@ def _tell(project: Project, best: Optimum | Optima, title: str, asked: Asked) ->
         print(shown(str(project.critical(best, seconds=asked.seconds))))
 
 
-def _is_mended(plan: Plan, best: Optimum | Optima, asked: Asked) -> bool:
+def _is_mended(plan: WeighedProject, best: Optimum | Optima, asked: PlanOptions) -> bool:
     """Tells what stands in the way; whether the cheapest of what helps is given up then."""
     w, facts = plan.project.workbench, plan.project.facts
     if not best.proved:

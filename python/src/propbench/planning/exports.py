@@ -60,7 +60,7 @@ def ics_of(schedule: Schedule, who: str | None, now: datetime | None) -> str:
     """All days of the schedule, or of one person. Raises ValueError where there are no dates, and
     where nobody is called so."""
     if schedule.calendar is None:
-        raise ValueError("the plan has no calendar, so no dates: give w.plan a start")
+        raise ValueError("the plan has no calendar, so no dates: give w.project a start")
     known = (*schedule.people, *schedule.staff.resources)
     if who is not None and who not in known:
         near = near_names(who, known)

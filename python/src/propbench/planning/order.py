@@ -47,7 +47,7 @@ class SetUp(Required):
 
 
 def lag_said(first: Task, then: Task, days: tuple[int | None, int | None], of: str) -> str:
-    """The premise of a lag, where it has no name. Raises ValueError and TypeError for what is none."""
+    """The premise of an unnamed lag. Raises ValueError and TypeError for what is none."""
     least, most = days
     for each in days:
         if each is not None and not isinstance(each, SupportsIndex):
@@ -112,7 +112,7 @@ def _state_between(project: "Project", event: SetUp, tasks: tuple[Task, Task]) -
 
 
 def times_given(person: str, times: object) -> tuple[tuple[tuple[str, str], int], ...]:
-    """Days between kinds. Raises TypeError for what says none, and ValueError for less than none."""
+    """Days between kinds. Raises TypeError for what says none, and ValueError for less than 0."""
     if not isinstance(times, Mapping) or not times:
         raise TypeError(f'{person}: days between kinds are as {{("red", "blue"): 2}}: {times!r}')
     for kinds, days in times.items():

@@ -6,7 +6,7 @@ from dataclasses import dataclass
 from propbench.model.cells import NumberCell
 from propbench.model.kinds import Point
 from propbench.planning.bounds import limit_of
-from propbench.planning.brief import LEAVE, Brief, Job, Wish
+from propbench.planning.brief import LEAVE, Brief, TaskWanted, Wish
 from propbench.planning.project import Project
 from propbench.planning.resources import KeptWithin, rates_of
 from propbench.planning.tasks import KeptApart, KeptOff, Option, Task
@@ -21,7 +21,7 @@ _WEEK = 7
 
 
 @dataclass(frozen=True)
-class Plan:
+class WeighedProject:
     """A project, and what it costs to give up its premises, of which some are wishes."""
 
     project: Project
@@ -38,7 +38,7 @@ class Plan:
         return [name for name in self.wishes if name not in kept]
 
 
-def plan_of(workbench: Workbench, brief: Brief, spare: int = 0) -> Plan:
+def plan_of(workbench: Workbench, brief: Brief, spare: int = 0) -> WeighedProject:
     """The project of what a planner wants, in a workbench, with so many days more than it needs.
     Raises ValueError where two things have one name."""
     weights = {limit_of(person): weight for person, weight in brief.people.items()}
@@ -67,7 +67,7 @@ def plan_of(workbench: Workbench, brief: Brief, spare: int = 0) -> Plan:
     for wish in brief.wishes:
         _wish(project, wish, brief)
         weights[wish.name] = wish.weight
-    return Plan(project, weights, tuple(wish.name for wish in brief.wishes))
+    return WeighedProject(project, weights, tuple(wish.name for wish in brief.wishes))
 
 
 def _days(brief: Brief, spare: int) -> int:
@@ -87,7 +87,7 @@ def _days(brief: Brief, spare: int) -> int:
     return max(1, work + away + max(late, default=0)) + spare
 
 
-def _add(project: Project, job: Job) -> Task:
+def _add(project: Project, job: TaskWanted) -> Task:
     """Adds a task, with its first and its last day."""
     after = [project.tasks[name] for name in job.after]
     who = [*job.people, *job.groups]
@@ -145,7 +145,7 @@ def best_of(project: Project, seconds: float | None) -> Optimum | Optima:
     return w.least([project.end, project.total_cost], seconds=seconds)
 
 
-def given_up(plan: Plan) -> NumberCell:
+def given_up(plan: WeighedProject) -> NumberCell:
     """The weight of the wishes that are given up, which nothing has to hold any more. Raises
     ValueError where one weighs what is no whole number."""
     weights: dict[str, int] = {}
@@ -170,7 +170,7 @@ def taking(project: Project, premises: Iterable[str]) -> list[str]:
     return list(found)
 
 
-def goals_of(plan: Plan, goals: Sequence[str]) -> list[CellLike]:
+def goals_of(plan: WeighedProject, goals: Sequence[str]) -> list[CellLike]:
     """The cells of some goals: `end`, `cost`, `wishes`, which is the weight of those that are given
     up, or the names of cells."""
     project = plan.project

@@ -243,11 +243,12 @@ class Project:
         `options={"hotel": dict(days=2, cost=4000), "uni": dict(days=5, cost=1500)}`, the one to be
         tried first in front.
 
-        `who` does it, one person or all of several, or whoever suits best: `any_of("ana", "ben")`,
-        `skilled("welding")`, each in days of his own by `days={"ana": 3, "ben": 5}`. `after` are
-        tasks that have to be done before. Work `pauses` while somebody is away who does it; an
-        event doesn't: it ends before, or begins behind. A `kind` is what `p.setup` speaks of, and
-        `uses` is how much it takes of what `p.resource` told.
+        `who` does it: one person, all of several (`who="ana ben"`), or whoever suits best
+        (`any_of("ana", "ben")`, `skilled("welding")`), each in days of his own by
+        `days={"ana": 3, "ben": 5}`. `after` are tasks that have to be done before. Work `pauses`
+        while somebody is away who does it; an event doesn't: it ends before, or begins behind. A
+        `kind` is what `p.setup` speaks of, and `uses` is how much it takes of what `p.resource`
+        told.
 
         What it takes, and that it comes after these, is stated under premises with names such as
         `review takes 5` and `review after venue`, or all of it `under` one. Raises ValueError where
@@ -260,8 +261,9 @@ class Project:
         >>> ways = {"hotel": dict(days=2, cost=4000), "uni": dict(days=5, cost=1500)}
         >>> venue = p.task("venue", who="ana", options=ways)
         >>> review = p.task("review", 5, who="ben", after=[venue])
+        >>> meeting = p.task("meeting", 1, who="ana ben", after=[review])
         >>> w.least(p.end).value, w.least(p.total_cost).value
-        (7, 1500)
+        (8, 1500)
         """
         doers = self._checked(name, who)
         used = uses_given(name, uses or {}, self.resources)
@@ -312,8 +314,8 @@ class Project:
             return premise
         if begin >= end:
             raise ValueError(
-                f"{person} can't be away from {_day_text(first)} to {_day_text(last)}: the second is"
-                " the day of the return"
+                f"{person} can't be away from {_day_text(first)} to {_day_text(last)}:"
+                " the second is the day of the return"
             )
         premise = under or f"{person} away {self._said(first)} to {self._said(last)}"
         away = Away(person, begin, end, premise, self._span(begin, end))
@@ -661,7 +663,7 @@ class Project:
         '2026-03-09'
         """
         if self.calendar is None:
-            raise ValueError("the plan has no calendar: give w.plan a start")
+            raise ValueError("the plan has no calendar: give w.project a start")
         return self.calendar.date_of(day)
 
     def schedule(self, plan: Planned | Plan) -> "Schedule":

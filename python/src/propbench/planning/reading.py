@@ -9,7 +9,17 @@ from dataclasses import replace
 from datetime import date, timedelta
 
 from propbench.nearby import near_names
-from propbench.planning.brief import HELP, LEAVE, WISH, Brief, Given, Job, Leave, Way, Wish
+from propbench.planning.brief import (
+    HELP,
+    LEAVE,
+    WISH,
+    Brief,
+    Given,
+    Leave,
+    NamedWay,
+    TaskWanted,
+    Wish,
+)
 from propbench.planning.calendar import Calendar, date_said
 from propbench.planning.days import date_in
 from propbench.planning.headings import (
@@ -27,7 +37,7 @@ from propbench.questions.shown import listed
 from propbench.showing import cut, printable
 
 # The fields of a row by their columns.
-Row = dict[str, Field]
+Fields = dict[str, Field]
 # So many names are listed for somebody who has written another.
 _MOST = 12
 # A date before that names no year.
@@ -151,7 +161,7 @@ class _Reader:
             if "works" in row:
                 self.brief.works[person.text] = self._works(row["works"])
 
-    def _read_resource(self, name: str, row: Row) -> None:
+    def _read_resource(self, name: str, row: Fields) -> None:
         """So much there is of what several tasks may use at once."""
         self.brief.resources[name] = _whole(row["holds"], 1), _weight(row, HELP)
         if "skills" in row:
@@ -172,7 +182,7 @@ class _Reader:
 
     def read_tasks(self, sheet: Sheet) -> None:
         """The tasks; rows of one task are the ways in which it may be done."""
-        rows: dict[str, list[Row]] = {}
+        rows: dict[str, list[Fields]] = {}
         for row in rows_of(sheet, TASKS):
             rows.setdefault(_first(row, "task").text, []).append(row)
         if not rows:
@@ -183,13 +193,13 @@ class _Reader:
                 _known(row.get("after"), _BETWEEN, jobs, "task")
         self.brief.jobs = _ordered(jobs, rows)
 
-    def _job(self, name: str, rows: Sequence[Row]) -> Job:
+    def _job(self, name: str, rows: Sequence[Fields]) -> TaskWanted:
         after = _once(rows, "after")
         earliest, latest = _once(rows, "earliest"), _once(rows, "latest")
         people, groups = self._doers(_once(rows, "who"))
         pauses, left = _once(rows, "pauses"), self._left(rows)
         done = None if left else self._done(_once(rows, "started"), _once(rows, "finished"))
-        return Job(
+        return TaskWanted(
             name,
             tuple(_ways(name, rows)),
             tuple(people),
@@ -203,7 +213,7 @@ class _Reader:
             *(left or (None, None)),
         )
 
-    def _left(self, rows: Sequence[Row]) -> tuple[int, int | None] | None:
+    def _left(self, rows: Sequence[Fields]) -> tuple[int, int | None] | None:
         """Of a task under way the days that are left, and on which it began, where that is told."""
         left, started = _once(rows, "left"), _once(rows, "started")
         if left is None:
@@ -302,7 +312,7 @@ class _Reader:
         for row in rows_of(sheet, WISHES) if sheet else ():
             self.brief.wishes.append(self._wish(row))
 
-    def _wish(self, row: Row) -> Wish:
+    def _wish(self, row: Fields) -> Wish:
         wish = _first(row, "wish")
         task = next(iter(_known(row.get("task"), _WHOLE, self.brief.jobs, "task")), None)
         if wish.text in self.brief.jobs:
@@ -330,7 +340,7 @@ class _Reader:
 # --- tasks ---
 
 
-def _ways(name: str, rows: Sequence[Row]) -> Iterator[Way]:
+def _ways(name: str, rows: Sequence[Fields]) -> Iterator[NamedWay]:
     """The ways in which a task may be done, one for each of its rows."""
     known: set[str] = set()
     for row in rows:
@@ -342,10 +352,10 @@ def _ways(name: str, rows: Sequence[Row]) -> Iterator[Way]:
                 f"`{cut(name)}` stands here twice: give each a `way` of its own, or another name"
             )
         known.add(way)
-        yield Way(way, _whole(row["days"], 0), _whole(row["cost"], 0) if "cost" in row else 0)
+        yield NamedWay(way, _whole(row["days"], 0), _whole(row["cost"], 0) if "cost" in row else 0)
 
 
-def _once(rows: Sequence[Row], column: str) -> Field | None:
+def _once(rows: Sequence[Fields], column: str) -> Field | None:
     """What the rows of a task say in a column, which has to be one thing."""
     told = [row[column] for row in rows if column in row]
     for each in told:
@@ -354,10 +364,10 @@ def _once(rows: Sequence[Row], column: str) -> Field | None:
     return told[0] if told else None
 
 
-def _ordered(jobs: dict[str, Job], rows: dict[str, list[Row]]) -> dict[str, Job]:
+def _ordered(jobs: dict[str, TaskWanted], rows: dict[str, list[Fields]]) -> dict[str, TaskWanted]:
     """The tasks, each behind those that it comes after. Raises SheetError where some come after one
     another in a ring."""
-    waiting, done = dict(jobs), dict[str, Job]()
+    waiting, done = dict(jobs), dict[str, TaskWanted]()
     while waiting:
         ready = [job for job in waiting.values() if all(it in done for it in job.after)]
         if not ready:
@@ -369,7 +379,7 @@ def _ordered(jobs: dict[str, Job], rows: dict[str, list[Row]]) -> dict[str, Job]
     return done
 
 
-def _ring(waiting: dict[str, Job]) -> list[str]:
+def _ring(waiting: dict[str, TaskWanted]) -> list[str]:
     """Tasks of which each comes after the next, and the last after the first."""
     way = [next(iter(waiting))]
     while True:
@@ -382,7 +392,7 @@ def _ring(waiting: dict[str, Job]) -> list[str]:
 # --- texts ---
 
 
-def _first(row: Row, column: str) -> Field:
+def _first(row: Fields, column: str) -> Field:
     """The name that a row begins with."""
     if column not in row:
         other = next(iter(row.values()))
@@ -444,7 +454,7 @@ def _whole(given: Field, least: int, wanted: str = "a whole number, as 5") -> in
     return int(found[1])
 
 
-def _weight(row: Row, usual: float) -> float:
+def _weight(row: Fields, usual: float) -> float:
     """What it costs to give something up."""
     if "weight" not in row:
         return usual

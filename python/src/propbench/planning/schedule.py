@@ -26,7 +26,7 @@ if TYPE_CHECKING:
     from propbench.planning.moves import Moves
     from propbench.planning.project import Project
 
-Value = TypeVar("Value")
+AnyColumn = TypeVar("AnyColumn")
 # Lines of a schedule are no longer than this, and its chart ends so many days behind it.
 _WIDE, _BEHIND = 100, 2
 
@@ -129,7 +129,7 @@ class Schedule(Shown):
     def dates(self, entry: Entry) -> tuple[date, date]:
         """The first date of a task and the last. Raises ValueError where there is no calendar."""
         if self.calendar is None:
-            raise ValueError("the plan has no calendar, so no dates: give w.plan a start")
+            raise ValueError("the plan has no calendar, so no dates: give w.project a start")
         return self.calendar.date_of(entry.start), self.calendar.last_date(entry.start, entry.end)
 
     # --- as text ---
@@ -156,7 +156,7 @@ class Schedule(Shown):
             for entry in self.by_date()
         ]
 
-    def _rest_of(self, columns: Sequence[Value]) -> Iterator[Value]:
+    def _rest_of(self, columns: Sequence[AnyColumn]) -> Iterator[AnyColumn]:
         """Those of the columns for days, task, people, resources, way and cost in which something
         stands."""
         has_ways = any(entry.way is not None for entry in self.entries)
@@ -222,8 +222,8 @@ class Schedule(Shown):
     # --- for others ---
 
     def to_csv(self, path: str | os.PathLike[str] | None = None) -> str:
-        """The schedule for a spreadsheet, a row for each task, written to a file where one is named;
-        and its text."""
+        """The schedule for a spreadsheet, a row for each task, written to a file where one is
+        named; and its text."""
         from propbench.outputs import write_as
         from propbench.planning.exports import ENDINGS, csv_of
 

@@ -1,4 +1,4 @@
-"""What might be otherwise in a plan, as a planner says it: `ana ill 3-7 March`, `review takes 8`."""
+"""What might be otherwise in a plan, as planners say: `ana ill 3-7 March`, `review takes 8`."""
 
 import re
 from collections.abc import Iterable
@@ -25,7 +25,7 @@ _FORMS = (
 
 
 def suppose(project: Project, text: str) -> None:
-    """States what is supposed. Raises ValueError for what can't be read, and for what there isn't."""
+    """States what is supposed. Raises ValueError for what can't be read or isn't there."""
     w = project.workbench
     if (without := _WITHOUT.fullmatch(text)) is not None:
         w.kick(_one_of(without[1].strip(), w.premises, text))

@@ -71,8 +71,8 @@ SomeBench = TypeVar("SomeBench", bound=Bench)
 
 
 class Questions:
-    """The questions of a workbench. Each tries things in a second session, so the workbench is as it
-    was afterwards. That of questions for plans, conflicts and repairs is kept, where the program
+    """The questions of a workbench. Each tries things in a second session, so the workbench is as
+    it was afterwards. That of questions for plans, conflicts and repairs is kept, where the program
     searches for them itself: what one has found out serves the next.
 
     `seconds` ends a question early, with what is known by then; Ctrl-C does so by `Interrupted`,
@@ -114,9 +114,10 @@ class Questions:
         >>> sorted(conflict.names for conflict in w.conflicts())
         [('much', 'less'), ('much', 'little')]
         """
-        from propbench.questions.conflicts import find_conflicts
+        from propbench.questions.conflicts import SetSearch, find_conflicts
 
-        return find_conflicts(self.model, keep, count_given(most, "most"), seconds, progress)
+        search = SetSearch(count_given(most, "most"), keep, seconds, progress)
+        return find_conflicts(self.model, search)
 
     def repairs(
         self,
@@ -141,15 +142,14 @@ class Questions:
         >>> [(repair.names, repair.cost) for repair in w.repairs(weight={"much": 5})]
         [(('little', 'less'), 2), (('much',), 5)]
         """
-        from propbench.questions.conflicts import find_repairs
+        from propbench.questions.conflicts import SetSearch, find_repairs
 
-        at_most = count_given(most, "most")
-        given = {} if weight is None else weight
-        return find_repairs(self.model, given, keep, at_most, seconds, progress)
+        search = SetSearch(count_given(most, "most"), keep, seconds, progress)
+        return find_repairs(self.model, {} if weight is None else weight, search)
 
     def solve(self, *, seconds: float | None = None, progress: Progress | None = None) -> Solution:
-        """A plan: a value of each cell with which all holds that is believed, and one alternative of
-        each choice. Raises NothingFits with the `premises` that can't all hold, or None where no
+        """A plan: a value of each cell with which all holds that is believed, and one alternative
+        of each choice. Raises NothingFits with the `premises` that can't all hold, or None where no
         plan was found in time.
 
             plan = w.solve()
@@ -195,7 +195,7 @@ class Questions:
     ) -> Optimum | Optima:
         """The least value of a cell in any plan. Raises ValueError where there is no such cell, and
         TypeError where it holds no numbers. Where nothing fits, `value` is None and `proved` is
-        True.
+        True. What stands behind `proved`, docs/CLAIMS.md tells in "propwide's own lines".
 
         Of several cells, `w.least([end, cost])`, it is the least of the first, then that of the
         second in the plans that have it, and so on.

@@ -11,7 +11,7 @@ from propbench.questions.model import Model
 from propbench.questions.trial import Trial
 from propbench.showing import quoted
 
-Result = TypeVar("Result")
+AnyResult = TypeVar("AnyResult")
 
 
 class Named(Protocol):
@@ -37,7 +37,7 @@ class Interrupted(KeyboardInterrupt):
         self.so_far = so_far
 
 
-def answered(run: Callable[[], None], result: Callable[[], Result]) -> Result:
+def answered(run: Callable[[], None], result: Callable[[], AnyResult]) -> AnyResult:
     """The result of a question after its run, or as far as that came. Raises Interrupted."""
     try:
         run()
@@ -48,7 +48,7 @@ def answered(run: Callable[[], None], result: Callable[[], Result]) -> Result:
     return result()
 
 
-def tried(trial: Trial, run: Callable[[], None], result: Callable[[], Result]) -> Result:
+def tried(trial: Trial, run: Callable[[], None], result: Callable[[], AnyResult]) -> AnyResult:
     """The same of a question that is asked in a trial, which ends with it."""
     with trial:
         try:
@@ -57,7 +57,7 @@ def tried(trial: Trial, run: Callable[[], None], result: Callable[[], Result]) -
             trial.clock.end()
 
 
-def tried_by(clock: Clock, run: Callable[[], None], result: Callable[[], Result]) -> Result:
+def tried_by(clock: Clock, run: Callable[[], None], result: Callable[[], AnyResult]) -> AnyResult:
     """The same of a question with this clock, which ends with it."""
     try:
         return answered(run, result)
@@ -65,7 +65,7 @@ def tried_by(clock: Clock, run: Callable[[], None], result: Callable[[], Result]
         clock.end()
 
 
-def so_far(ask: Callable[[], Result], kind: type[Result]) -> Result:
+def so_far(ask: Callable[[], AnyResult], kind: type[AnyResult]) -> AnyResult:
     """The result of a question, or what was known of it where it was interrupted. Raises
     Interrupted where it had no result of this kind yet."""
     try:

@@ -9,8 +9,8 @@ from propbench.replies import Value
 
 
 class Bench(Protocol):
-    """A workbench. What stands in for a cell or a value is the workbench's own, which questions only
-    pass on: that is what is Any here."""
+    """A workbench. What stands in for a cell or a value is the workbench's own, which questions
+    only pass on: that is what is Any here."""
 
     @property
     def model(self) -> Model:

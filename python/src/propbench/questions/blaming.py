@@ -14,7 +14,7 @@ from types import MappingProxyType
 from propbench.blamed import Blamed
 from propbench.clock import Clock
 from propbench.points import Points
-from propbench.questions.asking import Result, premises_named, tried_by
+from propbench.questions.asking import AnyResult, premises_named, tried_by
 from propbench.questions.certificate import OPEN, Certificate, Evidence
 from propbench.questions.kept import Base, begun
 from propbench.questions.model import Model
@@ -135,9 +135,9 @@ def asked_by(
     keep: str | Iterable[str],
     clock: Clock,
     wanted: Sequence[tuple[str, int]],
-    result: Callable[[Seeker, BlamedSets], Result],
+    result: Callable[[Seeker, BlamedSets], AnyResult],
     weight: Mapping[str, float] = MappingProxyType({}),
-) -> Result:
+) -> AnyResult:
     """The result of questions for so many sets of each command, beside what is kept; repairs by
     their weight, where `by_cost` can say it."""
     names = set(premises_named(model, keep))

@@ -4,15 +4,15 @@ from collections.abc import Mapping, Sequence
 from dataclasses import dataclass, field, replace
 
 from propbench.questions.certificate import Certificate, Evidence
-from propbench.questions.checker import MOST
 from propbench.questions.model import Model, Plan
 from propbench.questions.outcomes import Cannot, Fits, Fork
-from propbench.questions.rooms import Numbers
+from propbench.questions.rooms import NumberRoom
 from propbench.questions.planned import Planned, Scheduled
 from propbench.questions.shown import NOT_REFUTED
 from propbench.questions.searching import decided
 from propbench.questions.trial import Trial
 from propbench.showing import quoted
+from propbench.words import MOST_NUMBER
 
 LEAST, GREATEST = "least", "greatest"
 
@@ -21,11 +21,12 @@ LEAST, GREATEST = "least", "greatest"
 class Optimum(Planned):
     """The least or greatest value of a cell in any plan.
 
-    `value` is that of the best plan that was found, and `plan` has the values of all cells in it but
-    quantities; both are None where none was found. `choices` has for each choice the alternative
-    that the plan takes. `bound` is a number beyond which nothing fits. `proved` says that there is
-    nothing better than `value`, or no plan at all where that is None; by what the premises `because`
-    say, where the program searches itself. `schedule` is the plan of a project's tasks.
+    `value` is that of the best plan that was found, and `plan` has the values of all cells in it
+    but quantities; both are None where none was found. `choices` has for each choice the
+    alternative that the plan takes. `bound` is a number beyond which nothing fits. `proved` says
+    that there is nothing better than `value`, or no plan at all where that is None; by what the
+    premises `because` say, where the program searches itself. `schedule` is the plan of a project's
+    tasks.
 
     >>> w = Workbench()
     >>> x = w.number("x", 3, 9)
@@ -105,7 +106,7 @@ class Bounding:
     def __init__(self, trial: Trial, premises: Sequence[str], cell: str, sort: str) -> None:
         """That of a cell for numbers."""
         room = trial.rooms[cell]
-        assert isinstance(room, Numbers)
+        assert isinstance(room, NumberRoom)
         self.trial, self.premises, self.cell, self.sort = trial, list(premises), cell, sort
         # (Seen from the other end, the greatest of the numbers is the least.)
         self._sign = 1 if sort == LEAST else -1
@@ -123,22 +124,22 @@ class Bounding:
     @property
     def bound(self) -> int | None:
         """A number beyond which nothing fits, None where none is known."""
-        return None if self._low == -MOST else self._sign * self._low
+        return None if self._low == -MOST_NUMBER else self._sign * self._low
 
     @property
-    def beyond_value(self) -> Numbers | None:
+    def beyond_value(self) -> NumberRoom | None:
         """The values that are better than the best that was found, None where there are none."""
-        if self._best is None or self._best == -MOST:
+        if self._best is None or self._best == -MOST_NUMBER:
             return None
         return self.beyond(self._best - 1)
 
-    def beyond(self, most: int) -> Numbers:
+    def beyond(self, most: int) -> NumberRoom:
         """The values up to one, seen from this end."""
-        return Numbers(-MOST, most) if self._sign == 1 else Numbers(-most, MOST)
+        return NumberRoom(-MOST_NUMBER, most) if self._sign == 1 else NumberRoom(-most, MOST_NUMBER)
 
     def run(self, known: Fits | None = None) -> None:
-        """Closes in on the optimum, until it is found or the time is over; from a plan, where one is
-        known."""
+        """Closes in on the optimum, until it is found or the time is over; from a plan, where one
+        is known."""
         first = known or decided(self.trial, self.premises)
         if isinstance(first, Cannot):
             self.proved, self.tree = True, first.tree
@@ -151,7 +152,7 @@ class Bounding:
         value = fits.plan[self.cell]
         assert isinstance(value, int)
         self._best, self.fits = self._sign * value, fits
-        self.proved = self._best == -MOST
+        self.proved = self._best == -MOST_NUMBER
         self.trial.clock.tell(f"{self.cell}: {value} found, {self.bound} is the bound")
 
     def _close_in(self, best: int) -> bool:
@@ -197,7 +198,7 @@ class Bounding:
 def bounding_in(trial: Trial, premises: Sequence[str], cell: str, sort: str) -> Bounding:
     """A search for an optimum in a trial, which ends where the cell is not for numbers; that raises
     ValueError."""
-    is_number = isinstance(trial.rooms[cell], Numbers)
+    is_number = isinstance(trial.rooms[cell], NumberRoom)
     if not is_number:
         trial.close()
     check_numbers(cell, is_number, sort)

@@ -1,4 +1,4 @@
-"""Certificates: claims about a network with what shows them, which anyone can ask a program again."""
+"""Certificates: claims about a network, with what anyone can ask a program again to see them."""
 
 import os
 from collections import Counter
@@ -85,9 +85,9 @@ class Certificate:
     ) -> bool:
         """True where a fresh session of the program answers so that the claims hold.
 
-        The program is the one given, or the one that a workbench finds. Where a base is given, lines or the
-        file that a workbench was saved to, the network has to be made of these lines. Raises
-        CertificateError where something differs, OSError and NoProgram.
+        The program is the one given, or the one that a workbench finds. Where a base is given,
+        lines or the file that a workbench was saved to, the network has to be made of these lines.
+        Raises CertificateError where something differs, OSError and NoProgram.
 
         >>> w = Workbench()
         >>> x = w.number("x", 3, 9)

@@ -68,7 +68,7 @@ def _told(given: object) -> tuple[object, ...]:
 
 @dataclass(frozen=True)
 class Line:
-    """A statement of a what-if on a line: the premise, as the user calls it, the cell, the value."""
+    """A statement of a what-if on a line: the premise, by the user's name, the cell, the value."""
 
     premise: str
     cell: str

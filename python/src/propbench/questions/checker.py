@@ -14,7 +14,7 @@ from typing import Any  # (what JSON gives: its form is looked at where it is us
 HEAD, MOST, SIDES = "propbench certificate 1", 10**18, 8
 Names = frozenset[str]
 Room = range | Names  # what is left for a cell: numbers, or names
-Told = tuple[tuple[str, str], ...]  # cells, and what is told of each
+CellTexts = tuple[tuple[str, str], ...]  # cells, and what is told of each
 Asks = list[str | tuple[str, Callable[[str], object]]]  # lines, of each is wanted: `ok`, or this
 KINDS: dict[str, Room] = {"span": range(-MOST, MOST + 1), "truth": frozenset(("no", "yes"))}
 SYMBOLS = frozenset("{}")  # any symbol: two that none can be, so no cases cover them
@@ -81,7 +81,7 @@ def hitting(sets: Iterable[Names]) -> list[Names]:
 
 
 def copies(listed: Iterable[str], mark: str) -> list[str]:
-    """Lines that make the cells within compounds, as `1.2.k`, once more, and all that is at them."""
+    """Lines that make the cells within compounds once more, as `1.2.k`, and all that is at them."""
     inner = re.compile(r" [0-9][0-9.]*\.(?=[^\W\d])")
     named = [inner.sub(lambda it: f" {mark}{it[0][1:]}".replace(".", "_"), line) for line in listed]
     changed = {*named} - {*listed}
@@ -145,7 +145,7 @@ class Checker:
         demand(is_each_once, f"{value!a:.60} are not premises, each once")
         return names
 
-    def told(self, value: Any) -> Told:
+    def told(self, value: Any) -> CellTexts:
         pairs = [items(pair, 2) for pair in items(value)]  # (`room` refuses what is no value)
         return tuple((cell, text) for cell, text in pairs if self.room(cell, text))
 
@@ -163,7 +163,7 @@ class Checker:
         demand(is_so, f"{cell} can't be {text!a:.60}")
         return frozenset(names)
 
-    def left(self, cell: str, told: Told) -> Room:
+    def left(self, cell: str, told: CellTexts) -> Room:
         rooms = [self.room(name, text) for name, text in told if name == cell]
         return [self.rooms[cell], *rooms][-1]
 
@@ -183,13 +183,13 @@ class Checker:
         demand(self.basis <= names, "a premise of the basis is missing")
         to += [f"{'bring' if name in names else 'kick'} {name}" for name in sorted(self.premises)]
 
-    def tell(self, to: Asks, told: Told, asks: Asks) -> None:
+    def tell(self, to: Asks, told: CellTexts, asks: Asks) -> None:
         """Asks with values told, which are forgotten then."""
         to += [f"tell {self.mark}told {cell} {text}" for cell, text in told]
         to += [*asks, *([f"forget {self.mark}told"] if told else [])]
 
-    def plan(self, names: Names, told: Told, values: Any) -> dict[str, Room]:
-        """Wants it to settle with these values, and each cell that has none to show a single one."""
+    def plan(self, names: Names, told: CellTexts, values: Any) -> dict[str, Room]:
+        """Wants it to settle with these values, and each other cell to show a single one."""
         plan = {cell: self.room(cell, text) for cell, text in values.items()}
         lacks = [cell for cell in self.kinds if cell[0] != "_" and len(plan.get(cell, "")) != 1]
         demand(not lacks, f"a plan has no single value for {lacks!a:.60}")
@@ -202,7 +202,7 @@ class Checker:
         self.tell(self.asks, (*told, *values.items()), [("settle", SETTLED), *others])
         return plan
 
-    def walk(self, given: Names, told: Told, tree: Any) -> list[tuple[Any, Told]]:
+    def walk(self, given: Names, told: CellTexts, tree: Any) -> list[tuple[Any, CellTexts]]:
         """Has each case of a tree contradicted, where those of each fork cover what is left; gives
         what stands in place of that, and what is told there."""
         self.believe(self.tries, given)

@@ -7,9 +7,8 @@ import json
 from collections.abc import Mapping, Sequence
 from typing import Any  # (what JSON gives: the checker has looked at its form)
 
-from propbench.questions.checker import MOST
 from propbench.questions.shown import listed
-from propbench.words import ends_of
+from propbench.words import MOST_NUMBER, ends_of
 
 # So many names, cells of a plan, and plans are told at the most.
 _NAMES, _CELLS, _PLANS = 12, 16, 20
@@ -138,9 +137,9 @@ def _where(told: Sequence[Sequence[str]]) -> str:
 
 def _said(cell: str, text: str) -> str:
     low, _, high = text.partition("..")
-    if low == str(-MOST) and high:
+    if low == str(-MOST_NUMBER) and high:
         return f"{cell} is at most {high}"
-    if high == str(MOST):
+    if high == str(MOST_NUMBER):
         return f"{cell} is at least {low}"
     return f"{cell} = {text}"
 

@@ -8,7 +8,7 @@ from propbench.model.answers import Answer
 from propbench.questions.asking import answered
 from propbench.questions.bench import Bench
 from propbench.questions.certificate import Certificate
-from propbench.questions.scenarios import Asking, Row
+from propbench.questions.scenarios import AskedTable, Row
 from propbench.questions.shown import Shown, listed, said, shortened
 
 
@@ -100,12 +100,12 @@ def difference_between(one: Bench, other: Bench, clock: Clock) -> Differences:
     return answered(run, result)
 
 
-def _asking(bench: Bench, clock: Clock) -> Asking:
+def _asking(bench: Bench, clock: Clock) -> AskedTable:
     """The one question of a snapshot."""
-    return Asking(bench, {"now": {}}, bench.model.cells(), clock)
+    return AskedTable(bench, {"now": {}}, bench.model.cells(), clock)
 
 
-def _snapshot(bench: Bench, asking: Asking) -> Snapshot:
+def _snapshot(bench: Bench, asking: AskedTable) -> Snapshot:
     """The snapshot of what was asked."""
     model, table = bench.model, asking.result()
     row = table.get("now", Row())

@@ -8,12 +8,13 @@ from collections.abc import Iterable, Iterator, Mapping, Sequence
 from itertools import islice
 
 from propbench.closing import Closing
-from propbench.questions.checker import MOST, copies
+from propbench.questions.checker import copies
 from propbench.questions.rooms import single
 from propbench.refusals import LimitReached
 from propbench.replies import Reply, Settled, Value
 from propbench.session import Session
 from propbench.values import Elements, Held, Nothing, Span
+from propbench.words import MOST_NUMBER
 
 # So many cells get values, of each so many are tried, and a run takes so many seconds at the most.
 _CELLS, _TRIES, _SECONDS = 3000, 200, 10.0
@@ -102,7 +103,7 @@ class Completing(Closing):
         if kind == "symbol":
             left = [f"{self._mark}symbol"]
         elif kind == "span":
-            ends = (held.low, held.high) if isinstance(held, Span) else (-MOST, MOST)
+            ends = (held.low, held.high) if isinstance(held, Span) else (-MOST_NUMBER, MOST_NUMBER)
             left = map(str, _outward(*ends))
         else:
             left = held.names if isinstance(held, Elements) else self._names[kind]

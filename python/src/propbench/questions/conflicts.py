@@ -5,7 +5,7 @@ from dataclasses import dataclass, replace
 from numbers import Real
 
 from propbench.clock import Clock, Progress
-from propbench.questions.asking import Result, premises_named, tried
+from propbench.questions.asking import AnyResult, premises_named, tried
 from propbench.questions.blaming import (
     ALL,
     BlamedSets,
@@ -60,7 +60,8 @@ class Repair(Premises):
 
 
 class Conflicts(Shown, list[Conflicting]):
-    """Conflicts among the premises that are believed; all there are where it is `complete`.
+    """Conflicts among the premises that are believed: minimal sets that can't all hold. These are
+    all there are where it is `complete`.
 
     >>> w = Workbench()
     >>> x = w.number("x", 0, 9)
@@ -107,7 +108,8 @@ class Conflicts(Shown, list[Conflicting]):
 
 
 class Repairs(Shown, list[Repair]):
-    """Repairs of what is believed, the cheapest first; all there are where it is `complete`.
+    """Repairs of what is believed: minimal sets of premises to give up so that the others fit, the
+    cheapest first. These are all there are where it is `complete`.
 
     >>> w = Workbench()
     >>> x = w.number("x", 0, 9)
@@ -152,45 +154,52 @@ def _given(kept: Sequence[str]) -> str:
     return "what always holds" if not kept else "what always holds with what is kept"
 
 
-def find_conflicts(
-    model: Model,
-    keep: str | Iterable[str],
-    most: int,
-    seconds: float | None,
-    progress: Progress | None,
-) -> Conflicts:
-    """The minimal sets of believed premises that can't all hold beside those that are kept, so many
-    at the most."""
-    clock, texts = Clock(seconds, progress), _texts(model)
+@dataclass(frozen=True)
+class SetSearch:
+    """How minimal sets are looked for: so many of a sort at the most, beside premises that are
+    kept, and in so many seconds."""
+
+    most: int
+    keep: str | Iterable[str] = ()
+    seconds: float | None = None
+    progress: Progress | None = None
+
+    def clock(self) -> Clock:
+        """A clock that begins now."""
+        return Clock(self.seconds, self.progress)
+
+
+def find_conflicts(model: Model, search: SetSearch) -> Conflicts:
+    """The minimal sets of believed premises that can't all hold beside those that are kept."""
+    clock, most, texts = search.clock(), search.most, _texts(model)
     if blames(model):
         wanted = [("conflicts", most)]
         return asked_by(
-            model, keep, clock, wanted, lambda by, told: _told_conflicts(by, told, texts, most)
+            model,
+            search.keep,
+            clock,
+            wanted,
+            lambda by, told: _told_conflicts(by, told, texts, most),
         )
     return _searched(
         model,
-        _explore(model, {}, keep, clock),
+        _explore(model, {}, search.keep, clock),
         lambda explored: len(explored.conflicts) < most,
         lambda explored: _conflicts(explored, texts, most),
     )
 
 
 def find_both(
-    model: Model,
-    texts: Mapping[str, str],
-    keep: str | Iterable[str],
-    most: int,
-    seconds: float | None,
-    progress: Progress | None = None,
+    model: Model, search: SetSearch, texts: Mapping[str, str] | None = None
 ) -> tuple[Conflicts, Repairs]:
-    """The minimal conflicts and the minimal repairs, so many of each at the most, from one search.
-    What premises say is told by these texts, where they have one."""
-    clock, said = Clock(seconds, progress), {**_texts(model), **texts}
+    """The minimal conflicts and the minimal repairs, from one search. What premises say is told by
+    these texts, where they have one."""
+    clock, most, said = search.clock(), search.most, {**_texts(model), **(texts or {})}
     if blames(model):
         wanted = [("conflicts", most), ("repairs", most)]
         return asked_by(
             model,
-            keep,
+            search.keep,
             clock,
             wanted,
             lambda by, told: (
@@ -200,38 +209,33 @@ def find_both(
         )
     return _searched(
         model,
-        _explore(model, {}, keep, clock),
+        _explore(model, {}, search.keep, clock),
         lambda explored: max(len(explored.conflicts), len(explored.repairs)) < most,
         lambda explored: (_conflicts(explored, said, most), _repairs(explored, {}, most)),
     )
 
 
-def find_repairs(
-    model: Model,
-    weight: Mapping[str, float],
-    keep: str | Iterable[str],
-    most: int,
-    seconds: float | None,
-    progress: Progress | None,
-) -> Repairs:
+def find_repairs(model: Model, weight: Mapping[str, float], search: SetSearch) -> Repairs:
     """The minimal sets of believed premises without which the others have a plan, by their cost;
     nothing is given up of what is kept."""
     _check_weight(model, weight)
+    clock, most = search.clock(), search.most
     if blames(model):
-        # (one more of the cheapest tells whether there are others; what no line says is sorted here)
-        said = by_cost(model, weight, premises_named(model, keep))
+        # (one more of the cheapest tells whether there are others; what no line says is sorted
+        # here)
+        said = by_cost(model, weight, premises_named(model, search.keep))
         count = most if not weight else most + 1 if said else ALL
         return asked_by(
             model,
-            keep,
-            Clock(seconds, progress),
+            search.keep,
+            clock,
             [("repairs", count)],
             lambda seeker, told: _told_repairs(seeker, told, weight, most),
             weight,
         )
     return _searched(
         model,
-        _explore(model, weight, keep, Clock(seconds, progress)),
+        _explore(model, weight, search.keep, clock),
         lambda explored: len(explored.repairs) < most,
         lambda explored: _repairs(explored, weight, most),
     )
@@ -347,8 +351,8 @@ def _searched(
     model: Model,
     explored: Exploring,
     lacks: Callable[[Exploring], bool],
-    result: Callable[[Exploring], Result],
-) -> Result:
+    result: Callable[[Exploring], AnyResult],
+) -> AnyResult:
     """The result of a search that goes on while something is lacking. What it has found out is kept
     where it ends by itself, and all of it is sure."""
     kept, trial = model.session.kept, explored.trial

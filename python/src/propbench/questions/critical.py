@@ -9,7 +9,6 @@ from propbench.questions.asking import CellLike, tried, tried_by, whole_named
 from propbench.questions.blaming import BlamedSets, Blaming, certificate_of, evidence_of
 from propbench.questions.bounding import GREATEST, LEAST, Bounding, Optimum, bounding_in
 from propbench.questions.certificate import Certificate, Evidence
-from propbench.questions.checker import MOST
 from propbench.questions.conflicts import Premises
 from propbench.questions.ends import Ending
 from propbench.questions.exploring import Exploring, Refuted
@@ -17,11 +16,12 @@ from propbench.questions.hitting import bits_of
 from propbench.questions.model import Model, Point
 from propbench.questions.outcomes import Fits, NothingFits
 from propbench.questions.plans import PlanListing, listed_in_turns
-from propbench.questions.rooms import Numbers
+from propbench.questions.rooms import NumberRoom
 from propbench.questions.seeking import Claims, Seeker, Unlike, blames, seeks
 from propbench.questions.shown import NOT_REFUTED, Shown, shortened
 from propbench.questions.trial import Trial
 from propbench.values import Span
+from propbench.words import MOST_NUMBER
 
 
 @dataclass(frozen=True, repr=False)
@@ -126,7 +126,7 @@ def find_slack(
 def _slack_by_cases(model: Model, name: str, clock: Clock) -> Slack:
     """The room of a cell by bounds that close in, or by cases."""
     trial = Trial(model, model.believed(), clock)
-    if not isinstance(trial.rooms[name], Numbers):
+    if not isinstance(trial.rooms[name], NumberRoom):
         return _slack_of_names(trial, name)
     ends = [Bounding(trial, model.believed(), name, sort) for sort in (LEAST, GREATEST)]
 
@@ -208,14 +208,18 @@ def _critical_by(seeker: Seeker, cell: str, sort: str) -> Critical:
     is believed. Raises Unlike."""
     model, ending = seeker.model, Ending(seeker, cell, sort)
     blaming = Blaming(seeker, ())
-    beyond: list[Numbers] = []
+    beyond: list[NumberRoom] = []
 
     def run() -> None:
         ending.run()
         value = ending.value
-        if value is None or abs(value) == MOST:
+        if value is None or abs(value) == MOST_NUMBER:
             return
-        room = Numbers(-MOST, value - 1) if sort == LEAST else Numbers(value + 1, MOST)
+        room = (
+            NumberRoom(-MOST_NUMBER, value - 1)
+            if sort == LEAST
+            else NumberRoom(value + 1, MOST_NUMBER)
+        )
         with seeker.supposing({seeker.lines[cell]: Span(room.low, room.high)}):
             beyond.append(room)
             blaming.ask("conflicts", 1)

@@ -16,7 +16,7 @@ from propbench.questions.trial import Case, Trial
 
 
 @dataclass(frozen=True)
-class Kept:
+class KeptPlan:
     """A plan, and the premises that hold in it, as bits."""
 
     mask: int
@@ -52,7 +52,7 @@ class Exploring:
         self.all = (1 << len(self.premises)) - 1
         self.weights = dict(weights)
         self._hitting = Hitting([weights.get(premise, 1) for premise in self.premises])
-        self.plans: list[Kept] = []
+        self.plans: list[KeptPlan] = []
         self.conflicts: list[Refuted] = []
         self.repairs: list[int] = []
         # Whether all conflicts and repairs were found, and what was neither shown nor refuted.
@@ -92,14 +92,14 @@ class Exploring:
             self.conflicts.append(self.shrunk(outcome))
             self._hitting.learn(self.conflicts[-1].mask)
             return True
-        if isinstance(outcome, Kept):
+        if isinstance(outcome, KeptPlan):
             self.repairs.append(hit)
         else:
             self.unknown.append(rest)
         self._hitting.finish(hit)
         return not self.trial.clock.is_over()
 
-    def try_out(self, mask: int) -> Kept | Refuted | Open:
+    def try_out(self, mask: int) -> KeptPlan | Refuted | Open:
         """A plan in which all of these premises hold, or what can't hold of them."""
         for kept in self.plans:
             if kept.mask & mask == mask:
@@ -110,7 +110,7 @@ class Exploring:
         if isinstance(outcome, Fits):
             held = set(self.trial.model.held(outcome.plan))
             holding = self.mask([premise for premise in self.premises if premise in held])
-            self.plans.append(Kept(mask | holding, outcome))
+            self.plans.append(KeptPlan(mask | holding, outcome))
             return self.plans[-1]
         return outcome
 

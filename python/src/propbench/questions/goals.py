@@ -24,8 +24,8 @@ class Optima(Planned):
     plans, and of each other over those plans that have the values before it.
 
     `steps` has an `Optimum` for each, as far as there was time; `values` are their values. `plan`,
-    `choices` and `schedule` are those of the last plan that was found. `proved` says that each value
-    is, by what the premises `because` say. Each step has a certificate of its own.
+    `choices` and `schedule` are those of the last plan that was found. `proved` says that each
+    value is, by what the premises `because` say. Each step has a certificate of its own.
 
     >>> w = Workbench()
     >>> x, y = w.number("x", 3, 9), w.number("y", 0, 9)

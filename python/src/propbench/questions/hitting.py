@@ -113,8 +113,8 @@ class Hitting:
             heapq.heappush(self._open, (max(child.spent, least), next(self._order), child))
 
     def _least(self, spent: Cost, missed: Sequence[int]) -> Cost | None:
-        """A cost below which these conflicts, the smallest first, can't be hit beside what is spent:
-        that of some which have nothing in common. None where one of them can't be hit."""
+        """A cost below which these conflicts, the smallest first, can't be hit beside what is
+        spent: that of some which have nothing in common. None where one of them can't be hit."""
         if not missed[0]:
             return None
         weight, number = spent

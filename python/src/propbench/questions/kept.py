@@ -67,8 +67,8 @@ class Base:
         return replace(self, stated=stated, kinds=self.kinds | kinds, mark=mark, other=other)
 
     def changed_to(self, other: "Base") -> list[str] | None:
-        """The lines after which a session that was told this has been told the other one; None where
-        what is gone can't be taken back by lines."""
+        """The lines after which a session that was told this has been told the other one; None
+        where what is gone can't be taken back by lines."""
         kept, gone = self.stated, set[str]()
         if kept != other.stated[: len(kept)]:
             gone = _premises(kept) - _premises(other.stated)
@@ -117,8 +117,8 @@ class Kept(Closing):
         return False
 
     def tell(self, lines: list[str], base: Base, until: float | None) -> None:
-        """Has it told lines that make it one of this base, and last until then. Raises as `send_all`
-        does; but where the time is over, nothing can be asked."""
+        """Has it told lines that make it one of this base, and last until then. Raises as
+        `send_all` does; but where the time is over, nothing can be asked."""
         self.session.end_by(until)
         self.base, self.is_whole = base, False
         try:

@@ -78,8 +78,8 @@ class Model(Protocol):
     def lowered(
         self, plan: Mapping[str, Point], believed: Sequence[str], kept: Sequence[str]
     ) -> Mapping[str, Point]:
-        """The plan with numbers that are as low or lower, but for the cells that are kept, which may
-        fit too with these premises."""
+        """The plan with numbers that are as low or lower, but for the cells that are kept, which
+        may fit too with these premises."""
         ...
 
     def held(self, plan: Mapping[str, Point]) -> Sequence[str]:

@@ -69,8 +69,8 @@ class Planned(Shown):
         return [[said(it) for it in row] for row in self.rows() if row[0] not in schedule.told]
 
     def to_csv(self, path: str | os.PathLike[str] | None = None) -> str:
-        """The schedule for a spreadsheet, a row for each task, written to a file where one is named;
-        and its text.
+        """The schedule for a spreadsheet, a row for each task, written to a file where one is
+        named; and its text.
 
         >>> w = Workbench()
         >>> p = w.project(days=30, start="2026-03-02", off="sat sun", people="ana")

@@ -10,7 +10,7 @@ from propbench.questions.asking import CellLike, cells_given, tried, tried_by, w
 from propbench.questions.certificate import Certificate, Evidence, Tree, as_json, on_lines
 from propbench.questions.model import Model, Plan
 from propbench.questions.outcomes import Cannot, Fits, Open, Outcome
-from propbench.questions.rooms import Names, Room, around, values_of
+from propbench.questions.rooms import NameRoom, Room, around, values_of
 from propbench.questions.searching import decided, decided_each
 from propbench.questions.seeking import Seeker, Unlike, count_asked, seeks
 from propbench.questions.shown import NOT_REFUTED, Shown
@@ -26,8 +26,8 @@ _DEEPEST, _DEEPEST_SHOWN = 1000, 200
 
 @dataclass
 class _Branch:
-    """A cell of which cases are gone through, within what is supposed: what waits, the next one last,
-    with what is known of it, and the cases that are done."""
+    """A cell of which cases are gone through, within what is supposed: what waits, the next one
+    last, with what is known of it, and the cases that are done."""
 
     told: tuple[Case, ...]
     cell: str
@@ -37,8 +37,8 @@ class _Branch:
 
 class Plans(Shown, list[Plan]):
     """Plans over the cells that are shown, each a dict by their names; all there are where it is
-    `complete`, by what the premises `because` say, where the program searches itself. In `whole` the
-    same plans have all cells but quantities.
+    `complete`, by what the premises `because` say, where the program searches itself. In `whole`
+    the same plans have all cells but quantities.
 
     >>> w = Workbench()
     >>> x, y = w.number("x", 0, 9), w.number("y", 0, 9)
@@ -100,7 +100,7 @@ class PlanListing:
         self.complete = not self._has_open
 
     def _take(self, branch: _Branch, part: Room, known: Outcome | None) -> None:
-        """Takes a case of a branch: what lies in it, or the value of its plan and what lies beside."""
+        """Takes a case of a branch: what lies in it, or its plan's value and what lies beside."""
         within = (*branch.told, (branch.cell, part))
         outcome = known or self._within(within)
         if isinstance(outcome, Fits) and len(part) > 1:
@@ -175,7 +175,7 @@ class PlanListing:
         places = []
         for cell in self.show:
             room, value = self.trial.rooms[cell], fits.values[cell]
-            places.append(room.names.index(value) if isinstance(room, Names) else int(value))
+            places.append(room.names.index(value) if isinstance(room, NameRoom) else int(value))
         return places
 
 
@@ -186,8 +186,8 @@ def _around(cell: str, room: Room, fits: Fits) -> list[tuple[Room, Outcome | Non
 
 
 def _shown(model: Model, names: Sequence[str] | None, symbols: Sequence[str]) -> list[str]:
-    """The cells that are shown: these, or all but quantities and those for symbols. Raises ValueError
-    for one of the symbols."""
+    """The cells that are shown: these, or all but quantities and those for symbols. Raises
+    ValueError for one of the symbols."""
     if names is None:
         return [e for e in model.cells() if e not in symbols and not model.is_measured(e)]
     for name in names:
@@ -200,8 +200,8 @@ class Listed:
     """All plans over some cells, by a program that searches for them itself."""
 
     def __init__(self, seeker: Seeker, names: Sequence[str] | None, most: int) -> None:
-        """Over these cells, or all that are shown, so many at the most. Raises ValueError for one for
-        symbols."""
+        """Over these cells, or all that are shown, so many at the most. Raises ValueError for one
+        for symbols."""
         self._seeker, self._most = seeker, most
         self.show = _shown(seeker.model, names, seeker.symbols())
         self._lines = [seeker.lines[cell] for cell in self.show]

@@ -139,7 +139,7 @@ def _shown_row(row: Row, columns: Sequence[str]) -> list[object]:
     return [told, *(None for _ in columns[1:])] if columns else []
 
 
-class Asking:
+class AskedTable:
     """A table of scenarios that is being asked for."""
 
     def __init__(
@@ -296,7 +296,7 @@ def find_scenarios(
     """A table of what-ifs, asked one after the other. Raises TypeError for rows without names."""
     if not isinstance(rows, Mapping):
         raise TypeError(f"the rows of scenarios are a dict, each by its name: {rows!r} is none")
-    asking = Asking(bench, rows, columns, Clock(seconds, progress))
+    asking = AskedTable(bench, rows, columns, Clock(seconds, progress))
     return answered(asking.here, asking.result)
 
 
@@ -314,7 +314,7 @@ def sweep(
         if isinstance(scenarios, Mapping)
         else {str(number): each for number, each in enumerate(scenarios, 1)}
     )
-    asking = Asking(bench, named, show, clock)
+    asking = AskedTable(bench, named, show, clock)
     if executor is not None:
         return answered(partial(asking.by, executor), asking.result)
     return answered(asking.by_threads, asking.result)

@@ -2,8 +2,8 @@
 
 They are asked in a second session of the network, which is kept (`propbench.questions.kept`). Each
 plan is looked at here once more, constraint by constraint in exact whole numbers; where one doesn't
-hold (as what is stated says more than its lines), nothing is said, and the search of this package has
-its turn.
+hold (as what is stated says more than its lines), nothing is said, and the search of this package
+has its turn.
 """
 
 import time
@@ -38,8 +38,8 @@ Claims = list[tuple[str, dict[str, object]]]
 
 
 class Unlike(Exception):
-    """A plan of the program doesn't hold as it is stated, or it can't be asked for on one line: so the
-    question is asked another way."""
+    """A plan of the program doesn't hold as it is stated, or it can't be asked for on one line: so
+    the question is asked another way."""
 
 
 def seeks(model: Model) -> bool:
@@ -104,8 +104,9 @@ class Seeker(Closing):
             self._asked.close()
 
     def ask(self, line: str, seconds: float | None = None) -> None:
-        """Asks for points, or goes on with the same question, for so many seconds at the most: `reply`
-        is what is known of them, also where this is cut short. Raises Unlike where the line is too long.
+        """Asks for points, or goes on with the same question, for so many seconds at the most:
+        `reply` is what is known of them, also where this is cut short. Raises Unlike where the line
+        is too long.
         """
         if not is_well_encoded(line):
             raise Unlike
@@ -194,8 +195,8 @@ class Seeker(Closing):
         return tuple(name for line, name in self._premises.items() if line in known)
 
     def whole(self, rows: Sequence[Mapping[str, Held]]) -> list[Fits]:
-        """Plans that have these values, and some of the other cells, as far as there is time. Raises
-        Unlike where one doesn't hold."""
+        """Plans that have these values, and some of the other cells, as far as there is time.
+        Raises Unlike where one doesn't hold."""
         found: list[Fits] = []
         with suppress(OutOfTime):
             for row in rows:
@@ -243,8 +244,8 @@ class Seeker(Closing):
         return room[0 if sort == LEAST else -1] if isinstance(room, range) and room else None
 
     def _follows(self, line: str) -> Held | None:
-        """What is left for a cell whatever the choices take, where that is found out soon: a session
-        that has the choices would go by some of them."""
+        """What is left for a cell whatever the choices take, where that is found out soon: a
+        session that has the choices would go by some of them."""
         latest = time.monotonic() + _SOON
         with suppress(OutOfTime), self.model.session.fresh() as session:
             session.end_by(latest if self.clock.last is None else min(latest, self.clock.last))
@@ -260,7 +261,7 @@ class Seeker(Closing):
         return "refuted", {"given": sorted(premises)}
 
     def first(self) -> list[str]:
-        """The cells that are decided first, by their names on lines, as many as a line has room for."""
+        """The cells that are decided first, by their names on lines, as many as fit on a line."""
         cells = [cell for each in self.model.first() for cell in each.cells]
         return [self.lines[cell] for cell in dict.fromkeys(cells)][:_FIRST]
 
@@ -278,7 +279,7 @@ class Seeker(Closing):
 
 
 def count_asked(most: int) -> int:
-    """How many plans are asked for, where so many are wanted: one more tells whether these are all."""
+    """How many plans are asked for where so many are wanted: one more tells if these are all."""
     return min(most + 1, _MOST)
 
 

@@ -11,15 +11,15 @@ from propbench.questions.bench import Bench
 from propbench.questions.bounding import Bounding, Optimum, bounding_in
 from propbench.questions.certificate import Certificate, Evidence
 from propbench.questions.changes import Change
-from propbench.questions.checker import MOST
 from propbench.questions.ends import Ending
 from propbench.questions.model import Model
 from propbench.questions.outcomes import Fits
-from propbench.questions.scenarios import Asking, Row
+from propbench.questions.scenarios import AskedTable, Row
 from propbench.questions.seeking import Claims, Seeker, Unlike, seeks
 from propbench.questions.shown import Shown, shortened
 from propbench.questions.trial import Trial
 from propbench.values import Span, value_of
+from propbench.words import MOST_NUMBER
 
 # The row of the table of scenarios in which nothing is changed.
 _NOW = ("", "now")
@@ -83,7 +83,7 @@ def of_answers(
         if halves := tuple(_halves(model, premise, told.get(model.line_name(premise), []))):
             scenarios[premise, _HALF] = Change(tell=halves)
     keys = {str(number): key for number, key in enumerate(scenarios)}
-    asking = Asking(bench, dict(zip(keys, scenarios.values())), [name], clock)
+    asking = AskedTable(bench, dict(zip(keys, scenarios.values())), [name], clock)
 
     def result() -> Sensitivity:
         table = asking.result()
@@ -114,7 +114,7 @@ def _halves(
     cells = {model.cell_name(cell): cell for cell in model.cells()}
     for stated in told:
         held = value_of(stated.value, "span") if stated.value[-1:].isdigit() else None
-        if not isinstance(held, Span) or -MOST in (held.low, -held.high):
+        if not isinstance(held, Span) or -MOST_NUMBER in (held.low, -held.high):
             continue
         if stated.cell in cells and held.low < held.high:
             quarter = (held.high - held.low + 1) // 4

@@ -1,4 +1,4 @@
-"""How results are shown: as text, as a table of a notebook, as a table of pandas where it is there."""
+"""How results are shown: as text, as a table of a notebook, as a table of pandas if it is there."""
 
 from collections.abc import Sequence
 from importlib import import_module
@@ -54,8 +54,8 @@ class Shown:
 
     @property
     def certificate(self) -> "Certificate":
-        """What anyone can ask the program again. Raises ValueError where there is nothing to show, or
-        no way to show it, and as `Session` does.
+        """What anyone can ask the program again. Raises ValueError where there is nothing to show,
+        or no way to show it, and as `Session` does.
 
         >>> w = Workbench()
         >>> x = w.number("x", 3, 9)

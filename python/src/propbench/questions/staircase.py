@@ -21,7 +21,7 @@ _MARKS, _LETTERS = 6, 22
 
 
 def csv_of(heads: Sequence[str], rows: Iterable[Sequence[object]]) -> str:
-    """A table for a spreadsheet. A text that one would take for a formula has an apostrophe in front."""
+    """A table for a spreadsheet. An apostrophe stands before a text that looks like a formula."""
     out = io.StringIO()
     table = csv.writer(out, lineterminator="\r\n")
     table.writerow([no_formula(head) for head in heads])
@@ -65,8 +65,8 @@ class Axis:
 
 @dataclass(frozen=True)
 class Staircase:
-    """The pairs of two cells, by the first, with what is said of each. Nothing fits below them; where
-    not all were found, that is known up to a number of the first cell alone, the `edge`."""
+    """The pairs of two cells, by the first, with what is said of each. Nothing fits below them;
+    where not all were found, that is known up to a number of the first cell alone, the `edge`."""
 
     cells: tuple[str, str]
     pairs: Sequence[tuple[int, int]]
@@ -137,8 +137,9 @@ class Staircase:
             yield f'<text x="{_LEFT - 8}" y="{y + 4}" text-anchor="end">{mark}</text>'
         first, second = (escape(_cut(printable(cell))) for cell in self.cells)
         middle = (_LEFT + right) // 2
-        yield f'<text x="{middle}" y="{_HIGH - 14}" text-anchor="middle" font-weight="bold">{first}</text>'
-        yield f'<text x="{_LEFT}" y="{_TOP - 9}" text-anchor="middle" font-weight="bold">{second}</text>'
+        bold = 'text-anchor="middle" font-weight="bold"'
+        yield f'<text x="{middle}" y="{_HIGH - 14}" {bold}>{first}</text>'
+        yield f'<text x="{_LEFT}" y="{_TOP - 9}" {bold}>{second}</text>'
 
     def _points(self, across: Axis, up: Axis) -> Iterator[str]:
         for pair, says in zip(self.pairs, self.says):
@@ -146,7 +147,8 @@ class Staircase:
             told = f"{self.cells[0]} {pair[0]}, {self.cells[1]} {pair[1]}"
             title = escape(printable(f"{told}: {says}" if says else told))
             label = escape(_cut(says or f"{pair[0]}, {pair[1]}"))
-            yield f'<circle cx="{x}" cy="{y}" r="4.5" fill="{_LINE}"><title>{title}</title></circle>'
+            dot = f'<circle cx="{x}" cy="{y}" r="4.5" fill="{_LINE}">'
+            yield f"{dot}<title>{title}</title></circle>"
             yield f'<text x="{round(x + 8, 1)}" y="{round(y - 7, 1)}">{label}</text>'
 
 

@@ -10,11 +10,11 @@ from collections.abc import Callable, Collection, Iterable, Sequence
 from propbench.clock import Clock
 from propbench.closing import Closing
 from propbench.program import OutOfTime
-from propbench.questions.checker import MOST, digits
+from propbench.questions.checker import digits
 from propbench.questions.model import Model, Plan
 from propbench.questions.rooms import (
-    Names,
-    Numbers,
+    NameRoom,
+    NumberRoom,
     Room,
     choices_in,
     digits_of,
@@ -24,7 +24,7 @@ from propbench.questions.rooms import (
 )
 from propbench.replies import Contradiction, Reply, Settled, Unsettled, Value
 from propbench.values import Held, Nothing, Span
-from propbench.words import is_silent
+from propbench.words import MOST_NUMBER, is_silent
 
 # A run takes so many steps before the clock is looked at, and the trial has so many choices and
 # premises of its own at most.
@@ -32,12 +32,12 @@ _STEPS, _CHOICES, _CASES = 20_000, 64, 2000
 # So many choices are kept for cells.
 _KEPT = 8
 # Forks of which it isn't known how much room they leave come behind all others.
-_LAST = 4 * MOST
+_LAST = 4 * MOST_NUMBER
 # Of the cells that have more than one value, this part is covered before the next look.
 _PART = 3
 
 # What a truth may be.
-_EITHER = Names(("no", "yes"))
+_EITHER = NameRoom(("no", "yes"))
 
 # A cell of the user's, and what it is supposed to be.
 Case = tuple[str, Room]
@@ -173,7 +173,7 @@ class Trial(Closing):
         """The values that the declaration of a cell leaves; None for a symbol."""
         candidates = self.model.candidates(cell)
         if isinstance(candidates, range) and candidates:
-            return Numbers(candidates[0], candidates[-1])
+            return NumberRoom(candidates[0], candidates[-1])
         return self.whole[cell]
 
     def _elements(self, cell: str) -> list[str] | None:
@@ -331,7 +331,7 @@ class Trial(Closing):
 
     def _cover(self, line: str, room: Room, parts: list[list[str]] | None) -> None:
         if parts is None:
-            assert isinstance(room, Numbers)
+            assert isinstance(room, NumberRoom)
             name = f"{self.mark}c{len(self.choices)}"
             made = digits(line, [room.low, room.high], name)
             self.choices.append((line, ""))
@@ -373,6 +373,6 @@ def _held_in(reply: Reply) -> Held:
 def _lowest(held: Held, whole: Room | None) -> str | None:
     """The first of the values that are left, as a line says it; None for a symbol."""
     room = room_left(held, whole)
-    if isinstance(room, Numbers):
+    if isinstance(room, NumberRoom):
         return str(room.low if whole != room else 0)
     return room.names[0] if room else None

@@ -17,14 +17,14 @@ from propbench.model.events import (
     ValueChoice,
     values_text,
 )
-from propbench.model.kinds import MOST, Plain, kind_text, point_text
+from propbench.model.kinds import Plain, kind_text, point_text
 from propbench.model.nodes import Declared, cells_in
 from propbench.model.reading import Reader
 from propbench.model.saving import saved
 from propbench.plain import PlainWorkbench
 from propbench.questions.asking import so_far
 from propbench.questions.bounding import Optimum
-from propbench.questions.conflicts import find_both
+from propbench.questions.conflicts import SetSearch, find_both
 from propbench.replies import Called, Contradiction, Value, Worldview
 from propbench.runs import RunProgress
 from propbench.session import Session
@@ -40,13 +40,14 @@ from propbench.watching.network import (
     NetworkSeen,
     Premise,
     Reason,
-    StatedSeen,
     SeenNow,
-    ValueSeen,
+    StatedSeen,
     Use,
+    ValueSeen,
 )
 from propbench.watching.owned import Owned, is_use, wording_of
 from propbench.watching.steps import CallInWords, RunReading, Steps
+from propbench.words import MOST_NUMBER
 
 # What is said of a plan.
 PLAN = "Each constraint was evaluated on this plan."
@@ -153,9 +154,8 @@ class WorkbenchWatched:
 
     def mend(self, progress: Progress | None = None, seconds: float | None = None) -> Mending:
         model = self.workbench.model
-        conflicts, repairs = so_far(
-            lambda: find_both(model, {}, (), _MOST_MENDS, seconds, progress), tuple
-        )
+        search = SetSearch(_MOST_MENDS, seconds=seconds, progress=progress)
+        conflicts, repairs = so_far(lambda: find_both(model, search), tuple)
         return Mending(
             tuple(each.names for each in conflicts),
             tuple(each.names for each in repairs),
@@ -248,8 +248,8 @@ def _declared(cell: Declared) -> StatedSeen:
         return StatedSeen(f"{cell.name} is {kind_text(cell.kind)}", cell.name)
     if (cell.low, cell.high) == (None, None):
         return StatedSeen(f"{cell.name} is a number")
-    low = -MOST if cell.low is None else cell.low
-    high = MOST if cell.high is None else cell.high
+    low = -MOST_NUMBER if cell.low is None else cell.low
+    high = MOST_NUMBER if cell.high is None else cell.high
     return StatedSeen(f"{cell.name} = {values_text(cell, (low, high))}", cell.name)
 
 
