@@ -1,7 +1,8 @@
 """`propdesk plan`: a schedule of a planner's tables, and what stands in its way."""
 
+import os
 from collections.abc import Callable, Sequence
-from dataclasses import dataclass, field
+from dataclasses import dataclass, field, replace
 from pathlib import Path
 
 from propbench.planning.brief import Given
@@ -47,7 +48,8 @@ def plan_file(path: str, asked: Asked, program: str | None) -> int:
         check_ending(file, ENDINGS[what])
         if asked.goals and what in ("html", "ics"):
             raise ValueError(f"a trade-off is written by --csv and --svg, and not by --{what}")
-    brief = brief_of(sheets_of(path), asked.given)
+    folder = path if os.path.isdir(path) else os.path.dirname(path)
+    brief = brief_of(sheets_of(path), replace(asked.given, folder=folder))
     if "ics" in asked.files and brief.calendar is None:
         raise ValueError("a calendar needs dates: say when the plan begins, as --start 2026-03-02")
     for name in brief.unread:
@@ -102,6 +104,8 @@ def _tell(project: Project, best: Optimum | Optima, title: str, asked: Asked) ->
         "ics": schedule.to_ics,
         "svg": schedule.to_svg,
     }
+    if project.baseline is not None:
+        print(shown(f"Since what was agreed on: {schedule.since(project.baseline)}"))
     for what, file in asked.files.items():
         writers[what](file)
         print(f"The schedule is in {printable(file)}.")
@@ -111,7 +115,7 @@ def _tell(project: Project, best: Optimum | Optima, title: str, asked: Asked) ->
 
 def _is_mended(plan: Plan, best: Optimum | Optima, asked: Asked) -> bool:
     """Tells what stands in the way; whether the cheapest of what helps is given up then."""
-    w, facts = plan.project.workbench, plan.project.facts
+    w, facts = plan.project.workbench, plan.facts
     if not best.proved:
         print(shown(best.headline()))
         return False
