@@ -168,7 +168,13 @@ def _add_minizinc(to: argparse.ArgumentParser) -> None:
 
 
 def _add_page(to: argparse.ArgumentParser) -> None:
-    to.add_argument("file", metavar="FILE", help="the file")
+    to.add_argument(
+        "file",
+        metavar="FILE",
+        nargs="?",
+        help="the file; tables of a plan, .csv, .ods, .xlsx or a folder, which may be new; a new plan"
+        " where it is left out",
+    )
     to.add_argument(
         "--port", type=int, default=0, metavar="N", help="where it is served (any that is free)"
     )
@@ -306,7 +312,8 @@ _COMMANDS: dict[str, tuple[str, str, Callable[[argparse.ArgumentParser], None]]]
     "page": (
         "show a file in a browser",
         "Serves a file, of the language or saved by a workbench, as a page on this machine alone:"
-        " the network drawn, switches, reasons, conflicts with repairs, steps. Prints its address,"
+        " the network drawn, switches, reasons, conflicts with repairs, steps. Of the tables of a"
+        " plan, which may be new, it shows the chart, and forms that change it. Prints its address,"
         " and ends at Ctrl-C.",
         _add_page,
     ),
@@ -456,7 +463,7 @@ def _done(options: argparse.Namespace) -> int:
     begin = {"order": options.order, "seed": options.seed, "limit": options.limit}
     if options.command in ("page", "draw"):
         if options.command == "page":
-            return _page(options, RunAs(**begin))
+            return _plan_page(options) if _is_plan(options.file) else _page(options, RunAs(**begin))
         from propbench.watching.opening import opened
 
         with opened(options.file, RunAs(**begin), options.program) as watched:
@@ -490,6 +497,43 @@ def _journal(
     from propbench.journal import Journal
 
     return None if options.no_journal else Journal(options.command, file, checksum)
+
+
+def _plan_page(options: argparse.Namespace) -> int:
+    """Serves a plan that tables tell, or a new one."""
+    from datetime import date
+
+    from propbench.files import OpenedFile
+    from propbench.page import serve
+    from propbench.planning.brief import Given
+    from propbench.planning.draft import draft_of, new_draft
+    from propbench.planning.open_plan import OpenPlan
+    from propbench.planning.sheets import NoSheetReader, sheets_of
+    from propbench.workbench import Workbench
+
+    def made() -> Workbench:
+        return Workbench(
+            options.program, order=options.order, seed=options.seed, limit=options.limit
+        )
+
+    path = options.file or "-"
+    is_folder = os.path.isdir(path)
+    # (several files, and one without a name, are saved as another)
+    file = OpenedFile("-" if is_folder else path)
+    try:
+        draft = draft_of(sheets_of(path)) if os.path.exists(path) else new_draft(date.today())
+    except NoSheetReader as error:
+        return _failed(error)
+    folder = path if is_folder else os.path.dirname(path)
+    with OpenPlan(draft, made, Given(folder=folder)) as plan:
+        title = os.path.basename(path.rstrip("/")) if options.file else "A new plan"
+        serve(plan, title, path=file, port=options.port)
+    return 0
+
+
+def _is_plan(path: str | None) -> bool:
+    """Whether a file, which may be new, has the tables of a plan."""
+    return path is None or path.lower().endswith((".csv", ".ods", ".xlsx")) or os.path.isdir(path)
 
 
 def _page(options: argparse.Namespace, way: "RunAs") -> int:

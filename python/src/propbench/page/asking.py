@@ -119,15 +119,19 @@ class Asking:
             return self._with_network(self._told())
 
     def saved(self) -> str:
-        """The file that it is saved as."""
+        """The file of lines that it is saved as."""
         with self._lock:
             return "".join(f"{line}\n" for line in self._watched.saved())
+
+    def file_text(self) -> bytes:
+        """What its own file holds once it is saved."""
+        return self.saved().encode("utf-8", "surrogateescape")
 
     def do(
         self, asked: Mapping[str, object], is_gone: Callable[[], bool] = _nobody
     ) -> dict[str, object]:
         """What comes of a question. Raises ValueError for one that can't be asked."""
-        what = _text(asked, "what")
+        what = text_in(asked, "what")
         if what not in self._does:
             raise ValueError(f"there is no question {what!r}")
         with self._lock, self._watching(what, is_gone):
@@ -155,13 +159,13 @@ class Asking:
         return self._with_network(self._changed_told())
 
     def _believe(self, asked: Mapping[str, object]) -> dict[str, object]:
-        premise = self._premise(_text(asked, "premise"))
+        premise = self._premise(text_in(asked, "premise"))
         self._watched.believe(premise, asked.get("believed") is True)
         return self._changed_told()
 
     def _wish(self, asked: Mapping[str, object]) -> dict[str, object]:
         choices = {each.name: each for each in self._watched.network().choices}
-        name, side = _text(asked, "choice"), asked.get("side")
+        name, side = text_in(asked, "choice"), asked.get("side")
         if name not in choices:
             raise ValueError(f"there is no choice {printable(name)}")
         if side is not None and not (type(side) is int and 0 <= side < len(choices[name].sides)):
@@ -201,7 +205,7 @@ class Asking:
         return self._changed_told()
 
     def _best(self, asked: Mapping[str, object]) -> dict[str, object]:
-        sort = _text(asked, "sort")
+        sort = text_in(asked, "sort")
         if sort not in ("least", "greatest"):
             raise ValueError(f"there is no {sort!r} value")
         return asdict(self._watched.best(self._cell_named(asked), sort, self._telling))
@@ -223,7 +227,7 @@ class Asking:
         return {"frames": frames}
 
     def _line(self, asked: Mapping[str, object]) -> dict[str, object]:
-        line = _text(asked, "line")
+        line = text_in(asked, "line")
         if self._watched.is_workbench:
             raise ValueError("a workbench takes no lines: it is stated in Python")
         reply: Reply | None = None
@@ -246,15 +250,19 @@ class Asking:
             raise ValueError("no file was opened: download the lines")
         file = self._file
         if "as" in asked:
-            file = _beside(file, _text(asked, "as"))
+            file = _beside(file, text_in(asked, "as"))
         elif file.path == UNNAMED:
             return {"saved": None, "says": "What shall the file be called?", "difference": []}
         try:
             is_meant = file is self._file and asked.get("overwrite") is True
-            file.save(self.saved().encode("utf-8", "surrogateescape"), is_meant)
+            before, self._file = self._file, file
+            try:
+                file.save(self.file_text(), is_meant)
+            except BaseException:
+                self._file = before
+                raise
         except ChangedSince as changed:
             return {"saved": None, "says": changed.said, "difference": changed.difference}
-        self._file = file
         return {"saved": printable(file.path), "says": "", "difference": []}
 
     # --- what is told ---
@@ -312,7 +320,7 @@ class Asking:
     # --- names ---
 
     def _cell_named(self, asked: Mapping[str, object]) -> str:
-        name = _text(asked, "cell")
+        name = text_in(asked, "cell")
         if not any(cell.name == name for cell in self._watched.network().cells):
             raise ValueError(f"there is no cell {printable(name)}")
         return name
@@ -390,10 +398,19 @@ def _beside(file: OpenedFile, name: str) -> OpenedFile:
     return made
 
 
-def _text(asked: Mapping[str, object], key: str) -> str:
+def text_in(asked: Mapping[str, object], key: str) -> str:
+    """A text of a question. Raises ValueError where it has none."""
     value = asked.get(key)
     if not isinstance(value, str):
         raise ValueError(f"a question has {key!r}, which is a text")
+    return value
+
+
+def place_in(asked: Mapping[str, object]) -> int:
+    """The place of a row in a question. Raises ValueError where it has none."""
+    value = asked.get("place")
+    if type(value) is not int:
+        raise ValueError("a place is a number")
     return value
 
 
