@@ -306,13 +306,14 @@ def test_texts_are_never_markup() -> None:
     banned += r"|createContextualFragment|srcdoc|setTimeout\(\s*[\"'`]|javascript:|\.style\b"
     banned += r"|https?://(?!www\.w3\.org/2000/svg)|//cdn|WebSocket|XMLHttpRequest|localStorage"
     scripts = sorted(STATIC.glob("*.js"))
-    names = ["drawing.js", "layout.js", "page.js", "texts.js"]
+    names = ["drawing.js", "forms.js", "gantt.js", "layout.js", "page.js", "plan.js", "texts.js"]
     assert [script.name for script in scripts] == names
     for script in scripts:
         assert not re.search(banned, script.read_text()), script.name
     page = (STATIC / "index.html").read_text()
     assert not re.search(r"<script(?! type=\"module\" src=\"page\.js\")|\son\w+=|style=|http", page)
-    assert not re.search(r"@import|url\(", (STATIC / "page.css").read_text())
+    for style in ("page.css", "plan.css"):
+        assert not re.search(r"@import|url\(", (STATIC / style).read_text())
     assert "setAttribute" in (STATIC / "drawing.js").read_text()
 
 

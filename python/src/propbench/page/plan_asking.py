@@ -186,7 +186,7 @@ class PlanAsking(Asking):
             "plan": {
                 "editable": plan.draft is not None,
                 "tables": tables,
-                "groups": {} if project is None else groups_of(project),
+                "groups": {} if plan.plan is None else groups_of(plan.plan),
                 "says": {} if project is None else says_of(project),
                 "cells": {} if project is None else cells_by_task(project),
                 "undo": plan.undoes,

@@ -358,7 +358,7 @@ class Project:
         >>> p.off("ana", ["2026-04-03", "2026-04-06"])
         "ana's days off"
         >>> w.least(p.end).value
-        6
+        7
         """
         self._known(person)
         if isinstance(days, str | date | SupportsIndex):

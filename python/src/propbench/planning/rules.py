@@ -20,7 +20,7 @@ FORMS = (
     " with venue`, `ana does review`, `ana away 3-7 March`, `cost at most 5000`"
 )
 # (of several that fit the first one counts, in the order in which they are read)
-_DAYS = r"(\d{1,6})(?:\s+(or\s+more|to\s+(\d{1,6})))?\s*(?:days?)?"
+_DAYS = r"(\d{1,6})(?:\s+(or\s+more|to\s+(\d{1,6})))?\s+days?"
 _AT_ONCE = r"(?:at\s+once|together|at\s+the\s+same\s+time)"
 
 

@@ -7,6 +7,7 @@ from propbench.planning.calendar import MONTHS
 from propbench.planning.chain import Chain
 from propbench.planning.folded import FoldedChain, folded_of
 from propbench.planning.order import SetUp
+from propbench.planning.planner import Plan
 from propbench.planning.project import Project
 from propbench.planning.resources import KeptWithin
 from propbench.planning.schedule import Entry, Schedule
@@ -158,10 +159,12 @@ def _today(project: Project) -> int | None:
     return None if found is None else found[0]
 
 
-def groups_of(project: Project) -> dict[str, str]:
-    """The group of each premise, by what is stated under it."""
-    found: dict[str, str] = {}
-    for name, stated in project.workbench.network.premises.statements.items():
+def groups_of(plan: Plan) -> dict[str, str]:
+    """The group of each premise, by what is stated under it, or that it is wished for."""
+    found: dict[str, str] = dict.fromkeys(plan.wishes, WISHES)
+    for name, stated in plan.project.workbench.network.premises.statements.items():
+        if name in found:
+            continue
         of = [
             next((group for kinds, group in _GROUPS if isinstance(each, kinds)), WISHES)
             for each in stated

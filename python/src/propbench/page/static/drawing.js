@@ -47,9 +47,10 @@ export class Drawing {
     new ResizeObserver(() => this._sized()).observe(svg);
   }
 
-  // Draws a network anew.
-  draw(network) {
+  // Draws a network anew, whole; or as near as its texts can be read.
+  draw(network, isRead = false) {
     this.network = network;
+    this.isRead = isRead;
     this.places = layout(network);
     this.shown.clear();
     this.texts.replaceChildren();
@@ -100,7 +101,7 @@ export class Drawing {
   fit() {
     const { width, height } = this._size();
     const fits = [width / (this.places.width + 30), height / (this.places.height + 30)];
-    const scale = Math.min(1.3, ...fits);
+    const scale = Math.max(this.isRead ? 1.05 * READABLE : 0, Math.min(1.3, ...fits));
     this.view = {
       scale,
       x: (width - this.places.width * scale) / 2,

@@ -323,7 +323,7 @@ export class Forms {
     const chips = made("span", { class: "chips" });
     const shown = () => {
       chips.replaceChildren(...names.map((name) => {
-        const chip = made("button", { type: "button", class: "chip",
+        const chip = made("button", { type: "button", class: "chip", id: `chip ${name}`,
           "aria-pressed": String(isOn(name)) }, named(name));
         chip.dataset.name = name;
         chip.addEventListener("click", () => {

@@ -140,7 +140,10 @@ export class Gantt {
     const last = this.plan.days.length;
     for (const away of each.aways) {
       const to = Math.min(last, away.to);
-      if (away.from < to) node.append(this._bar(away.from, to, top + under - 2, bar + 4, "away"));
+      if (away.from >= to) continue;
+      const free = this._bar(away.from, to, top + under - 2, bar + 4, "away");
+      free.setAttribute("fill", "url(#hatch)");
+      node.append(free);
     }
     if (each.before) {
       node.append(this._bar(each.before[0], each.before[1], top + under + bar + 1, 3, "before"));

@@ -154,9 +154,10 @@ function build() {
 // Draws the network: of a plan what is around a task or a cell, unless all of it is wanted.
 function draw() {
   const { network } = state;
-  const part = state.plan && !at("whole").checked ? neighbours(network, centre()) : network;
+  const isPart = state.plan && !at("whole").checked;
+  const part = isPart ? neighbours(network, centre()) : network;
   const now = JSON.stringify([part.cells, part.uses]);
-  if (drawn !== now) drawing.draw(part);
+  if (drawn !== now) drawing.draw(part, isPart);
   drawn = now;
 }
 

@@ -222,7 +222,7 @@ export class PlanView {
       made("ul", {}, ...wishes.map(([premise, says]) => made("li", {}, named(premise),
         ...(says && says !== premise ? [": ", named(says)] : [])))),
       ...(facts.length ? [made("p", {}, wishes.length ? "since " : "", ...joined(facts, ", "))] : [])));
-    const repairs = told.repairs.map((each) => this._repair(each));
+    const repairs = told.repairs.map((each, place) => this._repair(each, place + 1));
     const none = made("p", {}, "Nothing that may be given up would help: change a task.");
     at("hinders-says").replaceChildren(...conflicts,
       made("h3", {}, repairs.length ? "It fits if you" : "What to do"), ...repairs,
@@ -230,14 +230,15 @@ export class PlanView {
       ...(told.complete ? [] : [made("p", {}, "There may be other ways.")]));
   }
 
-  _repair({ premises, takes, cost }) {
+  _repair({ premises, takes, cost }, number) {
     const tried = made("p", { class: "tried", role: "status" });
-    const attempt = made("button", { type: "button" }, "Try");
+    const attempt = made("button", { type: "button", id: `try ${number}` }, "Try");
     attempt.addEventListener("click", async () => {
       const told = await this.page.ask({ what: "without", premises });
       if (told) tell(tried, told.says);
     });
-    const apply = made("button", { type: "button", class: "take" }, "Take this");
+    const apply = made("button", { type: "button", class: "take", id: `take ${number}` },
+      "Take this");
     apply.addEventListener("click", () => this._change({ what: "give up", premises }));
     const needs = takes.length ? [made("small", {}, `This takes ${takes.join(" and ")}.`)] : [];
     const name = made("span", {}, "give up ", ...joined(premises, " and "), ...needs,
