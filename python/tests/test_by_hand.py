@@ -64,8 +64,8 @@ def many(w: Workbench, seed: int) -> Project:
 
 @pytest.mark.parametrize("seed", range(3))
 def test_a_search_begins_with_one(wide: str, monkeypatch: pytest.MonkeyPatch, seed: int) -> None:
-    """What is known at once is a plan that ends no later, and what is known then is no worse: in the
-    end it is what a search finds that begins with none."""
+    """What is known at once is a plan that ends no later, and what is known then is no worse: in
+    the end it is what a search finds that begins with none."""
     with Workbench(wide) as w:
         p = many(w, seed)
         end = p.end.name

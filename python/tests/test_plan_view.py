@@ -1,9 +1,10 @@
-"""A plan on the page: somebody who never programmed makes one, breaks it, sees why, and mends it, by
-the mouse alone and by the keyboard alone, on a wide screen and on a phone.
+"""A plan on the page: somebody who never programmed makes one, breaks it, sees why, and mends it,
+by the mouse alone and by the keyboard alone, on a wide screen and on a phone.
 
-Five tasks of two people. Person 2 has 4 and 5 days of work, and then both work one day: so all takes
-10 days of work, from Monday the 9th to Friday the 20th of March. Task 1, task 2 and task 5 come one
-after another and take 3, 5 and 1: so with help for person 2 it would be 9 days, to the 19th.
+Five tasks of two people. Person 2 has 4 and 5 days of work, and then both work one day: so all
+takes 10 days of work, from Monday the 9th to Friday the 20th of March. Task 1, task 2 and task 5
+come one after another and take 3, 5 and 1: so with help for person 2 it would be 9 days, to the
+19th.
 """
 
 from collections.abc import Iterator
@@ -274,6 +275,13 @@ def test_what_is_wrong_is_told_in_the_form(browser: Any) -> None:
         browser.get_log("browser")
 
 
+def near(plan: OpenPlan, task: str) -> set[str]:
+    """The cells of a task, and all that stand in a constraint with one of them."""
+    own = {f"{task} {what}" for what in ("start", "end", "days")}
+    uses = WorkbenchWatched(plan.workbench).network().uses
+    return own | {cell for use in uses if own & {*use.cells} for cell in use.cells}
+
+
 def test_the_network_is_drawn_around_a_task(browser: Any) -> None:
     sized(browser, WIDE)
     plan = planned()
@@ -281,15 +289,14 @@ def test_the_network_is_drawn_around_a_task(browser: Any) -> None:
         page.until(lambda: page.text("plan-head") == DONE)
         page.press("tab-network")
         page.until(lambda: page.values.get("task 1 days") == "3")
-        near = page.marked("cells")
-        own = set(page.drawn)
-        assert {"task 1 start", "task 1 end", "task 1 days"} <= own and near < len(page.table)
-        assert "task 4 days" not in own
+        page.until(lambda: "task 1 start" in page.drawn)
+        assert page.marked("cells") == len(near(plan, "task 1")) < len(page.table)
         page.js(
             "const it = document.getElementById('around'); it.value = 'task 4';"
             "it.dispatchEvent(new Event('change'))"
         )
-        page.until(lambda: "task 4 days" in page.drawn)
+        page.until(lambda: "task 4 start" in page.drawn)
+        assert page.marked("cells") == len(near(plan, "task 4"))
         page.keep("plan-network")
         page.press("whole")
         page.until(lambda: page.marked("cells") == len(page.table))

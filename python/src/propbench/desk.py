@@ -172,8 +172,8 @@ def _add_page(to: argparse.ArgumentParser) -> None:
         "file",
         metavar="FILE",
         nargs="?",
-        help="the file; tables of a plan, .csv, .ods, .xlsx or a folder, which may be new; a new plan"
-        " where it is left out",
+        help="the file, which may be the tables of a plan: .csv, .ods, .xlsx (also new ones), a"
+        " folder; a new plan where it is left out",
     )
     to.add_argument(
         "--port", type=int, default=0, metavar="N", help="where it is served (any that is free)"

@@ -1,5 +1,5 @@
-"""What a planner wants: tasks, people, absences, wishes, and the days of the plan, which are numbers
-here whether they were dates or not."""
+"""What a planner wants: tasks, people, absences, wishes, and the days of the plan, which are
+numbers here whether they were dates or not."""
 
 from dataclasses import dataclass, field
 

@@ -35,8 +35,8 @@ _STAFFINGS = 60
 
 
 def made_by_hand(network: Network) -> dict[str, Point]:
-    """Values of some cells at which a plan may be; none where there are few tasks, and where one that
-    is made so doesn't keep to the days that there are."""
+    """Values of some cells at which a plan may be; none where there are few tasks, and where one
+    that is made so doesn't keep to the days that there are."""
     found: dict[str, Point] = {}
     for known in _projects(network):
         places = _Maker(known).places() if len(known.jobs) >= _FEWEST else []
@@ -65,7 +65,7 @@ class _Work:
     told: dict[str, bool] = field(default_factory=dict)
 
     def staffings(self) -> Iterator[frozenset[str]]:
-        """Who may do it: so many of each group, and nobody for two of them; as far as it is told."""
+        """Who may do it: so many of each group, and nobody for two of them, as it is told."""
         for chosen in product(*(combinations(names, number) for number, names in self.task.groups)):
             who = [name for names in chosen for name in names]
             if len({*who}) == len(who) and all(
@@ -76,8 +76,8 @@ class _Work:
 
 @dataclass
 class _KnownWork:
-    """What a project believes: its tasks in so many days, who is away, who does one thing at a time,
-    how much there is of what, and the days between kinds of tasks."""
+    """What a project believes: its tasks in so many days, who is away, who does one thing at a
+    time, how much there is of what, and the days between kinds of tasks."""
 
     days: int
     jobs: dict[str, _Work] = field(default_factory=dict)

@@ -112,8 +112,8 @@ class Calendar:
         return found
 
     def spans(self, dates: Iterable[date]) -> list[tuple[int, int]]:
-        """The days of the plan that are these dates, from one to another; those that are off anyway,
-        or come before the plan, are left out."""
+        """The days of the plan that are these dates, from one to another; those that are off
+        anyway, or come before the plan, are left out."""
         numbers: list[int] = []
         day, there = 0, self._next(self.start)
         for each in sorted(day for day in dates if day >= self.start and not self.is_off(day)):

@@ -3,7 +3,7 @@ spreadsheet has them, which are changed row by row. A change makes another draft
 back to each."""
 
 import re
-from collections.abc import Iterator, Mapping, Sequence
+from collections.abc import Iterable, Iterator, Mapping, Sequence
 from dataclasses import dataclass, field, replace
 from datetime import date, timedelta
 
@@ -20,6 +20,8 @@ _NAMED: dict[str, dict[str, tuple[str, ...]]] = {
     "tasks": {"tasks": ("after",), "wishes": ("task",)},
     "people": {"tasks": ("who", "uses"), "absences": ("person",)},
 }
+# What a row can't do without, where it stands in it.
+_NEEDED = {"absences": ("person",), "wishes": ("task", "wish")}
 _BETWEEN = re.compile(r"(\s*[,;\n&+]\s*|\s+(?:and|or)\s+)")
 # What may stand in front of a name: `2 of ana`, `2 crew`.
 _BEFORE = re.compile(r"(?:(?:\d{1,6}|one|any)\s+(?:of\s+)?)", re.I)
@@ -41,8 +43,8 @@ class Draft:
         return replace(self, tables={**self.tables, table: tuple(rows)})
 
     def with_row(self, table: str, place: int | None, row: DraftRow) -> "Draft":
-        """The same with a row in the place of another, or behind all. Where the name of a task or of
-        somebody is another then, it is so wherever it stands. Raises ValueError for no such place.
+        """The same with a row in the place of another, or behind all. Where a task or somebody is
+        called otherwise then, it is so wherever that stands. Raises ValueError for no such place.
         """
         rows = list(self.rows(table))
         if place is None:
@@ -58,8 +60,8 @@ class Draft:
         return made._renamed(table, old, new)
 
     def without_row(self, table: str, place: int) -> "Draft":
-        """The same without a row; and where a task or somebody is gone by that, without what is said
-        of them elsewhere. Raises ValueError for no such place."""
+        """The same without a row; and where a task or somebody is gone by that, without what is
+        said of them elsewhere. Raises ValueError for no such place."""
         rows = list(self.rows(table))
         gone = rows.pop(_checked(place, rows))
         made = self.with_rows(table, rows)
@@ -71,8 +73,7 @@ class Draft:
         made = made._renamed(table, gone.get(own, ""), "")
         kept = {
             other: [row for row in made.rows(other) if all(row.get(it) != "" for it in columns)]
-            for other, columns in (*_NAMED[table].items(), ("wishes", ("wish",)))
-            if other != "tasks"
+            for other, columns in _NEEDED.items()
         }
         for other, left in kept.items():
             made = made.with_rows(other, left)
@@ -100,11 +101,12 @@ class Draft:
                 for row in made.rows(other)
             ]
             made = made.with_rows(other, rows)
-        wishes = [_said(row, old, new) for row in made.rows("wishes")]
+        names = {old, *(str(row.get(it)) for own, it in _NAMES.items() for row in self.rows(own))}
+        wishes = [_said(row, (old, new), names) for row in made.rows("wishes")]
         return made.with_rows("wishes", wishes) if wishes else made
 
     def sheets(self) -> list[Sheet]:
-        """The tables as sheets, those without rows left out, in the order in which they are read."""
+        """The tables that have rows as sheets, in the order in which they are read."""
         found = [_sheet(table, self.rows(table)) for table in COLUMNS if self.rows(table)]
         return [*found, *self.others]
 
@@ -115,14 +117,23 @@ def _checked(place: int, rows: Sequence[DraftRow]) -> int:
     return place
 
 
-def _said(row: DraftRow, old: str, new: str) -> DraftRow:
-    """A wish that is said in words, where something is called otherwise; nothing where it is gone."""
+def _said(row: DraftRow, names: tuple[str, str], known: Iterable[str]) -> DraftRow:
+    """A wish that is said in words, where something is called otherwise, or nothing if gone."""
     if not {*row} <= {"wish", "weight"}:
         return row
-    name = re.compile(rf"(?<!\w){re.escape(old)}(?!\w)", re.I)
-    if not name.search(row["wish"]):
+    (old, new), longest = names, sorted(known, key=len, reverse=True)
+    # (a name may stand within another)
+    any_name = re.compile(rf"(?<!\w)(?:{'|'.join(map(re.escape, longest))})(?!\w)", re.I)
+    found = {each.casefold() for each in any_name.findall(row["wish"])}
+    if old.casefold() not in found:
         return row
-    return {**row, "wish": name.sub(lambda _: new, row["wish"]) if new else ""}
+    if not new:
+        return {**row, "wish": ""}
+
+    def called(name: re.Match[str]) -> str:
+        return new if name[0].casefold() == old.casefold() else name[0]
+
+    return {**row, "wish": any_name.sub(called, row["wish"])}
 
 
 def _listed(text: str, old: str, new: str) -> str:
@@ -141,7 +152,7 @@ def _listed(text: str, old: str, new: str) -> str:
 
 
 def _sheet(table: str, rows: Sequence[DraftRow]) -> Sheet:
-    """A table as a sheet: of the columns those in which something stands, and those that it needs."""
+    """A table as a sheet: the columns in which something stands, and those that it needs."""
     columns = COLUMNS[table]
     used = {key for row in rows for key, text in row.items() if text} | {*columns.needed}
     heads = [key for key in columns.names if key in used]
@@ -179,8 +190,8 @@ def is_table(name: object) -> bool:
 
 
 def clean(table: str, row: Mapping[str, object]) -> Iterator[tuple[str, str]]:
-    """The texts of a row as it was written, of the columns of a table. Raises ValueError for what is
-    no such row."""
+    """The texts of a row as it was written, of the columns of a table. Raises ValueError for what
+    is no such row."""
     for key, text in row.items():
         if not isinstance(text, str) or (key not in COLUMNS[table].names and key != "notes"):
             raise ValueError(f"a row of {table} has texts under its headings")

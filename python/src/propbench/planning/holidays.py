@@ -28,9 +28,9 @@ _Lines = list[tuple[str, str, str]]
 
 
 def holidays(path: str | os.PathLike[str]) -> tuple[date, ...]:
-    """The dates that a file tells, in order: whole days of a calendar's events, those that come again
-    each year up to 2100; or the dates of a table, with a last one each where there are several days.
-    Raises OSError, SheetError for what can't be taken, and NoSheetReader.
+    """The dates that a file tells, in order: whole days of a calendar's events, those that come
+    again each year up to 2100; or the dates of a table, with a last one each where there are
+    several days. Raises OSError, SheetError for what can't be taken, and NoSheetReader.
 
     >>> from datetime import date
     >>> _ = open("free.csv", "w").write("date,holiday\\n2026-04-03,Good Friday\\n")

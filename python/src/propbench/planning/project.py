@@ -348,9 +348,9 @@ class Project:
 
     def off(self, person: str, days: Iterable[Day], under: str | None = None) -> str:
         """A person does nothing on these days: numbers, or dates where the plan has a calendar, as
-        `holidays("free.ics")` gives them; the premise of that, which is named `ana's days off` where
-        no name is given. Work pauses meanwhile. Days that are none of the plan's, or are off anyway,
-        are left out. Raises ValueError for somebody else and for what is no day, and TypeError.
+        `holidays("free.ics")` gives them; the premise of that, which is named `ana's days off`
+        where no name is given. Work pauses meanwhile. Days that are none of the plan's, or are off
+        anyway, are left out. Raises ValueError for somebody else and for no day, and TypeError.
 
         >>> w = Workbench()
         >>> p = w.project(days=30, people="ana", start="2026-03-30", off="sat sun")

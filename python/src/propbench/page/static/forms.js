@@ -1,5 +1,5 @@
-// Forms for what is planned: a row of a table each. Names are picked by a press, numbers and days go
-// up and down by one, so that nothing but a name has to be typed, and even that is proposed.
+// Forms for what is planned: a row of a table each. Names are picked by a press, numbers and days
+// go up and down by one, so that nothing but a name has to be typed, and even that is proposed.
 
 import { made, named, printable, tell } from "./texts.js";
 
@@ -28,11 +28,12 @@ const FIELDS = {
   ],
   absences: [
     ["person", "Who", "person"], ["from", "From", "date"], ["to", "To, that day included", "date"],
-    ["reason", "Why", "text"], null, ["weight", "What it would cost to work all the same", "number"],
+    ["reason", "Why", "text"], null,
+    ["weight", "What it would cost to work all the same", "number"],
   ],
   wishes: [
-    ["task", "Of which task", "task"], ["latest", "Done by", "date"], ["earliest", "Not before", "date"],
-    null, ["cost", "Cost at most", "number"], ["wish", "Called", "text"],
+    ["task", "Of which task", "task"], ["latest", "Done by", "date"],
+    ["earliest", "Not before", "date"], null, ["cost", "Cost at most", "number"], ["wish", "Called", "text"],
     ["weight", "What it would cost to give it up", "number"],
   ],
   plan: [
@@ -42,7 +43,8 @@ const FIELDS = {
 };
 // The sections: of which table, what stands above it, and what its buttons add.
 const SECTIONS = [
-  ["people", "People, rooms, machines", [["people", "Add a person"], ["things", "Add a room or machine"]]],
+  ["people", "People, rooms, machines",
+    [["people", "Add a person"], ["things", "Add a room or machine"]]],
   ["tasks", "Tasks", [["tasks", "Add a task"]]],
   ["absences", "Absences", [["absences", "Add an absence"]]],
   ["wishes", "Wishes", [["wishes", "Add a wish"]]],
@@ -143,8 +145,8 @@ export class Forms {
     const after = (text, before) => (text ? `${before}${text}` : "");
     if (table === "tasks") {
       const days = row.days === "1" ? "1 day" : `${row.days ?? "?"} days`;
-      return [named(row.task ?? "?"), row.way ? ` (${row.way})` : "",
-        made("small", {}, [days, row.who, after(row.after, "after ")].filter((it) => it).join(", "))];
+      const says = [days, row.who, after(row.after, "after ")].filter((it) => it).join(", ");
+      return [named(row.task ?? "?"), row.way ? ` (${row.way})` : "", made("small", {}, says)];
     }
     if (table === "people") {
       const more = row.holds ? `there are ${row.holds}` : after(row.works, "works ");
@@ -155,7 +157,8 @@ export class Forms {
       return [named(row.person ?? "?"), made("small", {}, days)];
     }
     if (table === "wishes") {
-      const parts = [row.task, after(dated(row.earliest), "from "), after(dated(row.latest), "by ")];
+      const ends = [after(dated(row.earliest), "from "), after(dated(row.latest), "by ")];
+      const parts = [row.task, ...ends];
       return [named(row.wish ?? "?"), made("small", {}, parts.filter((it) => it).join(" "))];
     }
     const says = [`from ${dated(row.start) ?? "day 0"}`, after(row.off, "off "),
@@ -208,8 +211,8 @@ export class Forms {
     this.open = null;
     document.getElementById("row-form")?.remove();
     if (!back || !open) return;
-    const again = open.opener?.isConnected ? open.opener : document.getElementById(`add-${open.form}`);
-    again?.focus();
+    const { opener, form } = open;
+    (opener?.isConnected ? opener : document.getElementById(`add-${form}`))?.focus();
   }
 
   // What a new row begins with.
@@ -377,7 +380,8 @@ export class Forms {
       put();
     });
     const ways = [["all of them", false], ["any one of them", true]].map(([text, any]) => {
-      const box = made("input", { type: "radio", name: "who-way", id: `who-${any ? "any" : "all"}` });
+      const own = `who-${any ? "any" : "all"}`;
+      const box = made("input", { type: "radio", name: "who-way", id: own });
       box.checked = isAny === any;
       box.addEventListener("change", () => {
         isAny = any;

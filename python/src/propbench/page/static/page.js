@@ -157,7 +157,7 @@ function draw() {
   const isPart = state.plan && !at("whole").checked;
   const part = isPart ? neighbours(network, centre()) : network;
   const now = JSON.stringify([part.cells, part.uses]);
-  if (drawn !== now) drawing.draw(part, isPart);
+  if (drawn !== now) drawing.draw(part, isPart ? centre()[0] : "");
   drawn = now;
 }
 
@@ -197,7 +197,8 @@ function grouped(premises) {
   const of = state.plan ? byName(state.plan.groups) : new Map();
   for (const each of premises) groups.get(of.get(each.name) ?? OTHERS).push(premise(each));
   return [...groups].flatMap(([name, items]) => {
-    const head = made("li", { class: "premise-group" }, made("h3", { class: "premise-group" }, name));
+    const says = made("h3", { class: "premise-group" }, name);
+    const head = made("li", { class: "premise-group" }, says);
     return items.length ? [...(state.plan ? [head] : []), ...items] : [];
   });
 }
@@ -535,7 +536,7 @@ function showStep() {
 // --- what is pressed ---
 
 const press = (id, act) => at(id).addEventListener("click", act);
-press("fit", () => drawing.fit());
+press("fit", () => drawing.fit(true));
 press("nearer", () => drawing.zoom(1.25));
 press("farther", () => drawing.zoom(0.8));
 press("unlit", unpick);

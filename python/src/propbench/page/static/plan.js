@@ -1,5 +1,5 @@
-// The plan on the page: its chart, why it ends no sooner, what stands in its way, and the forms that
-// change it. All that is told of it is the server's answer.
+// The plan on the page: its chart, why it ends no sooner, what stands in its way, and the forms
+// that change it. All that is told of it is the server's answer.
 
 import { Forms, tellWrong } from "./forms.js";
 import { Gantt, colourOf } from "./gantt.js";
@@ -12,6 +12,8 @@ const MORE = 3;
 const MOST = 27;
 // How soon, in milliseconds, it is shown that a search goes on.
 const SOON = 250;
+// On a screen that is no wider all stands one below the other.
+const NARROW = 900;
 
 export class PlanView {
   // `page` has what the page does: ask (which may be told to stay quiet), take, say, look, save.
@@ -118,11 +120,13 @@ export class PlanView {
     const slow = setTimeout(() => at("plan-middle").classList.add("looking"), SOON);
     this.runs++;
     try {
-      for (let seconds = FIRST; this.planned === version; seconds = Math.min(MOST, seconds * MORE)) {
+      let seconds = FIRST;
+      while (this.planned === version) {
         const told = await this.page.ask({ what: "plan", seconds }, () => {});
         if (!told || told.stopped || this.planned !== version) return;
         this._tell(told);
         if (told.empty || told.none || told.found?.proved) return;
+        seconds = Math.min(MOST, seconds * MORE);
       }
     } finally {
       this.runs--;
@@ -152,7 +156,11 @@ export class PlanView {
     this.gantt.show(this.last, !this.found);
     this._legend();
     this._chain();
-    if (told.none) this._hinders();
+    if (told.none) {
+      this._hinders();
+      // (on a phone the form stands far below)
+      if (window.innerWidth <= NARROW) at("plan-head").scrollIntoView();
+    }
   }
 
   _head(head, says) {
@@ -170,7 +178,8 @@ export class PlanView {
       ["away", "away", last?.rows.some((row) => row.aways.length)],
       ["before", "as was agreed", last?.rows.some((row) => row.before)]];
     for (const [sort, text, is] of also) {
-      if (is) parts.push(made("span", { class: "key" }, made("span", { class: `swatch ${sort}` }), text));
+      const swatch = made("span", { class: `swatch ${sort}` });
+      if (is) parts.push(made("span", { class: "key" }, swatch, text));
     }
     at("legend").replaceChildren(...parts);
   }
@@ -218,16 +227,21 @@ export class PlanView {
     at("hinders-says").replaceChildren(made("p", {}, "Looking for what could be given up."));
     const told = await this.page.ask({ what: "hinders" });
     if (!told || this.planned !== version) return;
-    const conflicts = told.conflicts.map(({ wishes, facts }) => made("div", { class: "conflict" },
-      made("ul", {}, ...wishes.map(([premise, says]) => made("li", {}, named(premise),
-        ...(says && says !== premise ? [": ", named(says)] : [])))),
-      ...(facts.length ? [made("p", {}, wishes.length ? "since " : "", ...joined(facts, ", "))] : [])));
+    const conflicts = told.conflicts.map((each) => this._conflict(each));
     const repairs = told.repairs.map((each, place) => this._repair(each, place + 1));
     const none = made("p", {}, "Nothing that may be given up would help: change a task.");
     at("hinders-says").replaceChildren(...conflicts,
       made("h3", {}, repairs.length ? "It fits if you" : "What to do"), ...repairs,
       ...(repairs.length ? [] : [none]),
       ...(told.complete ? [] : [made("p", {}, "There may be other ways.")]));
+  }
+
+  _conflict({ wishes, facts }) {
+    const items = wishes.map(([premise, says]) => made("li", {}, named(premise),
+      ...(says && says !== premise ? [": ", named(says)] : [])));
+    const since = made("p", {}, wishes.length ? "since " : "", ...joined(facts, ", "));
+    return made("div", { class: "conflict" }, made("ul", {}, ...items),
+      ...(facts.length ? [since] : []));
   }
 
   _repair({ premises, takes, cost }, number) {
