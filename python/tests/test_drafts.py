@@ -15,6 +15,7 @@ from propbench.planning.open_plan import OpenPlan
 from propbench.planning.reading import brief_of
 from propbench.planning.brief import Given
 from propbench.planning.rules import said_in
+from propbench.planning.seen import Gap
 from propbench.planning.sheet_files import written
 from propbench.planning.sheets import Sheet, SheetError, sheets_of
 
@@ -283,6 +284,33 @@ def test_a_saved_workbench_keeps_what_was_agreed(wide: str) -> None:
     Path("bad.prop").write_text(text.replace('"baseline": [[{"task"', '"baseline": [[{"job"'))
     with pytest.raises(NotAWorkbench):
         Workbench.load("bad.prop")
+
+
+def test_conflicts_are_told_by_their_fewest_wishes(plan: OpenPlan) -> None:
+    """Venue, review and book take 3, 5 and 2 days one after the other: in 9 days they don't fit,
+    whoever helps; and by the 12th venue isn't done where it begins on the 11th."""
+    plan.put("wishes", None, {"wish": "all by 19 March"})
+    plan.put("wishes", None, {"wish": "venue by 12 March"})
+    plan.put("wishes", None, {"wish": "venue on 11 March"})
+    found = plan.hindrances(60)
+    told = [{name for name, _ in each.wishes} for each in found.conflicts]
+    assert sorted(map(sorted, told)) == [
+        ["all by 19 March"],
+        ["venue by 12 March", "venue on 11 March"],
+    ]
+    facts = {name for each in found.conflicts for name in each.facts}
+    assert {"venue takes 3", "review takes 5", "book takes 2"} <= facts
+    assert {each.premises for each in found.repairs} == {
+        ("all by 19 March", "venue by 12 March"),
+        ("all by 19 March", "venue on 11 March"),
+    }
+
+
+def test_how_far_a_plan_may_be_from_the_best() -> None:
+    assert str(Gap(48, 47, False)) == "There may be one that ends sooner, by 1 day at most."
+    assert str(Gap(48, 40, False)) == "There may be one that ends sooner, by 8 days at most."
+    assert str(Gap(48, None, False)) == "Maybe there is one that ends sooner."
+    assert str(Gap(48, 48, True)) == "No plan ends sooner."
 
 
 def test_what_if_of_a_plan(plan: OpenPlan) -> None:

@@ -2,7 +2,7 @@
 before, to go back to."""
 
 import re
-from collections.abc import Callable, Mapping, Sequence
+from collections.abc import Callable, Collection, Mapping, Sequence
 from contextlib import AbstractContextManager, nullcontext
 from dataclasses import dataclass
 
@@ -182,19 +182,19 @@ class OpenPlan(Closing):
             seconds=half,
             progress=progress,
         )
-        conflicts = w.conflicts(most=_SHOWN, seconds=half, progress=progress)
+        conflicts = w.conflicts(most=_MOST, seconds=half, progress=progress)
         found = [
             WayOut(each.names, tuple(taking(self.plan.project, each.names)), each.cost)
             for each in repairs
         ]
-        told = [
-            Hindrance(
-                tuple((it, w.model.text(it)) for it in each.names if it not in facts),
-                tuple(it for it in each.names if it in facts),
-            )
-            for each in conflicts
-        ]
-        return Hindrances(tuple(told), tuple(found), repairs.complete)
+        told = [self._hindrance(each.names, facts) for each in conflicts]
+        shown = _shortest(told)[:_SHOWN]
+        return Hindrances(tuple(shown), tuple(found), repairs.complete)
+
+    def _hindrance(self, names: Sequence[str], facts: Collection[str]) -> Hindrance:
+        text = self.workbench.model.text
+        wishes = tuple((name, text(name)) for name in names if name not in facts)
+        return Hindrance(wishes, tuple(name for name in names if name in facts))
 
     def without(
         self, premises: Sequence[str], seconds: float | None, progress: Progress | None = None
@@ -289,6 +289,15 @@ class OpenPlan(Closing):
                 (self.workbench.bring if was_in else self.workbench.kick)(name)
         here.pop()
         there.append(now)
+
+
+def _shortest(found: Sequence[Hindrance]) -> list[Hindrance]:
+    """Of conflicts those with the fewest wishes, and of several with the same wishes the shortest."""
+    kept: list[Hindrance] = []
+    for each in sorted(found, key=lambda it: (len(it.wishes), len(it.facts))):
+        if not any({*known.wishes} <= {*each.wishes} for known in kept):
+            kept.append(each)
+    return kept
 
 
 def plan_in(workbench: PlainWorkbench) -> OpenPlan | None:

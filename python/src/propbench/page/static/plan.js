@@ -7,11 +7,13 @@ import { joined, made, named, tell } from "./texts.js";
 
 const at = (id) => document.getElementById(id);
 // A plan is looked for so many seconds at first, then more and more, up to so many at a time.
-const FIRST = 1;
+const FIRST = 2;
 const MORE = 3;
 const MOST = 27;
 // How soon, in milliseconds, it is shown that a search goes on.
 const SOON = 250;
+// So many ways out are shown at once.
+const FEW = 4;
 // On a screen that is no wider all stands one below the other.
 const NARROW = 900;
 
@@ -72,6 +74,7 @@ export class PlanView {
     }
     const { plan } = this;
     at("plan-forms").hidden = !plan.editable;
+    at("plan-view").classList.toggle("fixed", !plan.editable);
     at("save-plan").hidden = state.file === null;
     for (const [id, name, says] of [["undo", "Undo", plan.undo], ["redo", "Redo", plan.redo]]) {
       at(id).disabled = !says;
@@ -231,7 +234,9 @@ export class PlanView {
     const repairs = told.repairs.map((each, place) => this._repair(each, place + 1));
     const none = made("p", {}, "Nothing that may be given up would help: change a task.");
     at("hinders-says").replaceChildren(...conflicts,
-      made("h3", {}, repairs.length ? "It fits if you" : "What to do"), ...repairs,
+      made("h3", {}, repairs.length ? "It fits if you" : "What to do"), ...repairs.slice(0, FEW),
+      ...(repairs.length > FEW ? [made("details", {},
+        made("summary", {}, `Show ${repairs.length - FEW} more`), ...repairs.slice(FEW))] : []),
       ...(repairs.length ? [] : [none]),
       ...(told.complete ? [] : [made("p", {}, "There may be other ways.")]));
   }
