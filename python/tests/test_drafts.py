@@ -10,7 +10,14 @@ import pytest
 
 from propbench import NothingFits, Workbench
 from propbench.model.saving import NotAWorkbench
-from propbench.planning.draft import Draft, draft_of, new_draft, with_people
+from propbench.planning.draft import (
+    Draft,
+    draft_in,
+    draft_of,
+    lines_of,
+    new_draft,
+    with_people,
+)
 from propbench.planning.open_plan import OpenPlan
 from propbench.planning.reading import brief_of
 from propbench.planning.brief import Given
@@ -325,3 +332,13 @@ def test_what_if_of_a_plan(plan: OpenPlan) -> None:
     with pytest.raises(NothingFits):
         plan.put("wishes", None, {"wish": "all by 10 March"})
         plan.workbench.solve()
+
+
+def test_a_draft_is_kept_as_lines(plan: OpenPlan) -> None:
+    plan.put("wishes", None, {"wish": "all by 18 March"})
+    assert plan.draft is not None
+    draft = Draft(plan.draft.tables, (Sheet("budget", ((1, ("item",)), (4, ("cake", "")))),))
+    assert draft_in(lines_of(draft)) == draft
+    for wrong in ('["tasks"]', '["none", {}]', "[]", "{", '["tasks", {"days": 3}]', '["", "x"]'):
+        with pytest.raises(ValueError):
+            draft_in([wrong])

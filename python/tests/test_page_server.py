@@ -491,3 +491,64 @@ def waited(condition: Callable[[], bool]) -> None:
     while not condition():
         assert time.monotonic() < end
         time.sleep(0.05)
+
+
+def test_the_desk_serves_a_plan(
+    wide: str, tmp_path: Path, monkeypatch: pytest.MonkeyPatch, capfd: pytest.CaptureFixture[str]
+) -> None:
+    """`propdesk page` begins a plan, and one that is cut off goes on by --resume."""
+    monkeypatch.setenv("PROPBENCH_JOURNAL", "on")
+    monkeypatch.setenv("XDG_STATE_HOME", str(tmp_path))
+    where = str(tmp_path / "ours.ods")
+
+    def served(words: list[str]) -> tuple[subprocess.Popen[str], str, list[str]]:
+        command = [sys.executable, "-m", "propbench", "page", where, "--program", wide, *words]
+        begun = subprocess.Popen(command, stdout=subprocess.PIPE, text=True)
+        said: list[str] = []
+        assert begun.stdout
+        for line in begun.stdout:
+            said.append(line.rstrip())
+            if found := re.match(r"The page is at (http://\S+/)$", line):
+                return begun, found[1], said
+        raise AssertionError(said)
+
+    def asked(address: str, **question: object) -> dict[str, object]:
+        host, _, token = address.removeprefix("http://").partition("/")
+        link = http.client.HTTPConnection(host, timeout=90)
+        headers = {"Content-Type": "application/json", "Origin": f"http://{host}"}
+        link.request("POST", f"/{token}do", json.dumps(question), headers)
+        told = json.loads(link.getresponse().read())
+        assert isinstance(told, dict)
+        return told
+
+    begun, address, _ = served([])
+    try:
+        row = {"task": "venue", "days": "3", "who": "ana"}
+        told = asked(address, what="put", table="people", place=None, row={"person": "ana"})
+        told = asked(address, what="put", table="tasks", place=None, row=row)
+        assert told["plan"]["tables"]["tasks"] == [row] and told["plan"]["undo"] == "add venue"  # type: ignore[index]
+        assert asked(address, what="plan", seconds=20)["found"]["proved"] is True  # type: ignore[index]
+    finally:
+        begun.kill()
+        begun.wait()
+    begun, address, said = served([])
+    begun.send_signal(signal.SIGINT)
+    assert begun.wait(timeout=60) == 0 and "--resume goes on with it" in said[0]
+    begun, address, said = served(["--resume"])
+    try:
+        assert asked(address, what="plan", seconds=20)["found"]["proved"] is True  # type: ignore[index]
+        assert asked(address, what="save")["saved"] == where
+        begun.send_signal(signal.SIGINT)
+        assert begun.wait(timeout=60) == 0
+    finally:
+        begun.kill()
+        begun.wait()
+    # what is saved is in the file, and nothing is left to go on with
+    begun, address, said = served([])
+    try:
+        assert len(said) == 1
+        found = asked(address, what="plan", seconds=20)["found"]
+        assert [each["task"] for each in found["rows"]] == ["venue"]  # type: ignore[index]
+    finally:
+        begun.kill()
+        begun.wait()

@@ -7,7 +7,10 @@ come one after another and take 3, 5 and 1: so with help for person 2 it would b
 19th.
 """
 
+import threading
+import time
 from collections.abc import Iterator
+from dataclasses import replace
 from datetime import date
 from pathlib import Path
 from typing import Any
@@ -23,6 +26,9 @@ from propbench.planning.brief import Given
 from propbench.planning.draft import draft_of, new_draft
 from propbench.planning.open_plan import OpenPlan
 from propbench.planning.sheets import sheets_of
+from propbench.questions.bounding import Optimum
+from propbench.questions.clock import Progress
+from propbench.questions.goals import Optima
 from propbench.watching.of_workbench import WorkbenchWatched
 
 WIDE, PHONE = (1280, 800), (390, 844)
@@ -254,6 +260,62 @@ def test_what_if_words_and_filters(browser: Any) -> None:
         ActionChains(browser).key_down(Keys.CONTROL).send_keys("z").key_up(Keys.CONTROL).perform()
         page.until(lambda: page.text("plan-head") == DONE)
         assert plan.draft is not None and plan.draft.rows("wishes") == ()
+
+
+def test_the_gap_is_shown_while_it_runs(browser: Any, monkeypatch: pytest.MonkeyPatch) -> None:
+    """At first it is known that nothing ends before day 7; then that nothing does before day 10."""
+    sized(browser, WIDE)
+    plan, asked = planned(), list[float | None]()
+    best, go_on = plan.best, threading.Event()
+
+    def slow(seconds: float | None, progress: Progress | None = None) -> Optimum | Optima | None:
+        asked.append(seconds)
+        found = best(None, progress)
+        if len(asked) == 1:
+            assert isinstance(found, Optimum)
+            return replace(found, proved=False, bound=7)
+        go_on.wait(60)
+        return found
+
+    monkeypatch.setattr(plan, "best", slow)
+    with shown(browser, Page(plan, "plan", path="-")) as page:
+        page.until(lambda: page.text("plan-head") == DONE)
+        says = "10 days of work. There may be one that ends sooner, by 3 days at most."
+        assert page.text("plan-says") == says and len(page.all("#chart .row")) == len(TASKS)
+        # (the chain is known once nothing sooner can be)
+        assert page.all("#chain li") == [] and not page.all("#chart .chain")
+        page.until(lambda: len(asked) == 2)
+        page.keep("plan-gap")
+        go_on.set()
+        page.until(lambda: page.text("plan-says") == "10 days of work. No plan ends sooner.")
+        assert len(page.all("#chain li")) == 3 and (asked[0] or 0) < (asked[1] or 0)
+
+
+def test_who_changes_the_plan_need_not_wait(browser: Any, monkeypatch: pytest.MonkeyPatch) -> None:
+    sized(browser, WIDE)
+    plan, begun, ends = planned(), threading.Event(), list[str]()
+    best = plan.best
+
+    def endless(seconds: float | None, progress: Progress | None = None) -> object:
+        if plan.undoes != "add task 5":
+            return best(seconds, progress)
+        begun.set()
+        try:
+            while True:
+                time.sleep(0.01)
+                assert progress is not None
+                progress("searching")
+        except BaseException as stopped:
+            ends.append(type(stopped).__name__)
+            raise
+
+    monkeypatch.setattr(plan, "best", endless)
+    with shown(browser, Page(plan, "plan", path="-")) as page:
+        page.until(begun.is_set)
+        page.one("#sheet-wishes > summary").click()
+        page.one("#words").send_keys("task 1 after task 4\n")
+        page.until(lambda: page.text("plan-head") == "All is done on Wed 25 Mar 2026")
+        assert ends == ["Stopped"]
 
 
 def test_what_is_wrong_is_told_in_the_form(browser: Any) -> None:

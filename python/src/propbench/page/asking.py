@@ -30,7 +30,7 @@ from propbench.watching import (
 )
 
 # What changes what is stated.
-_CHANGING = frozenset(("believe", "wish", "apply", "line"))
+CHANGING = frozenset(("believe", "wish", "apply", "line"))
 # How a file is called that has no name yet: what is read from standard input.
 UNNAMED = "-"
 # A page is told of so many steps at once at the most.
@@ -65,6 +65,7 @@ class Asking:
         self._busy = ""
         # Whether what is asked now changes what is stated.
         self._changes = False
+        self._changing = CHANGING
         # How often something may have changed; what was seen last, and the network as it was then.
         self._version = 1
         self._seen: SeenNow | None = None
@@ -135,7 +136,7 @@ class Asking:
         if what not in self._does:
             raise ValueError(f"there is no question {what!r}")
         with self._lock, self._watching(what, is_gone):
-            self._changes = what in _CHANGING
+            self._changes = what in self._changing
             return self._does[what](asked)
 
     def _keep(self) -> None:
@@ -143,9 +144,13 @@ class Asking:
         journal = None if self._file is None or not self._changes else self._file.journal
         if journal is None or (journal.is_empty and self._is_saved()):
             return
-        told = journal.keep(self._watched.saved())
+        told = journal.keep(self._kept())
         if told:
             print(shown(told), file=sys.stderr)
+
+    def _kept(self) -> list[str]:
+        """The lines of a journal that one can go on with."""
+        return self._watched.saved()
 
     def _is_saved(self) -> bool:
         """Whether the file has all that there is, as it was opened or saved last."""
@@ -348,7 +353,7 @@ class Asking:
         self._busy = what
         try:
             # (a change is carried out also where its page was closed at once)
-            if what not in _CHANGING:
+            if what not in self._changing:
                 self._telling(what)
             yield
         except (Stopped, Interrupted):

@@ -5,8 +5,8 @@ from collections.abc import Mapping
 from dataclasses import asdict
 
 from propbench.files import OpenedFile
-from propbench.page.asking import Asking, Stopped, place_in, text_in
-from propbench.planning.draft import is_table
+from propbench.page.asking import CHANGING, Asking, Stopped, place_in, text_in
+from propbench.planning.draft import is_table, lines_of
 from propbench.planning.open_plan import OpenPlan
 from propbench.planning.seen import (
     cells_by_task,
@@ -32,6 +32,9 @@ class PlanAsking(Asking):
     def __init__(self, plan: OpenPlan, title: str, file: OpenedFile | None) -> None:
         super().__init__(WorkbenchWatched(plan.workbench), title, file)
         self._plan = plan
+        # What is written in the file.
+        self._saved = plan.draft
+        self._changing = CHANGING | {"put", "drop", "undo", "redo", "agree", "give up"}
         # Whether somebody looks at the network: what follows there isn't needed before.
         self._has_network = False
         self._does |= {
@@ -57,6 +60,17 @@ class PlanAsking(Asking):
         if self._plan.draft is None or self._file is None:
             return super().file_text()
         return written(self._plan.draft.sheets(), self._file.path)
+
+    def _kept(self) -> list[str]:
+        return super()._kept() if self._plan.draft is None else lines_of(self._plan.draft)
+
+    def _is_saved(self) -> bool:
+        return super()._is_saved() if self._plan.draft is None else self._plan.draft == self._saved
+
+    def _save(self, asked: Mapping[str, object]) -> dict[str, object]:
+        told = super()._save(asked)
+        self._saved = self._plan.draft if told["saved"] else self._saved
+        return told
 
     # --- questions ---
 

@@ -2,6 +2,7 @@
 spreadsheet has them, which are changed row by row. A change makes another draft, so that one can go
 back to each."""
 
+import json
 import re
 from collections.abc import Iterable, Iterator, Mapping, Sequence
 from dataclasses import dataclass, field, replace
@@ -182,6 +183,29 @@ def new_draft(today: date) -> Draft:
     """A plan without a task as yet, which begins next Monday, with weekends off."""
     start = today + timedelta(days=-today.weekday() % 7)
     return Draft({"plan": ({"start": start.isoformat(), "off": "sat sun"},)})
+
+
+def lines_of(draft: Draft) -> list[str]:
+    """A draft as lines that can be read again: a row each."""
+    rows = [[table, dict(row)] for table in draft.tables for row in draft.rows(table)]
+    others = [["", sheet.name, sheet.rows] for sheet in draft.others]
+    return [json.dumps(each) for each in (*rows, *others)]
+
+
+def draft_in(lines: Sequence[str]) -> Draft:
+    """The draft of such lines. Raises ValueError for what are none."""
+    made = Draft()
+    try:
+        for table, *told in map(json.loads, lines):
+            if table == "":
+                name, rows = told
+                sheet = Sheet(str(name), tuple((int(n), tuple(texts)) for n, texts in rows))
+                made = replace(made, others=(*made.others, sheet))
+            else:
+                made = made.with_row(table, None, dict(clean(table, told[0])))
+    except (KeyError, TypeError, IndexError, AttributeError, RecursionError) as error:
+        raise ValueError("these lines are no plan") from error
+    return made
 
 
 def is_table(name: object) -> bool:
