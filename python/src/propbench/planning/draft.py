@@ -201,6 +201,8 @@ def draft_in(lines: Sequence[str]) -> Draft:
                 name, rows = told
                 sheet = Sheet(str(name), tuple((int(n), tuple(texts)) for n, texts in rows))
                 made = replace(made, others=(*made.others, sheet))
+            elif not is_table(table):
+                raise ValueError(f"a plan has no table {table!r}")
             else:
                 made = made.with_row(table, None, dict(clean(table, told[0])))
     except (KeyError, TypeError, IndexError, AttributeError, RecursionError) as error:
