@@ -17,6 +17,8 @@ from typing import Any
 
 import pytest
 from browsing import Shown, new_browser, shown
+from selenium.webdriver.common.action_chains import ActionChains
+from selenium.webdriver.common.keys import Keys
 
 from propbench import Workbench
 from propbench.desk import main
@@ -91,12 +93,8 @@ class Hand:
             self.page.browser.execute_script("arguments[0].scrollIntoView()", self._found(wanted))
             self._found(wanted).click()
             return
-        from selenium.webdriver.common.keys import Keys
-
         self._go_to(wanted)
-        is_tab = self.page.js("return document.activeElement.getAttribute('role') === 'tab'")
-        # (of a summary and of a button the space bar does the same)
-        self._active().send_keys(Keys.ENTER if is_tab else Keys.SPACE)
+        self._type(Keys.SPACE)
 
     def _found(self, wanted: str) -> Any:
         return self.page.until(
@@ -110,18 +108,16 @@ class Hand:
             )
         )
 
-    def _active(self) -> Any:
-        return self.page.browser.switch_to.active_element
+    def _type(self, key: str) -> None:
+        ActionChains(self.page.browser).send_keys(key).perform()
 
     def _go_to(self, wanted: str) -> None:
         """Goes on by Tab until that has the focus."""
-        from selenium.webdriver.common.keys import Keys
-
-        target = self._found(wanted)
         for _ in range(250):
-            if self.page.js("return document.activeElement === arguments[0]", target):
+            # (what is shown may be made anew meanwhile)
+            if self.page.js("return document.activeElement === arguments[0]", self._found(wanted)):
                 return
-            self._active().send_keys(Keys.TAB)
+            self._type(Keys.TAB)
         raise AssertionError(f"{wanted} isn't reached by Tab")
 
 
@@ -254,9 +250,6 @@ def test_what_if_words_and_filters(browser: Any) -> None:
         assert heads == ["Wishes", "Tasks"]
         page.keep("plan-filter")
         page.js("document.activeElement.blur()")
-        from selenium.webdriver.common.action_chains import ActionChains
-        from selenium.webdriver.common.keys import Keys
-
         ActionChains(browser).key_down(Keys.CONTROL).send_keys("z").key_up(Keys.CONTROL).perform()
         page.until(lambda: page.text("plan-head") == DONE)
         assert plan.draft is not None and plan.draft.rows("wishes") == ()
@@ -424,9 +417,11 @@ def test_a_project_in_python_is_shown_and_not_changed(wide: str, browser: Any) -
             [take] = page.all(".repair .take")
             take.click()
             page.until(lambda: page.text("plan-head") == "All is done by day 8")
-            assert w.believed.count("in time") == 0
+            with page.page.held():
+                assert "in time" not in w.believed
             page.press("undo")
             page.until(lambda: page.all(".repair"))
-            assert "in time" in w.believed
+            with page.page.held():
+                assert "in time" in w.believed
         # what is asked for leaves nothing behind
         assert [it for it in w.network.cells if it not in cells] == []
