@@ -192,6 +192,7 @@ export class PlanView {
     at("chain").replaceChildren(...chain.map((each) => this._link(each)));
     at("does-what").replaceChildren(...(this.found?.does ?? []).flatMap(
       (each) => [made("dt", {}, named(each.who)), made("dd", {}, each.does || "nothing")]));
+    at("chain-head").hidden = at("why").hidden = !chain.length;
     at("agree").hidden = !this.plan.editable;
   }
 
