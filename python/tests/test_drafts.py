@@ -9,6 +9,7 @@ from pathlib import Path
 import pytest
 
 from propbench import NothingFits, Workbench
+from propbench.desk import main
 from propbench.model.saving import NotAWorkbench
 from propbench.planning.draft import (
     Draft,
@@ -216,7 +217,9 @@ def test_names_of_tasks_may_have_words_of_rules() -> None:
 
 
 @pytest.mark.parametrize("name", ["plan.ods", "plan.xlsx"])
-def test_files_have_all_of_a_plan(plan: OpenPlan, name: str) -> None:
+def test_files_have_all_of_a_plan(
+    plan: OpenPlan, name: str, capsys: pytest.CaptureFixture[str]
+) -> None:
     plan.put("wishes", None, {"wish": "all by 18 March", "weight": "3"})
     plan.put("tasks", 0, {"task": "=1+2", "days": "3", "who": "ana", "notes": "call them, 08-15"})
     plan.believe(["all by 18 March"], False)
@@ -227,6 +230,10 @@ def test_files_have_all_of_a_plan(plan: OpenPlan, name: str) -> None:
     again = draft_of(sheets_of(name))
     assert again == plan.draft
     assert again.rows("tasks")[0]["notes"] == "call them, 08-15"
+    assert main(["plan", name]) == 0
+    told = capsys.readouterr().out
+    assert told.startswith("Given up already: all by 18 March.\nFrom Mon 9 Mar 2026 to Fri 20 Mar")
+    assert "Since what was agreed on: Nothing moved." in told
     with OpenPlan(again, Workbench) as other:
         assert ends(other) == 10 and "all by 18 March" not in other.workbench.believed
         assert other.project is not None and other.project.baseline is not None

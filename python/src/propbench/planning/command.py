@@ -54,6 +54,8 @@ def plan_file(path: str, asked: Asked, program: str | None) -> int:
         raise ValueError("a calendar needs dates: say when the plan begins, as --start 2026-03-02")
     for name in brief.unread:
         print(f"The sheet {printable(name)} is not read: it is called like none of a plan's.")
+    if brief.given_up:
+        print(f"Given up already: {printable(listed(brief.given_up))}.")
     with Workbench(program) as w:
         plan = plan_of(w, brief, _SPARE if asked.what_ifs else 0)
         goals = goals_of(plan, asked.goals)
