@@ -157,6 +157,9 @@ class LineModel(Questions):
             return f"{plan[cells[0]]} {plan[cells[1]]}" in " ".join(pairs).split(" ; ")
         return bool(RULES[words[0]](*(plan[cell] for cell in words[1:])))
 
+    def by_hand(self) -> dict[str, Point]:
+        return {}
+
     def first(self) -> list[First]:
         return []
 

@@ -27,6 +27,7 @@ LAYERS = {
 # Modules of another layer than their package: what readings say, and commands of the desk.
 _SAID = ["exact", "units", "amounts", "angles", "means", "tolerances", "readings"]
 _COMMANDS = ["laboratory.command", "planning.command", "planning.planner"]
+_COMMANDS += ["planning.open_plan", "planning.seen"]
 BY_THEMSELVES = {
     **dict.fromkeys([f"propbench.measuring.{name}" for name in _SAID], READINGS),
     **dict.fromkeys([f"propbench.{name}" for name in _COMMANDS], FRONT),

@@ -306,13 +306,14 @@ def test_texts_are_never_markup() -> None:
     banned += r"|createContextualFragment|srcdoc|setTimeout\(\s*[\"'`]|javascript:|\.style\b"
     banned += r"|https?://(?!www\.w3\.org/2000/svg)|//cdn|WebSocket|XMLHttpRequest|localStorage"
     scripts = sorted(STATIC.glob("*.js"))
-    names = ["drawing.js", "layout.js", "page.js", "texts.js"]
+    names = ["drawing.js", "forms.js", "gantt.js", "layout.js", "page.js", "plan.js", "texts.js"]
     assert [script.name for script in scripts] == names
     for script in scripts:
         assert not re.search(banned, script.read_text()), script.name
     page = (STATIC / "index.html").read_text()
     assert not re.search(r"<script(?! type=\"module\" src=\"page\.js\")|\son\w+=|style=|http", page)
-    assert not re.search(r"@import|url\(", (STATIC / "page.css").read_text())
+    for style in ("page.css", "plan.css"):
+        assert not re.search(r"@import|url\(", (STATIC / style).read_text())
     assert "setAttribute" in (STATIC / "drawing.js").read_text()
 
 
@@ -490,3 +491,64 @@ def waited(condition: Callable[[], bool]) -> None:
     while not condition():
         assert time.monotonic() < end
         time.sleep(0.05)
+
+
+def test_the_desk_serves_a_plan(
+    wide: str, tmp_path: Path, monkeypatch: pytest.MonkeyPatch, capfd: pytest.CaptureFixture[str]
+) -> None:
+    """`propdesk page` begins a plan, and one that is cut off goes on by --resume."""
+    monkeypatch.setenv("PROPBENCH_JOURNAL", "on")
+    monkeypatch.setenv("XDG_STATE_HOME", str(tmp_path))
+    where = str(tmp_path / "ours.ods")
+
+    def served(words: list[str]) -> tuple[subprocess.Popen[str], str, list[str]]:
+        command = [sys.executable, "-m", "propbench", "page", where, "--program", wide, *words]
+        begun = subprocess.Popen(command, stdout=subprocess.PIPE, text=True)
+        said: list[str] = []
+        assert begun.stdout
+        for line in begun.stdout:
+            said.append(line.rstrip())
+            if found := re.match(r"The page is at (http://\S+/)$", line):
+                return begun, found[1], said
+        raise AssertionError(said)
+
+    def asked(address: str, **question: object) -> dict[str, object]:
+        host, _, token = address.removeprefix("http://").partition("/")
+        link = http.client.HTTPConnection(host, timeout=90)
+        headers = {"Content-Type": "application/json", "Origin": f"http://{host}"}
+        link.request("POST", f"/{token}do", json.dumps(question), headers)
+        told = json.loads(link.getresponse().read())
+        assert isinstance(told, dict)
+        return told
+
+    begun, address, _ = served([])
+    try:
+        row = {"task": "venue", "days": "3", "who": "ana"}
+        told = asked(address, what="put", table="people", place=None, row={"person": "ana"})
+        told = asked(address, what="put", table="tasks", place=None, row=row)
+        assert told["plan"]["tables"]["tasks"] == [row] and told["plan"]["undo"] == "add venue"  # type: ignore[index]
+        assert asked(address, what="plan", seconds=20)["found"]["proved"] is True  # type: ignore[index]
+    finally:
+        begun.kill()
+        begun.wait()
+    begun, address, said = served([])
+    begun.send_signal(signal.SIGINT)
+    assert begun.wait(timeout=60) == 0 and "--resume goes on with it" in said[0]
+    begun, address, said = served(["--resume"])
+    try:
+        assert asked(address, what="plan", seconds=20)["found"]["proved"] is True  # type: ignore[index]
+        assert asked(address, what="save")["saved"] == where
+        begun.send_signal(signal.SIGINT)
+        assert begun.wait(timeout=60) == 0
+    finally:
+        begun.kill()
+        begun.wait()
+    # what is saved is in the file, and nothing is left to go on with
+    begun, address, said = served([])
+    try:
+        assert len(said) == 1
+        found = asked(address, what="plan", seconds=20)["found"]
+        assert [each["task"] for each in found["rows"]] == ["venue"]  # type: ignore[index]
+    finally:
+        begun.kill()
+        begun.wait()

@@ -9,9 +9,10 @@ import pytest
 from conftest import REPOSITORY
 from page_examples import carried_out
 
-from propbench import Workbench, any_of, skilled
+from propbench import Workbench, any_of, holidays, skilled
 from propbench.desk import main
 
+FREE = "BEGIN:VCALENDAR\nBEGIN:VEVENT\nDTSTART:20260403\nEND:VEVENT\nEND:VCALENDAR\n"
 SHEET, PYTHON = (
     (REPOSITORY / "docs/PLANNING.md").read_text(encoding="utf-8").split("## In Python\n")
 )
@@ -56,14 +57,15 @@ def test_its_calls(wide: str) -> None:
     """Each call of its table is one, and has the premise that one expects."""
     table = PYTHON.partition("| Call | Says |\n")[2].partition("\n\n")[0]
     calls = [call for row in table.split("\n")[1:] for call in row.split(" | ")[0].split("`")[1::2]]
-    assert len(calls) == 11
+    assert len(calls) == 12
+    Path("free.ics").write_text(FREE)
     with Workbench(wide) as w:
         p = w.project(
             days=60, people="ana ben press", start="2026-03-02", skills={"ana": "welding"}
         )
         c = p.task("c", 4)
         a, b = p.task("a", 1, who="press", kind="red"), p.task("b", 2, who="press", kind="blue")
-        functions = {"any_of": any_of, "skilled": skilled}
+        functions = {"any_of": any_of, "skilled": skilled, "holidays": holidays}
         names = {"p": p, "a": a, "b": b, "task": a, "first": 3, "end": 4, "day": 5}
         for number, call in enumerate(calls):
             if "progress" in call:
@@ -75,6 +77,7 @@ def test_its_calls(wide: str) -> None:
         }
         assert {"press is set up", "a done 3 to 4", "today is 5"} < {*w.premises}
         assert {"hall holds 2", "ana costs 300 a day", "c has 2 days left"} < {*w.premises}
+        assert "ana's days off" in w.premises
         assert p.tasks["t0"].doers == ("ana", "ben") and p.tasks["t1"].people == ("ana",)
         # (b begins on a day from 4 + 2 to 4 + 5)
         assert w.least(b.start).value == 6 and w.greatest(b.start).value == 9

@@ -9,7 +9,7 @@ from conftest import TIMES
 from hypothesis import given, settings
 from hypothesis import strategies as st
 
-from propbench import Workbench
+from propbench import NothingFits, Workbench, any_of
 from propbench.planning import Project
 
 DAYS = 9
@@ -138,3 +138,34 @@ def apart(times: list[tuple[int, int]], who: list[str]) -> bool:
         for one in range(len(times))
         for other in range(one)
     )
+
+
+def test_what_is_told_anew_has_no_trace_of_what_was_told_before() -> None:
+    """One day fits neither Ana's two nor Ben's three: so either may have done it. Three days do:
+    then it was Ben, whatever was told before."""
+
+    def told(w: Workbench, *left: tuple[int, int | None]) -> tuple[str, ...]:
+        p = w.project(days=12, people="ana ben")
+        task = p.task("paint", {"ana": 2, "ben": 3}, who=any_of("ana", "ben"))
+        p.away("ben", 8, 9)
+        p.today(4)
+        for days, began in left:
+            p.progress(task, days, began)
+        w.require(task.may["ana"], under="ana does it")
+        return w.repairs(keep=p.facts)[0].names if not fits(w) else ()
+
+    def fits(w: Workbench) -> bool:
+        try:
+            w.solve()
+        except NothingFits:
+            return False
+        return True
+
+    for left, wanted in (
+        ([(1, None)], ()),
+        ([(0, 1)], ("ana does it",)),
+        ([(1, None), (0, 1)], ("ana does it",)),
+        ([(0, 1), (1, None)], ()),
+    ):
+        with Workbench() as w:
+            assert told(w, *left) == wanted

@@ -555,7 +555,7 @@ WRONG = [
         "column B (from): the absence ends before it begins",
     ),
     ("absences.csv", "who,from\nAna\n", "say under `from` on which day the absence begins"),
-    ("wishes.csv", "wish\nsoon\n", "say what is wished for, under earliest, latest, cost or way"),
+    ("wishes.csv", "wish\nsoon\n", "`soon` can't be read. Say `review done by"),
     (
         "wishes.csv",
         "wish,earliest\nlate,3\n",

@@ -67,6 +67,7 @@ if TYPE_CHECKING:
     from propbench.planning import Project as Project
     from propbench.planning import Task as Task
     from propbench.planning import any_of as any_of
+    from propbench.planning import holidays as holidays
     from propbench.planning import skilled as skilled
     from propbench.questions.bounding import Optimum as Optimum
     from propbench.questions.certificate import Certificate as Certificate
@@ -91,7 +92,7 @@ else:
         "propbench.measuring.terms": "Law",
         "propbench.model.answers": "Answer Conflict",
         "propbench.model.expressions": "all_different count element if_else implies pairs",
-        "propbench.planning": "Project Task any_of skilled",
+        "propbench.planning": "Project Task any_of holidays skilled",
         "propbench.questions.bounding": "Optimum",
         "propbench.questions.certificate": "Certificate",
         "propbench.questions.conflicts": "Conflicts Repairs",

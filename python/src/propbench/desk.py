@@ -15,6 +15,7 @@ from propbench.beginning import ORDERS
 if TYPE_CHECKING:
     from decimal import Decimal
 
+    from propbench.files import OpenedFile
     from propbench.journal import Journal
     from propbench.running import RunAs
     from propbench.watching import Watched
@@ -176,7 +177,13 @@ def _add_minizinc(to: argparse.ArgumentParser) -> None:
 
 
 def _add_page(to: argparse.ArgumentParser) -> None:
-    to.add_argument("file", metavar="FILE", help="the file")
+    to.add_argument(
+        "file",
+        metavar="FILE",
+        nargs="?",
+        help="the file, which may be the tables of a plan: .csv, .ods, .xlsx (also new ones), a"
+        " folder; a new plan where it is left out",
+    )
     to.add_argument(
         "--port", type=int, default=0, metavar="N", help="where it is served (any that is free)"
     )
@@ -314,7 +321,8 @@ _COMMANDS: dict[str, tuple[str, str, Callable[[argparse.ArgumentParser], None]]]
     "page": (
         "show a file in a browser",
         "Serves a file, of the language or saved by a workbench, as a page on this machine alone:"
-        " the network drawn, switches, reasons, conflicts with repairs, steps. Prints its address,"
+        " the network drawn, switches, reasons, conflicts with repairs, steps. Of the tables of a"
+        " plan, which may be new, it shows the chart, and forms that change it. Prints its address,"
         " and ends at Ctrl-C.",
         _add_page,
     ),
@@ -470,7 +478,7 @@ def _done(options: argparse.Namespace) -> int:
     begin = {"order": options.order, "seed": options.seed, "limit": options.limit}
     if options.command in ("page", "draw"):
         if options.command == "page":
-            return _page(options, RunAs(**begin))
+            return _plan_page(options) if _is_plan(options.file) else _page(options, RunAs(**begin))
         from propbench.watching.opening import opened
 
         with opened(options.file, RunAs(**begin), options.program) as watched:
@@ -497,40 +505,111 @@ def _lines(path: str | None) -> list[str]:
 _OFFERED = "--resume goes on with it, --forget forgets it."
 
 
-def _journal(
-    options: argparse.Namespace, file: str, checksum: str | None = None
-) -> "Journal | None":
-    """The journal of what these options ask for, None where none is kept."""
+def _journal(options: argparse.Namespace, file: str) -> "Journal | None":
+    """The journal of a shell, None where none is kept."""
     from propbench.journal import Journal
 
-    return None if options.no_journal else Journal(options.command, file, checksum)
+    return None if options.no_journal else Journal(options.command, file, None)
+
+
+class _CutOff:
+    """What was cut off of a page of this sort and place: gone on with, forgotten or offered."""
+
+    def __init__(self, options: argparse.Namespace, sort: str, place: str) -> None:
+        """As these options want. Raises ValueError where there is nothing to go on with."""
+        from propbench.journal import left
+        from propbench.showing import printable
+
+        self._is_kept, self._sort, self._place = not options.no_journal, sort, place
+        self._found = left(sort, place) if self._is_kept else []
+        if options.forget:
+            for each in self._found:
+                each.forget()
+            self._found = []
+        if options.resume and not self._found:
+            raise ValueError(f"no page of {printable(options.file or place)} was cut off")
+        self._resumed = self._found[0] if options.resume else None
+
+    @property
+    def lines(self) -> list[str] | None:
+        """The lines to go on with, None where the file is begun with."""
+        return self._resumed.lines if self._resumed else None
+
+    @property
+    def checksum(self) -> str | None:
+        """That of the file as it was then."""
+        return self._resumed.checksum if self._resumed else None
+
+    def go_on(self, file: "OpenedFile", lines: Sequence[str]) -> None:
+        """Begins the journal of a file, which has these lines where one goes on with them."""
+        from propbench.journal import Journal
+        from propbench.showing import shown
+
+        if self._is_kept:
+            file.journal = Journal(self._sort, self._place, file.checksum)
+        if self._resumed and file.journal:
+            print(file.journal.keep(lines) or shown(str(self._resumed)), flush=True)
+            self._resumed.forget()
+        elif self._found:
+            print(f"{shown(str(self._found[0]))} {_OFFERED}", flush=True)
+
+
+def _plan_page(options: argparse.Namespace) -> int:
+    """Serves a plan that tables tell, or a new one."""
+    from datetime import date
+
+    from propbench.files import OpenedFile
+    from propbench.page import serve
+    from propbench.planning.brief import Given
+    from propbench.planning.draft import draft_in, draft_of, new_draft
+    from propbench.planning.open_plan import OpenPlan
+    from propbench.planning.sheets import NoSheetReader, sheets_of
+    from propbench.workbench import Workbench
+
+    def made() -> Workbench:
+        return Workbench(
+            options.program, order=options.order, seed=options.seed, limit=options.limit
+        )
+
+    path = options.file or "-"
+    is_folder = os.path.isdir(path)
+    place = "-" if path == "-" else os.path.realpath(path)
+    cut_off = _CutOff(options, "plan", place)
+    # (several files, and one without a name, are saved as another)
+    file = OpenedFile("-" if is_folder else path, cut_off.checksum)
+    try:
+        if cut_off.lines is not None:
+            draft = draft_in(cut_off.lines)
+        else:
+            draft = draft_of(sheets_of(path)) if os.path.exists(path) else new_draft(date.today())
+    except NoSheetReader as error:
+        return _failed(error)
+    folder = path if is_folder else os.path.dirname(path)
+    with OpenPlan(draft, made, Given(folder=folder)) as plan:
+        cut_off.go_on(file, cut_off.lines or [])
+        title = os.path.basename(path.rstrip("/")) if options.file else "A new plan"
+        serve(plan, title, path=file, port=options.port)
+        if file.journal:
+            file.journal.leave()
+    return 0
+
+
+def _is_plan(path: str | None) -> bool:
+    """Whether a file, which may be new, has the tables of a plan."""
+    return path is None or path.lower().endswith((".csv", ".ods", ".xlsx")) or os.path.isdir(path)
 
 
 def _page(options: argparse.Namespace, way: "RunAs") -> int:
     from propbench.files import OpenedFile
-    from propbench.journal import left
     from propbench.page import serve
-    from propbench.showing import printable, shown
     from propbench.watching.opening import opened
 
     place = options.file if options.file == "-" else os.path.realpath(options.file)
-    cut_off = [] if options.no_journal else left("page", place)
-    if options.forget:
-        for each in cut_off:
-            each.forget()
-        cut_off = []
-    resumed = cut_off[0] if cut_off and options.resume else None
-    if options.resume and not resumed:
-        raise ValueError(f"no page of {printable(options.file)} was cut off")
+    cut_off = _CutOff(options, "page", place)
     # (it is taken note of before it is read)
-    file = OpenedFile(options.file, resumed.checksum if resumed else None)
-    with opened(options.file, way, options.program, resumed.lines if resumed else None) as watched:
-        file.journal = _journal(options, place, file.checksum)
-        if resumed and file.journal:
-            print(file.journal.keep(watched.saved()) or shown(str(resumed)), flush=True)
-            resumed.forget()
-        elif cut_off:
-            print(f"{shown(str(cut_off[0]))} {_OFFERED}", flush=True)
+    file = OpenedFile(options.file, cut_off.checksum)
+    with opened(options.file, way, options.program, cut_off.lines) as watched:
+        cut_off.go_on(file, watched.saved())
         title = "standard input" if place == "-" else os.path.basename(options.file)
         serve(watched, title, path=file, port=options.port)
         if file.journal:

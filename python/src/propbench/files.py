@@ -20,6 +20,8 @@ if TYPE_CHECKING:
 PART = ".propbench-part-"
 # So many lines of a difference are shown, and of files of more lines none.
 _SHOWN, _COMPARED = 40, 5000
+# Spreadsheets begin so.
+_ZIP = b"PK"
 CHANGED = "was changed by somebody else since it was opened"
 # (a part is nobody else's, and no link is followed to make it)
 _NEW = os.O_WRONLY | os.O_CREAT | os.O_EXCL | os.O_NOFOLLOW | os.O_CLOEXEC
@@ -186,6 +188,9 @@ def _difference(there: bytes, here: bytes) -> Iterator[str]:
     """The lines in which two contents differ, the first of them."""
     import difflib
 
+    if there.startswith(_ZIP):
+        yield "(what is there is no text, so it can't be shown line by line)"
+        return
     old, new = (part.decode("utf-8", "surrogateescape").splitlines() for part in (there, here))
     if len(old) + len(new) > _COMPARED:
         yield f"({len(old)} lines are there, and {len(new)} here)"

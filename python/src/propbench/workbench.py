@@ -32,6 +32,7 @@ from propbench.model.nodes import Declared, Node
 from propbench.model.seam import BenchModel
 from propbench.plain import PlainWorkbench
 from propbench.planning import Calendar, Project
+from propbench.planning.by_hand import made_by_hand
 from propbench.planning.schedule import schedule_in
 from propbench.questions import Sensitivity
 from propbench.questions.asking import CellLike
@@ -88,7 +89,7 @@ class Workbench(PlainWorkbench, Laboratory):
     @property
     def model(self) -> BenchModel:
         self._sharpen(self._network.cells.values(), Clock(_SOON, None))
-        return BenchModel(self._network, schedule_in)
+        return BenchModel(self._network, schedule_in, made_by_hand)
 
     def constraint_of(self, constraint: Truth | bool) -> Node:
         if isinstance(constraint, Law):
@@ -265,14 +266,17 @@ class Workbench(PlainWorkbench, Laboratory):
         from propbench.model.saving import WRONG, NotAWorkbench
         from propbench.planning.keeping import Restored
 
-        restored = Restored(self)
+        restored, wrong = Restored(self), "the file was not saved by a workbench"
         for event, note in zip(found.events, found.notes):
             try:
                 meant = restored.event(event, note)
             except WRONG as error:
-                raise NotAWorkbench("the file was not saved by a workbench") from error
+                raise NotAWorkbench(wrong) from error
             self._network.do(meant)
-        restored.finish()
+        try:
+            restored.finish()
+        except WRONG as error:
+            raise NotAWorkbench(wrong) from error
 
     def _tell(self, premise: str | None, cell: Cell, value: GivenValue, high: object) -> None:
         if not isinstance(cell, Quantity):

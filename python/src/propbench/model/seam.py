@@ -25,13 +25,21 @@ if TYPE_CHECKING:
 
 # What makes a schedule of a plan and the alternatives in it, where a network has tasks.
 Scheduling = Callable[[Network, Mapping[str, Point], Mapping[str, object]], "Scheduled | None"]
+# What makes a plan by hand, of which it tells the values of some cells.
+MakingByHand = Callable[[Network], Mapping[str, Point]]
 
 
 class BenchModel:
     """A network with named premises of the user's, and cells of the user's."""
 
-    def __init__(self, network: Network, scheduling: Scheduling | None = None) -> None:
+    def __init__(
+        self,
+        network: Network,
+        scheduling: Scheduling | None = None,
+        making_by_hand: MakingByHand | None = None,
+    ) -> None:
         self._network, self._scheduling = network, scheduling
+        self._making_by_hand = making_by_hand
         self._last = PlanPoints({})
 
     @property
@@ -162,6 +170,10 @@ class BenchModel:
         if self._scheduling is None:
             return None
         return self._scheduling(self._network, plan, self.chosen(plan))
+
+    def by_hand(self) -> Mapping[str, Point]:
+        """Values of some cells at which a plan may be, none where nothing is known."""
+        return {} if self._making_by_hand is None else self._making_by_hand(self._network)
 
     def first(self) -> Sequence[First]:
         """The cells of which values are tried out before those of others."""

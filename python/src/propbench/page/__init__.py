@@ -1,17 +1,22 @@
-"""The page: a session or a workbench in a browser, served on this machine alone.
+"""The page: a session, a workbench or a plan in a browser, served on this machine alone.
 
 The network drawn, switches for premises and choices, reasons, conflicts with their repairs, steps
-forward and back, and the plain lines.
+forward and back, and the plain lines; of a plan its chart, and forms that change it.
 """
 
 import threading
 from contextlib import AbstractContextManager
+from typing import TYPE_CHECKING
 
 from propbench.closing import Closing
 from propbench.files import OpenedFile
 from propbench.page.asking import ServedNetwork
 from propbench.page.server import Server
 from propbench.watching import Watched
+from propbench.watching.of_workbench import WorkbenchWatched
+
+if TYPE_CHECKING:
+    from propbench.planning.open_plan import OpenPlan
 
 
 class Page(Closing):
@@ -19,7 +24,7 @@ class Page(Closing):
 
     def __init__(
         self,
-        watched: Watched,
+        watched: "Watched | OpenPlan",
         title: str,
         *,
         path: str | OpenedFile | None = None,
@@ -29,7 +34,7 @@ class Page(Closing):
         `-` standard input, which is saved under a name that the page asks for. What is changed is
         kept in the file's journal, where there is one, until it is saved."""
         file = OpenedFile(path) if isinstance(path, str) else path
-        self._asking = ServedNetwork(watched, title, file)
+        self._asking = _asking(watched, title, file)
         self._server = Server(self._asking, port)
         self._thread = threading.Thread(target=self._server.serve_forever, daemon=True)
         self._thread.start()
@@ -56,8 +61,19 @@ class Page(Closing):
         self._server.server_close()
 
 
+def _asking(watched: "Watched | OpenPlan", title: str, file: OpenedFile | None) -> ServedNetwork:
+    """What answers: of a workbench with the tasks of one project this is a plan too."""
+    from propbench.page.plan_asking import PlanAsking
+    from propbench.planning.open_plan import OpenPlan, plan_in
+
+    if isinstance(watched, OpenPlan):
+        return PlanAsking(watched, title, file)
+    plan = plan_in(watched.workbench) if isinstance(watched, WorkbenchWatched) else None
+    return ServedNetwork(watched, title, file) if plan is None else PlanAsking(plan, title, file)
+
+
 def serve(
-    watched: Watched,
+    watched: "Watched | OpenPlan",
     title: str,
     *,
     path: str | OpenedFile | None = None,

@@ -30,7 +30,7 @@ from propbench.watching import (
 )
 
 # What changes what is stated.
-_CHANGING = frozenset(("believe", "wish", "apply", "line"))
+CHANGING = frozenset(("believe", "wish", "apply", "line"))
 # How a file is called that has no name yet: what is read from standard input.
 UNNAMED = "-"
 # A page is told of so many steps at once at the most.
@@ -65,6 +65,7 @@ class ServedNetwork:
         self._busy = ""
         # Whether what is asked now changes what is stated.
         self._changes = False
+        self._changing = CHANGING
         # How often something may have changed; what was seen last, and the network as it was then.
         self._version = 1
         self._seen: SeenNow | None = None
@@ -119,19 +120,23 @@ class ServedNetwork:
             return self._with_network(self._told())
 
     def saved(self) -> str:
-        """The file that it is saved as."""
+        """The file of lines that it is saved as."""
         with self._lock:
             return "".join(f"{line}\n" for line in self._watched.saved())
+
+    def file_text(self) -> bytes:
+        """What its own file holds once it is saved."""
+        return self.saved().encode("utf-8", "surrogateescape")
 
     def do(
         self, asked: Mapping[str, object], is_gone: Callable[[], bool] = _nobody
     ) -> dict[str, object]:
         """What comes of a question. Raises ValueError for one that can't be asked."""
-        what = _text(asked, "what")
+        what = text_in(asked, "what")
         if what not in self._does:
             raise ValueError(f"there is no question {what!r}")
         with self._lock, self._watching(what, is_gone):
-            self._changes = what in _CHANGING
+            self._changes = what in self._changing
             return self._does[what](asked)
 
     def _keep(self) -> None:
@@ -139,9 +144,13 @@ class ServedNetwork:
         journal = None if self._file is None or not self._changes else self._file.journal
         if journal is None or (journal.is_empty and self._is_saved()):
             return
-        told = journal.keep(self._watched.saved())
+        told = journal.keep(self._kept())
         if told:
             print(shown(told), file=sys.stderr)
+
+    def _kept(self) -> list[str]:
+        """The lines of a journal that one can go on with."""
+        return self._watched.saved()
 
     def _is_saved(self) -> bool:
         """Whether the file has all that there is, as it was opened or saved last."""
@@ -155,13 +164,13 @@ class ServedNetwork:
         return self._with_network(self._changed_told())
 
     def _believe(self, asked: Mapping[str, object]) -> dict[str, object]:
-        premise = self._premise(_text(asked, "premise"))
+        premise = self._premise(text_in(asked, "premise"))
         self._watched.believe(premise, asked.get("believed") is True)
         return self._changed_told()
 
     def _wish(self, asked: Mapping[str, object]) -> dict[str, object]:
         choices = {each.name: each for each in self._watched.network().choices}
-        name, side = _text(asked, "choice"), asked.get("side")
+        name, side = text_in(asked, "choice"), asked.get("side")
         if name not in choices:
             raise ValueError(f"there is no choice {printable(name)}")
         if side is not None and not (type(side) is int and 0 <= side < len(choices[name].sides)):
@@ -201,7 +210,7 @@ class ServedNetwork:
         return self._changed_told()
 
     def _best(self, asked: Mapping[str, object]) -> dict[str, object]:
-        sort = _text(asked, "sort")
+        sort = text_in(asked, "sort")
         if sort not in ("least", "greatest"):
             raise ValueError(f"there is no {sort!r} value")
         return asdict(self._watched.best(self._cell_named(asked), sort, self._telling))
@@ -223,7 +232,7 @@ class ServedNetwork:
         return {"frames": frames}
 
     def _line(self, asked: Mapping[str, object]) -> dict[str, object]:
-        line = _text(asked, "line")
+        line = text_in(asked, "line")
         if self._watched.is_workbench:
             raise ValueError("a workbench takes no lines: it is stated in Python")
         reply: Reply | None = None
@@ -246,15 +255,19 @@ class ServedNetwork:
             raise ValueError("no file was opened: download the lines")
         file = self._file
         if "as" in asked:
-            file = _beside(file, _text(asked, "as"))
+            file = _beside(file, text_in(asked, "as"))
         elif file.path == UNNAMED:
             return {"saved": None, "says": "What shall the file be called?", "difference": []}
         try:
             is_meant = file is self._file and asked.get("overwrite") is True
-            file.save(self.saved().encode("utf-8", "surrogateescape"), is_meant)
+            before, self._file = self._file, file
+            try:
+                file.save(self.file_text(), is_meant)
+            except BaseException:
+                self._file = before
+                raise
         except ChangedSince as changed:
             return {"saved": None, "says": changed.said, "difference": changed.difference}
-        self._file = file
         return {"saved": printable(file.path), "says": "", "difference": []}
 
     # --- what is told ---
@@ -312,7 +325,7 @@ class ServedNetwork:
     # --- names ---
 
     def _cell_named(self, asked: Mapping[str, object]) -> str:
-        name = _text(asked, "cell")
+        name = text_in(asked, "cell")
         if not any(cell.name == name for cell in self._watched.network().cells):
             raise ValueError(f"there is no cell {printable(name)}")
         return name
@@ -340,7 +353,7 @@ class ServedNetwork:
         self._busy = what
         try:
             # (a change is carried out also where its page was closed at once)
-            if what not in _CHANGING:
+            if what not in self._changing:
                 self._telling(what)
             yield
         except (Stopped, Interrupted):
@@ -390,10 +403,19 @@ def _beside(file: OpenedFile, name: str) -> OpenedFile:
     return made
 
 
-def _text(asked: Mapping[str, object], key: str) -> str:
+def text_in(asked: Mapping[str, object], key: str) -> str:
+    """A text of a question. Raises ValueError where it has none."""
     value = asked.get(key)
     if not isinstance(value, str):
         raise ValueError(f"a question has {key!r}, which is a text")
+    return value
+
+
+def place_in(asked: Mapping[str, object]) -> int:
+    """The place of a row in a question. Raises ValueError where it has none."""
+    value = asked.get("place")
+    if type(value) is not int:
+        raise ValueError("a place is a number")
     return value
 
 

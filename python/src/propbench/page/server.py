@@ -40,6 +40,10 @@ _FILES = {
     "page.js": ("page.js", "text/javascript; charset=utf-8"),
     "drawing.js": ("drawing.js", "text/javascript; charset=utf-8"),
     "layout.js": ("layout.js", "text/javascript; charset=utf-8"),
+    "plan.js": ("plan.js", "text/javascript; charset=utf-8"),
+    "plan.css": ("plan.css", "text/css; charset=utf-8"),
+    "gantt.js": ("gantt.js", "text/javascript; charset=utf-8"),
+    "forms.js": ("forms.js", "text/javascript; charset=utf-8"),
     "texts.js": ("texts.js", "text/javascript; charset=utf-8"),
 }
 _JSON, _TEXT = "application/json", "text/plain; charset=utf-8"

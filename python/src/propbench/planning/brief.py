@@ -4,6 +4,7 @@ numbers here whether they were dates or not."""
 from dataclasses import dataclass, field
 
 from propbench.planning.calendar import Calendar
+from propbench.planning.rules import Rule
 from propbench.planning.who import AnyOf, Skilled
 
 # What it costs to give something up where no weight says it: a wish, leave, that somebody does one
@@ -54,7 +55,8 @@ class Leave:
 
 @dataclass(frozen=True)
 class Wish:
-    """What is wished for: of a task, or of all of them."""
+    """What is wished for: of a task, or of all of them. A task that begins `on` a day doesn't later
+    either."""
 
     name: str
     task: str | None
@@ -63,22 +65,39 @@ class Wish:
     cost: int | None
     way: str | None
     weight: float
+    is_on: bool = False
+
+
+@dataclass(frozen=True)
+class Agreed:
+    """A task of a schedule that was agreed on: its days, who does it, how, and what it costs."""
+
+    task: str
+    people: tuple[str, ...]
+    start: int
+    end: int
+    way: str | None
+    cost: int | None
 
 
 @dataclass(frozen=True)
 class Given:
-    """What the command line says of a plan: it goes before what the tables say."""
+    """What the command line says of a plan: it goes before what the tables say. The files that
+    tables name lie in the `folder`."""
 
     start: str | None = None
     off: str | None = None
     days: int | None = None
     today: str | None = None
+    folder: str = ""
 
 
 @dataclass
 class Brief:
     """All that tables say: of `resources` how much there is, and what it costs to have more, and of
-    `rates` what they cost a day. `unread` are sheets that are none of a plan's."""
+    `rates` what they cost a day. Of who has days `off` there is the premise with these. What was
+    `given_up` are premises, and the `baseline` is what was agreed on. `unread` are sheets that are
+    none of a plan's."""
 
     calendar: Calendar | None = None
     days: int | None = None
@@ -86,9 +105,13 @@ class Brief:
     people: dict[str, float] = field(default_factory=dict)
     skills: dict[str, tuple[str, ...]] = field(default_factory=dict)
     works: dict[str, tuple[str, ...]] = field(default_factory=dict)
+    off: dict[str, tuple[str, tuple[int, ...]]] = field(default_factory=dict)
     resources: dict[str, tuple[int, float]] = field(default_factory=dict)
     rates: dict[str, int] = field(default_factory=dict)
     jobs: dict[str, TaskWanted] = field(default_factory=dict)
     leaves: list[Leave] = field(default_factory=list)
     wishes: list[Wish] = field(default_factory=list)
+    rules: list[Rule] = field(default_factory=list)
+    given_up: list[str] = field(default_factory=list)
+    baseline: list[Agreed] = field(default_factory=list)
     unread: list[str] = field(default_factory=list)

@@ -42,6 +42,15 @@ def dates_said(first: date, last: date) -> str:
     return f"{first.day} {MONTHS[first.month - 1]}-{end}"
 
 
+def spans_of(days: Iterable[int]) -> list[tuple[int, int]]:
+    """Days of a plan, from one to the beginning of another."""
+    found: list[tuple[int, int]] = []
+    for day in sorted(set(days)):
+        begin = found.pop()[0] if found and found[-1][1] == day else day
+        found.append((begin, day + 1))
+    return found
+
+
 @dataclass(frozen=True)
 class Calendar:
     """The date of day 0 or of the next one that is no day off, the weekdays that are off, from 0
@@ -101,6 +110,17 @@ class Calendar:
                 found.append((begin, day + 1))
             date = self._next(date + timedelta(days=1))
         return found
+
+    def spans(self, dates: Iterable[date]) -> list[tuple[int, int]]:
+        """The days of the plan that are these dates, from one to another; those that are off
+        anyway, or come before the plan, are left out."""
+        numbers: list[int] = []
+        day, there = 0, self._next(self.start)
+        for each in sorted(day for day in dates if day >= self.start and not self.is_off(day)):
+            while there < each:
+                day, there = day + 1, self._next(there + timedelta(days=1))
+            numbers.append(day)
+        return spans_of(numbers)
 
     def day_of(self, wanted: date) -> int:
         """The day of the plan on a date, or the next one where that is off. Raises ValueError for a

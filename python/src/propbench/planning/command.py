@@ -1,7 +1,8 @@
 """`propdesk plan`: a schedule of a planner's tables, and what stands in its way."""
 
+import os
 from collections.abc import Callable, Sequence
-from dataclasses import dataclass, field
+from dataclasses import dataclass, field, replace
 from pathlib import Path
 
 from propbench.planning.brief import Given
@@ -47,11 +48,14 @@ def plan_file(path: str, asked: PlanOptions, program: str | None) -> int:
         check_ending(file, ENDINGS[what])
         if asked.goals and what in ("html", "ics"):
             raise ValueError(f"a trade-off is written by --csv and --svg, and not by --{what}")
-    brief = brief_of(sheets_of(path), asked.given)
+    folder = path if os.path.isdir(path) else os.path.dirname(path)
+    brief = brief_of(sheets_of(path), replace(asked.given, folder=folder))
     if "ics" in asked.files and brief.calendar is None:
         raise ValueError("a calendar needs dates: say when the plan begins, as --start 2026-03-02")
     for name in brief.unread:
         print(f"The sheet {printable(name)} is not read: it is called like none of a plan's.")
+    if brief.given_up:
+        print(f"Given up already: {printable(listed(brief.given_up))}.")
     with Workbench(program) as w:
         plan = plan_of(w, brief, _SPARE if asked.what_ifs else 0)
         goals = goals_of(plan, asked.goals)
@@ -102,6 +106,8 @@ def _tell(project: Project, best: Optimum | Optima, title: str, asked: PlanOptio
         "ics": schedule.to_ics,
         "svg": schedule.to_svg,
     }
+    if project.baseline is not None:
+        print(shown(f"Since what was agreed on: {schedule.since(project.baseline)}"))
     for what, file in asked.files.items():
         writers[what](file)
         print(f"The schedule is in {printable(file)}.")
@@ -111,7 +117,7 @@ def _tell(project: Project, best: Optimum | Optima, title: str, asked: PlanOptio
 
 def _is_mended(plan: WeighedProject, best: Optimum | Optima, asked: PlanOptions) -> bool:
     """Tells what stands in the way; whether the cheapest of what helps is given up then."""
-    w, facts = plan.project.workbench, plan.project.facts
+    w, facts = plan.project.workbench, plan.facts
     if not best.proved:
         print(shown(best.headline()))
         return False

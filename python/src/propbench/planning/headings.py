@@ -50,6 +50,7 @@ PEOPLE = Columns(
         "works": ("weekdays", "works on"),
         "skills": ("skill", "can"),
         "holds": ("capacity", "number", "how many"),
+        "off": ("days off", "holidays", "calendar"),
         "cost": ("costs", "a day", "rate", "cost a day"),
         "weight": (),
     },
@@ -86,6 +87,28 @@ PLAN = Columns(
     },
     (),
 )
+BASELINE = Columns(
+    {
+        "task": ("tasks",),
+        "who": ("person", "people"),
+        "from": ("start",),
+        "to": ("end",),
+        "days": (),
+        "how": ("way", "option"),
+        "cost": (),
+        "uses": (),
+    },
+    ("task", "from", "to"),
+)
+GIVEN_UP = Columns({"premise": ("given up", "what")}, ("premise",))
+HOLIDAYS = Columns(
+    {
+        "date": ("day", "from", "first", "start"),
+        "to": ("last", "until", "end"),
+        "holiday": ("name", "reason", "what", "summary", "occasion"),
+    },
+    ("date",),
+)
 # The sorts of tables, by what a sheet may be called.
 SORTS = {
     "tasks": ("tasks", "task", "activities", "work"),
@@ -93,6 +116,18 @@ SORTS = {
     "absences": ("absences", "absence", "leave", "away"),
     "wishes": ("wishes", "wish", "constraints", "goals"),
     "plan": ("plan", "calendar", "project", "settings"),
+    "baseline": ("baseline", "agreed"),
+    "given up": ("given up",),
+}
+# The columns of each.
+COLUMNS = {
+    "plan": PLAN,
+    "people": PEOPLE,
+    "tasks": TASKS,
+    "absences": ABSENCES,
+    "wishes": WISHES,
+    "baseline": BASELINE,
+    "given up": GIVEN_UP,
 }
 
 
@@ -111,6 +146,19 @@ def rows_of(sheet: Sheet, columns: Columns) -> Iterator[dict[str, Field]]:
             for place, name in places.items()
             if place < len(row) and row[place]
         }
+        if found:
+            yield found
+
+
+def texts_of(sheet: Sheet, columns: Columns) -> Iterator[dict[str, str]]:
+    """The same as texts, of which those stay that nobody reads, as notes. Raises SheetError."""
+    if not sheet.rows:
+        return
+    (number, heads), *rows = sheet.rows
+    known = _places(Sheet(sheet.name, ((number, heads),)), columns)
+    for number, row in rows:
+        _check_headed(heads, row, Field("", sheet.name, number, ""))
+        found = {known.get(place, heads[place]): text for place, text in enumerate(row) if text}
         if found:
             yield found
 

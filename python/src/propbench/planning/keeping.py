@@ -14,6 +14,7 @@ from propbench.planning.order import SetUp, TaskLagged
 from propbench.planning.pausing import Paused, TaskSpan
 from propbench.planning.project import Project
 from propbench.planning.resources import KeptWithin
+from propbench.planning.schedule import Entry, Schedule, Staff
 from propbench.planning.tasks import (
     Away,
     KeptApart,
@@ -75,7 +76,31 @@ def _project_parts(project: Project) -> dict[str, object]:
         "dates": dates,
         "skills": project.staffing.skills,
         "goals": project.goals_made,
+        **_baseline_parts(project.baseline),
     }
+
+
+def _baseline_parts(baseline: Schedule | None) -> dict[str, object]:
+    """What was agreed on, where something was."""
+    if baseline is None:
+        return {}
+    aways = [_away_parts(each) for each in baseline.staff.aways]
+    return {"baseline": [[vars(each) for each in baseline.entries], aways]}
+
+
+def _baseline(parts: Note, project: Project, resources: Mapping[str, int]) -> Schedule:
+    """The schedule that was agreed on."""
+    entries, aways = parts["baseline"]
+    away = tuple(Away(*each) for each in aways)
+    staff = Staff(project.people, project.days, project.calendar, away, resources)
+    return Schedule([_entry(each) for each in entries], staff)
+
+
+def _entry(parts: Note) -> Entry:
+    """A task of that schedule."""
+    several = {key: tuple(parts[key]) for key in ("people",)}
+    several |= {key: tuple(map(tuple, parts[key])) for key in ("pauses", "uses")}
+    return Entry(**{**parts, **several})
 
 
 def _parts(event: Event) -> dict[str, object] | None:
@@ -135,7 +160,7 @@ def _task_parts(task: Task) -> dict[str, object]:
         "kind": task.kind,
         "uses": dict(task.uses),
         "roles": [[place, who, cell.name] for (place, who), cell in task.roles.items()],
-        "number": task.number,
+        "groups": task.groups,
     }
 
 
@@ -148,7 +173,7 @@ class Restored:
 
     def __init__(self, workbench: "Workbench") -> None:
         self._workbench = workbench
-        self._projects: list[tuple[Project, Sequence[str | None]]] = []
+        self._projects: list[tuple[Project, Note]] = []
         self._tasks: dict[tuple[int, str], Task] = {}
         self._required: dict[str, Callable[[Required, Note], Required]] = {
             "task": self._task_made,
@@ -190,8 +215,11 @@ class Restored:
 
     def finish(self) -> None:
         """Has projects know the cells of their goals."""
-        for project, goals in self._projects:
-            project.goals_are([None if it is None else self._number(it) for it in goals])
+        for project, parts in self._projects:
+            goals = [None if it is None else self._number(it) for it in parts["goals"]]
+            project.goals_are(goals)
+            if "baseline" in parts:
+                project.agree(_baseline(parts, project, project.resources))
 
     def _make(self, parts: Note) -> None:
         calendar = None
@@ -201,7 +229,7 @@ class Restored:
             calendar = Calendar(date.fromisoformat(start), frozenset(weekdays), off)
         skills = {person: tuple(has) for person, has in parts["skills"].items()}
         made = Project(self._workbench, parts["days"], tuple(parts["people"]), calendar, skills)
-        self._projects.append((made, parts["goals"]))
+        self._projects.append((made, parts))
 
     def _own(self, note: Note) -> Project:
         return self._projects[note["of"]][0]
@@ -239,7 +267,7 @@ class Restored:
             note["kind"],
             dict(note["uses"]),
             {(place, who): self._truth(cell) for place, who, cell in note["roles"]},
-            note["number"],
+            _groups(note),
         )
         self._tasks[note["of"], task.name] = task
         return TaskMade(*_of(event), task, self._own(note), tuple(note["ways"]))
@@ -263,6 +291,13 @@ def _under(event: Required) -> tuple[Any, str]:
     if event.premise is None:
         raise ValueError("this is stated under a premise")
     return event.constraint, event.premise
+
+
+def _groups(note: Note) -> tuple[tuple[int, tuple[str, ...]], ...]:
+    """How many of which others do a task. (An older file says how many alone.)"""
+    if "groups" in note:
+        return tuple((int(number), tuple(names)) for number, names in note["groups"])
+    return ((note["number"], tuple(note["may"])),) if note["number"] else ()
 
 
 def _times(times: Sequence[Any]) -> tuple[tuple[tuple[str, str], int], ...]:

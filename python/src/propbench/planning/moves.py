@@ -83,7 +83,7 @@ def _differs(move: Move) -> bool:
 
 
 def _when(entry: Entry) -> tuple[object, ...]:
-    return entry.parts, entry.way, entry.people
+    return entry.start, entry.end, entry.way, frozenset(entry.people)
 
 
 def _days(count: int) -> str:

@@ -9,9 +9,12 @@ from propbench.planning.bounds import limit_of
 from propbench.planning.brief import LEAVE, Brief, TaskWanted, Wish
 from propbench.planning.project import Project
 from propbench.planning.resources import KeptWithin, rates_of
+from propbench.planning.rules import state_rule
+from propbench.planning.schedule import Entry, Schedule, Staff
 from propbench.planning.tasks import KeptApart, KeptOff, Option, Task
 from propbench.questions.asking import CellLike
 from propbench.questions.bounding import Optimum
+from propbench.questions.clock import Progress
 from propbench.questions.goals import Optima
 from propbench.showing import printable
 from propbench.workbench import Workbench
@@ -27,6 +30,11 @@ class WeighedProject:
     project: Project
     weights: Mapping[str, float]
     wishes: tuple[str, ...] = ()
+
+    @property
+    def facts(self) -> tuple[str, ...]:
+        """The premises of tasks that nobody wished for: these aren't given up."""
+        return tuple(name for name in self.project.facts if name not in self.weights)
 
     def weights_of(self, premises: Iterable[str]) -> dict[str, float]:
         """The weights of those of these premises that have one."""
@@ -64,10 +72,30 @@ def plan_of(workbench: Workbench, brief: Brief, spare: int = 0) -> WeighedProjec
             weights[name] = leave.weight
     for person, weekdays in brief.works.items():
         weights[project.works(person, weekdays)] = LEAVE
+    for person, (premise, off) in brief.off.items():
+        weights[project.off(person, off, premise)] = LEAVE
     for wish in brief.wishes:
         _wish(project, wish, brief)
         weights[wish.name] = wish.weight
-    return WeighedProject(project, weights, tuple(wish.name for wish in brief.wishes))
+    for rule in brief.rules:
+        state_rule(project, rule)
+        weights[rule.name] = rule.weight
+    for name in brief.given_up:
+        if name in workbench.believed:
+            workbench.kick(name)
+    _agree(project, brief)
+    wishes = *(wish.name for wish in brief.wishes), *(rule.name for rule in brief.rules)
+    return WeighedProject(project, weights, wishes)
+
+
+def _agree(project: Project, brief: Brief) -> None:
+    """Takes in the schedule that was agreed on, where there is one."""
+    if brief.baseline:
+        entries = [
+            Entry(it.task, it.people, it.start, it.end, it.way, it.cost) for it in brief.baseline
+        ]
+        staff = Staff(project.people, project.days, project.calendar, (), project.resources)
+        project.agree(Schedule(entries, staff))
 
 
 def _days(brief: Brief, spare: int) -> int:
@@ -82,9 +110,16 @@ def _days(brief: Brief, spare: int) -> int:
     late = [job.earliest or 0 for job in brief.jobs.values()]
     late += [wish.earliest or 0 for wish in brief.wishes]
     late += [leave.back for leave in brief.leaves]
+    late += [sum(it or 0 for it in rule.days) for rule in brief.rules]
     late += [job.done[1] for job in brief.jobs.values() if job.done is not None]
     late.append(brief.today or 0)
-    return max(1, work + away + max(late, default=0)) + spare
+    wanted = max(1, work + away + max(late, default=0)) + spare
+    off = {day for _, own in brief.off.values() for day in own}
+    days = 0
+    while wanted > 0:
+        wanted -= days not in off
+        days += 1
+    return days
 
 
 def _add(project: Project, job: TaskWanted) -> Task:
@@ -123,6 +158,9 @@ def _wish(project: Project, wish: Wish, brief: Brief) -> None:
     require = project.workbench.require
     if wish.earliest is not None and task is not None:
         project.not_before(wish.earliest, task, wish.name)
+        if wish.is_on:
+            said = f"{printable(task.name)} begins {project.day_said(wish.earliest)}"
+            project.wish(task.start <= wish.earliest, wish.name, said)
     if wish.latest is not None:
         project.done_by(wish.latest, wish.name, task)
     if wish.cost is not None:
@@ -136,13 +174,16 @@ def _wish(project: Project, wish: Wish, brief: Brief) -> None:
         project.wish(takes, wish.name, printable(f"{task.name} by way of {way.name}"))
 
 
-def best_of(project: Project, seconds: float | None) -> Optimum | Optima:
+def best_of(
+    project: Project, seconds: float | None, progress: Progress | None = None
+) -> Optimum | Optima:
     """The plan that ends soonest, and of those the cheapest, as far as there is time."""
     w = project.workbench
     has_rates = rates_of(project, w.network.events)
     if not has_rates and all(task.cost is None for task in project.tasks.values()):
-        return w.least(project.end, seconds=seconds)
-    return w.least([project.end, project.total_cost], seconds=seconds)
+        return w.least(project.end, seconds=seconds, progress=progress)
+    goals = [project.end, project.total_cost]
+    return w.least(goals, seconds=seconds, progress=progress)
 
 
 def given_up(plan: WeighedProject) -> NumberCell:

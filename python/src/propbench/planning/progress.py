@@ -1,5 +1,6 @@
 """How far the work is: what was done when, and that nothing else begins before today."""
 
+from collections.abc import Sequence
 from dataclasses import dataclass
 from typing import TYPE_CHECKING, SupportsIndex
 
@@ -85,15 +86,22 @@ def _state(project: "Project", task: Task, days: int, said: _Said) -> None:
         raise ValueError(
             f"{printable(task.name)} was done already: forget the premise of that first"
         )
-    gone = [*_planned(project, task, days), *dict.fromkeys(str(it.premise) for it in begun)]
+    other = _planned(project, task, days)
+    gone = [*other, *dict.fromkeys(str(it.premise) for it in begun)]
     if said.by.premise in gone:
         raise ValueError(f"{said.by.premise!r} says what was before: give this another name")
+    back = [it for it in _out_by(project, task, begun) if it not in other]
+    kicked = [name for name in gone if name in w.believed]
     try:
-        for name in gone:
+        for name in kicked:
             w.kick(name)
+        for name in back:
+            w.bring(name)
         w.network.whole(lambda: _tell(project, task, said))
     except BaseException:
-        for name in gone:
+        for name in back:
+            w.kick(name)
+        for name in kicked:
             w.bring(name)
         raise
     if today is not None:
@@ -135,7 +143,15 @@ def _planned(project: "Project", task: Task, days: int) -> list[str]:
             raise ValueError(
                 f"{name!r} says more than how long {printable(task.name)} takes: forget it first"
             )
-    return [name for name in others if name in w.believed]
+    return [name for name in others if name]
+
+
+def _out_by(project: "Project", task: Task, begun: Sequence[TaskDone]) -> list[str]:
+    """The premises that are out since what was said of a task while it was under way."""
+    days = [int(it.values[0]) for it in begun if it.cell is task.days.declared]
+    names = [name for each in days for name in _planned(project, task, each)]
+    believed = set(project.workbench.believed)
+    return [name for name in dict.fromkeys(names) if name not in believed]
 
 
 def today_of(project: "Project") -> tuple[int, str] | None:

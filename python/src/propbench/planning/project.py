@@ -12,7 +12,7 @@ from propbench.model.expressions import Number, Truth, implies, total
 from propbench.model.given import values_of
 from propbench.model.nodes import TRUE
 from propbench.planning.bounds import limit_of, state_bounds, state_end
-from propbench.planning.calendar import Calendar, date_given, date_said, dates_said
+from propbench.planning.calendar import Calendar, date_given, date_said, dates_said, spans_of
 from propbench.planning.groups import roles_of, state_groups
 from propbench.planning.order import (
     SetUp,
@@ -113,6 +113,7 @@ class Project:
         # The cells that were made last for these; the workbench says whether they are there.
         self._end: NumberCell | None = None
         self._total: NumberCell | None = None
+        self._baseline: Schedule | None = None
 
     @property
     def tasks(self) -> dict[str, Task]:
@@ -343,6 +344,31 @@ class Project:
         spans = self.calendar.spans_off(names, self.days)
         if spans:
             self._keep_off([Away(person, *it, premise, self._span(*it), True) for it in spans])
+        else:
+            self.workbench.require(True, under=premise)
+        return premise
+
+    def off(self, person: str, days: Iterable[Day], under: str | None = None) -> str:
+        """A person does nothing on these days: numbers, or dates where the plan has a calendar, as
+        `holidays("free.ics")` gives them; the premise of that, which is named `ana's days off`
+        where no name is given. Work pauses meanwhile. Days that are none of the plan's, or are off
+        anyway, are left out. Raises ValueError for somebody else and for no day, and TypeError.
+
+        >>> w = Workbench()
+        >>> p = w.project(days=30, people="ana", start="2026-03-30", off="sat sun")
+        >>> venue = p.task("venue", 5, who="ana")
+        >>> p.off("ana", ["2026-04-03", "2026-04-06"])
+        "ana's days off"
+        >>> w.least(p.end).value
+        7
+        """
+        self._known(person)
+        if isinstance(days, str | date | SupportsIndex):
+            raise TypeError(f"{person}: days off are a list, as [{days!r}]")
+        premise = under or f"{person}'s days off"
+        spans = [it for it in self._spans(days) if it[0] < self.days]
+        if spans:
+            self._keep_off([Away(person, *it, premise, self._span(*it)) for it in spans])
         else:
             self.workbench.require(True, under=premise)
         return premise
@@ -686,6 +712,42 @@ class Project:
         values, ways = values_in(self.workbench.model, plan)
         return schedule_of(self.workbench.network, self, values, ways)
 
+    @property
+    def baseline(self) -> "Schedule | None":
+        """The schedule that was agreed on, None where none was: a saved project keeps it, so that
+        `now.since(p.baseline)` tells what moved since.
+
+        >>> w = Workbench()
+        >>> p = w.project(days=30, people="ana")
+        >>> venue, review = p.task("venue", 3, who="ana"), p.task("review", 5, who="ana")
+        >>> p.agree(w.least(p.end))
+        >>> w.save("plan.prop")
+        >>> [again] = Workbench.load("plan.prop").projects
+        >>> again.away("ana", 1, 2)
+        'ana away 1 to 2'
+        >>> print(again.schedule(again.workbench.least(again.end)).since(again.baseline).headline())
+        2 tasks moved, and all is done 1 day of work later:
+        """
+        return self._baseline
+
+    def agree(self, plan: "Planned | Plan | Schedule | None") -> None:
+        """Has a plan be the `baseline`, in place of an earlier one; None for none. Raises as
+        `schedule`.
+
+        >>> w = Workbench()
+        >>> p = w.project(days=30)
+        >>> venue = p.task("venue", 3)
+        >>> p.agree(w.least(p.end))
+        >>> p.baseline.end
+        3
+        """
+        from propbench.planning.schedule import Schedule
+
+        if plan is None or isinstance(plan, Schedule):
+            self._baseline = plan
+        else:
+            self._baseline = self.schedule(plan)
+
     def critical(
         self,
         plan: Planned | Plan | None = None,
@@ -837,6 +899,18 @@ class Project:
         """
         return f"on {self._told(day)}"
 
+    def _spans(self, days: Iterable[Day]) -> list[tuple[int, int]]:
+        """Days from one to another, of those of the plan."""
+        given = list(days)
+        numbers = {index(each) for each in given if isinstance(each, SupportsIndex)}
+        dates = [date_given(each) for each in given if not isinstance(each, SupportsIndex)]
+        if dates and self.calendar is None:
+            raise ValueError(f"the plan has no calendar: say by number which day {dates[0]} is")
+        if self.calendar is not None:
+            spans = self.calendar.spans(dates)
+            numbers |= {day for first, back in spans for day in range(first, back)}
+        return spans_of(day for day in numbers if day >= 0)
+
     def _check_there(self, task: Task) -> None:
         """Raises ValueError for a task of another workbench, or one that is gone."""
         self.workbench.constraint_of(task.start >= 0)
@@ -868,7 +942,7 @@ class Project:
         may = {person: self.workbench.truth(f"{name} by {person}") for person in doers.others}
         roles = roles_of(self.workbench, name, doers)
         task = Task(
-            name, doers.people, start, end, days, cost, how[0], may, *how[1:], roles, doers.number
+            name, doers.people, start, end, days, cost, how[0], may, *how[1:], roles, doers.groups
         )
         takes = tuple(way.days for way in ways)
         waits = how[0] and any(away.person in task.needs for away in self._aways())

@@ -7,23 +7,28 @@ import re
 from collections.abc import Callable, Iterable, Iterator, Sequence
 from dataclasses import replace
 from datetime import date, timedelta
+from os.path import splitext
 
 from propbench.nearby import near_names
 from propbench.planning.brief import (
     HELP,
     LEAVE,
     WISH,
+    Agreed,
     Brief,
     Given,
+    TaskWanted,
     Leave,
     NamedWay,
-    TaskWanted,
     Wish,
 )
 from propbench.planning.calendar import Calendar, date_said
-from propbench.planning.days import date_in
+from propbench.planning.days import date_in, days_in
+from propbench.planning.holidays import beside, holidays, is_file
 from propbench.planning.headings import (
     ABSENCES,
+    BASELINE,
+    GIVEN_UP,
     PEOPLE,
     PLAN,
     SORTS,
@@ -31,10 +36,11 @@ from propbench.planning.headings import (
     WISHES,
     rows_of,
 )
+from propbench.planning.rules import Rule, said_in
 from propbench.planning.sheets import Field, Sheet, SheetError
 from propbench.planning.who import AnyOf, Skilled
 from propbench.questions.shown import listed
-from propbench.showing import cut, printable
+from propbench.showing import cut, printable, said_of
 
 # The fields of a row by their columns.
 Fields = dict[str, Field]
@@ -61,18 +67,21 @@ def brief_of(sheets: Sequence[Sheet], given: Given) -> Brief:
     written = [sheet for sheet in sheets if sheet.rows]
     if not written:
         raise SheetError("there is nothing in these sheets: write tasks, with their days")
-    sorts = _sorted(written)
-    unread = [sheet.name for sheet in written if sheet not in sorts.values()]
-    reader = _Reader(Brief(unread=unread))
+    sorts = sorted_sheets(written)
+    reader = _Reader(Brief(), given.folder)
     reader.read_plan(sorts.get("plan"), given)
     reader.read_people(sorts.get("people"))
     reader.read_tasks(sorts["tasks"])
     reader.read_absences(sorts.get("absences"))
     reader.read_wishes(sorts.get("wishes"))
+    reader.read_given_up(sorts.get("given up"))
+    reader.read_baseline(sorts.get("baseline"))
+    others = [sheet.name for sheet in written if sheet not in sorts.values()]
+    reader.brief.unread = [name for name in others if name not in reader.files]
     return reader.brief
 
 
-def _sorted(sheets: Sequence[Sheet]) -> dict[str, Sheet]:
+def sorted_sheets(sheets: Sequence[Sheet]) -> dict[str, Sheet]:
     """The sheets by what they tell. One alone tells the tasks, whatever it is called."""
     found: dict[str, Sheet] = {}
     for sheet in sheets:
@@ -95,10 +104,12 @@ def _sorted(sheets: Sequence[Sheet]) -> dict[str, Sheet]:
 class _Reader:
     """Reads tables one after the other: each may speak of those before it."""
 
-    def __init__(self, brief: Brief) -> None:
-        self.brief = brief
+    def __init__(self, brief: Brief, folder: str) -> None:
+        self.brief, self._folder = brief, folder
         # Whether people are those of a table, and no others.
         self._is_closed = False
+        # The files of days off that are named, without their endings.
+        self.files: set[str] = set()
 
     # --- the days ---
 
@@ -115,7 +126,7 @@ class _Reader:
         if start is None and starts:
             start = _judged(starts[0], _start)
         if start is not None:
-            self.brief.calendar = _calendar(start, given.off, off)
+            self.brief.calendar = self._calendar(start, given.off, off)
         elif off:
             raise off[0].wrong("days off need a start of the plan: add a column `start`")
         elif given.off:
@@ -127,6 +138,33 @@ class _Reader:
         self.brief.days = given.days
         if given.days is None and days:
             self.brief.days = days[0]
+
+    def _calendar(self, start: date, given: str | None, off: Sequence[Field]) -> Calendar:
+        """The days of a plan from its start on."""
+        if given is not None:
+            return Calendar.of(start, self._days_off(given, start, ""))
+        found: list[str | date] = []
+        for each in off:
+            try:
+                found += self._days_off(each.text, start, self._folder)
+                Calendar.of(start, found)
+            except (ValueError, OSError) as error:
+                raise each.wrong(said_of(error)) from None
+        return Calendar.of(start, found)
+
+    def _days_off(self, text: str, start: date, folder: str) -> list[str | date]:
+        """Weekdays, dates and files of such: `sat sun, 3 April, holidays.ics`."""
+        found: list[str | date] = []
+        for part in (each.strip() for each in _BETWEEN.split(text)):
+            weekdays = [_weekdays(word) for word in part.lower().split()]
+            if is_file(part):
+                found += holidays(beside(folder, part))
+                self.files.add(splitext(part)[0])
+            elif all(weekdays):
+                found += [day for days in weekdays for day in days]
+            else:
+                found.append(date_in(part, start))
+        return found
 
     def _day(self, given: Field, is_within: bool = False) -> int:
         """The number of a day; of a date that is within, that of the day behind it."""
@@ -158,16 +196,36 @@ class _Reader:
             self.brief.people[person.text] = _weight(row, HELP)
             if "skills" in row:
                 self.brief.skills[person.text] = tuple(_split(row["skills"], _BETWEEN))
-            if "works" in row:
-                self.brief.works[person.text] = self._works(row["works"])
+            self._read_calendar(person.text, row)
 
     def _read_resource(self, name: str, row: Fields) -> None:
         """So much there is of what several tasks may use at once."""
         self.brief.resources[name] = _whole(row["holds"], 1), _weight(row, HELP)
         if "skills" in row:
             raise row["skills"].wrong("what `holds` so many is no person, and has no skills")
+        self._read_calendar(name, row)
+
+    def _read_calendar(self, name: str, row: Fields) -> None:
+        """When somebody works, and which days are off."""
         if "works" in row:
             self.brief.works[name] = self._works(row["works"])
+        if "off" in row:
+            self._read_off(name, row["off"])
+
+    def _read_off(self, name: str, given: Field) -> None:
+        """The days off of somebody: dates, and files of such."""
+        calendar = self.brief.calendar
+        if calendar is None:
+            raise given.wrong("days off need a start of the plan: --start 2026-03-02")
+        try:
+            days = self._days_off(given.text, calendar.start, self._folder)
+        except (ValueError, OSError) as error:
+            raise given.wrong(said_of(error)) from None
+        if weekdays := [day for day in days if isinstance(day, str)]:
+            raise given.wrong(f"{listed(weekdays)}: say under `works` on which weekdays one works")
+        spans = calendar.spans(day for day in days if isinstance(day, date))
+        numbers = (day for first, back in spans for day in range(first, back))
+        self.brief.off[name] = f"{name} off {given.text}", tuple(numbers)
 
     def _works(self, given: Field) -> tuple[str, ...]:
         """The weekdays on which somebody works."""
@@ -308,9 +366,83 @@ class _Reader:
             self.brief.leaves.append(Leave(person.text, first, back, name, _weight(row, LEAVE)))
 
     def read_wishes(self, sheet: Sheet | None) -> None:
-        """What may be given up."""
+        """What may be given up: in columns, or said in the name itself."""
         for row in rows_of(sheet, WISHES) if sheet else ():
-            self.brief.wishes.append(self._wish(row))
+            if {*row} <= {"wish", "weight"}:
+                self._read_said(_first(row, "wish"), _weight(row, WISH))
+            else:
+                self.brief.wishes.append(self._wish(row))
+
+    def _read_said(self, wish: Field, weight: float) -> None:
+        """What is wished for in words."""
+        brief = self.brief
+        try:
+            said = said_in(wish.text, [*brief.jobs], [*brief.people, *brief.resources])
+        except ValueError as error:
+            raise wish.wrong(str(error)) from None
+        if said.sort == "away":
+            [person] = said.names
+            first, back = self._days_from(replace(wish, text=said.rest))
+            brief.leaves.append(Leave(person, first, back, wish.text, weight))
+        elif said.sort in ("by", "from", "on", "cost"):
+            task, day = next(iter(said.names), None), replace(wish, text=said.rest)
+            begins = self._day(day) if said.sort in ("from", "on") else None
+            brief.wishes.append(
+                Wish(
+                    wish.text,
+                    task,
+                    begins,
+                    self._day(day, True) if said.sort == "by" else None,
+                    int(said.rest) if said.sort == "cost" else None,
+                    None,
+                    weight,
+                    said.sort == "on",
+                )
+            )
+        else:
+            first_name, other = said.names
+            rule = Rule(wish.text, said.sort, first_name, other, said.days, weight)
+            brief.rules.append(rule)
+
+    def _days_from(self, given: Field) -> tuple[int, int]:
+        """The first of some days, and that behind the last."""
+        calendar = self.brief.calendar
+        if calendar is None:
+            first, _, last = given.text.partition("-")
+            begin = _whole(replace(given, text=first.strip()), 0)
+            return begin, _whole(replace(given, text=last.strip() or str(begin + 1)), begin)
+        try:
+            days = days_in(given.text, calendar.start)
+        except ValueError as error:
+            raise given.wrong(str(error)) from None
+        if days.last < calendar.start:
+            raise given.wrong(f"the plan begins on {date_said(calendar.start)}")
+        begin = calendar.day_of(max(days.first, calendar.start))
+        return begin, calendar.day_of(days.last + timedelta(days=1))
+
+    def read_given_up(self, sheet: Sheet | None) -> None:
+        """The premises that were given up."""
+        for row in rows_of(sheet, GIVEN_UP) if sheet else ():
+            self.brief.given_up.append(_first(row, "premise").text)
+
+    def read_baseline(self, sheet: Sheet | None) -> None:
+        """The schedule that was agreed on."""
+        for row in rows_of(sheet, BASELINE) if sheet else ():
+            task = _first(row, "task")
+            for column in ("from", "to"):
+                if column not in row:
+                    raise task.wrong(f"say under `{column}` when it was to be done")
+            has_dates = self.brief.calendar is not None
+            self.brief.baseline.append(
+                Agreed(
+                    task.text,
+                    tuple(_split(row.get("who"), _BETWEEN_PEOPLE)),
+                    self._day(row["from"]),
+                    self._day(row["to"], has_dates),
+                    row["how"].text if "how" in row else None,
+                    _whole(row["cost"], 0) if "cost" in row else None,
+                )
+            )
 
     def _wish(self, row: Fields) -> Wish:
         wish = _first(row, "wish")
@@ -477,32 +609,6 @@ def _start(text: str) -> date:
     found = date_in(text, date.min)
     if found.year < _FIRST_YEAR:
         raise ValueError(f"`{text}` names no year: write it as 2026-03-02")
-    return found
-
-
-def _calendar(start: date, given: str | None, off: Sequence[Field]) -> Calendar:
-    """The days of a plan from its start on."""
-    if given is not None:
-        return Calendar.of(start, _days_off(given, start))
-    found: list[str | date] = []
-    for each in off:
-        try:
-            found += _days_off(each.text, start)
-            Calendar.of(start, found)
-        except ValueError as error:
-            raise each.wrong(str(error)) from None
-    return Calendar.of(start, found)
-
-
-def _days_off(text: str, start: date) -> list[str | date]:
-    """Weekdays, and dates: `sat sun, 3 April`."""
-    found: list[str | date] = []
-    for part in _BETWEEN.split(text):
-        weekdays = [_weekdays(word) for word in part.lower().split()]
-        if all(weekdays):
-            found += [day for days in weekdays for day in days]
-        else:
-            found.append(date_in(part.strip(), start))
     return found
 
 

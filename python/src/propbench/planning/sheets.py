@@ -37,10 +37,18 @@ class Field:
     row: int
     column: str
 
-    def wrong(self, says: str) -> SheetError:
+    def wrong(self, says: str) -> "FieldError":
         """That it can't be taken, and what would do."""
-        where = f"{printable(self.sheet)}, row {self.row}, column {printable(self.column)}"
-        return SheetError(f"{where}: {says}")
+        return FieldError(self, says)
+
+
+class FieldError(SheetError):
+    """What stands in a field can't be taken: `says` is why."""
+
+    def __init__(self, field: Field, says: str) -> None:
+        where = f"{printable(field.sheet)}, row {field.row}, column {printable(field.column)}"
+        super().__init__(f"{where}: {says}")
+        self.field, self.says = field, says
 
 
 # --- files ---

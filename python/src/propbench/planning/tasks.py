@@ -31,8 +31,8 @@ class Way:
 class Task:
     """A task. Its cells can be asked, and may stand in constraints as any others: it is done from
     the beginning of the day `start` to the beginning of the day `end`, `days` later, and more where
-    it `pauses`. All of its `people` do it, and a `number` of those who `may`, of whom each has a
-    truth that says whether they do. It `uses` so much of each resource.
+    it `pauses`. All of its `people` do it, and so many of each of its `groups`, of whom each has a
+    truth in `may` that says whether they do. It `uses` so much of each resource.
 
     >>> w = Workbench()
     >>> p = w.project(days=30)
@@ -53,7 +53,18 @@ class Task:
     kind: str | None = None
     uses: Mapping[str, int] = field(default_factory=dict)
     roles: Mapping[tuple[int, str], TruthCell] = field(default_factory=dict)
-    number: int = 0
+    groups: tuple[tuple[int, tuple[str, ...]], ...] = ()
+
+    @property
+    def number(self) -> int:
+        """How many do it of those who may.
+
+        >>> w = Workbench()
+        >>> p = w.project(days=30, people="ana ben cem")
+        >>> p.task("venue", 3, who=any_of(2, "ana", "ben", "cem")).number
+        2
+        """
+        return sum(number for number, _ in self.groups)
 
     @property
     def doers(self) -> tuple[str, ...]:

@@ -7,7 +7,7 @@ from contextlib import suppress
 from propbench.clock import Clock, Progress
 from propbench.points import Best, NoneFits, SoFar
 from propbench.questions.asking import CellLike, tried, tried_by, whole_named
-from propbench.questions.bounding import Optimum, bounding_in, check_numbers
+from propbench.questions.bounding import LEAST, Optimum, bounding_in, check_numbers
 from propbench.questions.certificate import Evidence
 from propbench.questions.model import Model
 from propbench.questions.outcomes import Cannot, Fits, NothingFits, Outcome
@@ -16,6 +16,7 @@ from propbench.questions.seeking import Claims, Seeker, Unlike, points_of, seeks
 from propbench.questions.solution import Solution, solution_of
 from propbench.questions.trial import Trial
 from propbench.replies import UNSETTLED, Reply
+from propbench.values import Span
 
 
 class Ending:
@@ -31,18 +32,42 @@ class Ending:
         self._line = seeker.lines[cell]
         check_numbers(cell, seeker.is_number(cell), sort)
         self._reply: Reply = UNSETTLED
+        self._has_begun = False
 
     def run(self, seconds: float | None = None) -> bool:
         """Asks, or goes on, for so many seconds; whether all is known then."""
         seeker = self._seeker
         if isinstance(self._reply, Best | NoneFits):
             return True
+        if not self._has_begun:
+            self._begin()
         seeker.reply = self._reply
         try:
             seeker.ask(" ".join([self._sort, self._line, *seeker.first()]), seconds)
         finally:
-            self._reply = seeker.reply
+            self._reply = self._best(seeker.reply)
         return seeker.is_settled
+
+    def _begin(self) -> None:
+        """Begins with a plan that was made by hand, where the program says that it fits."""
+        self._has_begun = True
+        points = self._seeker.by_hand() if self._sort == LEAST else None
+        if points is not None:
+            self._reply = SoFar(points)
+
+    def _best(self, reply: Reply) -> Reply:
+        """What is known, with the points that were better before."""
+        before = self._reply
+        if isinstance(reply, SoFar) and isinstance(before, SoFar):
+            then, now = self._value(before), self._value(reply)
+            if then != now and (then < now) == (self._sort == LEAST):
+                return SoFar(before.points, reply.bound, reply.because)
+        return reply
+
+    def _value(self, reply: SoFar) -> int:
+        held = reply.points.values[self._line]
+        assert isinstance(held, Span)
+        return held.low
 
     @property
     def value(self) -> int | None:
@@ -155,6 +180,9 @@ def _sought(model: Model, clock: Clock) -> Solution | NothingFits | None:
     with suppress(Unlike), Seeker(model, clock) as seeker:
 
         def run() -> None:
+            if (points := seeker.by_hand()) is not None:
+                seeker.reply = points
+                return
             for seconds in clock.turns():
                 seeker.ask(" ".join(["solve", *seeker.first()]), seconds)
                 if seeker.is_settled or clock.is_over():

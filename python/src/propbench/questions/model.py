@@ -94,6 +94,11 @@ class Model(Protocol):
         """These points as a schedule, where they are those of one project's tasks."""
         ...
 
+    def by_hand(self) -> Mapping[str, Point]:
+        """Values of some cells at which a plan may be, as one makes it by hand; none where nothing
+        is known. Nothing is claimed of them."""
+        ...
+
     def is_measured(self, cell: str) -> bool:
         """Whether the cell counts steps of a measured quantity."""
         ...

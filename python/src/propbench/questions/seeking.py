@@ -117,7 +117,7 @@ class Seeker(Closing):
 
         def hear(steps: int, reply: Reply) -> None:
             self.reply = _joined(before, reply)
-            self.clock.tell(_told(self.reply))
+            self.clock.tell(_told(self.reply, line))
             if self.heard is not None:
                 self.heard(self.reply)
 
@@ -170,7 +170,7 @@ class Seeker(Closing):
         return self._other if isinstance(held, Nothing) else str(held)
 
     @contextmanager
-    def supposing(self, told: Mapping[str, Held]) -> Iterator[None]:
+    def supposing(self, told: Mapping[str, Held | str]) -> Iterator[None]:
         """Values of cells count within the block, and are forgotten then. Raises OutOfTime."""
         row = f"{self.mark}row"
         self._asked.is_whole = False
@@ -188,6 +188,22 @@ class Seeker(Closing):
         yield
         self.session.send_all(f"bring {name}" for name in names)
         self._asked.is_whole = True
+
+    def by_hand(self) -> Points | None:
+        """What the program answers of a plan that was made by hand; None where there is none, it
+        doesn't fit, or that took long. What is asked next begins there."""
+        row = {
+            self.lines[cell]: self.model.literal(cell, value)
+            for cell, value in self.model.by_hand().items()
+        }
+        left = self.clock.seconds_left()
+        seconds = _SOON if left is None else min(_SOON, left / 2)
+        if not row:
+            return None
+        reply: Reply = UNSETTLED
+        with self.supposing(row), suppress(OutOfTime):
+            reply = self.session.send("solve", seconds=seconds)
+        return reply if isinstance(reply, Points) else None
 
     def premises(self, names: Iterable[str]) -> tuple[str, ...]:
         """Premises of lines as the user calls them, in the order of their first mention."""
@@ -290,13 +306,17 @@ def _joined(before: Reply, reply: Reply) -> Reply:
     return before if isinstance(reply, Unsettled) else reply
 
 
-def _told(reply: Reply) -> str:
-    """What is told of a question that goes on."""
+def _told(reply: Reply, line: str) -> str:
+    """What is told of a question that goes on, which was asked by a line."""
     if isinstance(reply, Several):
         return f"{len(reply.rows)} plans so far"
     if isinstance(reply, Blamed):
         return f"{len(reply.sets)} {reply.command} so far"
-    return "searching; a plan was found" if isinstance(reply, SoFar) else "searching"
+    if not isinstance(reply, SoFar):
+        return "searching"
+    sort, cell, *_ = line.split()
+    found = f"searching; {reply.points.values[cell]} is the {sort} so far"
+    return found if reply.bound is None else f"{found}, and {reply.bound} the {sort} that may be"
 
 
 def points_of(reply: Reply) -> Points | None:

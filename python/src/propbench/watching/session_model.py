@@ -100,6 +100,9 @@ class SessionModel:
         """The same."""
         return self.text(premise)
 
+    def by_hand(self) -> dict[str, Point]:
+        return {}
+
     def first(self) -> Sequence[First]:
         """None that are known."""
         return ()

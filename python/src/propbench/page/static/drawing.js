@@ -11,6 +11,8 @@ const SVG = "http://www.w3.org/2000/svg";
 const LETTERS = { cell: 17, value: 15, small: 20, use: 14 };
 // Nearer than this texts are shown.
 const READABLE = 0.42;
+// What is around a cell is drawn at least so near.
+const NEAR = 0.8;
 // More nodes than this are drawn in the quickest way: with straight wires.
 const MANY = 600;
 // The paths, from the lowest to the highest, and those of what is marked.
@@ -47,9 +49,10 @@ export class Drawing {
     new ResizeObserver(() => this._sized()).observe(svg);
   }
 
-  // Draws a network anew.
-  draw(network) {
+  // Draws a network anew, whole; or what is around a cell, as near as its texts can be read.
+  draw(network, middle = "") {
     this.network = network;
+    this.middle = middle;
     this.places = layout(network);
     this.shown.clear();
     this.texts.replaceChildren();
@@ -96,16 +99,19 @@ export class Drawing {
     return [box.left + this.places.x[at] * scale + x, box.top + this.places.y[at] * scale + y];
   }
 
-  // The whole drawing, or as near as it is still a drawing.
-  fit() {
+  // The whole drawing, or as near as it is still a drawing; of what is around a cell so near that it
+  // can be read, unless all of it is wanted.
+  fit(isAll = false) {
     const { width, height } = this._size();
     const fits = [width / (this.places.width + 30), height / (this.places.height + 30)];
-    const scale = Math.min(1.3, ...fits);
-    this.view = {
-      scale,
-      x: (width - this.places.width * scale) / 2,
-      y: (height - this.places.height * scale) / 2,
-    };
+    const whole = Math.min(1.3, ...fits);
+    const at = isAll ? undefined : this.at?.get(this.middle);
+    const scale = at === undefined ? whole : Math.max(NEAR, whole);
+    const { places } = this;
+    const isNear = scale > whole;
+    const x = isNear ? places.x[at] : places.width / 2;
+    const y = isNear ? places.y[at] : places.height / 2;
+    this.view = { scale, x: width / 2 - x * scale, y: height / 2 - y * scale };
     this.fitted = true;
     this._look();
   }

@@ -1,6 +1,7 @@
 // The page: asks the server, and shows what it answers. What a session says is always set as text.
 
 import { Drawing } from "./drawing.js";
+import { PlanView } from "./plan.js";
 import { byName, joined, made, named, printable, tell } from "./texts.js";
 
 const at = (id) => document.getElementById(id);
@@ -8,6 +9,10 @@ const at = (id) => document.getElementById(id);
 const EVERY = 1500;
 // So many rows the table of cells has at the most.
 const ROWS = 200;
+// Of more premises than this one looks for some; those of a plan stand in these groups.
+const FEW = 12;
+const OTHERS = "Others";
+const GROUPS = ["Wishes", "Absences", "People and resources", "How far it is", "Tasks", OTHERS];
 
 // What is said where there is no cell.
 const EMPTY = "There is nothing yet. Open “The plain lines” below, and send a line: “cell x span”"
@@ -22,8 +27,9 @@ let bears = null;
 let frames = [];
 let frame = -1;
 let rows = new Map();
-// The cells and uses that are drawn.
+// The cells and uses that are drawn, and of a plan the task or cell around which.
 let drawn = "";
+let around = "";
 
 const drawing = new Drawing(at("drawing"), at("sheet"), at("under"), pick);
 at("drawing").addEventListener("here", (event) => {
@@ -45,14 +51,14 @@ async function ask(path, body) {
   return told;
 }
 
-// Asks, or looks at all where there is no question; what is wrong is told on the page, and nothing
-// is given then.
-async function asked(body) {
+// Asks, or looks at all where there is no question; what is wrong is told on the page, or to who
+// asks, and nothing is given then.
+async function asked(body, wrong = (text) => say(text, true)) {
   const since = setTimeout(() => { at("stop").hidden = false; }, 300);
   try {
     return await ask("do", body);
   } catch (error) {
-    say(error.message, true);
+    wrong(error.message);
     return undefined;
   } finally {
     clearTimeout(since);
@@ -75,12 +81,12 @@ async function load() {
 // Takes in what was answered: all of it, or what changed.
 function take(told) {
   const before = state?.byCell;
-  const plan = state?.plan;
+  const stood = state?.stands;
   if (state && !told.network && told.shape !== state.shape) return load();
   const isNew = !state || told.shape !== state.shape;
   state = { ...(state ?? {}), ...told };
   state.byCell = new Map(state.seen.values.map((each) => [each.cell, each]));
-  state.plan = byName(state.seen.plan);
+  state.stands = byName(state.seen.plan);
   if (isNew) build();
   frame = -1;
   frames = [];
@@ -88,14 +94,15 @@ function take(told) {
   const changed = new Set([...state.byCell].filter(differs).map(([name]) => name));
   show(changed);
   if (picked) look(picked);
-  if (before) sayWhatChanged(changed, plan);
+  if (before && !state.plan) sayWhatChanged(changed, stood);
+  plan.show(state);
 }
 
-function sayWhatChanged(changed, plan) {
+function sayWhatChanged(changed, stood) {
   if (state.seen.clash) return say("Conflict: what is believed can't all hold.", true);
-  const stands = state.plan;
+  const { stands } = state;
   const moved = state.network.choices.filter(
-    ({ name }) => plan?.has(name) && plan.get(name) !== stands.get(name));
+    ({ name }) => stood?.has(name) && stood.get(name) !== stands.get(name));
   const parts = moved.map(
     (each) => [named(each.text), ": ", named(each.sides[stands.get(each.name)] ?? "?")]);
   const known = values();
@@ -130,18 +137,85 @@ function build() {
   document.title = `${printable(state.title)} - propbench`;
   at("proved").textContent = state.proved ? "proved" : "not known to be proved";
   at("proved").classList.toggle("unproved", !state.proved);
-  at("save").hidden = state.file === null;
+  at("save").hidden = state.file === null || Boolean(state.plan);
   at("line-form").hidden = state.workbench;
   at("empty").hidden = network.cells.length > 0;
   at("empty").textContent = state.workbench ? EMPTY_WORKBENCH : EMPTY;
-  at("premises").replaceChildren(...network.premises.map(premise));
+  at("premises").replaceChildren(...grouped(network.premises));
+  at("premise-search").hidden = network.premises.length < FEW && !state.plan;
+  filterPremises();
   at("choices").replaceChildren(...network.choices.map(choice));
   at("choices-head").hidden = !network.choices.length;
   showRows();
-  const now = JSON.stringify([network.cells, network.uses]);
-  if (drawn !== now) drawing.draw(network);
-  drawn = now;
+  draw();
   if (!state.texts.has(picked)) unpick();
+}
+
+// Draws the network: of a plan what is around a task or a cell, unless all of it is wanted.
+function draw() {
+  const { network } = state;
+  const isPart = state.plan && !at("whole").checked;
+  const part = isPart ? neighbours(network, centre()) : network;
+  const now = JSON.stringify([part.cells, part.uses]);
+  if (drawn !== now) drawing.draw(part, isPart ? centre()[0] : "");
+  drawn = now;
+}
+
+// The cells around which the network is drawn, and what there is to choose of.
+function centre() {
+  const tasks = state.plan.cells;
+  const names = Object.keys(tasks);
+  if (!Object.hasOwn(tasks, around) && !state.texts.has(around)) around = names[0] ?? "";
+  const options = Object.hasOwn(tasks, around) ? names : [around, ...names];
+  at("around").replaceChildren(...options.map((name) => {
+    const option = made("option", { value: name }, named(name));
+    option.selected = name === around;
+    return option;
+  }));
+  at("around-what").hidden = false;
+  return Object.hasOwn(tasks, around) ? tasks[around] : [around];
+}
+
+// The part of a network that has these cells, what is between them and others, and these.
+function neighbours(network, names) {
+  const own = new Set(names);
+  const uses = network.uses.filter((use) => use.cells.some((cell) => own.has(cell)));
+  const near = new Set([...names, ...uses.flatMap((use) => use.cells)]);
+  return { ...network, cells: network.cells.filter((cell) => near.has(cell.name)), uses };
+}
+
+function goAround(name) {
+  around = name;
+  if (!state.plan) return;
+  draw();
+  show(new Set());
+}
+
+// Premises one below the other, those of a plan in groups.
+function grouped(premises) {
+  const groups = new Map(GROUPS.map((name) => [name, []]));
+  const of = state.plan ? byName(state.plan.groups) : new Map();
+  for (const each of premises) groups.get(of.get(each.name) ?? OTHERS).push(premise(each));
+  return [...groups].flatMap(([name, items]) => {
+    const says = made("h3", { class: "premise-group" }, name);
+    const head = made("li", { class: "premise-group" }, says);
+    return items.length ? [...(state.plan ? [head] : []), ...items] : [];
+  });
+}
+
+// Shows those premises alone in which what is looked for stands.
+function filterPremises() {
+  const wanted = at("premise-filter").value.toLowerCase();
+  let head = null;
+  for (const item of at("premises").children) {
+    if (item.dataset.premise === undefined) {
+      head = item;
+      item.hidden = true;
+    } else {
+      item.hidden = !item.textContent.toLowerCase().includes(wanted);
+      if (!item.hidden && head) head.hidden = false;
+    }
+  }
 }
 
 function premise(each) {
@@ -152,12 +226,15 @@ function premise(each) {
     else await load();
   });
   const texts = each.says.map((said) => said.text);
-  const says = texts.length ? joined(texts, "; ") : ["(nothing)"];
+  const own = state.plan && byName(state.plan.says).get(each.name);
+  const says = own === undefined || own === null ? stated(texts) : [own];
   const label = made("label", { for: box.id }, named(each.text));
   const item = made("li", { class: "premise" }, box, label, made("small", {}, ...says));
   item.dataset.premise = each.name;
   return item;
 }
+
+const stated = (texts) => (texts.length ? joined(texts, "; ") : ["(nothing)"]);
 
 function choice(each) {
   const sides = ["as it comes", ...each.sides.map(named)].map((text, place) => {
@@ -248,7 +325,7 @@ function showSwitches() {
   const lit = new Set(bears?.premises);
   const litChoices = new Set(bears?.choices);
   const wishes = byName(state.wished);
-  for (const item of at("premises").children) {
+  for (const item of at("premises").querySelectorAll("li.premise")) {
     const name = item.dataset.premise;
     item.querySelector("input").checked = believed.has(name);
     item.classList.toggle("out", !believed.has(name));
@@ -257,7 +334,7 @@ function showSwitches() {
   }
   for (const set of at("choices").children) {
     const name = set.dataset.choice;
-    const stands = state.plan.get(name);
+    const stands = state.stands.get(name);
     const wished = wishes.get(name);
     set.classList.toggle("lit", litChoices.has(name));
     set.querySelectorAll(".side").forEach((side, place) => {
@@ -277,6 +354,7 @@ function showLines() {
 
 async function pick(name) {
   picked = name;
+  if (state.plan && !at("whole").checked) goAround(name);
   await look(name);
 }
 
@@ -458,7 +536,7 @@ function showStep() {
 // --- what is pressed ---
 
 const press = (id, act) => at(id).addEventListener("click", act);
-press("fit", () => drawing.fit());
+press("fit", () => drawing.fit(true));
 press("nearer", () => drawing.zoom(1.25));
 press("farther", () => drawing.zoom(0.8));
 press("unlit", unpick);
@@ -503,6 +581,9 @@ press("replay", async () => {
 at("plain").addEventListener("toggle", async () => {
   if (at("plain").open) await freshLines();
 });
+at("premise-filter").addEventListener("input", filterPremises);
+at("around").addEventListener("change", () => goAround(at("around").value));
+at("whole").addEventListener("change", () => goAround(around));
 at("filter").addEventListener("input", () => {
   showRows();
   showValues(new Set());
@@ -538,6 +619,20 @@ async function watch() {
   }
   setTimeout(watch, EVERY);
 }
+
+const plan = new PlanView({
+  ask: asked,
+  take,
+  say,
+  save,
+  stop: () => ask("stop", {}),
+  // What follows in the network of a plan is looked at once somebody turns to it.
+  look: async () => {
+    const told = await asked({ what: "look" });
+    if (told) take(told);
+  },
+  pickTask: (task) => { if (state.plan.cells[task]) goAround(task); },
+});
 
 watch();
 await load();

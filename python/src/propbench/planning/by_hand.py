@@ -1,0 +1,286 @@
+"""A plan that is made task by task, as planners make one by hand: of the tasks that may begin that
+comes first which has the most work behind it, each as soon as there is room for it.
+
+Nothing is claimed of it: a program is asked whether it fits, and tells all that is shown.
+"""
+
+from collections.abc import Iterator, Sequence
+from dataclasses import dataclass, field
+from itertools import combinations, islice, product
+
+from propbench.model.events import Event
+from propbench.model.kinds import Point
+from propbench.model.network import Network
+from propbench.model.nodes import Declared, cells_in
+from propbench.planning.order import SetUp
+from propbench.planning.resources import KeptWithin
+from propbench.planning.tasks import (
+    Away,
+    KeptApart,
+    KeptOff,
+    NotYet,
+    Task,
+    TaskBy,
+    TaskDone,
+    TaskMade,
+    TaskOrdered,
+    TaskTold,
+    Wished,
+)
+
+# Of a project with fewer tasks a program finds plans at once.
+_FEWEST = 12
+# So many ways to staff a task are tried.
+_STAFFINGS = 60
+
+
+def made_by_hand(network: Network) -> dict[str, Point]:
+    """Values of some cells at which a plan may be; none where there are few tasks, and where one
+    that is made so doesn't keep to the days that there are."""
+    found: dict[str, Point] = {}
+    for known in _projects(network):
+        places = _Maker(known).places() if len(known.jobs) >= _FEWEST else []
+        for place in places or ():
+            task = place.task
+            found |= {task.start.name: place.start, task.end.name: place.end}
+            found |= {task.may[who].name: True for who in place.who if who in task.may}
+    return found
+
+
+# --- what is known ---
+
+
+@dataclass
+class _Work:
+    """A task to be placed: the least days that it takes, and those of each where these differ; what
+    it waits for; the day before which it doesn't begin, and that on which it did."""
+
+    task: Task
+    days: int
+    speeds: dict[str, int] = field(default_factory=dict)
+    after: list[TaskOrdered] = field(default_factory=list)
+    earliest: int = 0
+    began: int | None = None
+    done: int | None = None
+    told: dict[str, bool] = field(default_factory=dict)
+
+    def staffings(self) -> Iterator[frozenset[str]]:
+        """Who may do it: so many of each group, and nobody for two of them, as it is told."""
+        for chosen in product(*(combinations(names, number) for number, names in self.task.groups)):
+            who = [name for names in chosen for name in names]
+            if len({*who}) == len(who) and all(
+                (it in who) == is_so for it, is_so in self.told.items()
+            ):
+                yield frozenset((*self.task.people, *who))
+
+
+@dataclass
+class _KnownWork:
+    """What a project believes: its tasks in so many days, who is away, who does one thing at a
+    time, how much there is of what, and the days between kinds of tasks."""
+
+    days: int
+    jobs: dict[str, _Work] = field(default_factory=dict)
+    starts: dict[Declared, _Work] = field(default_factory=dict)
+    lengths: dict[Declared, _Work] = field(default_factory=dict)
+    aways: dict[str, list[Away]] = field(default_factory=dict)
+    single: set[str] = field(default_factory=set)
+    holds: dict[str, int] = field(default_factory=dict)
+    setups: dict[str, dict[tuple[str, str], int]] = field(default_factory=dict)
+
+    def take(self, event: Event) -> None:
+        """Takes in what is stated."""
+        if isinstance(event, TaskMade):
+            work = _Work(event.task, min(event.ways, default=0))
+            self.jobs[event.task.name] = work
+            self.starts[event.task.start.declared] = work
+            self.lengths[event.task.days.declared] = work
+        elif isinstance(event, TaskTold):
+            self._take_told(event)
+        elif isinstance(event, TaskBy):
+            spoken_of = set(cells_in(event.constraint))
+            for who, truth in event.task.may.items():
+                if truth.declared in spoken_of:
+                    self.jobs[event.task.name].speeds[who] = event.days
+        elif isinstance(event, TaskOrdered):
+            self.jobs[event.later.name].after.append(event)
+        elif isinstance(event, NotYet):
+            for cell in cells_in(event.constraint):
+                self.starts[cell].earliest = max(self.starts[cell].earliest, event.first)
+        else:
+            self._take_limits(event)
+
+    def _take_told(self, event: TaskTold) -> None:
+        work = self.starts.get(event.cell)
+        if isinstance(event, TaskDone) and work is not None:
+            work.began = int(event.values[0])
+        if event.cell in self.lengths:
+            self.lengths[event.cell].days = int(event.values[0])
+            self.lengths[event.cell].speeds.clear()
+        if isinstance(event, TaskDone):
+            self._take_done(self.jobs[event.task], event)
+
+    def _take_done(self, work: _Work, event: TaskDone) -> None:
+        """Takes in what is told of what was done, by its ends and by whom."""
+        if event.cell is work.task.end.declared:
+            work.done = int(event.values[0])
+        for who, truth in work.task.may.items():
+            if event.cell is truth.declared:
+                work.told[who] = event.values[0] is True
+
+    def _take_limits(self, event: Event) -> None:
+        if isinstance(event, KeptOff):
+            self.aways.setdefault(event.away.person, []).append(event.away)
+        elif isinstance(event, KeptApart):
+            self.single.add(event.person)
+        elif isinstance(event, KeptWithin):
+            there = self.holds.get(event.resource, event.holds)
+            self.holds[event.resource] = min(event.holds, there)
+        elif isinstance(event, SetUp):
+            self.setups.setdefault(event.person, {}).update(event.times)
+
+
+def _projects(network: Network) -> list[_KnownWork]:
+    """What is known of each project, by what is believed."""
+    found: dict[int, _KnownWork] = {}
+    believed = {None, *network.premises.in_force}
+    for event in network.events:
+        project = getattr(event, "project", None)
+        if getattr(event, "premise", None) not in believed:
+            continue
+        if project is not None:
+            found.setdefault(id(project), _KnownWork(project.days)).take(event)
+        elif isinstance(event, Wished) and event.first is not None:
+            for work in (known.jobs.get(str(event.task)) for known in found.values()):
+                if work is not None:
+                    work.earliest = max(work.earliest, event.first)
+    return list(found.values())
+
+
+# --- placing ---
+
+
+@dataclass(frozen=True)
+class _Place:
+    """Where a task is, and who does it."""
+
+    task: Task
+    start: int
+    end: int
+    who: frozenset[str]
+
+
+class _Maker:
+    """Places the tasks of a project, one after the other."""
+
+    def __init__(self, known: _KnownWork) -> None:
+        self._known = known
+        self._placed: dict[str, _Place] = {}
+        self._behind: dict[str, int] = {}
+
+    def places(self) -> list[_Place] | None:
+        """All tasks in their places, None where one finds none."""
+        waiting = dict(self._known.jobs)
+        while waiting:
+            ready = [it for it in waiting.values() if self._is_ready(it)]
+            if not ready:
+                return None
+            work = min(ready, key=lambda it: (it.began is None, -self._work_behind(it.task.name)))
+            place = self._place(work)
+            if place is None:
+                return None
+            self._placed[work.task.name] = place
+            del waiting[work.task.name]
+        return list(self._placed.values())
+
+    def _is_ready(self, work: _Work) -> bool:
+        return work.began is not None or all(
+            each.earlier.name in self._placed or each.ready(0, 0) is None for each in work.after
+        )
+
+    def _work_behind(self, task: str) -> int:
+        """The days of a task and of all that waits for it, on the longest way."""
+        if task not in self._behind:
+            # (a ring has no plan, and no end here)
+            self._behind[task] = 0
+            later = [
+                work.task.name
+                for work in self._known.jobs.values()
+                for each in work.after
+                if each.earlier.name == task and each.ready(0, 0) is not None
+            ]
+            most = max(map(self._work_behind, later), default=0)
+            self._behind[task] = most + self._known.jobs[task].days
+        return self._behind[task]
+
+    def _place(self, work: _Work) -> _Place | None:
+        """The place where a task ends soonest, whoever does it."""
+        first = work.earliest
+        for each in work.after:
+            before = self._placed.get(each.earlier.name)
+            ready = None if before is None else each.ready(before.start, before.end)
+            first = max(first, ready or 0)
+        found: _Place | None = None
+        for who in islice(work.staffings(), _STAFFINGS):
+            place = self._soonest(work, who, first)
+            if place is not None and (found is None or place.end < found.end):
+                found = place
+        return found
+
+    def _soonest(self, work: _Work, who: frozenset[str], first: int) -> _Place | None:
+        """The first place of a task that these do."""
+        task, known = work.task, self._known
+        days = max((work.speeds[it] for it in who if it in work.speeds), default=work.days)
+        aways = [away for name in (*who, *task.uses) for away in known.aways.get(name, ())]
+        if work.began is not None:
+            end = work.done or _end(task, work.began, days, aways, known.days)
+            fits = end is not None and self._has_room(task, work.began, end, who)
+            return _Place(task, work.began, end, who) if fits and end is not None else None
+        for start in range(first, known.days + 1):
+            end = _end(task, start, days, aways, known.days)
+            if end is not None and end <= known.days and self._has_room(task, start, end, who):
+                return _Place(task, start, end, who)
+        return None
+
+    def _has_room(self, task: Task, start: int, end: int, who: frozenset[str]) -> bool:
+        """Whether those who do a task are free then, and there is enough of what it uses."""
+        for other in self._placed.values():
+            for person in who & other.who:
+                there, back = self._between(person, other.task, task)
+                is_apart = other.end + there <= start or end + back <= other.start
+                if not is_apart and (person in self._known.single or there or back):
+                    return False
+        return all(self._has_enough(task, name, start, end) for name in task.uses)
+
+    def _between(self, person: str, one: Task, other: Task) -> tuple[int, int]:
+        """The days between two tasks of somebody, in either order."""
+        times, kinds = self._known.setups.get(person, {}), (str(one.kind), str(other.kind))
+        return times.get(kinds, 0), times.get(kinds[::-1], 0)
+
+    def _has_enough(self, task: Task, name: str, start: int, end: int) -> bool:
+        """Whether there is enough of a resource on each day, where it is told how much there is."""
+        if name not in self._known.holds:
+            return True
+        others = [it for it in self._placed.values() if name in it.task.uses]
+        begins = {start, *(it.start for it in others if start <= it.start < end)}
+        return start == end or all(
+            task.uses[name] + sum(it.task.uses[name] for it in others if it.start <= day < it.end)
+            <= self._known.holds[name]
+            for day in begins
+        )
+
+
+def _end(task: Task, start: int, days: int, aways: Sequence[Away], last: int) -> int | None:
+    """When a task ends that begins on a day, with its pauses; None where it can't begin then."""
+    off = [away for away in aways if away.last > start]
+    if not task.pauses or not days:
+        end = start + days
+        return end if all(it.first >= end or it.last <= start for it in off) else None
+    day, left = start, days
+    while left:
+        over = [it for it in off if it.first <= day < it.last]
+        if any(it.first <= start or it.last >= last for it in over):
+            return None
+        day = max((it.last for it in over), default=day + 1)
+        left -= 0 if over else 1
+    return day
