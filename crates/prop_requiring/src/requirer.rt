@@ -1,0 +1,121 @@
+//! A session with a blamer around it that takes constraints as one writes them.
+ghost use Rattle.std.specs.Prelude.{◌≡◌, IfOk};
+ghost use Rattle.std.specs.List.{range_with_len};
+
+use crate::asking::{is_requirement, read_line};
+use prop_demands::understood;
+use prop_engine::Reply;
+use prop_guards::Guarded;
+use prop_refusals::Refusal;
+use prop_scheduler::Order;
+use prop_blaming::Blamer;
+use prop_workbench::Session;
+use std::alloc::{AllocError, Global};
+
+/// A blamer that takes constraints.
+#[derive(Drop)]
+pub struct Requirer<R, O> {
+    pub(crate) blamer: Blamer<R, O>,
+}
+
+/// The numbers below a number.
+fn numbers_below(alloc: Global, count: usize) -> Result<Vec<usize>, AllocError>
+    ensures { IfOk result (λ v. v.items ≡ range_with_len 0 count) }
+{
+    let mut numbers = Vec::new(alloc);
+    for number in 0..count {
+        numbers.push(number)?;
+    }
+    Ok(numbers)
+}
+
+impl<R: Guarded + Drop, O: Order + Drop> Requirer<R, O> {
+    ghost use Rattle.std.specs.Prelude.{◌≡◌, None, OnOk};
+    ghost use Rattle.prop_language.specs.Said.{words};
+    ghost use Rattle.prop_engine.specs.Answers.{answer_done, answer_of};
+    ghost use Rattle.prop_workbench.specs.Loading.{Loads};
+    ghost use Rattle.prop_workbench.specs.Sessions.{library_of, IsSound};
+    ghost use Rattle.prop_telling.specs.Notes.{no_notes};
+    ghost use Rattle.prop_seeking.specs.inner.Seekers.{sought_of};
+    ghost use Rattle.prop_requiring.specs.Requiring.{requiring, Requires};
+    ghost use Rattle.prop_requiring.specs.inner.Requirers.{IsReady};
+
+    /// A requirer around the blamer of a session.
+    pub fn new(session: Session<R, O>) -> Requirer<R, O>
+        requires sound { IsSound R.value_of session }
+        ensures session { result.blamer.seeker.teller.session ≡ session }
+        ensures notes { result.blamer.seeker.teller.notes ≡ no_notes }
+        ensures inquiry { result.blamer.seeker.inquiry ≡ None }
+        ensures earlier { result.blamer.seeker.earlier ≡ None }
+        ensures explorer { result.blamer.explorer ≡ None }
+    {
+        Requirer {
+            blamer: Blamer::new(session),
+        }
+    }
+
+    /// Carries out a line: a requirement, or as its blamer does.
+    pub fn command(&mut self, line: &[u8]) -> Reply
+        requires ready { IsReady R.value_of self.old }
+        ensures same { self.new.blamer.seeker.teller.session.live.network.library
+            ≡ self.old.blamer.seeker.teller.session.live.network.library }
+        ensures ready { IsReady R.value_of self.new }
+        ensures requires_it { requiring O.picks
+            (library_of R.value_of self.old.blamer.seeker.teller.session)
+            (sought_of self.old.blamer.seeker) line.now (answer_of result)
+            (sought_of self.new.blamer.seeker) }
+    {
+        if is_requirement(line) {
+            return Reply::of(self.require(line));
+        }
+        self.blamer.command(line)
+    }
+
+    /// Carries out the lines of a prelude, in order. The first that is refused ends it with its
+    /// refusal, and those before it stand.
+    pub(crate) fn load_prelude(&mut self, lines: &[&str]) -> Result<(), Refusal>
+        requires ready { IsReady R.value_of self.old }
+        ensures same { self.new.blamer.seeker.teller.session.live.network.library
+            ≡ self.old.blamer.seeker.teller.session.live.network.library }
+        ensures ready { IsReady R.value_of self.new }
+        ensures ok { OnOk result (Loads
+            (requiring O.picks (library_of R.value_of self.old.blamer.seeker.teller.session))
+            (sought_of self.old.blamer.seeker) (words lines.now)
+            (sought_of self.new.blamer.seeker)) }
+    {
+        for line in lines {
+            if let Reply::Refused(refusal) = self.command(line.as_bytes()) {
+                return Err(refusal);
+            }
+        }
+        Ok(())
+    }
+
+    /// Has what a line says hold, under its premise.
+    fn require(&mut self, line: &[u8]) -> Result<(), Refusal>
+        requires ready { IsReady R.value_of self.old }
+        ensures same { self.new.blamer.seeker.teller.session.live.network.library
+            ≡ self.old.blamer.seeker.teller.session.live.network.library }
+        ensures ready { IsReady R.value_of self.new }
+        ensures requires_it { Requires (library_of R.value_of self.old.blamer.seeker.teller.session)
+            (sought_of self.old.blamer.seeker) line.now (answer_done result)
+            (sought_of self.new.blamer.seeker) }
+    {
+        let said = match read_line(line) {
+            Ok(said) => said,
+            Err(refusal) => return Err(refusal),
+        };
+        let alloc = self.blamer.alloc();
+        let (names, words) = (self.blamer.names(), self.blamer.words());
+        let posting = match understood(alloc, names, words, self.blamer.cells(), said.text) {
+            Ok(posting) => posting,
+            Err(refusal) => return Err(refusal),
+        };
+        let count = self.blamer.cells().len();
+        let Ok(cells) = numbers_below(alloc, count) else {
+            drop(posting);
+            return Err(Refusal::Memory);
+        };
+        self.blamer.post(&cells, posting, said.premise)
+    }
+}
