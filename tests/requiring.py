@@ -22,9 +22,10 @@ import re
 import sys
 from dataclasses import dataclass, field
 from random import Random
-from typing import Callable, ClassVar, Iterator, Optional, Union
+from typing import Callable, Iterator, Optional, Sequence, Union
 
 from case import Case, Check, as_bytes
+from solving import asked_for, over_propwide
 from talking import Cut, Talk
 from wide_rules import PROGRAM
 
@@ -70,6 +71,12 @@ SUMS: list[tuple[str, int, Callable[[int, int], int]]] = [
     ("-", 13, lambda x, y: x - y),
     ("*", 14, lambda x, y: x * y),
 ]
+# The same with a number behind it that is not zero, and with a power.
+DIVIDED: list[tuple[str, Callable[[int, int], int]]] = [
+    ("//", lambda x, y: x // y),
+    ("%", lambda x, y: x % y),
+]
+GATHERED: list[tuple[str, Callable[[list[int]], int]]] = [("max", max), ("min", min), ("sum", sum)]
 COMPARED: list[tuple[str, Callable[[int, int], bool]]] = [
     ("==", lambda x, y: x == y),
     ("!=", lambda x, y: x != y),
@@ -108,15 +115,13 @@ class Draw:
             constant = chance.randint(0, 5)
             known = Part(str(constant), 17, lambda points: constant)
             return chance.choice([self.cell("number") or known, known])
-        shape = chance.randrange(8)
-        if shape == 0:
-            one = self.number(depth - 1)
-            return Part(f"abs({one.text})", 17, lambda points: abs(number(one.worth(points))))
-        if shape == 1:
-            one = self.number(depth - 1)
-            return Part(f"-{one.within(15)}", 15, lambda points: -number(one.worth(points)))
-        if shape == 2:
+        shape = chance.randrange(12)
+        if shape < 4:
+            return self.of_one(depth, shape)
+        if shape == 4:
             return self.choice(depth, self.number)
+        if shape < 7:
+            return self.gathered(depth)
         mark, level, makes = chance.choice(SUMS)
         left, right = self.number(depth - 1), self.number(depth - 1)
         text = f"{left.within(level)} {mark} {right.within(level + 1)}"
@@ -125,6 +130,35 @@ class Draw:
             level,
             lambda points: makes(number(left.worth(points)), number(right.worth(points))),
         )
+
+    def of_one(self, depth: int, shape: int) -> Part:
+        """What is made of one number."""
+        chance, one = self.chance, self.number(depth - 1)
+        if shape == 0:
+            return Part(f"abs({one.text})", 17, lambda points: abs(number(one.worth(points))))
+        if shape == 1:
+            return Part(f"-{one.within(15)}", 15, lambda points: -number(one.worth(points)))
+        if shape == 2:
+            power = chance.randint(0, 2)
+            text = f"{one.within(17)} ** {power}"
+            return Part(text, 16, lambda points: int(number(one.worth(points)) ** power))
+        mark, makes = chance.choice(DIVIDED)
+        by = chance.choice([-3, -2, -1, 1, 2, 3, 4])
+        text = f"{one.within(14)} {mark} {by}"
+        return Part(text, 14, lambda points: makes(number(one.worth(points)), by))
+
+    def gathered(self, depth: int) -> Part:
+        """What is made of several numbers, or of truths."""
+        chance = self.chance
+        count = chance.randint(1, 3)
+        if chance.random() < 0.4:
+            truths = [self.truth(depth - 1) for _ in range(count)]
+            text = f"count({', '.join(it.within(3) for it in truths)})"
+            return Part(text, 17, lambda points: sum(it.worth(points) == "yes" for it in truths))
+        word, makes = chance.choice(GATHERED)
+        parts = [self.number(depth - 1) for _ in range(count)]
+        text = f"{word}({', '.join(it.within(3) for it in parts)})"
+        return Part(text, 17, lambda points: makes([number(it.worth(points)) for it in parts]))
 
     def choice(self, depth: int, of: Callable[[int], Part]) -> Part:
         test, left, right = self.truth(depth - 1), of(depth - 1), of(depth - 1)
@@ -151,17 +185,20 @@ class Draw:
             text,
             11,
             lambda points: truth(
-                number(low.worth(points)) <= number(item.worth(points)) <= number(high.worth(points))
+                number(low.worth(points))
+                <= number(item.worth(points))
+                <= number(high.worth(points))
             ),
         )
 
-    def named(self) -> Optional[Part]:
+    def named(self, left: Part) -> Part:
         """An element beside a cell, or two cells of one domain."""
-        left = self.cell("month")
-        if left is None:
-            return None
+        if self.chance.random() < 0.3:
+            return self.among(left, self.chance.sample(MONTHS, self.chance.randint(1, 2)))
         word = self.chance.choice(MONTHS)
-        right = self.chance.choice([Part(word, 17, lambda points: word), self.cell("month") or left])
+        right = self.chance.choice(
+            [Part(word, 17, lambda points: word), self.cell("month") or left]
+        )
         is_equal = self.chance.random() < 0.5
         return Part(
             f"{left.text} {'==' if is_equal else '!='} {right.text}",
@@ -169,19 +206,29 @@ class Draw:
             lambda points: truth((left.worth(points) == right.worth(points)) == is_equal),
         )
 
+    def among(self, item: Part, words: Sequence[Value]) -> Part:
+        """One of some words."""
+        # (behind a number a minus sign would take what follows from it)
+        between = ", " if any(isinstance(it, int) for it in words) else " "
+        text = f"{item.within(12)} in {{{between.join(map(str, words))}}}"
+        return Part(text, 11, lambda points: truth(item.worth(points) in words))
+
     def truth(self, depth: int) -> Part:
         chance = self.chance
         if depth <= 0:
             known = chance.choice(["yes", "no"])
             return self.cell("truth") or Part(known, 17, lambda points: known)
-        shape = chance.randrange(9)
+        shape = chance.randrange(10)
+        if shape == 9:
+            return self.among(self.number(depth - 1), [chance.randint(-3, 9) for _ in range(3)])
         if shape == 0:
             one = self.truth(depth - 1)
             return Part(
                 f"not {one.within(10)}", 10, lambda points: truth(one.worth(points) != "yes")
             )
-        if shape == 1:
-            return self.named() or self.compared(depth)
+        month = self.cell("month")
+        if shape == 1 and month:
+            return self.named(month)
         if shape == 2:
             return self.choice(depth, self.truth)
         if shape == 3:
@@ -286,8 +333,10 @@ class Session:
             if not reply[-1].startswith("others unknown"):
                 break
         if told != wanted:
-            self.blame(f"lost {sorted(map(str, wanted - told))[:3]}, wrong "
-                       f"{sorted(map(str, told - wanted))[:3]}")
+            self.blame(
+                f"lost {sorted(map(str, wanted - told))[:3]}, wrong "
+                f"{sorted(map(str, told - wanted))[:3]}"
+            )
 
     def row(self, line: str, cells: list[str]) -> tuple[Value, ...]:
         """The values of a row of a reply."""
@@ -338,6 +387,10 @@ REFUSED = [
     ("require far * far < 3", "error 6: not a number in range"),
     ("require x < 1 under 1x", "error 5: not a name"),
     ("require x < 1 under", "error 4: wrong form"),
+    ("require under p", "error 4: wrong form"),
+    ("require x < 1 under no", "error 5: not a name"),
+    ("require x // x < 1", "error 6: not a number in range"),
+    ("require different(x, far)", "error 4: wrong form"),
     (f"require x < {'1' * 4090}", "error 1: line too long"),
     ("choose c x 1 or 2", "ok"),
     ("require x < 1 under c", "error 17: is a choice"),
@@ -379,18 +432,15 @@ def cases() -> Iterator[Check]:
 def built() -> Iterator[Check]:
     """The cases over propwide, where it is built."""
     if os.path.exists(PROGRAM):
-        for check in cases():
-            look: Callable[[str], Optional[str]] = check.look
-            yield Check(check.name, lambda _, look=look: look(PROGRAM))
+        yield from map(over_propwide, cases())
 
 
 def main(words: list[str]) -> int:
     if not words or words[0].startswith("-"):
         print(__doc__)
         return 0 if words == ["--help"] else 2
-    program, *numbers = words
-    count, first = [*map(int, numbers), *[BY_ITSELF, 0][len(numbers) :]]
-    wrong, taken = tried(os.path.abspath(program), range(first, first + count))
+    program, seeds = asked_for(words, BY_ITSELF)
+    wrong, taken = tried(os.path.abspath(program), seeds)
     look: Callable[[str], Optional[str]] = refused().wrong
     wrong += [it for it in [look(program)] if it]
     for each in wrong:

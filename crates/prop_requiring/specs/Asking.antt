@@ -1,11 +1,10 @@
 -- Which lines require something, and what they say.
-use Rattle.std.specs.Prelude.{◌≡◌, ◌≤◌, ℕ, List, ◌∷◌, ◌++◌, Bool, ◌||◌, ◌==◌, true, IsTrue, codes}
-use Rattle.std.specs.Prelude.{Option, Some, None, length}
+use Rattle.std.specs.Prelude.{◌≡◌, ◌≤◌, ◌<◌, ◌⊎◌, ℕ, List, ◌∷◌, ◌++◌, Bool, ◌||◌, ◌==◌, not}
+use Rattle.std.specs.Prelude.{true, false, codes, Option, Some, None, IfSome, length}
 use Rattle.std.specs.List.{list_all}
+use Rattle.prop_refusals.specs.declared.refusal.Refusal.{Refusal}
+use Rattle.prop_refusals.specs.declared.refusal.Refusal.TheVariants.{LineTooLong, NotAName}
 use Rattle.prop_language.specs.Names.{is_name}
-use Rattle.prop_terms.specs.Terms.{Term}
-use Rattle.prop_terms.specs.Writing.{IsWritten}
-use Rattle.prop_terms.specs.declared.forming.Sort.TheVariants.{Truth}
 use Rattle.prop_seeking.specs.Asking.{begins}
 
 -- the line requires something
@@ -19,16 +18,30 @@ is_space b = (b == 32) || (b == 9) || (b == 13)
 abbrev pub AreSpaces : List ℕ → Type 0
 AreSpaces bytes = list_all is_space bytes ≡ true
 
--- the line is `require` with this text, and then, or not, `under` and a name
-abbrev pub HasParts : List ℕ → List ℕ → Option (List ℕ) → Type 0
-HasParts line text None = (end : List ℕ) × AreSpaces end × (line ≡ codes "require" ++ (text ++ end))
-HasParts line text (Some name) = (a b : ℕ) × (gap end : List ℕ) × IsTrue (is_space a)
-    × IsTrue (is_space b) × AreSpaces gap × AreSpaces end × IsTrue (is_name name)
-    × (line ≡ codes "require" ++ (text ++ a ∷ (codes "under" ++ (gap ++ b ∷ (name ++ end)))))
+-- some bytes, and no space
+abbrev pub IsWord : List ℕ → Type 0
+IsWord bytes = (0 < length bytes) × (list_all (λ b. not (is_space b)) bytes ≡ true)
 
--- the line requires what this term says, under the premise with a name, or under none
-pub record Says (line : List ℕ) (t : Term) (premise : Option (List ℕ)) : Type 0 where
+-- the line is `require` with this text, and then `under` and this word
+abbrev pub EndsUnder : List ℕ → List ℕ → List ℕ → Type 0
+EndsUnder line text word = (a b : ℕ) × (gap end : List ℕ) × (is_space a ≡ true)
+    × (is_space b ≡ true) × AreSpaces gap × AreSpaces end × IsWord word
+    × (line ≡ codes "require" ++ (text ++ a ∷ (codes "under" ++ (gap ++ b ∷ (word ++ end)))))
+
+-- the line is `require` with this text, and then `under` and a word, if it ends so
+abbrev pub HasParts : List ℕ → List ℕ → Option (List ℕ) → Type 0
+HasParts line text (Some word) = EndsUnder line text word
+HasParts line text None = ((before word : List ℕ) → EndsUnder line before word → ⊥)
+    × (end : List ℕ) × AreSpaces end × (line ≡ codes "require" ++ (text ++ end))
+
+-- the line is not too long and has these parts, the word being a name
+pub record IsAsked (line text : List ℕ) (premise : Option (List ℕ)) : Type 0 where
   pub few : length line ≤ 4_096
-  pub text : List ℕ
   pub parts : HasParts line text premise
-  pub writes : IsWritten Truth text t
+  pub named : IfSome premise (λ name. is_name name ≡ true)
+
+-- the line is too long, or behind `under` it has no name
+abbrev pub IsMisread : List ℕ → Refusal → Type 0
+IsMisread line e = ((e ≡ LineTooLong) × (4_096 < length line))
+    ⊎ ((e ≡ NotAName) × (length line ≤ 4_096) × (text word : List ℕ) × EndsUnder line text word
+    × (is_name word ≡ false))

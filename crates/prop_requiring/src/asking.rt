@@ -1,21 +1,28 @@
 //! Which lines require something, and what they say.
-ghost use Rattle.std.specs.Prelude.{◌≡◌, ◌≤◌, ◌++◌, ◌∷◌, ℕ, List, IsTrue, IfOk, IfSome, codes};
-ghost use Rattle.std.specs.Prelude.{length};
+ghost use Rattle.std.specs.Prelude.{◌≡◌, ◌<◌, ◌⊎◌, ◌++◌, List, ℕ, Ok, false, true};
+ghost use Rattle.std.specs.Prelude.{IfErr, IfOk, MatchOption, codes, length};
+ghost use Rattle.std.specs.Option.{option_map};
+ghost use Rattle.prop_language.specs.Names.{is_name};
 ghost use Rattle.prop_workbench.specs.inner.Effects.{name_of};
-ghost use Rattle.prop_requiring.specs.Asking.{AreSpaces, HasParts, is_requirement, is_space};
+ghost use Rattle.prop_requiring.specs.Asking.{IsAsked, IsMisread, is_requirement, is_space};
+ghost use Rattle.prop_requiring.specs.inner.Parts.{before_under, cut, trimmed, under_word};
 
 use prop_language::name;
 use prop_refusals::Refusal;
 use prop_seeking::begins;
 
-/// How many bytes a line may have.
-const MOST_BYTES: usize = 4096;
+/// How many bytes a line may have behind `require`, so that it has 4,096 at the most.
+const MOST_BYTES: usize = 4089;
 
-/// Whether the line requires something.
-pub(crate) fn is_requirement(line: &[u8]) -> bool
-    ensures { result ≡ is_requirement line.now }
+/// What stands behind `require` in a line that requires something.
+pub(crate) fn required(line: &[u8]) -> Option<&[u8]>
+    ensures { MatchOption result (is_requirement line.now ≡ false)
+        (λ rest. (is_requirement line.now ≡ true) × (line.now ≡ codes "require" ++ rest.now)) }
 {
-    begins(b"require".as_slice(), line)
+    if !begins(b"require".as_slice(), line) {
+        return None;
+    }
+    line.strip_prefix(b"require".as_slice())
 }
 
 /// What a line says: a text, and the name of the premise under which it is required.
@@ -34,7 +41,7 @@ fn is_space(byte: u8) -> bool
 
 /// The bytes without spaces at their end.
 fn trimmed(bytes: &[u8]) -> &[u8]
-    ensures { (end : List ℕ) × AreSpaces end × (bytes.now ≡ result.now ++ end) }
+    ensures { result.now ≡ trimmed bytes.now }
 {
     for k in (0..bytes.len()).rev() {
         if !is_space(bytes[k]) {
@@ -44,7 +51,7 @@ fn trimmed(bytes: &[u8]) -> &[u8]
     &bytes[..0]
 }
 
-/// What stands before the last space, and what behind.
+/// What stands before a space, and what behind.
 #[derive(Clone, Copy)]
 struct Cut<'l> {
     before: &'l [u8],
@@ -53,8 +60,7 @@ struct Cut<'l> {
 
 /// Cuts the bytes at the last space.
 fn cut_at_space(bytes: &[u8]) -> Option<Cut<'_>>
-    ensures { IfSome result (λ cut. (b : ℕ) × IsTrue (is_space b)
-        × (bytes.now ≡ cut.before.now ++ b ∷ cut.word.now)) }
+    ensures { option_map (λ parts. (parts.before.now, parts.word.now)) result ≡ cut bytes.now }
 {
     for k in (0..bytes.len()).rev() {
         if is_space(bytes[k]) {
@@ -67,64 +73,56 @@ fn cut_at_space(bytes: &[u8]) -> Option<Cut<'_>>
     None
 }
 
-/// Whether the word is `under`.
-fn is_under(word: &[u8]) -> bool
-    ensures { IsTrue result → word.now ≡ codes "under" }
-{
-    matches!(word, [b'u', b'n', b'd', b'e', b'r'])
-}
-
 /// What stands before the last word, where that is `under`.
 fn before_under(bytes: &[u8]) -> Option<&[u8]>
-    ensures { IfSome result (λ text. (a : ℕ) × (gap : List ℕ) × IsTrue (is_space a) × AreSpaces gap
-        × (bytes.now ≡ text.now ++ a ∷ (codes "under" ++ gap))) }
+    ensures { name_of result ≡ before_under bytes.now }
 {
-    let whole = trimmed(bytes);
-    let Some(cut) = cut_at_space(whole) else {
+    let Some(parts) = cut_at_space(trimmed(bytes)) else {
         return None;
     };
-    if is_under(cut.word) {
-        Some(cut.before)
+    if parts.word == b"under".as_slice() {
+        Some(parts.before)
     } else {
         None
     }
 }
 
-/// What stands behind the first word of a line that requires something.
-fn behind_word(line: &[u8]) -> Option<&[u8]>
-    ensures { IfSome result (λ rest. line.now ≡ codes "require" ++ rest.now) }
+/// What stands before `under` and the last word, and that word, where the bytes end so.
+fn under_word(bytes: &[u8]) -> Option<Cut<'_>>
+    ensures { option_map (λ parts. (parts.before.now, parts.word.now)) result
+        ≡ under_word bytes.now }
 {
-    line.strip_prefix(b"require".as_slice())
+    let Some(parts) = cut_at_space(trimmed(bytes)) else {
+        return None;
+    };
+    match before_under(parts.before) {
+        Some(before) => Some(Cut {
+            before,
+            word: parts.word,
+        }),
+        None => None,
+    }
 }
 
-/// What a line says that requires something. Refused with 1 where it is too long, and with 5 where
-/// behind `under` stands no name.
-pub(crate) fn read_line(line: &[u8]) -> Result<Said<'_>, Refusal>
-    ensures few { IfOk result (λ s. length line.now ≤ 4_096) }
-    ensures parts { IfOk result (λ s. HasParts line.now s.text.now (name_of s.premise)) }
+/// What a line says by what stands behind `require`. Refused with 1 where it is too long, and
+/// with 5 where behind `under` stands no name.
+pub(crate) fn read_line(behind: &[u8]) -> Result<Said<'_>, Refusal>
+    ensures ok { IfOk result
+        (λ said. IsAsked (codes "require" ++ behind.now) said.text.now (name_of said.premise)) }
+    ensures err { IfErr result (λ e. IsMisread (codes "require" ++ behind.now) e) }
 {
-    if line.len() > MOST_BYTES {
+    if behind.len() > MOST_BYTES {
         return Err(Refusal::LineTooLong);
     }
-    let Some(behind) = behind_word(line) else {
-        return Err(Refusal::WrongForm);
-    };
-    let text = trimmed(behind);
-    let Some(cut) = cut_at_space(text) else {
+    let Some(parts) = under_word(behind) else {
         return Ok(Said {
-            text,
+            text: trimmed(behind),
             premise: None,
         });
     };
-    let Some(before) = before_under(cut.before) else {
-        return Ok(Said {
-            text,
-            premise: None,
-        });
-    };
-    match name(cut.word) {
+    match name(parts.word) {
         Ok(premise) => Ok(Said {
-            text: before,
+            text: parts.before,
             premise: Some(premise),
         }),
         Err(refusal) => Err(refusal),

@@ -2,7 +2,7 @@
 ghost use Rattle.std.specs.Prelude.{◌≡◌, IfOk};
 ghost use Rattle.std.specs.List.{range_with_len};
 
-use crate::asking::{is_requirement, read_line};
+use crate::asking::{read_line, required};
 use prop_demands::understood;
 use prop_engine::Reply;
 use prop_guards::Guarded;
@@ -30,7 +30,7 @@ fn numbers_below(alloc: Global, count: usize) -> Result<Vec<usize>, AllocError>
 }
 
 impl<R: Guarded + Drop, O: Order + Drop> Requirer<R, O> {
-    ghost use Rattle.std.specs.Prelude.{◌≡◌, None, OnOk};
+    ghost use Rattle.std.specs.Prelude.{◌≡◌, ◌++◌, None, OnOk, codes};
     ghost use Rattle.prop_language.specs.Said.{words};
     ghost use Rattle.prop_engine.specs.Answers.{answer_done, answer_of};
     ghost use Rattle.prop_workbench.specs.Loading.{Loads};
@@ -65,10 +65,10 @@ impl<R: Guarded + Drop, O: Order + Drop> Requirer<R, O> {
             (sought_of self.old.blamer.seeker) line.now (answer_of result)
             (sought_of self.new.blamer.seeker) }
     {
-        if is_requirement(line) {
-            return Reply::of(self.require(line));
+        match required(line) {
+            Some(behind) => Reply::of(self.require(behind)),
+            None => self.blamer.command(line),
         }
-        self.blamer.command(line)
     }
 
     /// Carries out the lines of a prelude, in order. The first that is refused ends it with its
@@ -91,17 +91,17 @@ impl<R: Guarded + Drop, O: Order + Drop> Requirer<R, O> {
         Ok(())
     }
 
-    /// Has what a line says hold, under its premise.
-    fn require(&mut self, line: &[u8]) -> Result<(), Refusal>
+    /// Has what a line says behind `require` hold, under its premise.
+    fn require(&mut self, behind: &[u8]) -> Result<(), Refusal>
         requires ready { IsReady R.value_of self.old }
         ensures same { self.new.blamer.seeker.teller.session.live.network.library
             ≡ self.old.blamer.seeker.teller.session.live.network.library }
         ensures ready { IsReady R.value_of self.new }
         ensures requires_it { Requires (library_of R.value_of self.old.blamer.seeker.teller.session)
-            (sought_of self.old.blamer.seeker) line.now (answer_done result)
+            (sought_of self.old.blamer.seeker) (codes "require" ++ behind.now) (answer_done result)
             (sought_of self.new.blamer.seeker) }
     {
-        let said = match read_line(line) {
+        let said = match read_line(behind) {
             Ok(said) => said,
             Err(refusal) => return Err(refusal),
         };

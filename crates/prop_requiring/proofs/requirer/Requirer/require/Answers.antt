@@ -52,7 +52,6 @@ returns-clause-requires_it g c =
     let new = c.post.new.self in
     let value = g.R.Rule.value_of in
     let library = stored_of value session.live.network.library in
-    let said = c.in-Ok.ensures in
     let premise = name_of c.in-Ok.said.premise in
     let p = c.in-Ok-understood.posting in
     let u = rw (c.cells.ensures, c.words.ensures, c.names.ensures) at c.in-Ok-understood.ensures.understood in
@@ -69,7 +68,7 @@ returns-clause-requires_it g c =
     inr (record {
       term = u.0;
       premise = premise;
-      says = record { few = said.few; text = c.in-Ok.said.text.now; parts = said.parts; writes = u.1 };
+      says = record { text = c.in-Ok.said.text.now; asked = c.in-Ok.ensures.ok; writes = u.1 };
       posting = p;
       result = c.post.result;
       answer_is = refl;
