@@ -44,7 +44,7 @@ def first_lines() -> Optional[str]:
 
 
 TYPED_TESTS = ["conftest", "documents", "driver", "first_start", "gate", "handbook", "lines"]
-TYPED_TESTS += ["networks", "requiring"]
+TYPED_TESTS += ["networks", "requiring", "spoiled_requiring"]
 TYPED_TESTS += ["package", "pages", "peers", "pipe", "points", "puzzles", "relations", "scripts"]
 TYPED_TESTS += ["searches", "solving", "spoiled_solving", "talking", "test_sessions", "versions"]
 TYPED_TESTS += ["blaming", "changes", "changing", "asked", "spoiled_blaming", "spoiled_changing"]

@@ -30,7 +30,8 @@ PATH is crates/propbench/out/propbench where it is left out. What is run:
 - conflicts and repairs of random small networks, against every set of premises (tests/blaming.py),
   and such replies spoiled on purpose (tests/spoiled_blaming.py);
 - constraints as one writes them on random cells, of which each row that is told, and that is not,
-  is held to plain evaluation (tests/requiring.py);
+  is held to plain evaluation (tests/requiring.py), and such constraints spoiled on purpose
+  (tests/spoiled_requiring.py);
 - random sessions, each answer of which is compared with a plain and slow evaluation
   (tests/plain.py), such with choices, of which every list is tried (tests/choices.py), and such
   under small limits, of which every step is taken anew (tests/steps.py);
@@ -96,6 +97,7 @@ import solving
 import spoiled
 import spoiled_blaming
 import spoiled_changing
+import spoiled_requiring
 import spoiled_solving
 import stacks
 import steps
@@ -172,6 +174,7 @@ def cases() -> Iterator[Runnable]:
     yield from blaming.built()
     yield from spoiled_blaming.built()
     yield from requiring.built()
+    yield from spoiled_requiring.built()
     yield from documents.built()
     yield from telling.built()
     yield from in_each_order(worked())
