@@ -78,7 +78,7 @@ pub cut_here : (xs : List ℕ) (k : ℕ) → k < length xs → is_space (get_or 
     → cut xs ≡ Some (take k xs, drop (suc k) xs)
 cut_here xs k l s n =
     let whole : take k xs ++ get_or xs k 0 ∷ drop (suc k) xs ≡ xs =
-        ap (λ l. take k xs ++ l) (sym (drop-cons xs k 0 l)) ∙ take-append-drop k xs in
+    ap (λ l. take k xs ++ l) (sym (drop-cons xs k 0 l)) ∙ take-append-drop k xs in
     let at = cut_at (take k xs) (get_or xs k 0) (drop (suc k) xs) s n in
     subst (λ (l : List ℕ). cut l ≡ Some (take k xs, drop (suc k) xs)) whole at
 
@@ -101,6 +101,7 @@ cut_says (x ∷ xs) = step (cut xs) (cut_says xs)
     ends : (c : Bool) → is_space x ≡ c → NoSpaces xs → CutSays (x ∷ xs) (cond c (Some ([], xs)) None)
     ends true s n = (x, s, n, refl)
     ends false s n = rw s n
+
     step : (c : Option (List ℕ × List ℕ)) → CutSays xs c
         → CutSays (x ∷ xs) (option_map_or (λ parts. Some (x ∷ parts.0, parts.1)) c
         (cond (is_space x) (Some ([], xs)) None))
@@ -139,6 +140,7 @@ last_is_none (x ∷ xs) front b e =
     left : (c d : Bool) → (c && d) ≡ false → d ≡ true → c ≡ false
     left false d e f = refl
     left true d e f = cc
+
     ends : (c : Bool) → list_all is_space (x ∷ xs) ≡ c → (front : List ℕ)
         → cond c [] (x ∷ trimmed xs) ≡ front ++ b ∷ []
         → ((front : List ℕ) → trimmed xs ≡ front ++ b ∷ [] → is_space b ≡ false) → is_space b ≡ false
@@ -177,8 +179,8 @@ under_found behind text word (a, b, gap, end, sa, sb, gaps, ends, w, e) =
     let whole = append_cancel_left (codes "require") _ _ e in
     let front = text ++ a ∷ (codes "under" ++ gap) in
     let split : behind ≡ front ++ b ∷ (word ++ end) =
-        whole ∙ ap (λ l. text ++ a ∷ l) (sym (append_assoc (codes "under") gap (b ∷ (word ++ end))))
-        ∙ sym (append_assoc text (a ∷ (codes "under" ++ gap)) (b ∷ (word ++ end))) in
+    whole ∙ ap (λ l. text ++ a ∷ l) (sym (append_assoc (codes "under") gap (b ∷ (word ++ end))))
+    ∙ sym (append_assoc text (a ∷ (codes "under" ++ gap)) (b ∷ (word ++ end))) in
     let t : trimmed behind ≡ front ++ b ∷ word = ap trimmed split ∙ trimmed_behind front b word end w ends in
     let c : cut (trimmed behind) ≡ Some (front, word) = ap cut t ∙ cut_at front b word sb w.1 in
     let u : trimmed front ≡ text ++ a ∷ codes "under" = trimmed_behind text a (codes "under") gap (omega arith, refl) gaps in
@@ -205,9 +207,14 @@ before_from before text (Some (front, word)) (a, s, n, split) e = test (bytes_eq
     test true d e =
         let r = trimmed_says before in
         let there : front ≡ text = cc in
-        let is : word ≡ codes "under" = (bytes_eq-Decides word (codes "under")).0 d in
-        (a, r.0, s, r.1, r.2 ∙ ap (λ l. l ++ r.0) split ∙ append_assoc front (a ∷ word) r.0
-        ∙ ap (λ l. l ++ a ∷ (word ++ r.0)) there ∙ ap (λ w. text ++ a ∷ (w ++ r.0)) is)
+        let is : word ≡ codes "under" = (bytes_eq-Decides word (codes "under")).0 d in (
+          a,
+          r.0,
+          s,
+          r.1,
+          r.2 ∙ ap (λ l. l ++ r.0) split ∙ append_assoc front (a ∷ word) r.0
+              ∙ ap (λ l. l ++ a ∷ (word ++ r.0)) there ∙ ap (λ w. text ++ a ∷ (w ++ r.0)) is,
+        )
 
 before_says : (before text : List ℕ) → before_under before ≡ Some text → IsBefore before text
 before_says before text e = before_from before text (cut (trimmed before)) (cut_says (trimmed before)) e
@@ -240,12 +247,21 @@ found_from behind text word (Some (before, last)) (b, s, n, split) e = test (bef
         let gap = u.1 in
         let end = r.0 in
         let joined = r.2 ∙ ap (λ l. l ++ end) split ∙ append_assoc before (b ∷ last) end
-            ∙ ap (λ l. l ++ b ∷ (last ++ end)) u.4
-            ∙ append_assoc text (a ∷ (codes "under" ++ gap)) (b ∷ (last ++ end))
-            ∙ ap (λ l. text ++ a ∷ l) (append_assoc (codes "under") gap (b ∷ (last ++ end)))
-            ∙ ap (λ w. text ++ a ∷ (codes "under" ++ (gap ++ b ∷ (w ++ end)))) is in
-        (a, b, gap, end, u.2, s, u.3, r.1, subst IsWord is (some_word behind before last b s split, n),
-        ap (λ l. codes "require" ++ l) joined)
+        ∙ ap (λ l. l ++ b ∷ (last ++ end)) u.4
+        ∙ append_assoc text (a ∷ (codes "under" ++ gap)) (b ∷ (last ++ end))
+        ∙ ap (λ l. text ++ a ∷ l) (append_assoc (codes "under") gap (b ∷ (last ++ end)))
+        ∙ ap (λ w. text ++ a ∷ (codes "under" ++ (gap ++ b ∷ (w ++ end)))) is in (
+          a,
+          b,
+          gap,
+          end,
+          u.2,
+          s,
+          u.3,
+          r.1,
+          subst IsWord is (some_word behind before last b s split, n),
+          ap (λ l. codes "require" ++ l) joined,
+        )
 
 -- where bytes end so, they do
 pub found_under : (behind text word : List ℕ) → under_word behind ≡ Some (text, word)
@@ -260,8 +276,12 @@ plain behind text few none e =
     let r = trimmed_says behind in
     record {
       few = omega arith;
-      parts = (λ before word ends. let found = under_found behind before word ends in cc,
-      r.0, r.1, ap (λ l. codes "require" ++ l) (r.2 ∙ ap (λ l. l ++ r.0) (sym e)));
+      parts = (
+        λ before word ends. let found = under_found behind before word ends in cc,
+        r.0,
+        r.1,
+        ap (λ l. codes "require" ++ l) (r.2 ∙ ap (λ l. l ++ r.0) (sym e)),
+      );
       named = tt;
     }
 

@@ -3,12 +3,12 @@ ghost use Rattle.std.specs.Prelude.{◌≡◌, IfOk};
 ghost use Rattle.std.specs.List.{range_with_len};
 
 use crate::asking::{read_line, required};
+use prop_blaming::Blamer;
 use prop_demands::understood;
 use prop_engine::Reply;
 use prop_guards::Guarded;
 use prop_refusals::Refusal;
 use prop_scheduler::Order;
-use prop_blaming::Blamer;
 use prop_workbench::Session;
 use std::alloc::{AllocError, Global};
 

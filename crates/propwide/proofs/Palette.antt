@@ -188,9 +188,11 @@ pub wide_palette : IsPalette wide
 wide_palette = record {
   forms = λ rule.
       let f = found rule in
-      let value = answer_of f.made.rule in
-      (stored f.made.form value, map_at (λ (p : Made). stored p.form (answer_of p.rule)) in_order _ f.made f.at,
-      f.form value);
+      let value = answer_of f.made.rule in (
+        stored f.made.form value,
+        map_at (λ (p : Made). stored p.form (answer_of p.rule)) in_order _ f.made f.at,
+        f.form value,
+      );
   sound = λ n p at any param args points point call of_kinds of_kind each h.
       wide_is_sound n p at any param args points point call of_kinds of_kind each (related_there n param points point h);
   single = λ n s a points fit solves settled.
