@@ -41,28 +41,26 @@ map_at f (y ∷ xs) (suc k) x e = map_at f xs k x e
 -- ---- the first procedures
 
 kit_at : (rule : Kit) → slice_get kits (kit_number rule) ≡ Some rule
-kit_at rule = elim rule [
-  | kit.Add ↦ refl
-  | kit.Sub ↦ refl
-  | kit.Mul ↦ refl
-  | kit.Div ↦ refl
-  | kit.Square ↦ refl
-  | kit.Root ↦ refl
-  | kit.Less ↦ refl
-  | kit.Below ↦ refl
-  | kit.Above ↦ refl
-  | kit.Copy ↦ refl
-  | kit.Alike ↦ refl
-  | kit.Apart ↦ refl
-  | kit.Switch ↦ refl
-  | kit.Not ↦ refl
-  | kit.And ↦ refl
-  | kit.AndBack ↦ refl
-  | kit.Or ↦ refl
-  | kit.OrBack ↦ refl
-  | kit.Image ↦ refl
-  | kit.Coimage ↦ refl
-]
+kit_at kit.Add = refl
+kit_at kit.Sub = refl
+kit_at kit.Mul = refl
+kit_at kit.Div = refl
+kit_at kit.Square = refl
+kit_at kit.Root = refl
+kit_at kit.Less = refl
+kit_at kit.Below = refl
+kit_at kit.Above = refl
+kit_at kit.Copy = refl
+kit_at kit.Alike = refl
+kit_at kit.Apart = refl
+kit_at kit.Switch = refl
+kit_at kit.Not = refl
+kit_at kit.And = refl
+kit_at kit.AndBack = refl
+kit_at kit.Or = refl
+kit_at kit.OrBack = refl
+kit_at kit.Image = refl
+kit_at kit.Coimage = refl
 
 -- a wider procedure has the rule, and takes these inputs
 pub record IsOf (rule : Wide) (k : ℕ) : Type 0 where
@@ -190,7 +188,7 @@ wide_palette = record {
       let f = found rule in
       let value = answer_of f.made.rule in (
         stored f.made.form value,
-        map_at (λ (p : Made). stored p.form (answer_of p.rule)) in_order _ f.made f.at,
+        map_at (λ (p : Made). stored p.form (answer_of p.rule)) in_order (rule_number rule) f.made f.at,
         f.form value,
       );
   sound = λ n p at any param args points point call of_kinds of_kind each h.
