@@ -5,10 +5,11 @@ use Rattle.std.specs.Prelude.{nat_le}
 use Rattle.std.proofs.lemmas.Bool.{and_parts}
 use Rattle.std.proofs.lemmas.Bool.Decides.{leb_tells}
 use Rattle.std.proofs.lemmas.List.{length-take, take_all}
-use Rattle.std.proofs.lemmas.List.Elements.{All-take, All-push, Contains-append_left}
+use Rattle.std.proofs.lemmas.List.Elements.{All-take, All-push, Contains-append_left, Contains-get_or}
 use Rattle.prop_numbers.specs.Sets.{Members, set_of}
 use Rattle.prop_hitting.specs.declared.conflict.Conflict.{Conflict}
 use Rattle.prop_procedures.specs.Stored.{Stored}
+use Rattle.prop_conflicts.specs.Cheapest.{AreCheapestIn, HaveOne}
 use Rattle.prop_conflicts.specs.Conflicts.{Ground, IsRefuted}
 use Rattle.prop_conflicts.specs.Conflicts.{IsConflict as IsConflictOf, IsRepair as IsRepairOf}
 use Rattle.prop_conflicts.specs.declared.explorer.Explorer.{Explorer}
@@ -16,9 +17,10 @@ use Rattle.prop_conflicts.specs.inner.Explorers.{IsExplored}
 use Rattle.prop_conflicts.proofs.ExploringLemmas.{all_conflicts, all_repairs}
 use Rattle.prop_workbench.specs.Machine.{State}
 use Rattle.prop_workbench.specs.Points.{attached_in}
-use Rattle.prop_blaming.specs.Texts.{conflicts_text, repairs_text}
+use Rattle.prop_blaming.specs.Texts.{cheapest_text, conflicts_text, repairs_text}
 use Rattle.prop_blaming.specs.inner.Blamers.{AreBelieved, AreListed}
-use Rattle.prop_blaming.specs.Blame.{CanHold, CannotHold, IsConflict, IsRepair, SaysConflicts, SaysRepairs}
+use Rattle.prop_blaming.specs.Blame.{CanHold, CannotHold, IsConflict, IsRepair, SaysCheapest, SaysConflicts}
+use Rattle.prop_blaming.specs.Blame.{SaysRepairs}
 
 -- what there is of a state
 abbrev pub ground_of : List Stored → State → Ground
@@ -136,3 +138,23 @@ module _ (library : List Stored) (s : State) (e : Explorer) (known : IsExplored 
 
       all_told : length e.repairs.items ≤ most → found ≡ e.repairs.items
       all_told l = first ∙ take_all most e.repairs.items l
+
+-- ---- what is replied of the cheapest
+
+module _ (library : List Stored) (s : State) (most : ℕ) (text weights : List ℕ) (found : List (List ℕ))
+    (cheapest : AreCheapestIn (ground_of library s) weights found) where
+  pub cheapest_believed : All (AreBelieved s.premises) found
+  cheapest_believed k d l = (cheapest.repairs (get_or found k d) (Contains-get_or found k d l)).believed
+
+  pub says_cheapest : (all : Bool) → length found ≤ most → (IsTrue all → HaveOne (ground_of library s) found)
+      → text ≡ cheapest_text s.premises weights found all → SaysCheapest library s weights most text
+  says_cheapest all few others is = (
+    found,
+    all,
+    few,
+    λ k d l. let r = cheapest.repairs (get_or found k d) (Contains-get_or found k d l) in
+        (r.believed, r.fits, r.least),
+    cheapest.cheapest,
+    others,
+    is,
+  )

@@ -1,17 +1,21 @@
 -- Which believed premises can't all hold, what has to be given up of them, and what is replied.
-use Rattle.std.specs.Prelude.{◌≡◌, ◌≤◌, ℕ, List, Bool, true, false, not, ◌&&◌, All, Contains}
+use Rattle.std.specs.Prelude.{◌≡◌, ◌≤◌, ◌<◌, ℕ, List, Bool, true, false, not, ◌&&◌, All, Contains}
 use Rattle.std.specs.Prelude.{IsTrue}
 use Rattle.std.specs.Prelude.{length}
+use Rattle.std.specs.List.Sorted.{IsStrictlyIncreasing}
 use Rattle.prop_lattice.specs.Points.{Point}
 use Rattle.prop_numbers.specs.Sets.{Members, IsPart, set_of, without}
 use Rattle.prop_premises.specs.ChoiceLists.{IsChoiceList, worldview}
 use Rattle.prop_premises.specs.Origins.{believed_in}
 use Rattle.prop_procedures.specs.Stored.{Stored}
+use Rattle.prop_hitting.specs.Costs.{cost}
 use Rattle.prop_hitting.specs.declared.conflict.Conflict.{Conflict}
 use Rattle.prop_workbench.specs.Machine.{State, choices_in}
 use Rattle.prop_workbench.specs.Points.{Satisfy}
 use Rattle.prop_seeking.specs.Plans.{Refutes}
-use Rattle.prop_blaming.specs.Texts.{conflicts_text, repairs_text}
+use Rattle.prop_blaming.specs.Asking.{Wish}
+use Rattle.prop_blaming.specs.Asking.Wish.{Conflicts, Repairs, Cheapest}
+use Rattle.prop_blaming.specs.Texts.{cheapest_text, conflicts_text, repairs_text}
 
 -- some points satisfy what these premises say, with a side of each choice
 abbrev pub CanHold : List Stored → State → Members → Type 0
@@ -53,7 +57,21 @@ SaysRepairs library s most text = (found : List (List ℕ)) × (all : Bool) × (
     → (out : List ℕ) × Contains found out × ((p : ℕ) → IsTrue (set_of out p) → kept p ≡ false))
     × (text ≡ repairs_text s.premises found all)
 
+-- repairs, no more than were asked for; what can be given up for less than one of them has all of
+-- one of them; where there are no others, whatever can hold has nothing of one of them
+abbrev pub SaysCheapest : List Stored → State → List ℕ → ℕ → List ℕ → Type 0
+SaysCheapest library s weights most text = (found : List (List ℕ)) × (all : Bool)
+    × (length found ≤ most) × All (IsRepair library s) found
+    × ((out : List ℕ) → IsStrictlyIncreasing out
+    → CanHold library s (kept_without s (set_of out)) → (r : List ℕ) → Contains found r
+    → cost weights out < cost weights r
+    → (q : List ℕ) × Contains found q × IsPart (set_of q) (set_of out))
+    × (IsTrue all → (kept : Members) → CanHold library s kept
+    → (out : List ℕ) × Contains found out × ((p : ℕ) → IsTrue (set_of out p) → kept p ≡ false))
+    × (text ≡ cheapest_text s.premises weights found all)
+
 -- what is replied is so
-abbrev pub Says : List Stored → State → Bool → ℕ → List ℕ → Type 0
-Says library s true most text = SaysRepairs library s most text
-Says library s false most text = SaysConflicts library s most text
+abbrev pub Says : List Stored → State → Wish → List ℕ → Type 0
+Says library s (Conflicts most) text = SaysConflicts library s most text
+Says library s (Repairs most) text = SaysRepairs library s most text
+Says library s (Cheapest most weights) text = SaysCheapest library s weights most text

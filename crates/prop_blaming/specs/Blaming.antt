@@ -11,19 +11,19 @@ use Rattle.prop_workbench.specs.Questions.{Picks}
 use Rattle.prop_telling.specs.Telling.{Own}
 use Rattle.prop_seeking.specs.Asking.{as_value}
 use Rattle.prop_seeking.specs.Seeking.{Sought, seeking}
-use Rattle.prop_blaming.specs.Asking.{asked, is_blame}
+use Rattle.prop_blaming.specs.Asking.{Wish, asked, is_blame}
 use Rattle.prop_blaming.specs.Blame.{Says}
 
 -- a reply that is so is told, or the question was refused
-abbrev pub Replies : List Stored → State → Result (Bool × ℕ) Refusal → Answer → Type 0
-Replies library s (Ok (repairs, most)) answer =
-    (text : List ℕ) × Says library s repairs most text × (answer ≡ Text text)
+abbrev pub Replies : List Stored → State → Result Wish Refusal → Answer → Type 0
+Replies library s (Ok wish) answer =
+    (text : List ℕ) × Says library s wish text × (answer ≡ Text text)
 Replies library s (Err reason) answer = answer ≡ Refused reason
 
 -- a question is answered as it is read, or memory was refused
 abbrev pub Blames : List Stored → State → List ℕ → Answer → Type 0
 Blames library s line answer = (answer ≡ Refused Memory)
-    ⊎ AsRead (as_value line) (λ read. Replies library s (asked read) answer)
+    ⊎ AsRead (as_value line) (λ read. Replies library s (asked s.premises read) answer)
 
 -- a line asks what can't all hold, and all stays; or the seeker carries it out
 abbrev pub blaming : {O : Type 0} → Picks O → List Stored → Machine (Sought O)

@@ -1,3 +1,4 @@
+pub mod Weighing
 pub mod Asking
 pub mod Texts
 pub mod Blame

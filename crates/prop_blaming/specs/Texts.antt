@@ -3,6 +3,7 @@ use Rattle.std.specs.Prelude.{ℕ, List, ◌++◌, Bool, codes, decimal, flat_ma
 use Rattle.std.specs.Prelude.{if◌then◌else◌}
 use Rattle.prop_texts.specs.Texts.{support_text}
 use Rattle.prop_premises.specs.Origins.{Origin}
+use Rattle.prop_hitting.specs.Costs.{cost}
 use Rattle.prop_hitting.specs.declared.conflict.Conflict.{Conflict}
 
 -- whether there are others
@@ -28,3 +29,12 @@ repair_text premises out = codes "\nrepair:" ++ support_text premises out
 abbrev pub repairs_text : List Origin → List (List ℕ) → Bool → List ℕ
 repairs_text premises found all = codes "repairs " ++ (decimal (length found)
     ++ (flat_map (repair_text premises) found ++ others_text all))
+
+-- a repair with what it costs
+abbrev pub costed_text : List Origin → List ℕ → List ℕ → List ℕ
+costed_text premises weights out = codes "\nrepair " ++ (decimal (cost weights out)
+    ++ (codes ":" ++ support_text premises out))
+
+abbrev pub cheapest_text : List Origin → List ℕ → List (List ℕ) → Bool → List ℕ
+cheapest_text premises weights found all = codes "repairs " ++ (decimal (length found)
+    ++ (flat_map (costed_text premises weights) found ++ others_text all))

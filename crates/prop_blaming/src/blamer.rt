@@ -51,7 +51,7 @@ impl<R: Guarded + Drop, O: Order + Drop> Blamer<R, O> {
     ghost use Rattle.prop_seeking.specs.inner.Seekers.{Gives, sought_of};
     ghost use Rattle.prop_conflicts.specs.inner.Explorers.{IsExplored};
     ghost use Rattle.prop_blaming.specs.Asking.{asked};
-    ghost use Rattle.prop_blaming.specs.Blame.{Says, SaysConflicts, SaysRepairs};
+    ghost use Rattle.prop_blaming.specs.Blame.{Says, SaysCheapest, SaysConflicts, SaysRepairs};
     ghost use Rattle.prop_blaming.specs.Blaming.{blaming, Blames};
     ghost use Rattle.prop_blaming.specs.inner.Blamers.{asked_of, IsReady};
     ghost use Rattle.prop_seeking.specs.inner.Explored.{ground_in};
@@ -144,7 +144,7 @@ impl<R: Guarded + Drop, O: Order + Drop> Blamer<R, O> {
         ensures ready { IsReady R.value_of self.new }
         ensures replies { (answer_of result ≡ Refused Refusal.Memory) ⊎ ((text : List ℕ)
             × Says (library_of R.value_of self.old.seeker.teller.session)
-            (state_of self.old.seeker.teller.session) asked.are_repairs asked.most text
+            (state_of self.old.seeker.teller.session) (asked_of asked) text
             × (answer_of result ≡ Text text)) }
     {
         Reply::saying(self.answered(asked))
@@ -153,14 +153,15 @@ impl<R: Guarded + Drop, O: Order + Drop> Blamer<R, O> {
     /// What a line asks.
     fn asked(&self, line: &[u8]) -> Result<Asked, Refusal>
         ensures { (result ≡ Err Refusal.Memory) ⊎ AsRead (as_value line.now) (λ read.
-            Gives asked_of result (asked read)) }
+            Gives asked_of result
+            (asked (state_of self.now.seeker.teller.session).premises read)) }
     {
         let alloc = self.seeker.alloc();
         let Ok(line) = as_value(alloc, line) else {
             return Err(Refusal::Memory);
         };
         match read_line(alloc, &line) {
-            Ok(command) => question_of(&command),
+            Ok(command) => question_of(alloc, self.seeker.origins(), &command),
             Err(refusal) => Err(refusal),
         }
     }
@@ -173,30 +174,47 @@ impl<R: Guarded + Drop, O: Order + Drop> Blamer<R, O> {
         ensures ready { IsReady R.value_of self.new }
         ensures says { IfOk result (λ text. Says
             (library_of R.value_of self.old.seeker.teller.session)
-            (state_of self.old.seeker.teller.session) asked.are_repairs asked.most
+            (state_of self.old.seeker.teller.session) (asked_of asked)
             (string_bytes text)) }
     {
         let before = self.explorer.take();
-        let explorer = self.seeker.explore(before, wanted(asked))?;
-        let text = self.text(&explorer, asked)?;
+        let explorer = self.seeker.explore(before, wanted(&asked))?;
+        let text = self.text(&explorer, &asked)?;
         self.explorer = Some(explorer);
         Ok(text)
     }
 
     /// What is replied of what was found.
-    fn text(&self, explorer: &Explorer, asked: Asked) -> Result<String, AllocError>
+    fn text(&self, explorer: &Explorer, asked: &Asked) -> Result<String, AllocError>
         requires explored { IsExplored (ground_in R.value_of self.now.seeker.teller.session)
             explorer.now }
         ensures { IfOk result (λ text. Says
             (library_of R.value_of self.now.seeker.teller.session)
-            (state_of self.now.seeker.teller.session) asked.are_repairs asked.most
+            (state_of self.now.seeker.teller.session) (asked_of asked.now)
             (string_bytes text)) }
     {
-        if asked.are_repairs {
-            self.repairs(explorer, asked.most)
-        } else {
-            self.conflicts(explorer, asked.most)
+        match asked {
+            Asked::Conflicts(most) => self.conflicts(explorer, *most),
+            Asked::Repairs(most) => self.repairs(explorer, *most),
+            Asked::Cheapest(most, weights) => self.cheapest(explorer, weights, *most),
         }
+    }
+
+    /// The cheapest repairs, so many at the most, and whether there are others.
+    fn cheapest(
+        &self,
+        explorer: &Explorer,
+        weights: &[u32],
+        most: usize,
+    ) -> Result<String, AllocError>
+        requires explored { IsExplored (ground_in R.value_of self.now.seeker.teller.session)
+            explorer.now }
+        ensures { IfOk result (λ text. SaysCheapest
+            (library_of R.value_of self.now.seeker.teller.session)
+            (state_of self.now.seeker.teller.session) weights.now most (string_bytes text)) }
+    {
+        let listed = explorer.cheapest(weights, most)?;
+        self.cheapest_text(weights, &listed.sets, listed.are_all)
     }
 
     /// The first repairs that were found, so many at the most, and whether there are others.
@@ -235,15 +253,22 @@ fn are_all(is_over: bool, found: usize, most: usize) -> bool
 }
 
 /// How many of each are looked for.
-fn wanted(asked: Asked) -> Wanted {
-    if asked.are_repairs {
-        return Wanted {
+fn wanted(asked: &Asked) -> Wanted<'_> {
+    match asked {
+        Asked::Conflicts(most) => Wanted {
+            conflicts: *most,
+            repairs: usize::MAX,
+            weights: None,
+        },
+        Asked::Repairs(most) => Wanted {
             conflicts: usize::MAX,
-            repairs: asked.most,
-        };
-    }
-    Wanted {
-        conflicts: asked.most,
-        repairs: usize::MAX,
+            repairs: *most,
+            weights: None,
+        },
+        Asked::Cheapest(most, weights) => Wanted {
+            conflicts: usize::MAX,
+            repairs: *most,
+            weights: Some(weights),
+        },
     }
 }

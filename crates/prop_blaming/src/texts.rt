@@ -6,7 +6,7 @@ ghost use Rattle.prop_blaming.specs.inner.Blamers.{AreListed};
 use crate::blamer::Blamer;
 use prop_conflicts::Explorer;
 use prop_guards::Guarded;
-use prop_hitting::Conflict;
+use prop_hitting::{Conflict, cost};
 use prop_premises::PremiseSet;
 use prop_scheduler::Order;
 use std::alloc::{AllocError, Global};
@@ -92,7 +92,7 @@ pub(crate) fn first_repairs(repairs: &[PremiseSet], most: usize) -> &[PremiseSet
 impl<R: Guarded + Drop, O: Order + Drop> Blamer<R, O> {
     ghost use Rattle.std.specs.Prelude.{◌≡◌, ◌++◌, All, IfOk, OnOk, string_bytes};
     ghost use Rattle.prop_blaming.specs.Texts.{conflict_text, conflicts_text, repair_text};
-    ghost use Rattle.prop_blaming.specs.Texts.{repairs_text};
+    ghost use Rattle.prop_blaming.specs.Texts.{cheapest_text, costed_text, repairs_text};
     ghost use Rattle.prop_blaming.specs.inner.Blamers.{AreBelieved};
 
     /// Writes a conflict on a line of its own.
@@ -144,6 +144,44 @@ impl<R: Guarded + Drop, O: Order + Drop> Blamer<R, O> {
         let mut text = format!(in self.seeker.alloc(); "repairs {count}")?;
         for out in found {
             self.push_repair(out, &mut text)?;
+        }
+        let others = others(all);
+        write!(text, "{others}")?;
+        Ok(text)
+    }
+
+    /// Writes a repair with what it costs on a line of its own.
+    fn push_costed(
+        &self,
+        weights: &[u32],
+        out: &PremiseSet,
+        text: &mut String,
+    ) -> Result<(), AllocError>
+        requires { AreBelieved self.now.seeker.teller.session.search.premises out.now }
+        ensures { OnOk result (string_bytes text.new ≡ string_bytes text.old ++ costed_text
+            self.now.seeker.teller.session.search.premises weights.now out.now) }
+    {
+        let cost = cost(weights, out);
+        let names = self.seeker.premises(out)?;
+        write!(text, "\nrepair {cost}:{names}")
+    }
+
+    /// Repairs with what they cost, and whether there are others.
+    pub(crate) fn cheapest_text(
+        &self,
+        weights: &[u32],
+        found: &[PremiseSet],
+        all: bool,
+    ) -> Result<String, AllocError>
+        requires { All (AreBelieved self.now.seeker.teller.session.search.premises) found.now }
+        ensures { IfOk result (λ text. string_bytes text
+            ≡ cheapest_text self.now.seeker.teller.session.search.premises weights.now
+            found.now all) }
+    {
+        let count = found.len();
+        let mut text = format!(in self.seeker.alloc(); "repairs {count}")?;
+        for out in found {
+            self.push_costed(weights, out, &mut text)?;
         }
         let others = others(all);
         write!(text, "{others}")?;

@@ -1,3 +1,4 @@
+pub mod CheapestLemmas
 pub mod FitLemmas
 pub mod TrialLemmas
 pub mod ExploringLemmas

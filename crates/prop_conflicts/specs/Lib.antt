@@ -1,2 +1,3 @@
 pub mod Conflicts
 pub mod inner
+pub mod Cheapest

@@ -1,11 +1,13 @@
 //! The search for conflicts and repairs.
-ghost use Rattle.std.specs.Prelude.{◌≡◌, IfOk, IfSome, OnOk};
+ghost use Rattle.std.specs.Prelude.{◌≡◌, ◌≤◌, IfOk, IfSome, IsTrue, OnOk, length};
 ghost use Rattle.prop_numbers.specs.Sets.{set_of};
 ghost use Rattle.prop_procedures.specs.Kept.{AllMean, stored_of};
 ghost use Rattle.prop_cells.specs.Data.{IsKept};
 ghost use Rattle.prop_conflicts.specs.Conflicts.{Ground, ground_at, IsRefuted};
 ghost use Rattle.prop_conflicts.specs.inner.Explorers.{IsExplored, KnowsOf};
 ghost use Rattle.prop_conflicts.specs.inner.Trials.{IsOutcomeIn};
+ghost use Rattle.prop_conflicts.specs.Cheapest.{AreCheapestIn, HaveOne};
+ghost use Rattle.prop_hitting.specs.Costs.{AreDear};
 ghost use Rattle.prop_hitting.specs.Hitting.{HitsAll, IsLean};
 
 use crate::again::left_without;
@@ -13,7 +15,7 @@ use crate::shrinking::Shrinking;
 use crate::trial::{Outcome, Trial};
 use prop_cells::Network;
 use prop_guards::Guarded;
-use prop_hitting::{Conflict, Frontier, Step};
+use prop_hitting::{Conflict, Frontier, Listed, Step, cheapest, cost};
 use prop_premises::{Premise, PremiseSet, Premises};
 use std::alloc::{AllocError, Global};
 
@@ -51,11 +53,12 @@ pub struct Explorer {
     steps: u64,
 }
 
-/// How many conflicts and repairs are looked for.
-#[derive(Clone, Copy, Debug)]
-pub struct Wanted {
+/// How many conflicts and repairs are looked for; where premises have weights, the cheapest repairs.
+#[derive(Clone, Copy)]
+pub struct Wanted<'a> {
     pub conflicts: usize,
     pub repairs: usize,
+    pub weights: Option<&'a [u32]>,
 }
 
 impl Explorer {
@@ -115,7 +118,7 @@ impl Explorer {
         &mut self,
         network: &Network<R>,
         premises: &Premises,
-        wanted: Wanted,
+        wanted: Wanted<'_>,
         steps: u64,
     ) -> Result<(), AllocError>
         requires means { AllMean R.value_of network.now.library.procedures.items }
@@ -130,16 +133,73 @@ impl Explorer {
             if self.steps >= until || self.has(wanted) {
                 return Ok(());
             }
+            self.put_first(wanted)?;
             self.step(network, premises, until)?;
         }
         Ok(())
     }
 
     /// Whether as many are found as are wanted, or it goes on no more.
-    fn has(&self, wanted: Wanted) -> bool {
+    fn has(&self, wanted: Wanted<'_>) -> bool {
         matches!(self.stage, Stage::Idle)
             || self.conflicts.len() >= wanted.conflicts
-            || self.repairs.len() >= wanted.repairs
+            || self.known(wanted) >= wanted.repairs
+    }
+
+    /// How many repairs are known of which none that is cheaper can be missing.
+    fn known(&self, wanted: Wanted<'_>) -> usize {
+        let Some(weights) = wanted.weights else {
+            return self.repairs.len();
+        };
+        if !matches!(self.stage, Stage::Seeking) {
+            return 0;
+        }
+        let bound = self.frontier.floor(weights);
+        let mut known = 0;
+        for repair in &self.repairs {
+            if cost(weights, repair) <= bound {
+                known += 1;
+            }
+        }
+        known
+    }
+
+    /// Where premises have weights, what may be cheapest is looked at next.
+    fn put_first(&mut self, wanted: Wanted<'_>) -> Result<(), AllocError>
+        ensures { OnOk result ((g : Ground) → IsExplored g self.old → IsExplored g self.new) }
+    {
+        match wanted.weights {
+            Some(weights) => self.frontier.lift(weights),
+            None => Ok(()),
+        }
+    }
+
+    /// The cheapest repairs, so many at the most, and whether there are no others. `AllocError`
+    /// where memory is refused.
+    pub fn cheapest(&self, weights: &[u32], most: usize) -> Result<Listed, AllocError>
+        ensures few { IfOk result (λ l. length l.sets.items ≤ most) }
+        ensures repairs { IfOk result (λ l. (g : Ground) → IsExplored g self.now
+            → AreCheapestIn g weights.now l.sets.items) }
+        ensures all { IfOk result (λ l. IsTrue l.are_all → (g : Ground) → IsExplored g self.now
+            → HaveOne g l.sets.items) }
+    {
+        let listed = cheapest(self.alloc, &self.repairs, weights, self.bound(weights), most)?;
+        let are_all = listed.are_all && self.is_over;
+        Ok(Listed {
+            sets: listed.sets,
+            are_all,
+        })
+    }
+
+    /// What a repair costs at the least that isn't known.
+    fn bound(&self, weights: &[u32]) -> u64
+        ensures { (g : Ground) → IsExplored g self.now → AreDear self.now.conflicts.items
+            self.now.repairs.items weights.now result }
+    {
+        if self.is_over {
+            return u64::MAX;
+        }
+        self.frontier.floor(weights)
     }
 
     /// Goes on with what is under way.

@@ -1,2 +1,4 @@
+pub mod ListingLemmas
+pub mod CostLemmas
 pub mod HittingLemmas
 pub mod NodeLemmas

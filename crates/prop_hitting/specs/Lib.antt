@@ -1,3 +1,5 @@
 pub mod Hitting
+pub mod Costs
+pub mod Cheapest
 pub mod Frontiers
 pub mod inner

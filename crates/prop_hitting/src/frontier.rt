@@ -2,12 +2,14 @@
 ghost use Rattle.std.specs.Prelude.{◌≡◌, List, ℕ, [], IfOk, IsTrue, OnOk};
 ghost use Rattle.std.specs.List.{list_any};
 ghost use Rattle.prop_numbers.specs.Sets.{Members, set_of, IsPart};
+ghost use Rattle.prop_hitting.specs.Costs.{AreDear};
 ghost use Rattle.prop_hitting.specs.Hitting.{HitsAll, IsLean};
 ghost use Rattle.prop_hitting.specs.Frontiers.{AreSought, IsNext};
 ghost use Rattle.prop_hitting.specs.inner.Nodes.{IsIn, IsOneOf};
 
 use crate::conflict::{Conflict, has_all_of_one, missed};
 use crate::node::Node;
+use crate::price::cost;
 use prop_premises::PremiseSet;
 use std::alloc::{AllocError, Global};
 
@@ -86,6 +88,47 @@ impl Frontier {
                 Ok(Step::Found(found))
             }
         }
+    }
+
+    /// What a set costs at the least that is still looked for; where none is, more than any costs.
+    pub fn floor(&self, weights: &[u32]) -> u64
+        ensures { (conflicts : List Conflict) (repairs : List (List ℕ))
+            → AreSought conflicts repairs self.now → AreDear conflicts repairs weights.now result }
+    {
+        let mut least = u64::MAX;
+        for node in &self.nodes {
+            least = least.min(cost(weights, &node.hit));
+        }
+        least
+    }
+
+    /// Those that may cost the least are looked at next. After want of memory nothing is known of
+    /// what is looked for.
+    pub fn lift(&mut self, weights: &[u32]) -> Result<(), AllocError>
+        ensures { OnOk result ((conflicts : List Conflict) (repairs : List (List ℕ))
+            → AreSought conflicts repairs self.old → AreSought conflicts repairs self.new) }
+    {
+        let place = self.cheapest(weights);
+        if place >= self.nodes.len() {
+            return Ok(());
+        }
+        let node = self.nodes.remove(place);
+        self.nodes.push(node)?;
+        Ok(())
+    }
+
+    /// The place of the node of which the sets may cost the least: of those, the last.
+    fn cheapest(&self, weights: &[u32]) -> usize {
+        let mut place = 0;
+        let mut least = u64::MAX;
+        for (number, node) in self.nodes.iter().enumerate() {
+            let cost = cost(weights, &node.hit);
+            if cost <= least {
+                place = number;
+                least = cost;
+            }
+        }
+        place
     }
 
     /// Of the sets of a node those are looked for that have some premise of the conflict: by the

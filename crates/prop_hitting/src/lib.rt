@@ -8,7 +8,11 @@
 
 pub mod conflict;
 pub mod frontier;
+pub mod listing;
 mod node;
+pub mod price;
 
 pub use conflict::{Conflict, missed};
 pub use frontier::{Frontier, Step};
+pub use listing::{Listed, cheapest};
+pub use price::cost;

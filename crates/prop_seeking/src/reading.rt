@@ -3,6 +3,7 @@
 use crate::seeker::Seeker;
 use prop_cells::Cells;
 use prop_guards::Guarded;
+use prop_premises::Premises;
 use prop_scheduler::Order;
 use prop_vocabulary::{CellNames, Vocabulary};
 use std::alloc::Global;
@@ -34,5 +35,12 @@ impl<R: Guarded + Drop, O: Order + Drop> Seeker<R, O> {
         ensures { result.now ≡ self.now.teller.session.live.network.cells }
     {
         self.teller.session().live().network().data()
+    }
+
+    /// The premises and choices.
+    pub fn origins(&self) -> &Premises
+        ensures { result.now ≡ self.now.teller.session.search.premises }
+    {
+        self.teller.session().search().premises()
     }
 }

@@ -1,6 +1,6 @@
 //! The search: what is supposed, what follows, what was refuted.
 
-ghost use Rattle.std.specs.Prelude.{◌≡◌, ◌↔◌, ◌⊎◌, [], List, Some, IsTrue, IfOk, IfSome};
+ghost use Rattle.std.specs.Prelude.{◌≡◌, ◌↔◌, ◌⊎◌, [], List, None, Some, IsTrue, IfOk, IfSome};
 ghost use Rattle.std.specs.Prelude.{◌∷◌, All, Contains, OnOk, Ok, map, true, false};
 ghost use Rattle.prop_numbers.specs.Sets.{set_of, IsPart};
 ghost use Rattle.prop_premises.specs.Origins.{believed_in, choices_of};
@@ -14,7 +14,7 @@ ghost use Rattle.prop_deriving.specs.Known.{IsKnown};
 ghost use Rattle.prop_lessons.specs.Lessons.{AreTaught};
 ghost use Rattle.prop_solve.specs.Questions.{AreExcusing, Grow, Imply, excused_then};
 ghost use Rattle.prop_solve.specs.Questions.{is_optimum};
-ghost use Rattle.prop_solve.specs.Searches.{IsSearch, IsProposed, bare};
+ghost use Rattle.prop_solve.specs.Searches.{IsSearch, IsProposed, Search, bare};
 ghost use Rattle.prop_solve.specs.Answers.{AreSingle, AsksTheSame, IsAnswer, IsFound, IfFound};
 
 use crate::choosing::First;
@@ -262,10 +262,40 @@ impl Solver {
     {
         let root = root_of(alloc, premises)?;
         let spread = spread_of(alloc, network, premises.choices(), root)?;
-        let places = spread.places();
-        let mut solver = Solver {
+        let mut solver = Solver::unbegun(alloc, spread, question)?;
+        match solver.start(network, premises, earlier) {
+            Ok(()) => Ok(solver),
+            Err(error) => {
+                // One call in place of the drop of each part, which a proof would go through.
+                drop(solver);
+                Err(error)
+            }
+        }
+    }
+
+    /// A search of which nothing was found out.
+    fn unbegun(alloc: Global, spread: Spread, question: Question) -> Result<Solver, AllocError>
+        ensures { IfOk result (λ s. s ≡ record {
+          goal = question.goal;
+          named = question.named.items;
+          spread = spread;
+          excuses = [];
+          learning = None;
+          proposal = None;
+          refuted = None;
+        }) }
+    {
+        let weights = match Weights::new(alloc, spread.places()) {
+            Ok(weights) => weights,
+            Err(error) => {
+                drop(spread);
+                drop(question);
+                return Err(error);
+            }
+        };
+        Ok(Solver {
             excuses: Vec::new(alloc),
-            weights: Weights::new(alloc, places)?,
+            weights,
             pace: Pace::new(),
             learning: None,
             proposal: None,
@@ -282,10 +312,29 @@ impl Solver {
             recalled: 0,
             question,
             spread,
-        };
-        solver.take_up(network, premises, earlier)?;
-        solver.begin_at_root(network, premises)?;
-        Ok(solver)
+        })
+    }
+
+    /// Begins with what an earlier search left, and with a contradiction of the root, where there
+    /// is one.
+    fn start<R: Guarded + Drop>(
+        &mut self,
+        network: &Network<R>,
+        premises: &Premises,
+        earlier: Option<&Earlier>,
+    ) -> Result<(), AllocError>
+        requires kept { IsKept (stored_of R.value_of network.now.library) network.now.cells }
+        requires taught { IfSome earlier
+            (λ e. AreTaught (stored_of R.value_of network.now.library) e.now) }
+        requires search { IsSearch (stored_of R.value_of network.now.library) network.now.cells
+            premises.now self.old }
+        ensures search { OnOk result (IsSearch (stored_of R.value_of network.now.library)
+            network.now.cells premises.now self.new) }
+        ensures asks { OnOk result (AsksTheSame self.old self.new) }
+        ensures excuses { OnOk result (self.new.excuses ≡ self.old.excuses) }
+    {
+        self.take_up(network, premises, earlier)?;
+        self.begin_at_root(network, premises)
     }
 
     /// Begins to find out what a contradiction of the root rests on, where there is one.

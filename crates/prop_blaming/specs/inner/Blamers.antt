@@ -10,12 +10,16 @@ use Rattle.prop_hitting.specs.declared.conflict.Conflict.{Conflict}
 use Rattle.prop_conflicts.specs.Conflicts.{Ground, IsConflict}
 use Rattle.prop_conflicts.specs.declared.explorer.Explorer.{Explorer}
 use Rattle.prop_conflicts.specs.inner.Explorers.{IsExplored}
+use Rattle.prop_blaming.specs.Asking.{Wish}
 use Rattle.prop_blaming.specs.declared.asking.Asked.{Asked}
+use Rattle.prop_blaming.specs.declared.asking.Asked.TheVariants.{Conflicts, Repairs, Cheapest}
 use Rattle.prop_blaming.specs.declared.blamer.Blamer.{Blamer}
 
 -- what was asked, as it is stated
-abbrev pub asked_of : Asked → Bool × ℕ
-asked_of a = (a.are_repairs, a.most)
+abbrev pub asked_of : Asked → Wish
+asked_of (Conflicts most) = Wish.Conflicts most
+asked_of (Repairs most) = Wish.Repairs most
+asked_of (Cheapest most weights) = Wish.Cheapest most weights.items
 
 -- these premises are believed
 abbrev pub AreBelieved : List Origin → List ℕ → Type 0
