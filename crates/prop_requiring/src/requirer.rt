@@ -9,7 +9,7 @@ use prop_engine::Reply;
 use prop_guards::Guarded;
 use prop_refusals::Refusal;
 use prop_scheduler::Order;
-use prop_workbench::Session;
+use prop_workbench::{Posting, Session};
 use std::alloc::{AllocError, Global};
 
 /// A blamer that takes constraints.
@@ -30,13 +30,18 @@ fn numbers_below(alloc: Global, count: usize) -> Result<Vec<usize>, AllocError>
 }
 
 impl<R: Guarded + Drop, O: Order + Drop> Requirer<R, O> {
-    ghost use Rattle.std.specs.Prelude.{◌≡◌, ◌++◌, None, OnOk, codes};
+    ghost use Rattle.std.specs.Prelude.{◌≡◌, ◌++◌, IfErr, IfOk, None, OnOk, codes, length};
+    ghost use Rattle.std.specs.List.{range_with_len};
     ghost use Rattle.prop_language.specs.Said.{words};
     ghost use Rattle.prop_engine.specs.Answers.{answer_done, answer_of};
     ghost use Rattle.prop_workbench.specs.Loading.{Loads};
-    ghost use Rattle.prop_workbench.specs.Sessions.{library_of, IsSound};
+    ghost use Rattle.prop_vocabulary.specs.Vocabulary as vocabularies;
+    ghost use Rattle.prop_workbench.specs.Posting.{MayBePosted};
+    ghost use Rattle.prop_workbench.specs.Sessions.{library_of, state_of, IsSound};
     ghost use Rattle.prop_telling.specs.Notes.{no_notes};
     ghost use Rattle.prop_seeking.specs.inner.Seekers.{sought_of};
+    ghost use Rattle.prop_demands.specs.Refusing.{IsRefused};
+    ghost use Rattle.prop_demands.specs.inner.Postings.{IsUnderstoodIn};
     ghost use Rattle.prop_requiring.specs.Requiring.{requiring, Requires};
     ghost use Rattle.prop_requiring.specs.inner.Requirers.{IsReady};
 
@@ -91,6 +96,37 @@ impl<R: Guarded + Drop, O: Order + Drop> Requirer<R, O> {
         Ok(())
     }
 
+    /// What a text becomes, which may be posted between all cells.
+    fn posting(&self, text: &[u8]) -> Result<Posting, Refusal>
+        requires ready { IsReady R.value_of self.now }
+        ensures words { vocabularies.IsWhole self.now.blamer.seeker.teller.session.words }
+        ensures understood { IfOk result (IsUnderstoodIn
+            self.now.blamer.seeker.teller.session.names self.now.blamer.seeker.teller.session.words
+            self.now.blamer.seeker.teller.session.live.network.cells text.now) }
+        ensures may { IfOk result (MayBePosted
+            (library_of R.value_of self.now.blamer.seeker.teller.session)
+            (state_of self.now.blamer.seeker.teller.session) (range_with_len 0
+            (length self.now.blamer.seeker.teller.session.live.network.cells.kinds))) }
+        ensures refused { IfErr result (IsRefused text.now) }
+    {
+        let blamer = &self.blamer;
+        understood(
+            blamer.alloc(),
+            blamer.names(),
+            blamer.words(),
+            blamer.cells(),
+            text,
+        )
+    }
+
+    /// The numbers of all cells.
+    fn all_cells(&self) -> Result<Vec<usize>, AllocError>
+        ensures { IfOk result (λ cells. cells.items ≡ range_with_len 0
+            (length self.now.blamer.seeker.teller.session.live.network.cells.kinds)) }
+    {
+        numbers_below(self.blamer.alloc(), self.blamer.cells().len())
+    }
+
     /// Has what a line says behind `require` hold, under its premise.
     fn require(&mut self, behind: &[u8]) -> Result<(), Refusal>
         requires ready { IsReady R.value_of self.old }
@@ -105,14 +141,11 @@ impl<R: Guarded + Drop, O: Order + Drop> Requirer<R, O> {
             Ok(said) => said,
             Err(refusal) => return Err(refusal),
         };
-        let alloc = self.blamer.alloc();
-        let (names, words) = (self.blamer.names(), self.blamer.words());
-        let posting = match understood(alloc, names, words, self.blamer.cells(), said.text) {
+        let posting = match self.posting(said.text) {
             Ok(posting) => posting,
             Err(refusal) => return Err(refusal),
         };
-        let count = self.blamer.cells().len();
-        let Ok(cells) = numbers_below(alloc, count) else {
+        let Ok(cells) = self.all_cells() else {
             drop(posting);
             return Err(Refusal::Memory);
         };
