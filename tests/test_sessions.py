@@ -29,6 +29,9 @@ PATH is crates/propbench/out/propbench where it is left out. What is run:
   heeds no change of a kind, which these sessions have to find out (tests/spoiled_changing.py);
 - conflicts and repairs of random small networks, against every set of premises (tests/blaming.py),
   and such replies spoiled on purpose (tests/spoiled_blaming.py);
+- constraints as one writes them on random cells, of which each row that is told, and that is not,
+  is held to plain evaluation (tests/requiring.py), and such constraints spoiled on purpose
+  (tests/spoiled_requiring.py);
 - random sessions, each answer of which is compared with a plain and slow evaluation
   (tests/plain.py), such with choices, of which every list is tried (tests/choices.py), and such
   under small limits, of which every step is taken anew (tests/steps.py);
@@ -85,6 +88,7 @@ import prelude
 import pytest
 import reasons
 import refusals
+import requiring
 import row_rules
 import rules
 import scripts
@@ -93,6 +97,7 @@ import solving
 import spoiled
 import spoiled_blaming
 import spoiled_changing
+import spoiled_requiring
 import spoiled_solving
 import stacks
 import steps
@@ -168,6 +173,8 @@ def cases() -> Iterator[Runnable]:
     yield from spoiled_changing.built()
     yield from blaming.built()
     yield from spoiled_blaming.built()
+    yield from requiring.built()
+    yield from spoiled_requiring.built()
     yield from documents.built()
     yield from telling.built()
     yield from in_each_order(worked())

@@ -1,3 +1,4 @@
 pub mod Naming
 pub mod Demanding
+pub mod Refusing
 pub mod inner

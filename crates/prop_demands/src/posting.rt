@@ -1,7 +1,8 @@
 //! What an expression becomes, as it is posted.
 
-ghost use Rattle.std.specs.Prelude.{◌≡◌, map, IfOk};
+ghost use Rattle.std.specs.Prelude.{◌≡◌, ◌⊎◌, map, true, IfErr, IfOk};
 ghost use Rattle.prop_terms.specs.Terms.{term_of};
+ghost use Rattle.prop_demands.specs.Refusing.{is_of_term};
 ghost use Rattle.prop_demands.specs.inner.Glossaries.{lexicon_in, seen_of};
 ghost use Rattle.prop_demands.specs.inner.Postings.{IsPostingOf, IsUnderstood, constant_of};
 
@@ -16,7 +17,9 @@ use prop_workbench::{Posting, Stated};
 use std::alloc::{AllocError, Global};
 
 /// Why a term is refused, as a line is.
-fn refusal_of(why: Why) -> Refusal {
+fn refusal_of(why: Why) -> Refusal
+    ensures { (result ≡ Refusal.Memory) ⊎ (is_of_term result ≡ true) }
+{
     match why {
         Why::Memory => Refusal::Memory,
         Why::NoSuchCell => Refusal::NoSuchCell,
@@ -58,8 +61,9 @@ pub(crate) fn posting(
     glossary: &Glossary<'_>,
     term: &Term<'_>,
 ) -> Result<Posting, Refusal>
-    ensures { IfOk result (λ p. IsUnderstood (lexicon_in (seen_of glossary.now))
+    ensures understood { IfOk result (λ p. IsUnderstood (lexicon_in (seen_of glossary.now))
         glossary.now.words.now glossary.now.cells.now.kinds (term_of term.now) p) }
+    ensures refused { IfErr result (λ e. (e ≡ Refusal.Memory) ⊎ (is_of_term e ≡ true)) }
 {
     let posted = match post(alloc, glossary, term) {
         Ok(posted) => posted,

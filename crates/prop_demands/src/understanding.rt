@@ -1,7 +1,8 @@
 //! What a text becomes in a session.
-ghost use Rattle.std.specs.Prelude.{◌≡◌, ◌<◌, ◌≤◌, All, IfOk, length};
+ghost use Rattle.std.specs.Prelude.{◌≡◌, ◌<◌, ◌≤◌, All, IfErr, IfOk, length};
 ghost use Rattle.prop_compound.specs.Kinds.{IsSized};
 ghost use Rattle.prop_vocabulary.specs.Vocabulary as vocabularies;
+ghost use Rattle.prop_demands.specs.Refusing.{IsRefused};
 ghost use Rattle.prop_demands.specs.inner.Postings.{IsUnderstoodIn};
 
 use crate::known::{all_numbers, domains_of, is_whole};
@@ -33,6 +34,7 @@ pub fn understood(
     requires sized { All (IsSized words.now) cells.now.kinds }
     ensures words { vocabularies.IsWhole words.now }
     ensures understood { IfOk result (IsUnderstoodIn names.now words.now cells.now text.now) }
+    ensures refused { IfErr result (IsRefused text.now) }
 {
     is_whole(words);
     let term = match read(alloc, text, Sort::Truth) {

@@ -4,7 +4,7 @@
 //! what it takes, and is refused else (`read`). Each text has one reading, and each term a writing
 //! (`texts_have_one_reading`, `terms_can_be_written`). A text that is printed writes its term
 //! (`print`). What a term is worth is one definition, `worth` of specs/Meaning.antt, of which laws
-//! are proved (`quotients_are_rounded_down`, `truths_have_values`). No program uses this crate yet.
+//! are proved (`quotients_are_rounded_down`, `truths_have_values`).
 #![tactic(auto)]
 
 mod forming;

@@ -1,2 +1,3 @@
 pub mod Singles
 pub mod Making
+pub mod Palette

@@ -1,6 +1,6 @@
 //! A session with the program's procedures and preludes, over devices.
 ghost use Rattle.std.specs.Prelude.{◌≡◌};
-ghost use Rattle.prop_blaming.specs.Answering.{IsBlamed};
+ghost use Rattle.prop_requiring.specs.Answering.{IsRequired};
 ghost use Rattle.propwide.specs.Kits.{answer_of, lines_in_order, wide};
 
 use crate::entries::{answer, copied, entries, lines};
@@ -13,7 +13,7 @@ use std::alloc::Global;
 
 /// Makes the procedures, loads the preludes and runs a session with them.
 pub fn run<D: Devices>(alloc: Global, options: Options, devices: &mut D) -> Result<Counts, Fault>
-    ensures { IsBlamed wide lines_in_order options.order options.seed options.limit D.calls
+    ensures { IsRequired wide lines_in_order options.order options.seed options.limit D.calls
         devices.old devices.new result }
 {
     let prelude = lines(alloc)?;
@@ -37,5 +37,5 @@ pub fn run<D: Devices>(alloc: Global, options: Options, devices: &mut D) -> Resu
             call,
         ))?;
     }
-    prop_blaming::run(alloc, procedures, &prelude, options, devices)
+    prop_requiring::run(alloc, procedures, &prelude, options, devices)
 }

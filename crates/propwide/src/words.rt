@@ -4,7 +4,7 @@ ghost use Rattle.std.specs.Process.{exit_status};
 ghost use Rattle.prop_program.specs.Running.{Does, given_words};
 ghost use Rattle.prop_cells.specs.Points.{AreSoundBy};
 ghost use Rattle.prop_points.specs.Networks.{SinglesSolve};
-ghost use Rattle.prop_blaming.specs.Answering.{IsBlamed};
+ghost use Rattle.prop_requiring.specs.Answering.{IsRequired};
 ghost use Rattle.propwide.specs.Kits.{lines_in_order, wide, wide_related, wide_tells};
 
 use crate::running::run;
@@ -26,7 +26,7 @@ with more rules for plans and measurements.
 Reads commands from standard input, one on each line, and writes a reply or a refusal to each.",
     commands: "Commands:
   networks    domain, relation, define, cell, attach
-  statements  fix, tell, choose, forget
+  statements  fix, tell, choose, require, forget
   premises    kick, bring, worldview, nogoods
   questions   ask, why, core, settle, how, list
   points      solve, least, greatest, plans
@@ -51,7 +51,7 @@ pub fn program<D: Devices, E: Write>(
     // earned by steps that were taken in the order that was chosen, or tells a step or what makes
     // up a value.
     ensures told { Does (codes "propwide") (given_words words) D.calls
-        (λ options end. IsBlamed wide lines_in_order options.order options.seed options.limit
+        (λ options end. IsRequired wide lines_in_order options.order options.seed options.limit
         D.calls devices.old devices.new end)
         devices.old devices.new (exit_status result) }
     // Where all is well, nothing is said on the other device.

@@ -1,0 +1,453 @@
+#!/usr/bin/python3
+"""Random constraints as one writes them: what `require` leaves is held to plain evaluation over all
+points.
+
+usage: tests/requiring.py PROGRAM [COUNT [FROM]]
+
+PROGRAM is a workbench that takes constraints, as propwide; COUNT small networks of numbers, elements
+and truths are tried (400), whose seeds begin with FROM (0), with up to three constraints each, some
+under a premise that may be kicked out and brought again. Looked at is that
+
+- `plans` of the cells, asked to the end, tells just the points at which each constraint holds whose
+  premise is believed, or that has none: no point is lost, and none is wrong;
+- a constraint that is refused changes nothing, and is refused for its form, a word, a kind or a
+  number that may be out of range, as its own part says;
+- `list` calls what was made by the layer's name.
+
+The status is 0 where nothing was wrong.
+"""
+import itertools
+import os
+import re
+import sys
+from dataclasses import dataclass, field
+from random import Random
+from typing import Callable, Iterator, Optional, Sequence, Union
+
+from case import Case, Check, as_bytes
+from solving import asked_for, over_propwide
+from talking import Cut, Talk
+from wide_rules import PROGRAM
+
+# So many networks are tried in the gate, so many in one case, and so many by itself.
+TRIED, AT_A_TIME, BY_ITSELF = 150, 25, 400
+# Rows are asked for so often, each time so many; a line may take so many steps.
+TURNS, ROWS, STEPS = 40, 200, 1_000_000
+MONTHS = ("jan", "feb", "mar")
+DOMAINS = {"truth": ("yes", "no"), "month": MONTHS}
+
+Value = Union[int, str]
+Points = dict[str, Value]
+Meaning = Callable[[Points], Value]
+
+
+@dataclass(frozen=True)
+class Part:
+    """A part of a constraint: its text, how tightly it binds, and what it is worth at points."""
+
+    text: str
+    level: int
+    worth: Meaning
+
+    def within(self, least: int) -> str:
+        """The text, in brackets where something tighter is wanted."""
+        return self.text if self.level >= least else f"({self.text})"
+
+
+def truth(holds: bool) -> str:
+    return "yes" if holds else "no"
+
+
+def number(value: Value) -> int:
+    assert isinstance(value, int)
+    return value
+
+
+# ---- drawn parts
+
+# How an operator between numbers is written, its level, and what it makes.
+SUMS: list[tuple[str, int, Callable[[int, int], int]]] = [
+    ("+", 13, lambda x, y: x + y),
+    ("-", 13, lambda x, y: x - y),
+    ("*", 14, lambda x, y: x * y),
+]
+# The same with a number behind it that is not zero, and with a power.
+DIVIDED: list[tuple[str, Callable[[int, int], int]]] = [
+    ("//", lambda x, y: x // y),
+    ("%", lambda x, y: x % y),
+]
+GATHERED: list[tuple[str, Callable[[list[int]], int]]] = [("max", max), ("min", min), ("sum", sum)]
+COMPARED: list[tuple[str, Callable[[int, int], bool]]] = [
+    ("==", lambda x, y: x == y),
+    ("!=", lambda x, y: x != y),
+    ("<", lambda x, y: x < y),
+    ("<=", lambda x, y: x <= y),
+    (">", lambda x, y: x > y),
+    (">=", lambda x, y: x >= y),
+]
+# Of truths, with the least levels of the left and of the right.
+JOINED: list[tuple[str, int, int, int, Callable[[bool, bool], bool]]] = [
+    ("and", 9, 9, 10, lambda x, y: x and y),
+    ("or", 8, 8, 9, lambda x, y: x or y),
+    ("xor", 7, 7, 8, lambda x, y: x != y),
+    ("implies", 6, 7, 6, lambda x, y: not x or y),
+    ("iff", 5, 5, 6, lambda x, y: x == y),
+]
+
+
+@dataclass
+class Draw:
+    """Draws parts of constraints on cells."""
+
+    chance: Random
+    kinds: dict[str, str]
+
+    def cell(self, kind: str) -> Optional[Part]:
+        cells = [cell for cell, of in self.kinds.items() if of == kind]
+        if not cells:
+            return None
+        name = self.chance.choice(cells)
+        return Part(name, 17, lambda points: points[name])
+
+    def number(self, depth: int) -> Part:
+        chance = self.chance
+        if depth == 0 or chance.random() < 0.3:
+            constant = chance.randint(0, 5)
+            known = Part(str(constant), 17, lambda points: constant)
+            return chance.choice([self.cell("number") or known, known])
+        shape = chance.randrange(12)
+        if shape < 4:
+            return self.of_one(depth, shape)
+        if shape == 4:
+            return self.choice(depth, self.number)
+        if shape < 7:
+            return self.gathered(depth)
+        mark, level, makes = chance.choice(SUMS)
+        left, right = self.number(depth - 1), self.number(depth - 1)
+        text = f"{left.within(level)} {mark} {right.within(level + 1)}"
+        return Part(
+            text,
+            level,
+            lambda points: makes(number(left.worth(points)), number(right.worth(points))),
+        )
+
+    def of_one(self, depth: int, shape: int) -> Part:
+        """What is made of one number."""
+        chance, one = self.chance, self.number(depth - 1)
+        if shape == 0:
+            return Part(f"abs({one.text})", 17, lambda points: abs(number(one.worth(points))))
+        if shape == 1:
+            return Part(f"-{one.within(15)}", 15, lambda points: -number(one.worth(points)))
+        if shape == 2:
+            power = chance.randint(0, 2)
+            text = f"{one.within(17)} ** {power}"
+            return Part(text, 16, lambda points: int(number(one.worth(points)) ** power))
+        mark, makes = chance.choice(DIVIDED)
+        by = chance.choice([-3, -2, -1, 1, 2, 3, 4])
+        text = f"{one.within(14)} {mark} {by}"
+        return Part(text, 14, lambda points: makes(number(one.worth(points)), by))
+
+    def gathered(self, depth: int) -> Part:
+        """What is made of several numbers, or of truths."""
+        chance = self.chance
+        count = chance.randint(1, 3)
+        if chance.random() < 0.4:
+            truths = [self.truth(depth - 1) for _ in range(count)]
+            text = f"count({', '.join(it.within(3) for it in truths)})"
+            return Part(text, 17, lambda points: sum(it.worth(points) == "yes" for it in truths))
+        word, makes = chance.choice(GATHERED)
+        parts = [self.number(depth - 1) for _ in range(count)]
+        text = f"{word}({', '.join(it.within(3) for it in parts)})"
+        return Part(text, 17, lambda points: makes([number(it.worth(points)) for it in parts]))
+
+    def choice(self, depth: int, of: Callable[[int], Part]) -> Part:
+        test, left, right = self.truth(depth - 1), of(depth - 1), of(depth - 1)
+        text = f"if {test.within(5)} then {left.within(5)} else {right.within(4)}"
+        return Part(
+            text,
+            4,
+            lambda points: (left if test.worth(points) == "yes" else right).worth(points),
+        )
+
+    def compared(self, depth: int) -> Part:
+        mark, holds = self.chance.choice(COMPARED)
+        left, right = self.number(depth - 1), self.number(depth - 1)
+        return Part(
+            f"{left.within(12)} {mark} {right.within(12)}",
+            11,
+            lambda points: truth(holds(number(left.worth(points)), number(right.worth(points)))),
+        )
+
+    def ranged(self, depth: int) -> Part:
+        item, low, high = (self.number(depth - 1) for _ in range(3))
+        text = f"{item.within(12)} in {low.within(13)}..{high.within(13)}"
+        return Part(
+            text,
+            11,
+            lambda points: truth(
+                number(low.worth(points))
+                <= number(item.worth(points))
+                <= number(high.worth(points))
+            ),
+        )
+
+    def named(self, left: Part) -> Part:
+        """An element beside a cell, or two cells of one domain."""
+        if self.chance.random() < 0.3:
+            return self.among(left, self.chance.sample(MONTHS, self.chance.randint(1, 2)))
+        word = self.chance.choice(MONTHS)
+        right = self.chance.choice(
+            [Part(word, 17, lambda points: word), self.cell("month") or left]
+        )
+        is_equal = self.chance.random() < 0.5
+        return Part(
+            f"{left.text} {'==' if is_equal else '!='} {right.text}",
+            11,
+            lambda points: truth((left.worth(points) == right.worth(points)) == is_equal),
+        )
+
+    def among(self, item: Part, words: Sequence[Value]) -> Part:
+        """One of some words."""
+        # (behind a number a minus sign would take what follows from it)
+        between = ", " if any(isinstance(it, int) for it in words) else " "
+        text = f"{item.within(12)} in {{{between.join(map(str, words))}}}"
+        return Part(text, 11, lambda points: truth(item.worth(points) in words))
+
+    def truth(self, depth: int) -> Part:
+        chance = self.chance
+        if depth <= 0:
+            known = chance.choice(["yes", "no"])
+            return self.cell("truth") or Part(known, 17, lambda points: known)
+        shape = chance.randrange(10)
+        if shape == 9:
+            return self.among(self.number(depth - 1), [chance.randint(-3, 9) for _ in range(3)])
+        if shape == 0:
+            one = self.truth(depth - 1)
+            return Part(
+                f"not {one.within(10)}", 10, lambda points: truth(one.worth(points) != "yes")
+            )
+        month = self.cell("month")
+        if shape == 1 and month:
+            return self.named(month)
+        if shape == 2:
+            return self.choice(depth, self.truth)
+        if shape == 3:
+            return self.ranged(depth)
+        if shape < 6:
+            return self.joined(depth)
+        return self.compared(depth)
+
+    def joined(self, depth: int) -> Part:
+        word, level, before, behind, holds = self.chance.choice(JOINED)
+        left, right = self.truth(depth - 1), self.truth(depth - 1)
+        return Part(
+            f"{left.within(before)} {word} {right.within(behind)}",
+            level,
+            lambda points: truth(holds(left.worth(points) == "yes", right.worth(points) == "yes")),
+        )
+
+
+# ---- a session
+
+
+@dataclass
+class Required:
+    """A constraint, and the premise under which it is required."""
+
+    part: Part
+    premise: Optional[str]
+
+    def line(self) -> str:
+        under = f" under {self.premise}" if self.premise else ""
+        return f"require {self.part.text}{under}"
+
+
+@dataclass
+class Session:
+    """Cells with constraints, told to a program line by line."""
+
+    seed: int
+    talk: Talk
+    wrong: list[str] = field(default_factory=list)
+    refused: int = 0
+    taken: int = 0
+
+    def run(self) -> None:
+        chance = Random(f"requiring {self.seed}")
+        kinds = self.kinds(chance)
+        values = {cell: self.values(chance, kind) for cell, kind in kinds.items()}
+        self.say("domain month jan feb mar")
+        self.say(f"limit {STEPS}")
+        for cell, kind in kinds.items():
+            self.say(f"cell {cell} {'span' if kind == 'number' else kind}")
+            if kind == "number":
+                self.say(f"fix {cell} {min(values[cell])}..{max(values[cell])}")
+        required = self.required(Draw(chance, kinds), chance)
+        self.held(values, required, set())
+        for premise in sorted({it.premise for it in required if it.premise}):
+            self.say(f"kick {premise}")
+            self.held(values, required, {premise})
+            self.say(f"bring {premise}")
+        self.held(values, required, set())
+
+    def kinds(self, chance: Random) -> dict[str, str]:
+        kinds = {f"n{k}": "number" for k in range(chance.randint(1, 3))}
+        kinds.update({f"m{k}": "month" for k in range(chance.randint(0, 2))})
+        return {**kinds, **{f"t{k}": "truth" for k in range(chance.randint(0, 2))}}
+
+    def values(self, chance: Random, kind: str) -> list[Value]:
+        if kind != "number":
+            return list(DOMAINS[kind])
+        low = chance.randint(-4, 3)
+        return list(range(low, low + chance.randint(0, 5) + 1))
+
+    def required(self, draw: Draw, chance: Random) -> list[Required]:
+        taken = []
+        for _ in range(chance.randint(1, 3)):
+            it = Required(draw.truth(chance.randint(1, 3)), chance.choice([None, None, "p", "q"]))
+            reply = self.say(it.line())
+            if reply == ["ok"]:
+                taken.append(it)
+            else:
+                self.blame(f"{it.line()}: {reply}")
+        self.taken += len(taken)
+        return taken
+
+    def held(self, values: dict[str, list[Value]], required: list[Required], out: set[str]) -> None:
+        """Holds the rows that are told to those that there are."""
+        cells = list(values)
+        wanted = {
+            row
+            for row in itertools.product(*(values[cell] for cell in cells))
+            if all(
+                it.premise in out or it.part.worth(dict(zip(cells, row))) == "yes"
+                for it in required
+            )
+        }
+        told: set[tuple[Value, ...]] = set()
+        # (so that the rows are told from the first on)
+        self.say("solve")
+        for _ in range(TURNS):
+            reply = self.say(f"plans {ROWS} {' '.join(cells)}")
+            told |= {self.row(line, cells) for line in reply[1:-1]}
+            if not reply[-1].startswith("others unknown"):
+                break
+        if told != wanted:
+            self.blame(
+                f"lost {sorted(map(str, wanted - told))[:3]}, wrong "
+                f"{sorted(map(str, told - wanted))[:3]}"
+            )
+
+    def row(self, line: str, cells: list[str]) -> tuple[Value, ...]:
+        """The values of a row of a reply."""
+        said = dict(re.findall(r"(\w+) = (\S+)", line))
+        return tuple(
+            int(said[cell]) if said[cell].lstrip("-").isdigit() else said[cell] for cell in cells
+        )
+
+    def say(self, line: str) -> list[str]:
+        return self.talk.say(line)[0]
+
+    def blame(self, what: str) -> None:
+        lines = "".join(f"{line}\n" for line, _ in self.talk.said)
+        self.wrong.append(f"{lines}# network {self.seed}: {what}")
+
+
+def tried(program: str, seeds: range) -> tuple[list[str], int]:
+    """What was wrong with these networks, and how many constraints were taken."""
+    wrong, taken = [], 0
+    for seed in seeds:
+        with Talk(program) as talk:
+            session = Session(seed, talk)
+            try:
+                session.run()
+            except Cut:
+                session.blame("no answer in time")
+            wrong += session.wrong
+            taken += session.taken
+    return wrong, taken
+
+
+# ---- what is refused
+
+REFUSED = [
+    ("domain month jan feb mar", "ok"),
+    ("cell x span", "ok"),
+    ("cell far span", "ok"),
+    ("cell t truth", "ok"),
+    ("cell m month", "ok"),
+    ("fix x 0..3", "ok"),
+    ("require", "error 4: wrong form"),
+    ("require x +", "error 4: wrong form"),
+    ("require x", "error 13: wrong kind"),
+    ("require x + 1", "error 4: wrong form"),
+    ("require y < 1", "error 9: no such cell"),
+    ("require x < m", "error 13: wrong kind"),
+    ("require m == apr", "error 15: not in the domain"),
+    ("require far * far < 3", "error 6: not a number in range"),
+    ("require x < 1 under 1x", "error 5: not a name"),
+    ("require x < 1 under", "error 4: wrong form"),
+    ("require under p", "error 4: wrong form"),
+    ("require x < 1 under no", "error 5: not a name"),
+    ("require x // x < 1", "error 6: not a number in range"),
+    ("require different(x, far)", "error 4: wrong form"),
+    (f"require x < {'1' * 4090}", "error 1: line too long"),
+    ("choose c x 1 or 2", "ok"),
+    ("require x < 1 under c", "error 17: is a choice"),
+    ("require x*x == 4", "ok"),
+    ("\trequire x < 2", "error 3: unknown command"),
+    ("require\tt\tunder\tp \r", "ok"),
+    ("ask x", "x = 2"),
+    ("ask t", "t = yes"),
+]
+
+
+def refused() -> Case:
+    """Lines that are refused, and change nothing."""
+    sent = "".join(f"{line}\n" for line, _ in REFUSED).encode()
+    return Case("requiring: what is refused", sent, as_bytes(*(reply for _, reply in REFUSED)))
+
+
+# ---- what is run
+
+
+def first_wrong(seeds: range) -> Callable[[str], Optional[str]]:
+    """What says of a program what is wrong with the first of these networks, or None."""
+
+    def look(program: str) -> Optional[str]:
+        wrong, _ = tried(program, seeds)
+        return f"{len(wrong)} are wrong:\n{wrong[0]}" if wrong else None
+
+    return look
+
+
+def cases() -> Iterator[Check]:
+    look: Callable[[str], Optional[str]] = refused().wrong
+    yield Check("requiring: what is refused", look)
+    for first in range(0, TRIED, AT_A_TIME):
+        last = first + AT_A_TIME
+        yield Check(f"requiring: networks {first} to {last - 1}", first_wrong(range(first, last)))
+
+
+def built() -> Iterator[Check]:
+    """The cases over propwide, where it is built."""
+    if os.path.exists(PROGRAM):
+        yield from map(over_propwide, cases())
+
+
+def main(words: list[str]) -> int:
+    if not words or words[0].startswith("-"):
+        print(__doc__)
+        return 0 if words == ["--help"] else 2
+    program, seeds = asked_for(words, BY_ITSELF)
+    wrong, taken = tried(os.path.abspath(program), seeds)
+    look: Callable[[str], Optional[str]] = refused().wrong
+    wrong += [it for it in [look(program)] if it]
+    for each in wrong:
+        print(each, flush=True)
+    print(f"requiring: {taken} constraints, {len(wrong)} wrong")
+    return 1 if wrong else 0
+
+
+if __name__ == "__main__":
+    sys.exit(main(sys.argv[1:]))
