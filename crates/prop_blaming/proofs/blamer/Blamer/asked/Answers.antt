@@ -1,6 +1,10 @@
-use Rattle.std.proofs.Common.{◌∙◌, ap, inl, inr, refl, subst, Ok, Err}
+use Rattle.std.proofs.Common.{◌∙◌, List, ap, inl, inr, refl, subst, Ok, Err}
 use Rattle.prop_language.specs.Reading.{IsReading}
 use Rattle.prop_language.specs.Said.{said}
+use Rattle.prop_premises.specs.Origins.{Origin}
+use Rattle.prop_seeking.specs.inner.Seekers.{Gives}
+use Rattle.prop_blaming.specs.Asking.{asked}
+use Rattle.prop_blaming.specs.inner.Blamers.{asked_of}
 use Rattle.prop_blaming.proofs.blamer.Blamer.asked.Goals as goal
 
 pub returns-in-Ok-read_line : goal.returns-in-Ok-read_line
@@ -10,7 +14,8 @@ returns-in-Ok-read_line g c =
       Ok read,
       subst (λ bytes. IsReading bytes (Ok read)) (c.deref.ensures.value ∙ c.in-Ok.ensures)
           c.in-Ok-read_line.ensures.read,
-      c.question_of.ensures,
+      subst (λ (premises : List Origin). Gives asked_of c.question_of.result (asked premises (Ok read)))
+          c.origins.ensures c.question_of.ensures,
     )
 
 pub returns : goal.returns
