@@ -64,10 +64,11 @@ def tagged(loader: Loader, suffix: str, node: yaml.Node) -> Tagged:
         return Tagged(suffix, loader.construct_mapping(node, deep=True))
     if isinstance(node, yaml.SequenceNode):
         return Tagged(suffix, loader.construct_sequence(node, deep=True))
+    assert isinstance(node, yaml.ScalarNode)
     return Tagged(suffix, loader.construct_scalar(node))
 
 
-Loader.add_multi_constructor("!", tagged)
+Loader.add_multi_constructor("!", tagged)  # type: ignore[no-untyped-call]
 
 
 @dataclass

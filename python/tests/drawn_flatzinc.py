@@ -23,7 +23,7 @@ def rounded_to_zero(left: int, right: int) -> int:
 def power(base: int, exponent: int) -> int | None:
     """A power as MiniZinc has it: below zero it is 1 divided by one, which zero has none of."""
     if exponent >= 0:
-        return base**exponent
+        return int(base**exponent)
     return rounded_to_zero(1, base**-exponent) if base else None
 
 

@@ -52,7 +52,8 @@ def _attached(numbers: list[str], truths: list[str], days: list[str]) -> st.Sear
 @st.composite
 def _chosen(draw: st.DrawFn, numbers: list[str], days: list[str]) -> str:
     """A cell and some values of it."""
-    if days and draw(st.integers(0, 1)):
+    is_of_days = bool(days) and bool(draw(st.integers(0, 1)))
+    if is_of_days:
         return f"{draw(st.sampled_from(days))} {{mon tue}} or wed"
     values = draw(st.lists(st.integers(-2, 6), min_size=2, max_size=4, unique=True))
     return f"{draw(st.sampled_from(numbers))} {' or '.join(map(str, values))}"

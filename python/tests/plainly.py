@@ -23,8 +23,8 @@ class Rule:
         """Whether nothing speaks against these values."""
         known = [values[name] for name in self.names if name in values]
         if len(known) == len(self.names):
-            return self.test(*known)
-        return self.may is None or self.may(known)
+            return bool(self.test(*known))
+        return self.may is None or bool(self.may(known))
 
 
 def differing(names: Iterable[str]) -> list[Rule]:

@@ -79,8 +79,8 @@ def test_a_net_of_levels_as_the_normal_equations_have_it(w: Workbench) -> None:
         off = Fraction(read) - (heights[end] - heights[begin])
         square += (off / Fraction(u)) ** 2
         signs = [Fraction(int(name == end) - int(name == begin)) for name in "BCD"]
-        spread = sum(s * v for s, v in zip(signs, solved(rows, signs)))
-        deviation = sqrt(Fraction(u) ** 2 - spread)
+        share = sum(s * v for s, v in zip(signs, solved(rows, signs)))
+        deviation = sqrt(Fraction(u) ** 2 - share)
         residuals[f"{begin} to {end} {number}"] = float(off), float(off) / deviation
     assert found.degrees == 3 and found.chi_square == pytest.approx(float(square), rel=1e-6)
     for test in found.tests:

@@ -18,7 +18,7 @@ HILL = Segments(tuple((Fraction(at), Fraction(to)) for at, to in ((0, 0), (10, 7
 CASES: list[tuple[Curve, tuple[int, int], tuple[int, int], str, str, Callable[[float], float]]] = [
     (Exponential(), (0, 3), (0, 30), "1/4", "1/3", math.exp),
     (Exponential(10), (-1, 1), (0, 20), "1/10", "1/2", lambda x: 10**x),
-    (Power(Fraction(3, 2)), (0, 9), (0, 40), "1/2", "2", lambda x: max(x, 0) ** 1.5),
+    (Power(Fraction(3, 2)), (0, 9), (0, 40), "1/2", "2", lambda x: float(max(x, 0) ** 1.5)),
     (Wave(False, 1, True), (90, 270), (-1, 1), "7", "1/10", lambda x: math.sin(math.radians(x))),
     (Wave(True, -1, False), (-3, 0), (-1, 1), "1/7", "1/20", math.cos),
     (Tangent(0, True), (-70, 80), (-9, 9), "3", "1/4", lambda x: math.tan(math.radians(x))),

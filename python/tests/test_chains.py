@@ -159,7 +159,7 @@ def test_who_is_needed_twice() -> None:
         told = str(chain)
         assert len(chain.tasks) == 3 and not chain.rooms and told.count("ana, busy with ") == 2
         p.done_by(4, under="soon")
-        assert {*map(frozenset, w.repairs(keep=p.facts))} == {
+        assert {frozenset(each) for each in w.repairs(keep=p.facts)} == {
             frozenset(p.limits),
             frozenset({"soon"}),
         }

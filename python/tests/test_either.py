@@ -18,7 +18,7 @@ def distance(low: int, high: int, by: int) -> int:
     """The most by which the first and so much may lie below the second, of all points."""
     ends = {0: ENDS["x"], 1: ENDS["y"]}
     points = product(*(range(ends[at][0], ends[at][1] + 1) for at in (low, high)))
-    return max(second - first - by for first, second in points)
+    return int(max(second - first - by for first, second in points))
 
 
 @pytest.mark.parametrize("by", [0, 2, 9])

@@ -402,7 +402,7 @@ def test_a_reading_that_is_off_is_told_apart(w: Workbench) -> None:
     w.read("here", x, "2 +- 0.01")
     w.read("there", y, "7.5 +- 0.01")
     ways = w.outliers()
-    assert sorted(map(sorted, ways)) == [["here"], ["there"]]
+    assert sorted(sorted(way) for way in ways) == [["here"], ["there"]]
     [left] = [way.off["there"].left for way in ways if "there" in way]
     assert is_near_interval(left, math.exp(1.99), math.exp(2.01))
 

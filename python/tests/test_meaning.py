@@ -89,7 +89,7 @@ def test_each_operation_at_all_points(made: Bench) -> None:
             try:
                 found = value_of(node, points)
             except NoValueThere:
-                found = None  # type: ignore[assignment]
+                found = None
             assert found == value(recipe, at), (recipe, at)
 
 

@@ -114,5 +114,6 @@ def test_what_repeated_readings_have_in_common_is_within_their_mean_s_bound() ->
         mean = sum(map(Fraction, shown)) / 4
         assert answer.low == max(map(Fraction, shown)) - Fraction("0.04")
         assert answer.high == min(map(Fraction, shown)) + Fraction("0.04")
+        assert answer.low is not None and answer.high is not None
         assert mean - Fraction("0.04") <= Fraction(answer.low)
         assert Fraction(answer.high) <= mean + Fraction("0.04")

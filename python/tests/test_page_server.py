@@ -430,8 +430,9 @@ def test_ctrl_c_while_the_desk_is_asked(program: str, tmp_path: Path) -> None:
     finally:
         served.kill()
         served.wait()
-        served.stdout.close()
-        served.stderr.close()
+        for stream in (served.stdout, served.stderr):
+            assert stream
+            stream.close()
 
 
 @pytest.mark.parametrize("at_once", [False, True])

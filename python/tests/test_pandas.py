@@ -49,7 +49,7 @@ FRAMES = {
 def test_readings_come_in_a_frame(name: str) -> None:
     with bench() as w:
         assert w.read_table(FRAMES[name]) == 2
-        assert ends(w) == [(99, 101), (5, 9)]
+        assert ends(w) == [(Decimal(99), Decimal(101)), (Decimal(5), Decimal(9))]
 
 
 def test_what_is_wrong_with_a_frame() -> None:

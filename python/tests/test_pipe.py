@@ -20,7 +20,7 @@ OPTIONS = ["--limit", "2000"]
 WORKED = [
     transcript
     for path in sorted((REPOSITORY / "tests/sessions").glob("*.session"))
-    for transcript in transcripts(path)
+    for transcript in transcripts(str(path))
 ]
 EXAMPLES = sorted((REPOSITORY / "examples").glob("**/*.prop"))
 

@@ -17,7 +17,7 @@ def test_there_are_enough() -> None:
     assert len({bug.name for bug in BUGS}) == len(BUGS) >= 40
 
 
-@pytest.mark.parametrize("bug", BUGS, ids=lambda bug: bug.name)
+@pytest.mark.parametrize("bug", BUGS, ids=[bug.name for bug in BUGS])
 def test_each_fits(bug: Bug) -> None:
     text = (PACKAGE / bug.file).read_text(encoding="utf-8")
     assert text.count(bug.old) == 1

@@ -187,7 +187,7 @@ def test_a_curve_is_off_by_what_is_said_of_it() -> None:
         for name in wanted:
             low, high = ends.get(name, (0, 60))
             cells[name] = w.measured(name, unit=units.get(name, "K"), low=low, high=high)
-        points = [(0, 0), (1, "25.2"), (2, "49.9")]
+        points: list[tuple[int, int | str]] = [(0, 0), (1, "25.2"), (2, "49.9")]
         probe = propbench.curve("probe", points, of="mV", unit="K", within="0.3")
         w.law(cells["lamp"] == probe(cells["voltage"]))
         w.law(cells["again"] == 2 * probe(cells["voltage"]))

@@ -26,7 +26,7 @@ SORT_OF = {name: sort for sort, names in UNITS.items() for name in names.split()
 # By hand: what one is in base units, and of what sort that is; those with prefixes first.
 PREFIXED: dict[str, tuple[Fraction | int, str]] = {
     **{"ohm": (1, "R"), "Ω": (1, "R"), "m": (1, "L"), "s": (1, "T"), "Hz": (1, "1/T")},
-    **{"Pa": (1, "P"), "bar": (10**5, "P"), "rad": (1, ""), "K": (1, "K")},
+    **{"Pa": (1, "P"), "bar": (10**5, "P"), "rad": (1, ""), "K": (F(1), "K")},
 }
 POWERS = {"p": -12, "n": -9, "u": -6, "µ": -6, "m": -3, "c": -2, "d": -1, "da": 1, "h": 2}
 POWERS |= {"k": 3, "M": 6, "G": 9, "T": 12, "": 0}
@@ -35,11 +35,11 @@ ATOMS: dict[str, tuple[Fraction | int, str]] = {
     for name, (size, sort) in PREFIXED.items()
     for prefix, power in POWERS.items()
 } | {
-    **{"in": (F("0.0254"), "L"), "h": (3600, "T"), "mmHg": (F("133.322387415"), "P")},
+    **{"in": (F("0.0254"), "L"), "h": (F(3600), "T"), "mmHg": (F("133.322387415"), "P")},
     "psi": (F("0.45359237") * F("9.80665") / F("0.0254") ** 2, "P"),
-    **{"deg": (1, "A"), "°": (1, "A"), "arcmin": (F(1, 60), "A")},
+    **{"deg": (F(1), "A"), "°": (F(1), "A"), "arcmin": (F(1, 60), "A")},
     **{"%": (F(1, 100), ""), "ppm": (F(1, 10**6), ""), "ppb": (F(1, 10**9), "")},
-    **{"degC": (1, "K"), "°C": (1, "K"), "degF": (F(5, 9), "K"), "°F": (F(5, 9), "K")},
+    **{"degC": (F(1), "K"), "°C": (F(1), "K"), "degF": (F(5, 9), "K"), "°F": (F(5, 9), "K")},
 }
 ZEROS = {name: F("273.15") for name in ("degC", "°C")} | {
     name: F("459.67") * 5 / 9 for name in ("degF", "°F")

@@ -46,6 +46,9 @@ def laid_out(build: tree.Build, room: str) -> None:
     }
     with open(f"{room}/debian/changelog", "w", encoding="utf-8") as it:
         it.write(CHANGES.format(**told))
+    # (what is copied from here would bear the time of this working tree)
+    for path in glob.glob(f"{room}/debian/*"):
+        os.utime(path, (build.moment, build.moment))
 
 
 def packed(build: tree.Build, room: str) -> str:
