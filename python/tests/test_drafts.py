@@ -115,8 +115,11 @@ def test_steps_are_taken_back_and_done_again(plan: OpenPlan) -> None:
     assert ends(plan) == 10 and plan.undoes == "give up all by 18 March"
     assert plan.draft is not None
     assert plan.draft.rows("given up") == ({"premise": "all by 18 March"},)
+    workbench = plan.workbench
     plan.undo()
     assert ends(plan) is None and plan.draft.rows("given up") == ()
+    # (what is given up changes nothing else, so nothing is stated anew)
+    assert plan.workbench is workbench
     plan.undo()
     assert ends(plan) == 10 and plan.draft == begun and plan.undoes == ""
     with pytest.raises(ValueError, match="nothing to take back"):

@@ -281,12 +281,13 @@ class OpenPlan(Closing):
             raise ValueError(why)
         step = here[-1]
         now = self._step(step.says)
-        if self.draft is not None and step.draft.tables != self.draft.tables:
+        if self.draft is not None and not self.draft.is_but_for_given_up(step.draft):
             self._replace(step.draft, self._made(step.draft))
         for name in self.workbench.premises:
             is_in, was_in = name in self.workbench.believed, name not in step.kicked
             if is_in != was_in:
                 (self.workbench.bring if was_in else self.workbench.kick)(name)
+        self.draft = None if self.draft is None else step.draft
         here.pop()
         there.append(now)
 

@@ -116,25 +116,33 @@ export class PlanView {
     return true;
   }
 
+  // Asks what may take long, which a change of the plan ends.
+  async _long(body, wrong) {
+    this.runs++;
+    try {
+      return await this.page.ask(body, wrong);
+    } finally {
+      this.runs--;
+    }
+  }
+
   // --- the best plan ---
 
   async _find() {
     const version = this.planned;
     const slow = setTimeout(() => at("plan-middle").classList.add("looking"), SOON);
-    this.runs++;
     try {
       let seconds = FIRST;
       while (this.planned === version) {
-        const told = await this.page.ask({ what: "plan", seconds }, () => {});
+        const told = await this._long({ what: "plan", seconds }, () => {});
         if (!told || told.stopped || this.planned !== version) return;
         this._tell(told);
         if (told.empty || told.none || told.found?.proved) return;
         seconds = Math.min(MOST, seconds * MORE);
       }
     } finally {
-      this.runs--;
       clearTimeout(slow);
-      if (!this.runs) at("plan-middle").classList.remove("looking");
+      if (this.planned === version) at("plan-middle").classList.remove("looking");
     }
   }
 
@@ -176,7 +184,7 @@ export class PlanView {
     const { last } = this;
     const people = last ? last.people : [];
     const parts = people.map((name) => made("span", { class: "key" },
-      made("span", { class: `swatch person-${colourOf(people, name)}` }), named(name)));
+      made("span", { class: `swatch ${colourOf(people, name)}` }), named(name)));
     const also = [["chain", "makes the end", last?.rows.some((row) => row.chain)],
       ["away", "away", last?.rows.some((row) => row.aways.length)],
       ["before", "as was agreed", last?.rows.some((row) => row.before)]];
@@ -205,8 +213,9 @@ export class PlanView {
   }
 
   async _why() {
-    const told = await this.page.ask({ what: "why" });
-    if (!told) return;
+    const version = this.planned;
+    const told = await this._long({ what: "why" });
+    if (!told || this.planned !== version) return;
     const rooms = told.rooms.map(({ task, days }) => made("li", {}, named(task),
       days ? ` can move by ${days} day${days === 1 ? "" : "s"}` : " can't move"));
     const others = told.others.length ? [made("p", {}, "It is also because of ",
@@ -219,7 +228,7 @@ export class PlanView {
     const text = at("suppose").value.trim();
     if (!text) return;
     const said = [];
-    const told = await this.page.ask({ what: "suppose", text }, (wrong) => said.push(wrong));
+    const told = await this._long({ what: "suppose", text }, (wrong) => said.push(wrong));
     tell(at("supposed"), told ? told.says : said.join(" "));
     at("supposed").classList.toggle("wrong", !told);
   }
@@ -229,7 +238,7 @@ export class PlanView {
   async _hinders() {
     const version = this.planned;
     at("hinders-says").replaceChildren(made("p", {}, "Looking for what could be given up."));
-    const told = await this.page.ask({ what: "hinders" });
+    const told = await this._long({ what: "hinders" }, () => {});
     if (!told || this.planned !== version) return;
     const conflicts = told.conflicts.map((each) => this._conflict(each));
     const repairs = told.repairs.map((each, place) => this._repair(each, place + 1));
@@ -254,7 +263,7 @@ export class PlanView {
     const tried = made("p", { class: "tried", role: "status" });
     const attempt = made("button", { type: "button", id: `try ${number}` }, "Try");
     attempt.addEventListener("click", async () => {
-      const told = await this.page.ask({ what: "without", premises });
+      const told = await this._long({ what: "without", premises });
       if (told) tell(tried, told.says);
     });
     const apply = made("button", { type: "button", class: "take", id: `take ${number}` },
