@@ -120,7 +120,8 @@ export class PlanView {
   async _long(body, wrong) {
     this.runs++;
     try {
-      return await this.page.ask(body, wrong);
+      const told = await this.page.ask(body, wrong);
+      return told?.stopped ? undefined : told;
     } finally {
       this.runs--;
     }
@@ -135,7 +136,7 @@ export class PlanView {
       let seconds = FIRST;
       while (this.planned === version) {
         const told = await this._long({ what: "plan", seconds }, () => {});
-        if (!told || told.stopped || this.planned !== version) return;
+        if (!told || this.planned !== version) return;
         this._tell(told);
         if (told.empty || told.none || told.found?.proved) return;
         seconds = Math.min(MOST, seconds * MORE);
@@ -167,6 +168,7 @@ export class PlanView {
     this.gantt.show(this.last, !this.found);
     this._legend();
     this._chain();
+    if (!told.none) at("hinders-says").replaceChildren();
     if (told.none) {
       this._hinders();
       // (on a phone the form stands far below)
@@ -259,7 +261,7 @@ export class PlanView {
       ...(facts.length ? [since] : []));
   }
 
-  _repair({ premises, takes, cost }, number) {
+  _repair({ premises, says, cost }, number) {
     const tried = made("p", { class: "tried", role: "status" });
     const attempt = made("button", { type: "button", id: `try ${number}` }, "Try");
     attempt.addEventListener("click", async () => {
@@ -269,9 +271,8 @@ export class PlanView {
     const apply = made("button", { type: "button", class: "take", id: `take ${number}` },
       "Take this");
     apply.addEventListener("click", () => this._change({ what: "give up", premises }));
-    const needs = takes.length ? [made("small", {}, `This takes ${takes.join(" and ")}.`)] : [];
-    const name = made("span", {}, "give up ", ...joined(premises, " and "), ...needs,
-      ...(cost === premises.length ? [] : [made("small", {}, ` It counts ${cost}.`)]));
+    const name = made("span", {}, ...joined(says, " and "),
+      ...(cost === premises.length ? [] : [made("small", {}, `It counts ${cost}.`)]));
     return made("div", {}, made("div", { class: "repair" }, name, attempt, apply), tried);
   }
 
