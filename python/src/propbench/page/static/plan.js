@@ -30,7 +30,6 @@ export class PlanView {
     this.forms = new Forms(at("plan-forms"), {
       put: (table, place, row) => this._change({ what: "put", table, place, row }),
       drop: (table, place) => this._change({ what: "drop", table, place }),
-      say: page.say,
     });
     const press = (id, act) => at(id).addEventListener("click", act);
     press("tab-plan", () => this.turn(true));
@@ -55,11 +54,6 @@ export class PlanView {
       event.preventDefault();
       this._change({ what: event.shiftKey ? "redo" : "undo" });
     });
-  }
-
-  // Whether the plan is what is looked at.
-  get isShown() {
-    return this.plan !== null && !at("plan-view").hidden;
   }
 
   // Shows what is known of the plan, and looks for its best one where it has changed.
