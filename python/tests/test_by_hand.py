@@ -87,6 +87,19 @@ def test_a_search_begins_with_one(wide: str, monkeypatch: pytest.MonkeyPatch, se
             assert other.least(again.end).value == found.value and found.proved
 
 
+def test_a_long_chain_is_made_at_once(wide: str) -> None:
+    """Of 1,100 tasks one behind the other, and then in a ring."""
+    with Workbench(wide) as w:
+        p = w.project(days=3000)
+        made: list[Task] = []
+        for number in range(1100):
+            made.append(p.task(f"t{number}", 2, after=made[-1:]))
+        found = by_hand.made_by_hand(w.network)
+        assert found["t0 start"] == 0 and found["t1099 end"] == 2200
+        p.lag(made[-1], made[0], 0)
+        assert by_hand.made_by_hand(w.network) == {}
+
+
 def test_what_is_told_while_it_runs(wide: str) -> None:
     said: list[str] = []
     with Workbench(wide) as w:

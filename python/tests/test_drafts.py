@@ -115,8 +115,11 @@ def test_steps_are_taken_back_and_done_again(plan: OpenPlan) -> None:
     assert ends(plan) == 10 and plan.undoes == "give up all by 18 March"
     assert plan.draft is not None
     assert plan.draft.rows("given up") == ({"premise": "all by 18 March"},)
+    workbench = plan.workbench
     plan.undo()
     assert ends(plan) is None and plan.draft.rows("given up") == ()
+    # (what is given up changes nothing else, so nothing is stated anew)
+    assert plan.workbench is workbench
     plan.undo()
     assert ends(plan) == 10 and plan.draft == begun and plan.undoes == ""
     with pytest.raises(ValueError, match="nothing to take back"):
@@ -318,6 +321,26 @@ def test_conflicts_are_told_by_their_fewest_wishes(plan: OpenPlan) -> None:
         ("all by 19 March", "venue by 12 March"),
         ("all by 19 March", "venue on 11 March"),
     }
+
+
+def test_what_to_do_is_told_in_words(plan: OpenPlan) -> None:
+    """Two days of a hall for two, of three tasks: in two days they fit with more of it, or where
+    Ana, who has two of them, has help."""
+    for number, who in enumerate(("ana", "ana", "ben")):
+        row = {"task": f"talk {number}", "days": "2", "who": who, "uses": "hall"}
+        plan.put("tasks", None, row)
+    for number in range(2):
+        plan.put("wishes", None, {"wish": f"talk {number} by 10 March"})
+    plan.put("absences", None, {"person": "ben", "from": "2026-03-09"})
+    plan.put("wishes", None, {"wish": "talk 2 by 10 March"})
+    says = {each.premises: each.says for each in plan.hindrances(60).repairs}
+    assert {word for each in says.values() for word in each} >= {
+        "get somebody to help ana",
+        "get more of hall",
+        "get ben to be there 9 Mar",
+        "give up talk 2 by 10 March",
+    }
+    assert ("talk 0 by 10 March", "talk 2 by 10 March") in {tuple(sorted(it)) for it in says}
 
 
 def test_how_far_a_plan_may_be_from_the_best() -> None:

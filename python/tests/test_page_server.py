@@ -533,6 +533,7 @@ def test_the_desk_serves_a_plan(
         begun.kill()
         begun.wait()
     begun, address, said = served([])
+    assert asked(address, what="plan", seconds=20) == {"empty": True}
     begun.send_signal(signal.SIGINT)
     assert begun.wait(timeout=60) == 0 and "--resume goes on with it" in said[0]
     begun, address, said = served(["--resume"])

@@ -1,7 +1,7 @@
 """What a page asks of a plan, and what comes of it: its schedule, what stands in its way, and the
 changes of who works on it."""
 
-from collections.abc import Mapping
+from collections.abc import Callable, Mapping
 from dataclasses import asdict
 
 from propbench.files import OpenedFile
@@ -38,11 +38,11 @@ class PlanAsking(ServedNetwork):
         # Whether somebody looks at the network: what follows there isn't needed before.
         self._has_network = False
         self._does |= {
-            "plan": self._planned,
-            "why": self._why,
-            "hinders": self._hinders,
-            "without": self._without,
-            "suppose": self._suppose,
+            "plan": lambda asked: _unless_stopped(self._planned, asked),
+            "why": lambda asked: _unless_stopped(self._why, asked),
+            "hinders": lambda asked: _unless_stopped(self._hinders, asked),
+            "without": lambda asked: _unless_stopped(self._without, asked),
+            "suppose": lambda asked: _unless_stopped(self._suppose, asked),
             "give up": self._give_up,
             "put": self._put,
             "drop": self._drop,
@@ -85,12 +85,8 @@ class PlanAsking(ServedNetwork):
         """The plan that ends soonest, as far as there is time for it."""
         seconds = asked.get("seconds")
         limit = float(seconds) if isinstance(seconds, int | float) else _SECONDS
-        try:
-            with self._plan.aside():
-                return self._best_seen(min(limit, _SECONDS))
-        except (Stopped, Interrupted):
-            # (somebody changes it meanwhile, and asks again then)
-            return {"stopped": True}
+        with self._plan.aside():
+            return self._best_seen(min(limit, _SECONDS))
 
     def _best_seen(self, seconds: float) -> dict[str, object]:
         found = self._plan.best(seconds, self._telling)
@@ -208,3 +204,14 @@ class PlanAsking(ServedNetwork):
                 "agreed": project is not None and project.baseline is not None,
             },
         }
+
+
+def _unless_stopped(
+    ask: Callable[[Mapping[str, object]], dict[str, object]], asked: Mapping[str, object]
+) -> dict[str, object]:
+    """What comes of a question, or that it was stopped: somebody changes the plan meanwhile, and
+    asks again then."""
+    try:
+        return ask(asked)
+    except (Stopped, Interrupted):
+        return {"stopped": True}

@@ -176,7 +176,7 @@ class _Maker:
     def __init__(self, known: _KnownWork) -> None:
         self._known = known
         self._placed: dict[str, _Place] = {}
-        self._behind: dict[str, int] = {}
+        self._behind = _work_behind(known)
 
     def places(self) -> list[_Place] | None:
         """All tasks in their places, None where one finds none."""
@@ -185,7 +185,7 @@ class _Maker:
             ready = [it for it in waiting.values() if self._is_ready(it)]
             if not ready:
                 return None
-            work = min(ready, key=lambda it: (it.began is None, -self._work_behind(it.task.name)))
+            work = min(ready, key=lambda it: (it.began is None, -self._behind[it.task.name]))
             place = self._place(work)
             if place is None:
                 return None
@@ -197,21 +197,6 @@ class _Maker:
         return work.began is not None or all(
             each.earlier.name in self._placed or each.ready(0, 0) is None for each in work.after
         )
-
-    def _work_behind(self, task: str) -> int:
-        """The days of a task and of all that waits for it, on the longest way."""
-        if task not in self._behind:
-            # (a ring has no plan, and no end here)
-            self._behind[task] = 0
-            later = [
-                work.task.name
-                for work in self._known.jobs.values()
-                for each in work.after
-                if each.earlier.name == task and each.ready(0, 0) is not None
-            ]
-            most = max(map(self._work_behind, later), default=0)
-            self._behind[task] = most + self._known.jobs[task].days
-        return self._behind[task]
 
     def _place(self, work: _Work) -> _Place | None:
         """The place where a task ends soonest, whoever does it."""
@@ -268,6 +253,27 @@ class _Maker:
             <= self._known.holds[name]
             for day in begins
         )
+
+
+def _work_behind(known: _KnownWork) -> dict[str, int]:
+    """The days of each task and of all that waits for it, on the longest way."""
+    waits = {
+        name: [it.earlier.name for it in work.after if it.ready(0, 0) is not None]
+        for name, work in known.jobs.items()
+    }
+    before = {name: 0 for name in waits}
+    for earlier in (it for names in waits.values() for it in names):
+        before[earlier] += 1
+    found = {name: known.jobs[name].days for name in waits}
+    # (from the last ones on; what is in a ring has no plan)
+    last = [name for name, number in before.items() if not number]
+    while last:
+        name = last.pop()
+        for earlier in waits[name]:
+            found[earlier] = max(found[earlier], known.jobs[earlier].days + found[name])
+            before[earlier] -= 1
+            last += [] if before[earlier] else [earlier]
+    return found
 
 
 def _end(task: Task, start: int, days: int, aways: Sequence[Away], last: int) -> int | None:

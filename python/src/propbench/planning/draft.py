@@ -106,6 +106,10 @@ class Draft:
         wishes = [_said(row, (old, new), names) for row in made.rows("wishes")]
         return made.with_rows("wishes", wishes) if wishes else made
 
+    def is_but_for_given_up(self, other: "Draft") -> bool:
+        """Whether another is the same but for what is given up."""
+        return all(self.rows(it) == other.rows(it) for it in COLUMNS if it != "given up")
+
     def sheets(self) -> list[Sheet]:
         """The tables that have rows as sheets, in the order in which they are read."""
         found = [_sheet(table, self.rows(table)) for table in COLUMNS if self.rows(table)]

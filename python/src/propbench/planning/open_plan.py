@@ -19,6 +19,7 @@ from propbench.plain import PlainWorkbench
 from propbench.questions.bounding import Optimum
 from propbench.questions.clock import Progress
 from propbench.questions.goals import Optima
+from propbench.questions.shown import listed
 from propbench.workbench import Workbench
 
 # So many repairs are looked for at the most, and so many conflicts shown.
@@ -40,10 +41,10 @@ class _Step:
 
 @dataclass(frozen=True)
 class WayOut:
-    """Premises to give up, what that takes in words, and what it costs."""
+    """Premises to give up, what to do for that in words, and what it costs."""
 
     premises: tuple[str, ...]
-    takes: tuple[str, ...]
+    says: tuple[str, ...]
     cost: float
 
 
@@ -184,12 +185,17 @@ class OpenPlan(Closing):
         )
         conflicts = w.conflicts(most=_MOST, seconds=half, progress=progress)
         found = [
-            WayOut(each.names, tuple(taking(self.plan.project, each.names)), each.cost)
-            for each in repairs
+            WayOut(each.names, tuple(map(self._doing, each.names)), each.cost) for each in repairs
         ]
         told = [self._hindrance(each.names, facts) for each in conflicts]
         shown = _shortest(told)[:_SHOWN]
         return Hindrances(tuple(shown), tuple(found), repairs.complete)
+
+    def _doing(self, premise: str) -> str:
+        """What to do where a premise is given up."""
+        assert self.plan is not None
+        takes = taking(self.plan.project, [premise])
+        return f"get {listed(takes)}" if takes else f"give up {premise}"
 
     def _hindrance(self, names: Sequence[str], facts: Collection[str]) -> Hindrance:
         text = self.workbench.model.text
@@ -281,12 +287,13 @@ class OpenPlan(Closing):
             raise ValueError(why)
         step = here[-1]
         now = self._step(step.says)
-        if self.draft is not None and step.draft.tables != self.draft.tables:
+        if self.draft is not None and not self.draft.is_but_for_given_up(step.draft):
             self._replace(step.draft, self._made(step.draft))
         for name in self.workbench.premises:
             is_in, was_in = name in self.workbench.believed, name not in step.kicked
             if is_in != was_in:
                 (self.workbench.bring if was_in else self.workbench.kick)(name)
+        self.draft = None if self.draft is None else step.draft
         here.pop()
         there.append(now)
 

@@ -132,6 +132,7 @@ def _row(
         "task": entry.task,
         "who": list(entry.people),
         "uses": list(entry.used),
+        "needs": [name for name, _ in entry.uses],
         "parts": entry.parts,
         "when": schedule.days_said(entry.start, entry.end),
         "way": entry.way or "",

@@ -197,7 +197,7 @@ class Seeker(Closing):
             for cell, value in self.model.by_hand().items()
         }
         left = self.clock.seconds_left()
-        seconds = _SOON if left is None else min(_SOON, left / 2)
+        seconds = 2 * _SOON if left is None else min(2 * _SOON, left / 2)
         if not row:
             return None
         reply: Reply = UNSETTLED

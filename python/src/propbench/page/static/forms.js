@@ -1,7 +1,7 @@
 // Forms for what is planned: a row of a table each. Names are picked by a press, numbers and days
 // go up and down by one, so that nothing but a name has to be typed, and even that is proposed.
 
-import { made, named, printable, tell } from "./texts.js";
+import { made, named, printable } from "./texts.js";
 
 const DAYS = ["mon", "tue", "wed", "thu", "fri", "sat", "sun"];
 const LEAST = { days: 0, holds: 1, cost: 0, left: 0, weight: 0 };
@@ -73,11 +73,9 @@ function shifted(text, days, start) {
 }
 
 export class Forms {
-  constructor(root, { put, drop, say }) {
-    this.root = root;
+  constructor(root, { put, drop }) {
     this.put = put;
     this.drop = drop;
-    this.say = say;
     this.open = null;
     this.tables = {};
     this.sections = new Map(SECTIONS.map((each) => [each[0], this._section(...each)]));
@@ -435,5 +433,3 @@ export function tellWrong(text) {
   form.querySelector(".wrong")?.remove();
   if (text) form.prepend(made("p", { class: "wrong", role: "alert" }, printable(text)));
 }
-
-export { tell };

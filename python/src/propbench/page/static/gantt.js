@@ -12,6 +12,7 @@ const FEW = 620;
 const DAY = { least: 9, most: 38 };
 // So wide a letter is about, in a bar and in a name.
 const LETTER = 6.6;
+const BOLD = 1.12;
 // People have so many colours.
 const COLOURS = 8;
 
@@ -27,7 +28,11 @@ const cut = (text, room) => {
   return text.length <= most ? text : `${text.slice(0, most - 1)}\u2026`;
 };
 
-export const colourOf = (people, name) => Math.max(0, people.indexOf(name)) % COLOURS;
+// The class of what somebody does, or of what nobody is named for.
+export function colourOf(people, name) {
+  const place = people.indexOf(name);
+  return place < 0 ? "nobody" : `person-${place % COLOURS}`;
+}
 
 export class Gantt {
   constructor(svg, pick) {
@@ -133,7 +138,8 @@ export class Gantt {
       node.append(made("text", { x: 4, y: top + 18, class: "name" }, name));
     } else {
       const told = `${each.task} \u00b7 ${each.when}${who ? ` \u00b7 ${who}` : ""}`;
-      const left = Math.max(0, Math.min(this._x(each.parts[0][0]), width - told.length * LETTER));
+      const room = told.length * LETTER * (each.chain ? BOLD : 1);
+      const left = Math.max(0, Math.min(this._x(each.parts[0][0]), width - room));
       const shown = cut(told, width - left);
       node.append(made("text", { x: left, y: top + 14, class: "name" }, shown));
     }
@@ -148,7 +154,7 @@ export class Gantt {
     if (each.before) {
       node.append(this._bar(each.before[0], each.before[1], top + under + bar + 1, 3, "before"));
     }
-    const colour = `person-${colourOf(this.plan.people, each.who[0] ?? each.uses[0])}`;
+    const colour = colourOf(this.plan.people, each.who[0] ?? each.needs[0]);
     const from = each.parts[0][0];
     const to = each.parts[each.parts.length - 1][1];
     if (each.parts.length > 1) {

@@ -30,7 +30,6 @@ export class PlanView {
     this.forms = new Forms(at("plan-forms"), {
       put: (table, place, row) => this._change({ what: "put", table, place, row }),
       drop: (table, place) => this._change({ what: "drop", table, place }),
-      say: page.say,
     });
     const press = (id, act) => at(id).addEventListener("click", act);
     press("tab-plan", () => this.turn(true));
@@ -55,11 +54,6 @@ export class PlanView {
       event.preventDefault();
       this._change({ what: event.shiftKey ? "redo" : "undo" });
     });
-  }
-
-  // Whether the plan is what is looked at.
-  get isShown() {
-    return this.plan !== null && !at("plan-view").hidden;
   }
 
   // Shows what is known of the plan, and looks for its best one where it has changed.
@@ -116,25 +110,34 @@ export class PlanView {
     return true;
   }
 
+  // Asks what may take long, which a change of the plan ends.
+  async _long(body, wrong) {
+    this.runs++;
+    try {
+      const told = await this.page.ask(body, wrong);
+      return told?.stopped ? undefined : told;
+    } finally {
+      this.runs--;
+    }
+  }
+
   // --- the best plan ---
 
   async _find() {
     const version = this.planned;
     const slow = setTimeout(() => at("plan-middle").classList.add("looking"), SOON);
-    this.runs++;
     try {
       let seconds = FIRST;
       while (this.planned === version) {
-        const told = await this.page.ask({ what: "plan", seconds }, () => {});
-        if (!told || told.stopped || this.planned !== version) return;
+        const told = await this._long({ what: "plan", seconds }, () => {});
+        if (!told || this.planned !== version) return;
         this._tell(told);
         if (told.empty || told.none || told.found?.proved) return;
         seconds = Math.min(MOST, seconds * MORE);
       }
     } finally {
-      this.runs--;
       clearTimeout(slow);
-      if (!this.runs) at("plan-middle").classList.remove("looking");
+      if (this.planned === version) at("plan-middle").classList.remove("looking");
     }
   }
 
@@ -159,6 +162,7 @@ export class PlanView {
     this.gantt.show(this.last, !this.found);
     this._legend();
     this._chain();
+    if (!told.none) at("hinders-says").replaceChildren();
     if (told.none) {
       this._hinders();
       // (on a phone the form stands far below)
@@ -176,7 +180,7 @@ export class PlanView {
     const { last } = this;
     const people = last ? last.people : [];
     const parts = people.map((name) => made("span", { class: "key" },
-      made("span", { class: `swatch person-${colourOf(people, name)}` }), named(name)));
+      made("span", { class: `swatch ${colourOf(people, name)}` }), named(name)));
     const also = [["chain", "makes the end", last?.rows.some((row) => row.chain)],
       ["away", "away", last?.rows.some((row) => row.aways.length)],
       ["before", "as was agreed", last?.rows.some((row) => row.before)]];
@@ -205,8 +209,9 @@ export class PlanView {
   }
 
   async _why() {
-    const told = await this.page.ask({ what: "why" });
-    if (!told) return;
+    const version = this.planned;
+    const told = await this._long({ what: "why" });
+    if (!told || this.planned !== version) return;
     const rooms = told.rooms.map(({ task, days }) => made("li", {}, named(task),
       days ? ` can move by ${days} day${days === 1 ? "" : "s"}` : " can't move"));
     const others = told.others.length ? [made("p", {}, "It is also because of ",
@@ -219,7 +224,7 @@ export class PlanView {
     const text = at("suppose").value.trim();
     if (!text) return;
     const said = [];
-    const told = await this.page.ask({ what: "suppose", text }, (wrong) => said.push(wrong));
+    const told = await this._long({ what: "suppose", text }, (wrong) => said.push(wrong));
     tell(at("supposed"), told ? told.says : said.join(" "));
     at("supposed").classList.toggle("wrong", !told);
   }
@@ -229,7 +234,7 @@ export class PlanView {
   async _hinders() {
     const version = this.planned;
     at("hinders-says").replaceChildren(made("p", {}, "Looking for what could be given up."));
-    const told = await this.page.ask({ what: "hinders" });
+    const told = await this._long({ what: "hinders" }, () => {});
     if (!told || this.planned !== version) return;
     const conflicts = told.conflicts.map((each) => this._conflict(each));
     const repairs = told.repairs.map((each, place) => this._repair(each, place + 1));
@@ -250,19 +255,18 @@ export class PlanView {
       ...(facts.length ? [since] : []));
   }
 
-  _repair({ premises, takes, cost }, number) {
+  _repair({ premises, says, cost }, number) {
     const tried = made("p", { class: "tried", role: "status" });
     const attempt = made("button", { type: "button", id: `try ${number}` }, "Try");
     attempt.addEventListener("click", async () => {
-      const told = await this.page.ask({ what: "without", premises });
+      const told = await this._long({ what: "without", premises });
       if (told) tell(tried, told.says);
     });
     const apply = made("button", { type: "button", class: "take", id: `take ${number}` },
       "Take this");
     apply.addEventListener("click", () => this._change({ what: "give up", premises }));
-    const needs = takes.length ? [made("small", {}, `This takes ${takes.join(" and ")}.`)] : [];
-    const name = made("span", {}, "give up ", ...joined(premises, " and "), ...needs,
-      ...(cost === premises.length ? [] : [made("small", {}, ` It counts ${cost}.`)]));
+    const name = made("span", {}, ...joined(says, " and "),
+      ...(cost === premises.length ? [] : [made("small", {}, `It counts ${cost}.`)]));
     return made("div", {}, made("div", { class: "repair" }, name, attempt, apply), tried);
   }
 
