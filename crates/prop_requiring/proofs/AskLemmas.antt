@@ -1,10 +1,10 @@
 -- How a line falls into its parts.
 use Rattle.std.proofs.Common.{◌≡◌, ◌∙◌, ℕ, zero, suc, ◌+◌, ◌-◌, ◌<◌, ◌≤◌, List, [], ◌∷◌, ◌++◌, Bool, true, false, length}
 use Rattle.std.proofs.Common.{Option, Some, None, refl, ap, sym, subst, inr, append_assoc, arith, add-one, drop-cons, codes, take, drop, get_or}
-use Rattle.std.specs.Prelude.{cond, not, bytes_eq, ◌||◌, ◌&&◌}
+use Rattle.std.specs.Prelude.{cond, not, bytes_eq, ◌&&◌}
 use Rattle.std.specs.List.{list_all}
 use Rattle.std.specs.Option.{option_map, option_map_or}
-use Rattle.std.proofs.lemmas.List.{append-nil, append_cancel_left, take-append-drop}
+use Rattle.std.proofs.lemmas.List.{append_cancel_left, take-append-drop}
 use Rattle.std.proofs.lemmas.Bool.{and_parts}
 use Rattle.std.proofs.lemmas.Slice.Eq.{bytes_eq-Decides}
 use Rattle.prop_refusals.specs.declared.refusal.Refusal.{Refusal}
@@ -228,6 +228,31 @@ some_word xs before (x ∷ word) b s e = omega arith
 abbrev with_text : Option (List ℕ × List ℕ) → Option (List ℕ × List ℕ)
 with_text c = option_map_or (λ parts. option_map {U = List ℕ × List ℕ} (λ text. (text, parts.1)) (before_under parts.0)) c None
 
+joined : (behind before last text word gap end : List ℕ) (a b : ℕ) → behind ≡ (before ++ b ∷ last) ++ end
+    → before ≡ text ++ a ∷ (codes "under" ++ gap) → last ≡ word
+    → behind ≡ text ++ a ∷ (codes "under" ++ (gap ++ b ∷ (word ++ end)))
+joined behind before last text word gap end a b whole front is =
+    whole ∙ append_assoc before (b ∷ last) end ∙ ap (λ l. l ++ b ∷ (last ++ end)) front
+    ∙ append_assoc text (a ∷ (codes "under" ++ gap)) (b ∷ (last ++ end))
+    ∙ ap (λ l. text ++ a ∷ l) (append_assoc (codes "under") gap (b ∷ (last ++ end)))
+    ∙ ap (λ w. text ++ a ∷ (codes "under" ++ (gap ++ b ∷ (w ++ end)))) is
+
+ends_from : (behind before last text word end : List ℕ) (b : ℕ) → is_space b ≡ true → AreSpaces end → IsWord word
+    → behind ≡ (before ++ b ∷ last) ++ end → last ≡ word → IsBefore before text
+    → EndsUnder (codes "require" ++ behind) text word
+ends_from behind before last text word end b s spaces some whole is (a, gap, sa, gaps, front) = (
+  a,
+  b,
+  gap,
+  end,
+  sa,
+  s,
+  gaps,
+  spaces,
+  some,
+  ap (λ l. codes "require" ++ l) (joined behind before last text word gap end a b whole front is),
+)
+
 found_from : (behind text word : List ℕ) (c : Option (List ℕ × List ℕ)) → CutSays (trimmed behind) c
     → with_text c ≡ Some (text, word) → EndsUnder (codes "require" ++ behind) text word
 found_from behind text word None n e = cc
@@ -242,26 +267,9 @@ found_from behind text word (Some (before, last)) (b, s, n, split) e = test (bef
         let both : Path (List ℕ × List ℕ) (front, last) (text, word) = cc in
         let there : front ≡ text = ap (λ (p : List ℕ × List ℕ). p.0) both in
         let is : last ≡ word = ap (λ (p : List ℕ × List ℕ). p.1) both in
-        let u = before_says before text (d ∙ ap (λ l. Some l) there) in
-        let a = u.0 in
-        let gap = u.1 in
-        let end = r.0 in
-        let joined = r.2 ∙ ap (λ l. l ++ end) split ∙ append_assoc before (b ∷ last) end
-        ∙ ap (λ l. l ++ b ∷ (last ++ end)) u.4
-        ∙ append_assoc text (a ∷ (codes "under" ++ gap)) (b ∷ (last ++ end))
-        ∙ ap (λ l. text ++ a ∷ l) (append_assoc (codes "under") gap (b ∷ (last ++ end)))
-        ∙ ap (λ w. text ++ a ∷ (codes "under" ++ (gap ++ b ∷ (w ++ end)))) is in (
-          a,
-          b,
-          gap,
-          end,
-          u.2,
-          s,
-          u.3,
-          r.1,
-          subst IsWord is (some_word behind before last b s split, n),
-          ap (λ l. codes "require" ++ l) joined,
-        )
+        ends_from behind before last text word r.0 b s r.1
+        (subst IsWord is (some_word behind before last b s split, n)) (r.2 ∙ ap (λ l. l ++ r.0) split) is
+        (before_says before text (d ∙ ap (λ l. Some l) there))
 
 -- where bytes end so, they do
 pub found_under : (behind text word : List ℕ) → under_word behind ≡ Some (text, word)

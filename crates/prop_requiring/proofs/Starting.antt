@@ -1,5 +1,5 @@
 -- How a session with a requirer around it begins.
-use Rattle.std.proofs.Common.{◌≡◌, ℕ, List, Result, Ok, Err, None, sym, subst}
+use Rattle.std.proofs.Common.{◌≡◌, ℕ, List, Result, Err, None, sym, subst}
 use Rattle.prop_procedures.specs.Stored.{Stored}
 use Rattle.prop_engine.specs.declared.outcome.Counts.{Counts}
 use Rattle.prop_engine.specs.Calls.{Call}
@@ -12,7 +12,6 @@ use Rattle.prop_program.specs.declared.chosen.Pick.TheVariants.{Fifo, Lifo, Mixe
 use Rattle.prop_program.specs.declared.fault.Fault.{Fault}
 use Rattle.prop_program.proofs.Starts.{nothing_served}
 use Rattle.prop_telling.specs.Notes.{no_notes}
-use Rattle.prop_telling.specs.Telling.{Told}
 use Rattle.prop_seeking.specs.Seeking.{Sought, new_sought}
 use Rattle.prop_requiring.specs.Answering.{IsRequired}
 use Rattle.prop_requiring.specs.Requiring.{requiring}

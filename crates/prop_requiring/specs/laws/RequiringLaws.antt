@@ -1,5 +1,5 @@
 -- A requirer has what the engine asks of a machine.
-use Rattle.std.proofs.Common.{◌≡◌, ◌⊎◌, ◌≤◌, ◌<◌, ℕ, List, [], ◌∷◌, length, refl, inl, inr, subst, arith, sym}
+use Rattle.std.proofs.Common.{◌≡◌, ◌≤◌, ◌<◌, ℕ, List, [], ◌∷◌, length, refl, inl, inr, subst, arith}
 use Rattle.std.specs.Prelude.{take}
 use Rattle.std.proofs.lemmas.List.{length-take, take_all}
 use Rattle.prop_refusals.specs.declared.refusal.Refusal.{Refusal}

@@ -1,4 +1,4 @@
-use Rattle.std.proofs.Common.{◌∙◌, ◌≡◌, ℕ, ap, arith, drop, subst, sym}
+use Rattle.std.proofs.Common.{◌∙◌, ◌≡◌, ℕ, arith, drop, subst, sym}
 use Rattle.std.proofs.lemmas.List.{take_rest}
 use Rattle.prop_requiring.proofs.AskLemmas.{NoSpaces, cut_before, cut_none}
 use Rattle.prop_requiring.proofs.asking.cut_at_space.Goals as goal

@@ -1,4 +1,4 @@
-use Rattle.std.proofs.Common.{◌∙◌, ◌≡◌, ℕ, ap, arith, drop, subst, sym}
+use Rattle.std.proofs.Common.{◌∙◌, ◌≡◌, ℕ, arith, drop, subst, sym}
 use Rattle.prop_requiring.specs.Asking.{AreSpaces}
 use Rattle.prop_requiring.proofs.AskLemmas.{trimmed_before, trimmed_spaces}
 use Rattle.prop_requiring.proofs.asking.trimmed.Goals as goal

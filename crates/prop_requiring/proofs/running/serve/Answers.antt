@@ -1,4 +1,4 @@
-use Rattle.std.proofs.Common.{ap, sym, subst, Option, None, IfSome}
+use Rattle.std.proofs.Common.{sym, subst, Option, IfSome}
 use Rattle.std.specs.Option.{option_map}
 use Rattle.prop_procedures.specs.Kept.{stored_of}
 use Rattle.prop_workbench.specs.Engine.{standing_of}

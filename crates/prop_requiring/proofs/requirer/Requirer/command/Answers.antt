@@ -1,8 +1,6 @@
-use Rattle.std.proofs.Common.{List, ℕ, subst, sym}
 use Rattle.prop_procedures.specs.Kept.{stored_of}
 use Rattle.prop_engine.specs.Answers.{answer_of}
 use Rattle.prop_seeking.specs.inner.Seekers.{sought_of}
-use Rattle.prop_requiring.specs.Requiring.{Requires}
 use Rattle.prop_requiring.proofs.PostLemmas.{own_line}
 use Rattle.prop_requiring.proofs.requirer.Requirer.command.Goals as goal
 

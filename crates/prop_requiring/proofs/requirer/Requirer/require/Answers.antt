@@ -1,4 +1,4 @@
-use Rattle.std.proofs.Common.{◌≡◌, ◌∙◌, ap, inl, inr, length, refl, subst, sym, List, ℕ}
+use Rattle.std.proofs.Common.{◌≡◌, ◌∙◌, ap, inr, length, refl, subst, sym, List, ℕ}
 use Rattle.std.specs.List.{range_with_len}
 use Rattle.prop_procedures.specs.Kept.{stored_of}
 use Rattle.prop_workbench.specs.Points.{attached_in}
