@@ -168,7 +168,9 @@ class Cheapest(Blame):
     costs: dict[str, int] = field(default_factory=dict)
 
     def line(self) -> str:
-        return " ".join([super().line(), "by", *(f"{it} {much}" for it, much in self.costs.items())])
+        return " ".join(
+            [super().line(), "by", *(f"{it} {much}" for it, much in self.costs.items())]
+        )
 
     def cost(self, names: Premises) -> int:
         return sum(self.costs.get(it, 1) for it in names)
@@ -272,7 +274,10 @@ class Session(solving.Session):
         some = [it for it in sorted(sets.believed) if self.chance.random() < PRICED]
         costs = {it: self.chance.choice(COSTS) for it in some}
         blames = [Blame(sets, word) for word in MARKS]
-        return [*blames, Cheapest(sets, "repairs", costs=costs) if costs else Blame(sets, "repairs")]
+        return [
+            *blames,
+            Cheapest(sets, "repairs", costs=costs) if costs else Blame(sets, "repairs"),
+        ]
 
     def turn(self, state: State) -> bool:
         """Asks for both by a few small slices, and then changes something; whether nothing is

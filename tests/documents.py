@@ -43,7 +43,9 @@ def is_command(line: str) -> bool:
         return not "".join(rest).lstrip("-").isdigit()
     if word in ("solve", "plans"):
         return word == "solve" or len(rest) > 1
-    return word in (*COMMANDS, "require", *TOLD, *BLAME) and not (word in ("nogoods", *TOLD) and rest)
+    return word in (*COMMANDS, "require", *TOLD, *BLAME) and not (
+        word in ("nogoods", *TOLD) and rest
+    )
 
 
 def told_apart(block: list[str]) -> Iterator[tuple[str, bool]]:
