@@ -11,13 +11,11 @@ from propbench.model.events import Read
 from propbench.model.measures import Interval, Measure, rounded
 from propbench.program import OutOfTime
 from propbench.questions.asking import tried
-from propbench.questions.blaming import BlamedSets, asked_by, evidence_of, refuting
 from propbench.questions.certificate import Certificate, Evidence
 from propbench.questions.clock import Clock
 from propbench.questions.conflicts import Premises
 from propbench.questions.hitting import Hitting, bits_of
 from propbench.questions.model import Model
-from propbench.questions.seeking import blames
 from propbench.questions.outcomes import Fork
 from propbench.questions.shown import NOT_REFUTED, Shown, shortened
 from propbench.questions.trial import Trial
@@ -158,8 +156,6 @@ class Weeding:
 
 # A set of readings is tried in so many cases within one another.
 _DEPTH = 3
-# So many sets are asked for, so that the fewest are among them.
-_MOST_ASKED = 1000
 
 
 def _outlier_of(trial: Trial, readings: Readings, named: Collection[str]) -> Outlier:
@@ -209,11 +205,8 @@ def find_outliers(
 ) -> Outliers:
     """The minimal sets of readings to give up, so many at the most."""
     kept = [name for name in model.believed() if name not in readings]
-    if blames(model):
-        wanted = [("repairs", max(most, _MOST_ASKED))]
-        return asked_by(
-            model, kept, clock, wanted, lambda _, told: _told(model, readings, told, most, clock)
-        )
+    # (a search for points, as the program's own for conflicts, has no end among as many numbers as
+    # a quantity may be; so it is asked what follows from the readings, without any point)
     trial = Trial(model, kept, clock)
     weeding = Weeding(trial, readings, related)
 
@@ -239,17 +232,3 @@ def _ordered(model: Model, found: Iterable[Outlier]) -> list[Outlier]:
     order of the user's premises, however they were tried."""
     place = {name: number for number, name in enumerate(model.premises())}
     return sorted(found, key=lambda it: (len(it), -it.share, [place[name] for name in it]))
-
-
-def _told(model: Model, readings: Readings, told: BlamedSets, most: int, clock: Clock) -> Outliers:
-    """The outliers that a program has told as repairs, so many at the most."""
-    lines = {model.line_name(name): name for name in readings}
-    sets = sorted([[lines[line] for line in each] for each in told.repairs], key=len)
-    longest = len(sets[:most][-1]) if sets else 0
-    kept = [name for name in model.believed() if name not in readings]
-    with Trial(model, kept, clock) as trial:
-        found = [_outlier_of(trial, readings, each) for each in sets if len(each) <= longest]
-    is_all = told.complete and len(sets) <= most
-    texts = {name: model.text(name) for name in readings}
-    certificate = refuting(evidence_of(model), told) if told.conflicts else None
-    return Outliers(_ordered(model, found)[:most], is_all, texts, certificate)

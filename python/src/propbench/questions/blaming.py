@@ -160,12 +160,6 @@ def certificate_of(
     return Certificate((), partial(_shown, evidence, blamed, outs, claims))
 
 
-def refuting(evidence: Evidence, blamed: BlamedSets) -> Certificate | None:
-    """What shows that each of the conflicts that were told can't hold, and nothing more."""
-    witnesses = _Witnesses(evidence, blamed)
-    return evidence.certificate([witnesses.refuted(frozenset(it)) for it in blamed.conflicts])
-
-
 def evidence_of(model: Model) -> Evidence:
     """That of a model, as yet without plans."""
     return Evidence.without_trial(model, mark_for(model.base()))

@@ -48,8 +48,10 @@ def seeks(model: Model) -> bool:
 
 
 def blames(model: Model) -> bool:
-    """Whether it searches for minimal sets of premises. It is asked once."""
-    return "conflicts" in _told_by(model)
+    """Whether it searches for minimal sets of premises, and may be asked: the search looks for
+    points, of which measured quantities have too many. It is asked once what it has."""
+    has_lines = "conflicts" in _told_by(model)
+    return has_lines and not any(map(model.is_measured, model.cells()))
 
 
 def _told_by(model: Model) -> tuple[str, ...]:
