@@ -53,7 +53,8 @@ pub struct Explorer {
     steps: u64,
 }
 
-/// How many conflicts and repairs are looked for; where premises have weights, the cheapest repairs.
+/// How many conflicts and repairs are looked for; where premises have weights, the cheapest
+/// repairs.
 #[derive(Clone, Copy)]
 pub struct Wanted<'a> {
     pub conflicts: usize,
@@ -183,7 +184,13 @@ impl Explorer {
         ensures all { IfOk result (λ l. IsTrue l.are_all → (g : Ground) → IsExplored g self.now
             → HaveOne g l.sets.items) }
     {
-        let listed = cheapest(self.alloc, &self.repairs, weights, self.bound(weights), most)?;
+        let listed = cheapest(
+            self.alloc,
+            &self.repairs,
+            weights,
+            self.bound(weights),
+            most,
+        )?;
         let are_all = listed.are_all && self.is_over;
         Ok(Listed {
             sets: listed.sets,

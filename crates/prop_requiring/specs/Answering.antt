@@ -9,8 +9,8 @@ use Rattle.prop_program.specs.declared.fault.Fault.{Fault}
 use Rattle.prop_seeking.specs.Seeking.{new_sought}
 use Rattle.prop_requiring.specs.Requiring.{requiring}
 
--- a session of these procedures with a requirer around it, which begins with these lines, served, by
--- the order that was chosen, which a seed may begin
+-- a session of these procedures with a requirer around it, which begins with these lines, served,
+-- by the order that was chosen, which a seed may begin
 abbrev pub IsRequired : {D : Type 0} → List Stored → List (List ℕ) → Pick → ℕ → ℕ
     → (D → Call → D → Type 0) → D → D → Result Counts Fault → Type 0
 IsRequired library lines order seed limit may from to result = InOrder order seed (λ O picks begun.

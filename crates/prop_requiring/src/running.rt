@@ -28,7 +28,8 @@ const READS: u64 = 1 << 32;
 /// Makes a session with the procedures, loads the prelude and runs it with a requirer around it.
 ///
 /// A line of the prelude that is refused ends it before anything is read, as want of memory does.
-/// The procedures begin with the kit's and the wider ones, in the order in which programs make them.
+/// The procedures begin with the kit's and the wider ones, in the order in which programs make
+/// them.
 pub fn run<R: Guarded + Drop, D: Devices>(
     alloc: Global,
     procedures: Vec<Procedure<R>>,

@@ -18,9 +18,11 @@ cut (b ∷ bytes) = option_map_or (λ parts. Some (b ∷ parts.0, parts.1))
 -- what stands before the last word, where that is `under`
 abbrev pub before_under : List ℕ → Option (List ℕ)
 before_under bytes = option_map_or
-    (λ parts. cond (bytes_eq parts.1 (codes "under")) (Some parts.0) None) (cut (trimmed bytes)) None
+    (λ parts. cond (bytes_eq parts.1 (codes "under")) (Some parts.0) None)
+    (cut (trimmed bytes)) None
 
 -- what stands before `under` and the last word, and that word, where the bytes end so
 abbrev pub under_word : List ℕ → Option (List ℕ × List ℕ)
 under_word bytes = option_map_or
-    (λ parts. option_map (λ text. (text, parts.1)) (before_under parts.0)) (cut (trimmed bytes)) None
+    (λ parts. option_map (λ text. (text, parts.1)) (before_under parts.0))
+    (cut (trimmed bytes)) None

@@ -52,7 +52,8 @@ kept_refuses line e (inr (text, premise, asked, refused)) =
     let P : List ℕ → Type 0 = λ l. IsAsked l text premise in
     inr (text, premise, subst P (kept_whole line asked.few) asked, refused)
 
-kept_requires : {O : Type 0} (library : List Stored) (old : Sought O) (line : List ℕ) (answer : Answer) (new : Sought O)
+kept_requires : {O : Type 0} (library : List Stored) (old : Sought O) (line : List ℕ)
+    (answer : Answer) (new : Sought O)
     → Requires library old (kept_of line) answer new → Requires library old line answer new
 kept_requires library old line answer new (inl (e, refuses, is, same)) =
     inl (e, kept_refuses line e refuses, is, same)
