@@ -10,7 +10,7 @@ from typing import Iterator, Optional
 from case import Check
 
 TOP = os.path.dirname(os.path.dirname(os.path.realpath(__file__)))
-COLUMNS, WIDE, FEW = 100, 120, 45
+COLUMNS, WIDE, FEW = 100, 120, 24
 
 
 def long_lines(folder: str, columns: int) -> Iterator[str]:

@@ -1,6 +1,7 @@
 -- How a line falls into its parts.
-use Rattle.std.proofs.Common.{◌≡◌, ◌∙◌, ℕ, zero, suc, ◌+◌, ◌-◌, ◌<◌, ◌≤◌, List, [], ◌∷◌, ◌++◌, Bool, true, false, length}
-use Rattle.std.proofs.Common.{Option, Some, None, refl, ap, sym, subst, inr, append_assoc, arith, add-one, drop-cons, codes, take, drop, get_or}
+use Rattle.std.proofs.Common.{◌≡◌, ◌∙◌, ℕ, zero, suc, ◌+◌, ◌-◌, ◌<◌, ◌≤◌, List, [], ◌∷◌, ◌++◌, Bool, true, false}
+use Rattle.std.proofs.Common.{length, Option, Some, None, refl, ap, sym, subst, inr, append_assoc, arith}
+use Rattle.std.proofs.Common.{add-one, drop-cons, codes, take, drop, get_or}
 use Rattle.std.specs.Prelude.{cond, not, bytes_eq, ◌&&◌}
 use Rattle.std.specs.List.{list_all}
 use Rattle.std.specs.Option.{option_map, option_map_or}
@@ -183,7 +184,8 @@ under_found behind text word (a, b, gap, end, sa, sb, gaps, ends, w, e) =
     ∙ sym (append_assoc text (a ∷ (codes "under" ++ gap)) (b ∷ (word ++ end))) in
     let t : trimmed behind ≡ front ++ b ∷ word = ap trimmed split ∙ trimmed_behind front b word end w ends in
     let c : cut (trimmed behind) ≡ Some (front, word) = ap cut t ∙ cut_at front b word sb w.1 in
-    let u : trimmed front ≡ text ++ a ∷ codes "under" = trimmed_behind text a (codes "under") gap (omega arith, refl) gaps in
+    let u : trimmed front ≡ text ++ a ∷ codes "under" =
+    trimmed_behind text a (codes "under") gap (omega arith, refl) gaps in
     let d : cut (trimmed front) ≡ Some (text, codes "under") = ap cut u ∙ cut_at text a (codes "under") sa refl in
     rw (c, d) refl
 
@@ -226,7 +228,8 @@ some_word xs before [] b s e = absurd (let no = last_is_none xs before b e in cc
 some_word xs before (x ∷ word) b s e = omega arith
 
 abbrev with_text : Option (List ℕ × List ℕ) → Option (List ℕ × List ℕ)
-with_text c = option_map_or (λ parts. option_map {U = List ℕ × List ℕ} (λ text. (text, parts.1)) (before_under parts.0)) c None
+with_text c = option_map_or
+    (λ parts. option_map {U = List ℕ × List ℕ} (λ text. (text, parts.1)) (before_under parts.0)) c None
 
 joined : (behind before last text word gap end : List ℕ) (a b : ℕ) → behind ≡ (before ++ b ∷ last) ++ end
     → before ≡ text ++ a ∷ (codes "under" ++ gap) → last ≡ word

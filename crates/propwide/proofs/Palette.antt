@@ -192,7 +192,8 @@ wide_palette = record {
         f.form value,
       );
   sound = λ n p at any param args points point call of_kinds of_kind each h.
-      wide_is_sound n p at any param args points point call of_kinds of_kind each (related_there n param points point h);
+      wide_is_sound n p at any param args points point call of_kinds of_kind each
+      (related_there n param points point h);
   single = λ n s a points fit solves settled.
       let q = wide_solves n s a points fit solves settled in
       record {

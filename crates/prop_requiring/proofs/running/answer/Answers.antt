@@ -16,9 +16,11 @@ returns-in-Ok-run_session g c =
     let same = c.load_prelude.ensures.same in
     let machine : requiring g.O.Order.picks (stored_of g.R.Rule.value_of
     c.load_prelude.new.self.blamer.seeker.teller.session.live.network.library)
-    ≡ requiring g.O.Order.picks (stored_of g.R.Rule.value_of c.args.requirer.now.blamer.seeker.teller.session.live.network.library) =
+    ≡ requiring g.O.Order.picks (stored_of g.R.Rule.value_of
+    c.args.requirer.now.blamer.seeker.teller.session.live.network.library) =
     λ i. requiring g.O.Order.picks (stored_of g.R.Rule.value_of (same i)) in
-    spoken_after g.D.Devices.calls _ _ _ (sought_of c.args.requirer.now.blamer.seeker) (sought_of c.load_prelude.new.self.blamer.seeker)
+    spoken_after g.D.Devices.calls _ _ _ (sought_of c.args.requirer.now.blamer.seeker)
+    (sought_of c.load_prelude.new.self.blamer.seeker)
     (sought_of c.run_session.new.interpreter.blamer.seeker) _ (Ok _) c.in-Ok.ensures.ok
     (rw machine at c.in-Ok-run_session.ensures.speaks)
 
@@ -27,8 +29,10 @@ returns-in-Err-run_session g c =
     let same = c.load_prelude.ensures.same in
     let machine : requiring g.O.Order.picks (stored_of g.R.Rule.value_of
     c.load_prelude.new.self.blamer.seeker.teller.session.live.network.library)
-    ≡ requiring g.O.Order.picks (stored_of g.R.Rule.value_of c.args.requirer.now.blamer.seeker.teller.session.live.network.library) =
+    ≡ requiring g.O.Order.picks (stored_of g.R.Rule.value_of
+    c.args.requirer.now.blamer.seeker.teller.session.live.network.library) =
     λ i. requiring g.O.Order.picks (stored_of g.R.Rule.value_of (same i)) in
-    spoken_after g.D.Devices.calls _ _ _ (sought_of c.args.requirer.now.blamer.seeker) (sought_of c.load_prelude.new.self.blamer.seeker)
+    spoken_after g.D.Devices.calls _ _ _ (sought_of c.args.requirer.now.blamer.seeker)
+    (sought_of c.load_prelude.new.self.blamer.seeker)
     (sought_of c.run_session.new.interpreter.blamer.seeker) _ (Err _) c.in-Ok.ensures.ok
     (rw machine at c.in-Err-run_session.ensures.speaks)

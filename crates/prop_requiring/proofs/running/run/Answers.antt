@@ -25,7 +25,8 @@ returns-in_ok-new-in-Fifo g c =
 pub returns-in_err-new-in-Fifo : goal.returns-in_err-new-in-Fifo
 returns-in_err-new-in-Fifo g c =
     let p = err_from_is_err_and c.from_residual.result c.from_residual.ensures.1 in
-    required_by_fault g.D.Devices.calls _ _ _ c.args.options.order c.args.options.seed c.args.options.limit _ p.0 p.1 p.2
+    required_by_fault g.D.Devices.calls _ _ _ c.args.options.order c.args.options.seed c.args.options.limit
+    _ p.0 p.1 p.2
 
 -- ---- lifo
 
@@ -48,7 +49,8 @@ pub returns-in_err-new-in-Lifo : goal.returns-in_err-new-in-Lifo
 returns-in_err-new-in-Lifo g c =
     let p = err_from_is_err_and c.from_residual-in_err-new-in-Lifo.result
     c.from_residual-in_err-new-in-Lifo.ensures.1 in
-    required_by_fault g.D.Devices.calls _ _ _ c.args.options.order c.args.options.seed c.args.options.limit _ p.0 p.1 p.2
+    required_by_fault g.D.Devices.calls _ _ _ c.args.options.order c.args.options.seed c.args.options.limit
+    _ p.0 p.1 p.2
 
 -- ---- mixed
 
@@ -73,4 +75,5 @@ pub returns-in_err-session-in-Mixed : goal.returns-in_err-session-in-Mixed
 returns-in_err-session-in-Mixed g c =
     let p = err_from_is_err_and c.from_residual-in_err-session-in-Mixed.result
     c.from_residual-in_err-session-in-Mixed.ensures.1 in
-    required_by_fault g.D.Devices.calls _ _ _ c.args.options.order c.args.options.seed c.args.options.limit _ p.0 p.1 p.2
+    required_by_fault g.D.Devices.calls _ _ _ c.args.options.order c.args.options.seed c.args.options.limit
+    _ p.0 p.1 p.2

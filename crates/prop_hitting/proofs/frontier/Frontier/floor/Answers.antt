@@ -26,6 +26,7 @@ returns c = λ conflicts repairs sought out up hits less.
     elim (sought (set_of out) hits) [
       | inl has ↦ has
       | inr there ↦
-          let least = c.loop-node.invariant out up (subst (IsOneOf (set_of out)) (sym (take_all n nodes whole)) there) in
+          let least = c.loop-node.invariant out up
+          (subst (IsOneOf (set_of out)) (sym (take_all n nodes whole)) there) in
           absurd (omega (arith, less, least))
     ]

@@ -21,7 +21,8 @@ loop-line-preserved g c =
     record {
       same = c.command.ensures.same ∙ c.loop-line.invariant.same;
       ready = c.command.ensures.ready;
-      loaded = loads_next (requiring g.O.Order.picks library) (sought_of s.blamer.seeker) (sought_of c.loop-line.self.blamer.seeker)
+      loaded = loads_next (requiring g.O.Order.picks library) (sought_of s.blamer.seeker)
+          (sought_of c.loop-line.self.blamer.seeker)
           (sought_of c.command.new.self.blamer.seeker) lines i c.as_bytes.result.now (answer_of c.command.result)
           (omega (arith, l, length-map c.args.lines.now (λ (w : Bor (List ℕ)). w.now))) line
           c.loop-line.invariant.loaded (no_refusal c.command.result c.in_default.not-Refused) requires_it;
