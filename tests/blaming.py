@@ -5,16 +5,16 @@
 usage: tests/blaming.py PROGRAM [COUNT [FROM]]
 
 PROGRAM is a workbench that answers these, as propwide; of networks that are drawn
-(tests/networks.py), with more premises, COUNT are tried (2,000), whose seeds begin with FROM (0). Of
-each it is tried for every set of the believed premises whether some points satisfy it. Looked at is
-that
+(tests/networks.py), with more premises, COUNT are tried (2,000), whose seeds begin with FROM (0).
+Of each it is tried for every set of the believed premises whether some points satisfy it. Looked
+at is that
 
 - each conflict can't hold, and one that isn't `unsettled` holds without any one of its
   premises; without a repair the others hold, and not with any one of it;
 - nothing is told twice, and no more than was asked for;
 - what a repair costs is the sum of what its premises do, the cheaper ones come first, and none that
   is cheaper than the last is missing;
-- `others none` stands where all are told, and only there, and from then on; to the end all are told;
+- `others none` stands where all are told, only there, and from then on; to the end all are told;
 - the same is so by slices of 1, 10 and 1,000 steps: what was told by one is told by the next, too,
   whatever is said between that changes nothing;
 - behind a change (tests/changes.py), also between two slices, the replies are about what is there
@@ -81,7 +81,7 @@ class Sets:
 
 
 def is_open(network: Network) -> bool:
-    """Whether little of a number is stated by no premise, or nothing of a symbol: then a question may
+    """Whether little of a number is stated by no premise, or nothing of a symbol: a question may
     stay unsettled for ever, where what follows has no end."""
     stated = {cell: network.stated_of(cell, ()) for cell in network.kinds}
     symbols = [stated[cell] for cell, kind in network.kinds.items() if kind == "symbol"]

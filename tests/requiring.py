@@ -4,7 +4,7 @@ points.
 
 usage: tests/requiring.py PROGRAM [COUNT [FROM]]
 
-PROGRAM is a workbench that takes constraints, as propwide; COUNT small networks of numbers, elements
+PROGRAM is a workbench that takes constraints, as propwide; COUNT networks of numbers, elements
 and truths are tried (400), whose seeds begin with FROM (0), with up to three constraints each, some
 under a premise that may be kicked out and brought again. Looked at is that
 

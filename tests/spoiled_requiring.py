@@ -1,11 +1,11 @@
 #!/usr/bin/python3
-"""Constraints spoiled on purpose on their way, which the networks of tests/requiring.py have to find
+"""Constraints spoiled on purpose on their way; the networks of tests/requiring.py have to find them
 out.
 
 usage: tests/spoiled_requiring.py SPOIL PROGRAM
 
-answers as PROGRAM does but for what SPOIL changes of constraints: bare, turned, weaker, forgotten or
-refused.
+answers as PROGRAM does but for what SPOIL changes of constraints: bare, turned, weaker, forgotten
+or refused.
 """
 import os
 import re

@@ -28,6 +28,9 @@ LONG = set(
     python/tests/test_desk.py:test_a_conversation_at_a_terminal
     python/tests/test_how.py:test_what_a_workbench_tells_is_enough
     python/tests/test_notebook.py:test_a_notebook
+    python/tests/test_page_server.py:test_the_desk_serves_a_plan
+    python/tests/test_plan_view.py:test_a_plan_is_saved_as_tables
+    python/tests/test_plan_view.py:walk
     python/tests/test_watching.py:test_a_compound_is_taken_apart
     python/tests/test_watching.py:test_steps_are_the_program_s
     """.split()

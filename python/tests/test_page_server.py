@@ -527,8 +527,11 @@ def test_the_desk_serves_a_plan(
         row = {"task": "venue", "days": "3", "who": "ana"}
         told = asked(address, what="put", table="people", place=None, row={"person": "ana"})
         told = asked(address, what="put", table="tasks", place=None, row=row)
-        assert told["plan"]["tables"]["tasks"] == [row] and told["plan"]["undo"] == "add venue"  # type: ignore[index]
-        assert asked(address, what="plan", seconds=20)["found"]["proved"] is True  # type: ignore[index]
+        plan = told["plan"]
+        assert isinstance(plan, dict)
+        assert plan["tables"]["tasks"] == [row] and plan["undo"] == "add venue"
+        found = asked(address, what="plan", seconds=20)["found"]
+        assert isinstance(found, dict) and found["proved"] is True
     finally:
         begun.kill()
         begun.wait()
@@ -538,7 +541,8 @@ def test_the_desk_serves_a_plan(
     assert begun.wait(timeout=60) == 0 and "--resume goes on with it" in said[0]
     begun, address, said = served(["--resume"])
     try:
-        assert asked(address, what="plan", seconds=20)["found"]["proved"] is True  # type: ignore[index]
+        found = asked(address, what="plan", seconds=20)["found"]
+        assert isinstance(found, dict) and found["proved"] is True
         assert asked(address, what="save")["saved"] == where
         begun.send_signal(signal.SIGINT)
         assert begun.wait(timeout=60) == 0

@@ -299,7 +299,7 @@ class OpenPlan(Closing):
 
 
 def _shortest(found: Sequence[Hindrance]) -> list[Hindrance]:
-    """Of conflicts those with the fewest wishes, and of several with the same wishes the shortest."""
+    """Of conflicts those with the fewest wishes, and of several with the same ones the shortest."""
     kept: list[Hindrance] = []
     for each in sorted(found, key=lambda it: (len(it.wishes), len(it.facts))):
         if not any({*known.wishes} <= {*each.wishes} for known in kept):

@@ -9,7 +9,6 @@ from dataclasses import dataclass
 from fractions import Fraction
 from functools import partial
 from math import lcm
-from types import MappingProxyType
 
 from propbench.blamed import Blamed
 from propbench.clock import Clock
@@ -74,39 +73,32 @@ class Blaming:
     """Questions for minimal sets of premises, put to a program in the session of a seeker. What is
     told of cells counts there, too."""
 
-    def __init__(
-        self,
-        seeker: Seeker,
-        kept: Sequence[str],
-        weight: Mapping[str, float] = MappingProxyType({}),
-    ) -> None:
-        """Those among what is believed, without what is kept; repairs by what premises cost, where
-        that can be said in a line."""
+    def __init__(self, seeker: Seeker, kept: Sequence[str]) -> None:
+        """Those among what is believed, without what is kept."""
         self._seeker = seeker
-        self._by = by_cost(seeker.model, weight, kept)
         self._line = seeker.model.line_name
         self._given = tuple(map(self._line, seeker.model.believed()))
         self._kept = tuple(map(self._line, kept))
         self._told: dict[str, Blamed] = {}
 
-    def ask(self, command: str, most: int, seconds: float | None = None) -> None:
-        """Asks for so many sets, or goes on with that."""
+    def ask(self, command: str, most: int, by: str = "", seconds: float | None = None) -> None:
+        """Asks for so many sets, by what premises cost where that is said, or goes on with that."""
         seeker = self._seeker
         seeker.reply = self._told.get(command, UNSETTLED)
         try:
-            seeker.ask(f"{command} {most}{self._by if command == 'repairs' else ''}", seconds)
+            seeker.ask(f"{command} {most}{by}", seconds)
         finally:
             if isinstance(seeker.reply, Blamed):
                 self._told[command] = seeker.reply
 
-    def ask_all(self, wanted: Iterable[tuple[str, int]]) -> None:
+    def ask_all(self, wanted: Iterable[tuple[str, int, str]]) -> None:
         """Asks for so many sets of each command; of what is complete the others are told too, which
         takes no time."""
         asked = list(wanted)
-        for number, (command, most) in enumerate(asked):
+        for number, (command, most, by) in enumerate(asked):
             left = self._seeker.clock.seconds_left()
             is_last = number == len(asked) - 1
-            self.ask(command, most, None if left is None or is_last else left * _SHARE)
+            self.ask(command, most, by, None if left is None or is_last else left * _SHARE)
         if any(reply.is_all for reply in self._told.values()):
             for command in ("conflicts", "repairs"):
                 if command not in self._told or not self._told[command].is_all:
@@ -134,16 +126,15 @@ def asked_by(
     model: Model,
     keep: str | Iterable[str],
     clock: Clock,
-    wanted: Sequence[tuple[str, int]],
+    wanted: Sequence[tuple[str, int, str]],
     result: Callable[[Seeker, BlamedSets], AnyResult],
-    weight: Mapping[str, float] = MappingProxyType({}),
 ) -> AnyResult:
-    """The result of questions for so many sets of each command, beside what is kept; repairs by
-    their weight, where `by_cost` can say it."""
+    """The result of questions for so many sets of each command, with what is said behind
+    (`by_cost`), beside what is kept."""
     names = set(premises_named(model, keep))
     kept = [name for name in model.believed() if name in names]
     with Seeker(model, clock, holding=kept) as seeker:
-        blaming = Blaming(seeker, kept, weight)
+        blaming = Blaming(seeker, kept)
         return tried_by(
             clock, lambda: blaming.ask_all(wanted), lambda: result(seeker, blaming.known())
         )

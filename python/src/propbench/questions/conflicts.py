@@ -173,7 +173,7 @@ def find_conflicts(model: Model, search: SetSearch) -> Conflicts:
     """The minimal sets of believed premises that can't all hold beside those that are kept."""
     clock, most, texts = search.clock(), search.most, _texts(model)
     if blames(model):
-        wanted = [("conflicts", most)]
+        wanted = [("conflicts", most, "")]
         return asked_by(
             model,
             search.keep,
@@ -196,7 +196,7 @@ def find_both(
     these texts, where they have one."""
     clock, most, said = search.clock(), search.most, {**_texts(model), **(texts or {})}
     if blames(model):
-        wanted = [("conflicts", most), ("repairs", most)]
+        wanted = [("conflicts", most, ""), ("repairs", most, "")]
         return asked_by(
             model,
             search.keep,
@@ -229,9 +229,8 @@ def find_repairs(model: Model, weight: Mapping[str, float], search: SetSearch) -
             model,
             search.keep,
             clock,
-            [("repairs", count)],
+            [("repairs", count, said)],
             lambda seeker, told: _told_repairs(seeker, told, weight, most),
-            weight,
         )
     return _searched(
         model,

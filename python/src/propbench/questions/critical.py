@@ -2,11 +2,10 @@
 
 from collections.abc import Sequence
 from contextlib import suppress
-from dataclasses import dataclass, replace
+from dataclasses import dataclass
 
 from propbench.clock import Clock, Progress
 from propbench.questions.asking import CellLike, tried, tried_by, whole_named
-from propbench.questions.blaming import BlamedSets, Blaming, certificate_of, evidence_of
 from propbench.questions.bounding import GREATEST, LEAST, Bounding, Optimum, bounding_in
 from propbench.questions.certificate import Certificate, Evidence
 from propbench.questions.conflicts import Premises
@@ -14,14 +13,12 @@ from propbench.questions.ends import Ending
 from propbench.questions.exploring import Exploring, Refuted
 from propbench.questions.hitting import bits_of
 from propbench.questions.model import Model, Point
-from propbench.questions.outcomes import Fits, NothingFits
+from propbench.questions.outcomes import NothingFits
 from propbench.questions.plans import PlanListing, listed_in_turns
 from propbench.questions.rooms import NumberRoom
-from propbench.questions.seeking import Claims, Seeker, Unlike, blames, seeks
+from propbench.questions.seeking import Seeker, Unlike, seeks
 from propbench.questions.shown import NOT_REFUTED, Shown, shortened
 from propbench.questions.trial import Trial
-from propbench.values import Span
-from propbench.words import MOST_NUMBER
 
 
 @dataclass(frozen=True, repr=False)
@@ -197,73 +194,11 @@ def find_critical(
     if sort not in (LEAST, GREATEST):
         raise ValueError(f"the end is {LEAST!r} or {GREATEST!r}, and not {sort!r}")
     name, clock = whole_named(model, cell), Clock(seconds, progress)
-    if blames(model):
-        with suppress(Unlike), Seeker(model, clock) as seeker:
-            return _critical_by(seeker, name, sort)
     return _critical_by_cases(model, name, sort, clock)
-
-
-def _critical_by(seeker: Seeker, cell: str, sort: str) -> Critical:
-    """The same by a program that searches for conflicts: what is beyond the end is told beside what
-    is believed. Raises Unlike."""
-    model, ending = seeker.model, Ending(seeker, cell, sort)
-    blaming = Blaming(seeker, ())
-    beyond: list[NumberRoom] = []
-
-    def run() -> None:
-        ending.run()
-        value = ending.value
-        if value is None or abs(value) == MOST_NUMBER:
-            return
-        room = (
-            NumberRoom(-MOST_NUMBER, value - 1)
-            if sort == LEAST
-            else NumberRoom(value + 1, MOST_NUMBER)
-        )
-        with seeker.supposing({seeker.lines[cell]: Span(room.low, room.high)}):
-            beyond.append(room)
-            blaming.ask("conflicts", 1)
-
-    def result() -> Critical:
-        optimum, claims, plans = ending.known()
-        told = blaming.known()
-        if optimum.value is None or not (told.conflicts or told.unsettled):
-            raise _nothing_to_explain(sort, cell, optimum)
-        row = (seeker.lines[cell], str(beyond[0]))
-        return _critical_of(seeker, optimum, replace(told, told=(row,)), (claims, plans))
-
-    return tried_by(seeker.clock, run, result)
 
 
 def _nothing_to_explain(sort: str, cell: str, optimum: Optimum) -> NothingFits:
     return NothingFits(f"there is no {sort} {cell} to be explained: {optimum.headline()}")
-
-
-def _critical_of(
-    seeker: Seeker, optimum: Optimum, told: BlamedSets, best: tuple[Claims, list[Fits]]
-) -> Critical:
-    """What was told of an end as a result; the claims and plans of the end go into its
-    certificate."""
-    model, (claims, plans) = seeker.model, best
-    known = set(map(model.line_name, model.premises()))
-    is_least = bool(told.conflicts)
-    names = tuple(name for name in [*told.conflicts, *told.unsettled][0] if name in known)
-    shown = replace(
-        told,
-        conflicts=(names,) if is_least else (),
-        unsettled=() if is_least else (names,),
-        whole=False,
-    )
-    evidence = evidence_of(model)
-    for fits in plans:
-        evidence.add_plan(model.believed(), fits)
-    assert optimum.value is not None
-    made = Critical(seeker.premises(names))
-    made.cell, made.sort, made.value = optimum.cell, optimum.sort, optimum.value
-    made.texts = {premise: model.text(premise) for premise in made}
-    made.complete = is_least
-    made._certificate = certificate_of(evidence, shown, [], claims)
-    return made
 
 
 def _critical_by_cases(model: Model, name: str, sort: str, clock: Clock) -> Critical:
