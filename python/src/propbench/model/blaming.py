@@ -11,7 +11,7 @@ from propbench.model.kinds import Plain
 from propbench.model.network import Network
 from propbench.model.nodes import Declared, Node, Op, cells_in
 from propbench.model.ranges import Range, Ranges, declared_range, range_of
-from propbench.model.shrinking import minimal
+from propbench.model.shrinking import shrunk
 from propbench.model.writing import text_of
 from propbench.program import OutOfTime
 from propbench.replies import Contradiction, Value
@@ -74,7 +74,7 @@ def always(network: Network, seconds: float | None = None) -> list[str]:
         if not isinstance(reply, Contradiction):
             return []
         names = copy.vocabulary.premises
-        lines = minimal(
+        lines = shrunk(
             copy.session,
             [names.line(name) for name in named],
             reply.premises,

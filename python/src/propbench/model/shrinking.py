@@ -1,5 +1,4 @@
-"""Conflicts made small: by one question where the program has it, or premises are left out as long
-as the others still contradict each other."""
+"""Conflicts made small: premises are left out as long as the others still contradict each other."""
 
 from collections.abc import Iterable, Sequence
 from contextlib import suppress
@@ -8,21 +7,6 @@ from propbench.clock import Clock
 from propbench.program import OutOfTime
 from propbench.replies import Contradiction
 from propbench.session import Session
-
-
-def minimal(
-    session: Session, believed: Sequence[str], found: Iterable[str], seconds: float | None = None
-) -> tuple[str, ...]:
-    """Of premises that contradict each other, as were `found`, some that can't all hold, of which
-    none can be left out; as far as that is found out in these seconds. `believed` are those that
-    are believed, by their names on lines."""
-    if not session.blames:
-        return shrunk(session, believed, found, seconds)
-    with suppress(OutOfTime):
-        reply = session.conflicts(1, seconds=seconds)
-        if reply.sets:
-            return reply.sets[0]
-    return tuple(found)
 
 
 def shrunk(

@@ -11,7 +11,7 @@ from typing import TYPE_CHECKING
 
 from propbench.clock import Clock, Progress
 from propbench.model.answers import Answer
-from propbench.model.shrinking import minimal
+from propbench.model.shrinking import shrunk
 from propbench.program import OutOfTime
 from propbench.questions.asking import CellLike, answered, cell_named, cells_given
 from propbench.questions.bench import Bench
@@ -76,7 +76,7 @@ def _heard(session: Session, job: Job, clock: Clock) -> Heard:
     session.send_all([*job.base, *job.lines])
     end = session.send("settle", seconds=clock.seconds_left())
     if isinstance(end, Contradiction):
-        conflict = minimal(session, job.believed, end.premises, clock.seconds_left())
+        conflict = shrunk(session, job.believed, end.premises, clock.seconds_left())
         return Heard(conflict=conflict, is_cut=clock.is_over())
     replies = session.look([*(f"why {cell}" for cell in job.cells), "worldview"])
     world = replies.pop()
