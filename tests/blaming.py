@@ -22,7 +22,6 @@ at is that
 
 How many conflicts and repairs were told is told. The status is 0 where nothing was wrong.
 """
-import os
 import re
 import sys
 from dataclasses import dataclass, field, replace
@@ -36,9 +35,9 @@ from case import Case, Check, as_bytes
 from networks import Draw
 from points import Network, Trial
 from relations import OTHERS, count, is_in
-from solving import ASIDES, asked_for, first_wrong, over_propwide, tell_of
+from solving import ASIDES, asked_for, first_wrong, tell_of
 from talking import Reply
-from wide_rules import PROGRAM
+from wide_rules import where_built
 
 # So many networks are tried in the gate, so many in one case; by itself so many.
 TRIED, AT_A_TIME, BY_ITSELF = 250, 25, 2_000
@@ -386,10 +385,7 @@ def cases() -> Iterator[Check]:
         yield Check(name, first_wrong(range(first, last), Session))
 
 
-def built() -> Iterator[Check]:
-    """The cases over propwide, where it is built."""
-    if os.path.exists(PROGRAM):
-        yield from map(over_propwide, cases())
+built = where_built(cases)
 
 
 def main(words: list[str]) -> int:

@@ -16,7 +16,6 @@ a small slice, or since what they ask about is open, or has more rows than are a
 in which something is wrong ends there, and is told as lines that can be given to the program. The
 status is 0 where nothing was wrong.
 """
-import os
 import re
 import sys
 from dataclasses import dataclass, replace
@@ -26,9 +25,9 @@ import solving
 from case import Check
 from changes import State
 from asked import NO_REPLY, Best, Question, Rows, Truth
-from solving import ASIDES, FEW_LINES, FIRST, LINES, asked_for, first_wrong, over_propwide, tell_of
+from solving import ASIDES, FEW_LINES, FIRST, LINES, asked_for, first_wrong, tell_of
 from talking import Reply
-from wide_rules import PROGRAM
+from wide_rules import where_built
 
 # So many sessions are tried in the gate, so many in one case; by itself so many.
 TRIED, AT_A_TIME, BY_ITSELF = 75, 15, 400
@@ -181,10 +180,7 @@ def cases() -> Iterator[Check]:
         yield Check(f"changing: sessions {first} to {last - 1}", look)
 
 
-def built() -> Iterator[Check]:
-    """The cases over propwide, where it is built."""
-    if os.path.exists(PROGRAM):
-        yield from map(over_propwide, cases())
+built = where_built(cases)
 
 
 def main(words: list[str]) -> int:

@@ -136,6 +136,7 @@ BAD = {
     "mypy": ("src/propbench/typed.py", 'number: int = "two"\n'),
     "black": ("src/propbench/spaced.py", "number = [1,2]\n"),
     "pytest": ("tests/test_more.py", "def test_more() -> None:\n    assert 2 + 2 == 5\n"),
+    "mypy over python/tests/": ("tests/typed.py", 'number: int = "two"\n'),
 }
 
 
@@ -174,4 +175,5 @@ class PythonGate:
 
 def cases() -> Iterator[Gate | PythonGate]:
     yield from GATES
-    yield from (PythonGate(bad.split()) for bad in ("", "mypy black", "pytest"))
+    several: list[list[str]] = [[], ["mypy", "black"], ["pytest", "mypy over python/tests/"]]
+    yield from map(PythonGate, several)

@@ -21,7 +21,7 @@ from typing import Any, Callable, Iterator, Optional, Sequence
 
 import rules
 from case import Case, Check, as_bytes
-from wide_rules import BOUND, PROGRAM, over_propwide
+from wide_rules import BOUND, PROGRAM, look_at_all, over_propwide
 
 # (rules.py has no types)
 Sheet: Any = rules.Sheet
@@ -377,20 +377,7 @@ def built() -> Iterator[Check]:
 
 
 def main(words: list[str]) -> int:
-    if len(words) != 1 or words[0].startswith("-"):
-        print(__doc__)
-        return 0 if words == ["--help"] else 2
-    passed = failed = 0
-    for case in chain(enumerated(), plans()):
-        look: Callable[[str], Optional[str]] = case.wrong
-        wrong = look(os.path.abspath(words[0]))
-        if wrong:
-            failed += 1
-            print(f"{case.name}: {wrong}")
-        else:
-            passed += 1
-    print(f"many rules: {passed} passed, {failed} failed")
-    return 1 if failed else 0
+    return look_at_all(words, __doc__, lambda: chain(enumerated(), plans()), "many rules")
 
 
 if __name__ == "__main__":

@@ -21,7 +21,7 @@ from typing import Callable, Iterator, Optional
 from documents import is_command
 
 TOP = os.path.dirname(os.path.dirname(os.path.realpath(__file__)))
-MOST, WORDS, COLUMNS = 176_000, 90, 100
+MOST, WORDS, COLUMNS = 170_000, 90, 100
 FOREIGN = re.compile(
     r"\b(?:issue|demand|row|paper)s? [A-Z]?\d|\bth(?:e|is) (?:paper|issue)|#\d", re.I
 )

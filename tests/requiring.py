@@ -10,8 +10,8 @@ under a premise that may be kicked out and brought again. Looked at is that
 
 - `plans` of the cells, asked to the end, tells just the points at which each constraint holds whose
   premise is believed, or that has none: no point is lost, and none is wrong;
-- a constraint that is refused changes nothing, and is refused for its form, a word, a kind or a
-  number that may be out of range, as its own part says;
+- a constraint with one part that is wrong, at any place, changes nothing, and is refused for what
+  is wrong with that part: its form, a word, a kind, or a number that may be out of range;
 - `list` calls what was made by the layer's name.
 
 The status is 0 where nothing was wrong.
@@ -25,14 +25,16 @@ from random import Random
 from typing import Callable, Iterator, Optional, Sequence, Union
 
 from case import Case, Check, as_bytes
-from solving import asked_for, over_propwide
+from solving import asked_for
 from talking import Cut, Talk
-from wide_rules import PROGRAM
+from wide_rules import where_built
 
 # So many networks are tried in the gate, so many in one case, and so many by itself.
 TRIED, AT_A_TIME, BY_ITSELF = 150, 25, 400
 # Rows are asked for so often, each time so many; a line may take so many steps.
 TURNS, ROWS, STEPS = 40, 200, 1_000_000
+# So many constraints with a wrong part are tried in each network.
+MISREAD = 6
 MONTHS = ("jan", "feb", "mar")
 DOMAINS = {"truth": ("yes", "no"), "month": MONTHS}
 
@@ -247,6 +249,50 @@ class Draw:
         )
 
 
+# ---- wrong parts
+
+# What is told of a part that stands where a number is wanted, or a truth; `far` is any number, and
+# `stray` is no cell. A truth's words are elements, so of another word is told that it is none.
+NO_NUMBERS = {
+    "stray": "error 9: no such cell",
+    "sure": "error 13: wrong kind",
+    "(far + 1)": "error 6: not a number in range",
+    "(0 // far)": "error 6: not a number in range",
+    "(n0 + element(n0; 1: 2, 3: 4))": "error 4: wrong form",
+}
+NO_TRUTHS = {
+    "stray": "error 15: not in the domain",
+    "far": "error 13: wrong kind",
+    "(month == far)": "error 13: wrong kind",
+    "(month == apr)": "error 15: not in the domain",
+    "(month in {mar apr})": "error 15: not in the domain",
+    "(stray == apr)": "error 9: no such cell",
+    "different(n0, far)": "error 4: wrong form",
+}
+# The cells that these parts name, beside those of the network.
+SPARE = ("cell far span", "cell sure truth", "cell month month")
+
+
+@dataclass
+class Misdraw(Draw):
+    """Draws parts of which one is wrong, and keeps what is told of it."""
+
+    told: str = ""
+
+    def number(self, depth: int) -> Part:
+        return self.misdrawn(NO_NUMBERS, depth) or super().number(depth)
+
+    def truth(self, depth: int) -> Part:
+        return self.misdrawn(NO_TRUTHS, depth) or super().truth(depth)
+
+    def misdrawn(self, parts: dict[str, str], depth: int) -> Optional[Part]:
+        if self.told or self.chance.random() < 0.2 + 0.2 * depth:
+            return None
+        text = self.chance.choice(list(parts))
+        self.told = parts[text]
+        return Part(text, 17, lambda points: text)
+
+
 # ---- a session
 
 
@@ -282,6 +328,7 @@ class Session:
             self.say(f"cell {cell} {'span' if kind == 'number' else kind}")
             if kind == "number":
                 self.say(f"fix {cell} {min(values[cell])}..{max(values[cell])}")
+        self.misread(kinds, chance)
         required = self.required(Draw(chance, kinds), chance)
         self.held(values, required, set())
         for premise in sorted({it.premise for it in required if it.premise}):
@@ -300,6 +347,22 @@ class Session:
             return list(DOMAINS[kind])
         low = chance.randint(-4, 3)
         return list(range(low, low + chance.randint(0, 5) + 1))
+
+    def misread(self, kinds: dict[str, str], chance: Random) -> None:
+        """Holds what is told of constraints with a wrong part to what is wrong with that part."""
+        for line in SPARE:
+            self.say(line)
+        before = self.say("list")
+        for _ in range(MISREAD):
+            draw = Misdraw(chance, kinds)
+            part = draw.truth(chance.randint(0, 3))
+            if not draw.told:
+                continue
+            reply = self.say(f"require {part.text}")
+            if reply != [draw.told]:
+                self.blame(f"require {part.text}: {reply}, and not {draw.told}")
+        if self.say("list") != before:
+            self.blame("what was refused has left something")
 
     def required(self, draw: Draw, chance: Random) -> list[Required]:
         taken = []
@@ -429,10 +492,7 @@ def cases() -> Iterator[Check]:
         yield Check(f"requiring: networks {first} to {last - 1}", first_wrong(range(first, last)))
 
 
-def built() -> Iterator[Check]:
-    """The cases over propwide, where it is built."""
-    if os.path.exists(PROGRAM):
-        yield from map(over_propwide, cases())
+built = where_built(cases)
 
 
 def main(words: list[str]) -> int:

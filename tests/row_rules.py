@@ -11,11 +11,11 @@ found from which points belong together alone, as tests/wide_rules.py does. The 
 import os
 import sys
 from itertools import islice
-from typing import Callable, Iterator, Optional
+from typing import Callable, Iterator
 
 from case import Case, Check
 from wide_rules import BOUND, FEW, NUMBERS, OPEN, PROGRAM, SET, SYMBOL, Compound, Info
-from wide_rules import Points, Rule, counted, last_of, over_propwide, some, spans
+from wide_rules import Points, Rule, counted, last_of, look_at_all, over_propwide, some, spans
 
 STEP = 10
 ONE: list[Info] = [frozenset([number]) for number in range(-3, 4)]
@@ -198,20 +198,7 @@ def built() -> Iterator[Check]:
 
 
 def main(words: list[str]) -> int:
-    if len(words) != 1 or words[0].startswith("-"):
-        print(__doc__)
-        return 0 if words == ["--help"] else 2
-    passed = failed = 0
-    for case in cases():
-        look: Callable[[str], Optional[str]] = case.wrong
-        wrong = look(os.path.abspath(words[0]))
-        if wrong:
-            failed += 1
-            print(f"{case.name}: {wrong}")
-        else:
-            passed += 1
-    print(f"row rules: {passed} passed, {failed} failed")
-    return 1 if failed else 0
+    return look_at_all(words, __doc__, cases, "row rules")
 
 
 if __name__ == "__main__":

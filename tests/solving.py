@@ -42,7 +42,7 @@ from networks import Draw
 from asked import MOST_ROWS, TWICE, Best, Question, Rows, Truth
 from relations import wrong_rooms
 from talking import Cut, Talk
-from wide_rules import PROGRAM
+from wide_rules import where_built
 
 # So many networks are tried in the gate, so many in one case, and one besides in which a question
 # stood still: a number was ruled out of a cell that the excluder doesn't read.
@@ -361,16 +361,7 @@ def cases() -> Iterator[Check]:
     yield Check("solving: where questions stood still", first_wrong(range(*STOOD_STILL)))
 
 
-def over_propwide(check: Check) -> Check:
-    """The check over propwide, whichever program it is looked at with."""
-    look: Callable[[str], Optional[str]] = check.look
-    return Check(check.name, lambda _: look(PROGRAM))
-
-
-def built() -> Iterator[Check]:
-    """The cases over propwide, where it is built."""
-    if os.path.exists(PROGRAM):
-        yield from map(over_propwide, cases())
+built = where_built(cases)
 
 
 def tell_of(program: str, seeds: range, kind: type[Session] = Session) -> int:

@@ -13,10 +13,9 @@ import sys
 from typing import Iterator
 
 from blaming import MARKS, UNSETTLED, Session
-from case import Check
-from spoiled_solving import Spoiled, over_propwide
+from spoiled_solving import Spoiled
 from talking import Reply, Talk, has_reply
-from wide_rules import PROGRAM
+from wide_rules import where_built
 
 NONE = "others none"
 
@@ -83,10 +82,7 @@ def cases() -> Iterator[Spoiled]:
         yield Spoiled(spoil, says, os.path.realpath(__file__), Session)
 
 
-def built() -> Iterator[Check]:
-    """The cases over propwide, where it is built."""
-    if os.path.exists(PROGRAM):
-        yield from map(over_propwide, cases())
+built = where_built(cases)
 
 
 def main(spoil: str, program: str) -> None:

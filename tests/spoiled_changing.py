@@ -13,11 +13,10 @@ import sys
 from dataclasses import dataclass, field
 from typing import Iterator
 
-from case import Check
 from changing import Session
-from spoiled_solving import Spoiled, over_propwide
+from spoiled_solving import Spoiled
 from talking import Reply, Talk, has_reply
-from wide_rules import PROGRAM
+from wide_rules import where_built
 
 DEAF = ["kick", "bring", "forget"]
 ASKING = ["solve", "least", "greatest", "plans"]
@@ -57,10 +56,7 @@ def cases() -> Iterator[Spoiled]:
         yield Spoiled(spoil, SAYS, os.path.realpath(__file__), Session)
 
 
-def built() -> Iterator[Check]:
-    """The cases over propwide, where it is built."""
-    if os.path.exists(PROGRAM):
-        yield from map(over_propwide, cases())
+built = where_built(cases)
 
 
 def main(spoil: str, program: str) -> None:

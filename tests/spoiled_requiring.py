@@ -4,8 +4,8 @@ out.
 
 usage: tests/spoiled_requiring.py SPOIL PROGRAM
 
-answers as PROGRAM does but for what SPOIL changes of constraints: bare, turned, weaker, forgotten
-or refused.
+answers as PROGRAM does but for what SPOIL changes of constraints: bare, turned, weaker, forgotten,
+refused or blunt.
 """
 import os
 import re
@@ -14,12 +14,11 @@ from dataclasses import dataclass
 from typing import Callable, Iterator, Optional
 
 import requiring
-from case import Check
-from spoiled_solving import Spoiled, over_propwide
+from spoiled_solving import Spoiled
 from talking import Talk, has_reply
-from wide_rules import PROGRAM
+from wide_rules import where_built
 
-FORGOTTEN, WRONG_FORM = "ok", "error 4: wrong form"
+FORGOTTEN, WRONG_FORM, WRONG_KIND = "ok", "error 4: wrong form", "error 13: wrong kind"
 
 
 def bare(line: str) -> str:
@@ -38,8 +37,9 @@ def weaker(line: str) -> str:
 
 
 SPOILS: dict[str, Callable[[str], str]] = {it.__name__: it for it in (bare, turned, weaker)}
-# What is answered in place of the program.
+# What is answered in place of the program, and what in place of any of its refusals.
 ANSWERED = {"forgotten": FORGOTTEN, "refused": WRONG_FORM}
+BLUNT = "blunt"
 # What the networks have to say of it.
 SAYS = {
     "bare": "lost",
@@ -47,6 +47,7 @@ SAYS = {
     "weaker": "wrong",
     "forgotten": "wrong",
     "refused": WRONG_FORM,
+    BLUNT: f"'{WRONG_KIND}'], and not",
 }
 
 
@@ -70,10 +71,7 @@ def cases() -> Iterator[SpoiledLines]:
         yield SpoiledLines(spoil, says, os.path.realpath(__file__))
 
 
-def built() -> Iterator[Check]:
-    """The cases over propwide, where it is built."""
-    if os.path.exists(PROGRAM):
-        yield from map(over_propwide, cases())
+built = where_built(cases)
 
 
 def reply_to(spoil: str, talk: Talk, line: str) -> Optional[list[str]]:
@@ -84,6 +82,9 @@ def reply_to(spoil: str, talk: Talk, line: str) -> Optional[list[str]]:
         return talk.say(line)[0]
     if spoil in ANSWERED:
         return [ANSWERED[spoil]]
+    if spoil == BLUNT:
+        reply = talk.say(line)[0]
+        return [WRONG_KIND] if reply[0].startswith("error") else reply
     return talk.say(SPOILS[spoil](line))[0]
 
 

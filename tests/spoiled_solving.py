@@ -13,11 +13,10 @@ import tempfile
 from dataclasses import dataclass
 from typing import Callable, Iterator, Optional
 
-from case import Check
 from asked import TWICE
 from solving import Session, tried
 from talking import Reply, Talk, has_reply
-from wide_rules import PROGRAM
+from wide_rules import where_built
 
 # So many networks are tried until one finds it out.
 TRIED = 100
@@ -141,15 +140,7 @@ def cases() -> Iterator[Spoiled]:
     yield from (Spoiled(spoil, SAYS[spoil]) for spoil in SPOILS)
 
 
-def over_propwide(case: Spoiled) -> Check:
-    """The case over propwide, whichever program it is looked at with."""
-    return Check(case.name, lambda _: case.wrong(PROGRAM))
-
-
-def built() -> Iterator[Check]:
-    """The cases over propwide, where it is built."""
-    if os.path.exists(PROGRAM):
-        yield from map(over_propwide, cases())
+built = where_built(cases)
 
 
 def main(spoil: Callable[[str, Reply], Reply], program: str) -> None:

@@ -16,7 +16,7 @@ import sys
 from dataclasses import dataclass
 from itertools import chain, islice, product
 from random import Random
-from typing import Any, Callable, Iterable, Iterator, Optional, Union
+from typing import Any, Callable, Iterable, Iterator, Optional, Protocol, Union
 
 import rules
 from case import Case, Check
@@ -393,10 +393,25 @@ def cases() -> Iterator[Case]:
     yield from examples()
 
 
-def over_propwide(case: Case) -> Check:
+class Looked(Protocol):
+    """What is looked at over a program."""
+
+    @property
+    def name(self) -> str:
+        """What it is called."""
+
+    def wrong(self, program: str, /) -> Optional[str]:
+        """What is wrong with it, or None."""
+
+
+def over_propwide(case: Looked) -> Check:
     """The case over propwide, whichever program it is looked at with."""
-    look: Callable[[str], Optional[str]] = case.wrong
-    return Check(case.name, lambda _: look(PROGRAM))
+    return Check(case.name, lambda _: case.wrong(PROGRAM))
+
+
+def where_built(cases: Callable[[], Iterable[Looked]]) -> Callable[[], Iterator[Check]]:
+    """What yields the cases over propwide, where it is built."""
+    return lambda: map(over_propwide, cases() if os.path.exists(PROGRAM) else ())
 
 
 def built() -> Iterator[Check]:
@@ -405,21 +420,28 @@ def built() -> Iterator[Check]:
         yield from map(over_propwide, chain(examples(), islice(enumerated(), 0, None, STEP)))
 
 
-def main(words: list[str]) -> int:
+def look_at_all(
+    words: list[str], usage: Optional[str], cases: Callable[[], Iterable[Looked]], title: str
+) -> int:
+    """Looks at the cases over the program that the words name, and tells what is wrong. What is
+    given back is a status."""
     if len(words) != 1 or words[0].startswith("-"):
-        print(__doc__)
+        print(usage)
         return 0 if words == ["--help"] else 2
     passed = failed = 0
     for case in cases():
-        look: Callable[[str], Optional[str]] = case.wrong
-        wrong = look(os.path.abspath(words[0]))
+        wrong = case.wrong(os.path.abspath(words[0]))
         if wrong:
             failed += 1
             print(f"{case.name}: {wrong}")
         else:
             passed += 1
-    print(f"wide rules: {passed} passed, {failed} failed")
+    print(f"{title}: {passed} passed, {failed} failed")
     return 1 if failed else 0
+
+
+def main(words: list[str]) -> int:
+    return look_at_all(words, __doc__, cases, "wide rules")
 
 
 if __name__ == "__main__":

@@ -15,8 +15,8 @@ from dataclasses import dataclass, field
 from random import Random
 from typing import Any, Callable, Iterable, Iterator, Optional
 
-from case import ORDERS, Case, Check
-from wide_rules import PROGRAM, RULES, TRUTHS, Ends, Point, Rule, as_bytes, over_propwide, text_of
+from case import ORDERS, Case
+from wide_rules import RULES, TRUTHS, Ends, Point, Rule, as_bytes, text_of, where_built
 
 DRAWN = 40
 # (case.py has no types)
@@ -227,10 +227,7 @@ def cases(count: int = DRAWN) -> Iterator[Case]:
     yield from map(of_sum, range(count))
 
 
-def built() -> Iterator[Check]:
-    """The cases over propwide, where it is built."""
-    if os.path.exists(PROGRAM):
-        yield from map(over_propwide, cases())
+built = where_built(cases)
 
 
 def main(words: list[str]) -> int:

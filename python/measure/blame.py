@@ -1,12 +1,13 @@
 #!/usr/bin/python3
 """Blames ten planning models, and compares conflicts, repairs and times with z3's by MARCO.
 
-usage: python/measure/blame.py [--most SECONDS] [SEED ..]
+usage: python/measure/blame.py [--large] [--most SECONDS] [SEED ..]
 
 The models are python/tests/models/projects/project.mzn with data drawn by seeds, 30 to 80
-constraints each. Both are given what MiniZinc makes of a model; z3's part follows Liffiton's MARCO,
-with cores of z3 as seeds for shrinking. Told are seconds of one processor, of all that is begun.
-Needs Debian's minizinc and python3-z3.
+constraints each, with --large about 500, of which fewer tasks are due too early. Both are given
+what MiniZinc makes of a model; z3's part follows Liffiton's MARCO, with cores of z3 as seeds for
+shrinking. Told are seconds of one processor, of all that is begun. Needs Debian's minizinc and
+python3-z3.
 """
 
 import argparse
@@ -33,10 +34,10 @@ from spent import Spent  # noqa: E402
 MODEL = PYTHON / "tests/models/projects/project.mzn"
 
 
-def data(seed: int) -> str:
+def data(seed: int, is_large: bool = False) -> str:
     """A project drawn by a number: what is due comes a little too early."""
     chance = random.Random(seed)
-    tasks, people = chance.randrange(9, 15), chance.randrange(3, 6)
+    tasks, people = (72, 8) if is_large else (chance.randrange(9, 15), chance.randrange(3, 6))
     takes = [chance.randrange(1, 6) for _ in range(tasks)]
     who = [chance.randrange(1, people + 1) for _ in range(tasks)]
     before = [(task, task + chance.randrange(1, 4)) for task in range(1, tasks) for _ in range(2)]
@@ -46,7 +47,8 @@ def data(seed: int) -> str:
         ends[task] = takes[task - 1] + max(
             [ends[first] for first, other in before if other == task], default=0
         )
-    due = [(task, ends[task] + chance.randrange(-1, 6)) for task in range(3, tasks + 1, 2)]
+    late = (chance.randrange(-1, 40) if is_large else chance.randrange(-1, 6) for _ in ends)
+    due = [(task, ends[task] + next(late)) for task in range(3, tasks + 1, 2)]
     away = []
     for person in range(1, people + 1, 2):
         begin = chance.randrange(0, 12)
@@ -139,6 +141,7 @@ def main() -> int:
     assert __doc__
     read = argparse.ArgumentParser(description=__doc__.split("\n", maxsplit=1)[0])
     read.add_argument("seeds", nargs="*", type=int, metavar="SEED", default=range(1, 11))
+    read.add_argument("--large", action="store_true", help="500 constraints each")
     read.add_argument("--most", type=float, default=60, metavar="N", help="seconds of each (60)")
     read.add_argument(
         "--count", type=int, default=100_000, metavar="N", help="of each at most (all)"
@@ -149,7 +152,7 @@ def main() -> int:
     for seed in options.seeds:
         with tempfile.TemporaryDirectory() as folder:
             file = Path(folder, "project.dzn")
-            file.write_text(data(seed))
+            file.write_text(data(seed, options.large))
             made = compiled(MODEL, [file])
         spent = Spent.of(partial(ours, made, options.most, options.count))
         peer = Spent.of(partial(theirs, made, options.most, options.count))

@@ -23,7 +23,7 @@ sys.path.insert(0, str(Path(__file__).resolve().parents[1] / "src"))
 import elsewhere  # noqa: E402
 import schedules  # noqa: E402
 from elsewhere import Missing, Spans, TooLong  # noqa: E402
-from questions import Spent  # noqa: E402
+from spent import Spent  # noqa: E402
 from wishes import bench_of, wishes  # noqa: E402
 
 from propbench import Session, Span, Value, Workbench, all_different, find_wide  # noqa: E402

@@ -8,7 +8,8 @@ FILE]
 SPEC is the folder tests/spec of MiniZinc's sources (`apt-get source minizinc`). A test passes where
 what is found is one of the results that it expects. Where it is another, Gecode is asked whether
 that is a solution too, and as good a one: then it agrees. Else it is wrong, and the exit status 1.
-With --tenth every tenth file is run. Needs `minizinc` with Gecode, and python3-yaml.
+With --tenth every tenth file is run; with `--solver gecode` it is Gecode's turn. Needs `minizinc`
+with Gecode, and python3-yaml.
 """
 
 import argparse
@@ -19,7 +20,7 @@ import tempfile
 import time
 from collections import Counter
 from collections.abc import Iterable, Iterator
-from dataclasses import dataclass, field
+from dataclasses import dataclass, field, replace
 from pathlib import Path
 from typing import Any
 
@@ -27,6 +28,7 @@ import yaml
 
 PYTHON = Path(__file__).resolve().parents[1]
 CONFIGURATION = PYTHON / "src/propbench/flatzinc/propbench.msc"
+CUT = ("TIMEOUT", "UNKNOWN")
 SATISFIED = ("SATISFIED", "ALL_SOLUTIONS", "OPTIMAL_SOLUTION")
 # Debian's Gecode, by MiniZinc's own library: its own doesn't fit this MiniZinc.
 GECODE = {
@@ -73,13 +75,15 @@ Loader.add_multi_constructor("!", tagged)  # type: ignore[no-untyped-call]
 
 @dataclass
 class Test:
-    """A test of the suite: a model, its data and options, and the results that are right."""
+    """A test of the suite: a model, its data and options, and the results that are right. It is
+    run in the folder above the suite, where its options name files from."""
 
     model: Path
     data: list[Path]
     options: dict[str, Any]
     expected: list[Tagged]
     solvers: list[str] = field(default_factory=list)
+    folder: Path | None = None
 
     @property
     def wants_all(self) -> bool:
@@ -107,7 +111,7 @@ def tests_in(folder: Path) -> Iterator[Test]:
             if isinstance(each, Tagged) and each.tag == "Test":
                 told = each.value if isinstance(each.value, dict) else {}
                 if told.get("type", "solve") == "solve":
-                    yield test_of(model, told)
+                    yield replace(test_of(model, told), folder=folder.parent)
 
 
 def test_of(model: Path, told: dict[str, Any]) -> Test:
@@ -147,6 +151,7 @@ def run(test: Test, solver: str, seconds: float) -> Ran:
             capture_output=True,
             timeout=seconds,
             stdin=subprocess.DEVNULL,
+            cwd=test.folder,
         )
     except subprocess.TimeoutExpired:
         return Ran([], "TIMEOUT", "", seconds)
@@ -264,8 +269,8 @@ def is_expected(test: Test, ran: Ran, wanted: Tagged) -> bool:
     return bool(ran.solutions) and meets(solution, ran.solutions[-1])
 
 
-def agrees(test: Test, ran: Ran, gecode: str) -> bool:
-    """Whether Gecode says that this is right."""
+def agrees(test: Test, ran: Ran, gecode: str) -> bool | None:
+    """Whether Gecode says that this is right; None where it has no time to say so."""
     theirs = run(test, gecode, CHECKING)
     if not ran.solutions:
         return ran.status == theirs.status and not theirs.solutions
@@ -280,24 +285,56 @@ def agrees(test: Test, ran: Ran, gecode: str) -> bool:
         json.dump(found, file)
         file.flush()
         # (as data, the values of a solution have to be one)
-        checked = run(Test(test.model, [*test.data, Path(file.name)], {}, []), gecode, CHECKING)
+        given = replace(test, data=[*test.data, Path(file.name)], options={})
+        checked = run(given, gecode, CHECKING)
     if checked.solutions:
         return True
     is_assigned = "multiple assignment" in checked.error or "type error" in checked.error
-    return is_assigned and bool(theirs.solutions)
+    asked = theirs if is_assigned else checked
+    if not asked.solutions and asked.status in CUT:
+        return None
+    return is_assigned and bool(theirs.solutions) or is_accepted(test, found, gecode)
+
+
+def is_accepted(test: Test, found: dict[str, Any], gecode: str) -> bool:
+    """Whether Gecode accepts a solution that is stated by constraints. (Data change what a model
+    is that asks for the ends of its variables.)"""
+    text = stated(found)
+    if text is None:
+        return False
+    with tempfile.NamedTemporaryFile("w", suffix=".mzn") as file:
+        file.write(text)
+        file.flush()
+        given = replace(test, data=[*test.data, Path(file.name)], options={})
+        return bool(run(given, gecode, CHECKING).solutions)
+
+
+def stated(found: dict[str, Any]) -> str | None:
+    """The constraints that say a solution; None where it is not of numbers and sets alone."""
+    lines = []
+    for name, value in found.items():
+        if isinstance(value, dict) and set(value) == {"set"}:
+            each = "{" + ", ".join(map(str, elements_of(value["set"]))) + "}"
+            lines.append(f"constraint {name} subset {each} /\\ {each} subset {name};")
+        elif isinstance(value, int):
+            lines.append(f"constraint {name} = {str(value).lower()};")
+        else:
+            return None
+    return "\n".join(lines)
 
 
 def judged(test: Test, ran: Ran, gecode: str) -> str:
     """What became of a test."""
     if any(is_expected(test, ran, each) for each in test.expected):
         return "error as expected" if ran.status == "ERROR" else "passed"
-    if ran.status == "TIMEOUT" or ran.status == "UNKNOWN":
+    if ran.status in CUT:
         return "out of time"
     if ran.status == "ERROR":
         is_ours = "fzn-propbench" in ran.error and "Traceback" not in ran.error
         return "refused" if is_ours else "failed"
-    if agrees(test, ran, gecode):
-        return "agrees with Gecode"
+    says = agrees(test, ran, gecode)
+    if says is not False:
+        return "agrees with Gecode" if says else "not judged"
     return "beyond Gecode's numbers" if is_beyond(ran.solutions) else "WRONG"
 
 
@@ -310,17 +347,21 @@ def is_beyond(value: Any) -> bool:
     return isinstance(value, int) and abs(value) >= 2**31 - 2
 
 
-def main() -> int:
+def asked() -> argparse.Namespace:
+    """The options of the command line, with the `tests` to run, in order."""
     assert __doc__
     read = argparse.ArgumentParser(description=__doc__.split("\n", maxsplit=1)[0])
     read.add_argument("spec", type=Path, metavar="SPEC", help="tests/spec of MiniZinc's sources")
     read.add_argument("--tenth", action="store_true", help="every tenth file alone")
     read.add_argument("--seconds", type=float, default=40, metavar="N", help="for each test (40)")
-    read.add_argument("--solver", default=str(CONFIGURATION), help="the solver (propbench)")
+    read.add_argument(
+        "--solver", default=CONFIGURATION, type=Path, help="the solver's file, or `gecode`"
+    )
     read.add_argument("--list", type=Path, metavar="FILE", help="write what became of each test")
     read.add_argument("--again", type=Path, metavar="FILE", help="what did not pass in such a list")
     read.add_argument("--only", default="", metavar="TEXT", help="models whose path has this text")
     options = read.parse_args()
+    options.spec = options.spec.resolve()
     tests = list(tests_in(options.spec))
     if not tests:
         read.error(f"no tests are in {options.spec}")
@@ -329,17 +370,23 @@ def main() -> int:
         lines = [line.split("\t") for line in options.again.read_text().splitlines()]
         again = {options.spec / line[2] for line in lines if line[0] not in RIGHT}
         models = [model for model in models if model in again]
-    counts: Counter[str] = Counter()
+    named = [model for model in models if options.only in str(model)]
+    options.tests = [test for test in tests if test.model in named]
+    return options
+
+
+def main() -> int:
+    options, counts = asked(), Counter[str]()
     with (
         open(options.list or "/dev/null", "w", encoding="utf-8") as file,
         tempfile.NamedTemporaryFile("w", suffix=".msc") as gecode,
     ):
         json.dump(GECODE, gecode)
         gecode.flush()
-        for test in tests:
-            if test.model not in models or options.only not in str(test.model):
-                continue
-            ran = run(test, options.solver, options.seconds)
+        is_gecode = str(options.solver) == "gecode"
+        solver = gecode.name if is_gecode else str(options.solver.resolve())
+        for test in options.tests:
+            ran = run(test, solver, options.seconds)
             what = judged(test, ran, gecode.name)
             counts[what] += 1
             name = test.model.relative_to(options.spec)

@@ -74,12 +74,10 @@ class Case:
     formula: Callable[..., Any]
 
 
-def around(
-    unit: str, middle: float, off: float, factor: float = 1, zero: float = 0, room: float = 3
-) -> Read:
+def around(unit: str, middle: float, off: float, factor: float = 1) -> Read:
     """What is read with a tolerance, of a quantity that may be a third as much or thrice."""
-    ends = (middle / room, middle * room) if middle > 0 else (middle - room, middle + room)
-    return Read(unit, ends, (middle - off, middle + off), factor, zero)
+    ends = (middle / 3, middle * 3) if middle > 0 else (middle - 3, middle + 3)
+    return Read(unit, ends, (middle - off, middle + off), factor)
 
 
 class Span:

@@ -542,7 +542,7 @@ BUGS = [
     ),
     Bug(
         "flatzinc/building.py",
-        "            self._require(self.truth(holds), label.text)\n",
+        "            self._believe(self.truth(holds), label.text)\n",
         "            self._require(self.truth(holds))\n",
         _BLAMED,
     ),

@@ -48,7 +48,7 @@ def new_browser() -> Any:
         options.add_argument(f"--{word}")
     options.add_argument("--window-size=1500,950")
     options.set_capability("goog:loggingPrefs", {"browser": "ALL", "performance": "ALL"})
-    made = webdriver.Chrome(options=options, service=Service(shutil.which(_DRIVER)))
+    made = webdriver.Chrome(options=options, service=Service(shutil.which(_DRIVER) or _DRIVER))
     made.set_script_timeout(SECONDS)
     return made
 

@@ -12,6 +12,7 @@ import sys
 from collections.abc import Callable, Iterable, Iterator
 from contextlib import suppress
 from pathlib import Path
+from typing import Any
 
 import pytest
 from hypothesis import HealthCheck, settings
@@ -42,6 +43,13 @@ settings.register_profile(
 )
 settings.load_profile("small")
 
+
+def hide(monkeypatch: pytest.MonkeyPatch, module: str) -> None:
+    """Has a module be missing where it is imported."""
+    modules: dict[str, Any] = sys.modules
+    monkeypatch.setitem(modules, module, None)
+
+
 # A network that takes 10^18 steps: each rules out one number.
 ENDLESS = [
     "cell x span",
@@ -66,7 +74,9 @@ def programs() -> dict[str, str]:
     with pytest.MonkeyPatch.context() as patch, suppress(NoProgram):
         patch.delenv("PROPBENCH", raising=False)
         wide = find_wide()
-        if Path(wide.path).name == "propwide" and not wide.builds:
+        # (where nothing names it, propbench is found in its place if there is no propwide)
+        is_wide = "PROPWIDE" in os.environ or Path(wide.path).name == "propwide"
+        if is_wide and not wide.builds:
             found["propwide"] = wide.path
     return found
 
@@ -103,6 +113,18 @@ def wide(over: None) -> str:
     if "propwide" not in PROGRAMS:
         pytest.skip("no propwide is named by $PROPWIDE, built or installed")
     return PROGRAMS["propwide"]
+
+
+@pytest.fixture(scope="module")
+def browser() -> Iterator[Any]:
+    """A browser without a window, which the tests of a file share."""
+    from browsing import new_browser
+
+    made = new_browser()
+    try:
+        yield made
+    finally:
+        made.quit()
 
 
 @pytest.fixture(scope="session")

@@ -12,10 +12,12 @@ from dataclasses import dataclass, field, replace
 from datetime import date, timedelta
 from itertools import combinations, product
 from tempfile import TemporaryDirectory
+from typing import Any
 
 from propbench import NothingFits, Workbench, any_of, skilled
 from propbench.planning import Project, Task
 from propbench.planning.schedule import Entry
+from propbench.questions.planned import Planned
 
 NAMES = ("ana", "ben", "cem")
 START, WEEK = date(2026, 3, 4), ("mon", "tue", "wed", "thu", "fri", "sat", "sun")
@@ -43,12 +45,25 @@ class DrawnTask:
     uses: int = 0
 
 
+@dataclass(frozen=True)
+class DrawnWish:
+    """What is wished for by a day, of somebody or of the hall, of a task, or of all: that it is
+    done before it, begins after it or on it, or isn't done on it."""
+
+    premise: str
+    of: str | int | None
+    sort: str
+    day: int
+    weight: int
+    is_named: bool
+
+
 @dataclass
 class Drawn:
     """A project: tasks, lags as (earlier, later, least, most, of), absences as (premise, person,
-    first, last), wishes as (premise, sort, task, day), and days between kinds by people. Of the
-    hall there is so much, `pay` is by the day, and `done` are tasks with their first day and their
-    end, or with the days that are `left` of them behind `today`."""
+    first, last), wishes as (premise, sort, task, day), and days between kinds by people, or of the
+    hall. Of that there is so much, `pay` is by the day, and `done` are tasks with their first day
+    and their end, or with the days that are `left` of them behind `today`."""
 
     seed: int
     days: int
@@ -67,6 +82,12 @@ class Drawn:
     done: dict[int, tuple[int, int]] = field(default_factory=dict)
     left: dict[int, tuple[int | None, int]] = field(default_factory=dict)
     today: int | None = None
+    wanted: list[DrawnWish] = field(default_factory=list)
+    early_wishes: bool = False
+
+    def weight_of(self, premise: str) -> int:
+        """What it costs to give up a premise."""
+        return {each.premise: each.weight for each in self.wanted}.get(premise, 1)
 
 
 # --- drawing ---
@@ -105,12 +126,33 @@ def _drawn(draw: random.Random, seed: int) -> Drawn:
         every = sort == "by" and draw.random() < 0.4
         day = draw.randint(days // 2, days) if sort == "by" else draw.randint(1, days // 2)
         made.wishes.append((f"wish {number}", sort, None if every else task, day))
-    made.early_aways = draw.random() < 0.5
+    made.early_aways, made.early_wishes = draw.random() < 0.5, draw.random() < 0.5
     made.off = draw.choice(("", "sun", "sat sun")) if made.has_dates else ""
     _draw_resources(draw, made)
     if draw.random() < 0.3:
         _draw_progress(draw, made)
+    if made.hall == 1:
+        _draw_setup(draw, made, HALL)
+    for _ in range(draw.choice((0, 0, 1, 1, 2))):
+        _draw_wish(draw, made)
     return made
+
+
+def _draw_wish(draw: random.Random, made: Drawn) -> None:
+    """A wish with a weight, of which some are named as they are where nobody names them."""
+    whom: list[str | int | None] = [*made.people, draw.randrange(len(made.tasks)), None]
+    of = draw.choice(whom)
+    of = HALL if made.hall and draw.random() < 0.2 else of
+    sorts = ["before"] if of is None else ["before", "after", "not_on"]
+    sort = draw.choice([*sorts, "on"] if isinstance(of, int) else sorts)
+    day = draw.randint(made.days // 2, made.days - 1) if sort == "before" else draw.randint(0, 3)
+    who = "all" if of is None else f"t{of}" if isinstance(of, int) else of
+    said = str(date_of(made, day)) if made.has_dates and draw.random() < 0.5 else str(day)
+    name, is_named = f"{who} {sort.replace('_', ' ')} {said}", draw.random() < 0.5
+    premise = f"wanted {len(made.wanted)}" if is_named else name
+    wish = DrawnWish(premise, of, sort, day, draw.randint(1, 4), is_named)
+    if premise not in [each.premise for each in made.wanted]:
+        made.wanted.append(wish)
 
 
 def _draw_resources(draw: random.Random, made: Drawn) -> None:
@@ -152,7 +194,9 @@ def _draw_progress(draw: random.Random, made: Drawn) -> None:
 def _drawn_task(draw: random.Random, made: Drawn, number: int) -> DrawnTask:
     long = draw.choice((0, 1, 1, 2, 2, 3, 4))
     ways = [(long, draw.choice((0, 0, 1, 2)))]
-    others, speeds, free = (), (), list(made.people)
+    others: tuple[str, ...] = ()
+    speeds: tuple[int, ...] = ()
+    free = list(made.people)
     draw.shuffle(free)
     people = tuple(free[: draw.choice((0, 1, 1, 1, 1, 2))])
     count, by_skill = 0, False
@@ -182,11 +226,16 @@ def _draw_order(draw: random.Random, made: Drawn) -> None:
         least = draw.choice((None, 0, 1, 2))
         most = draw.choice((None, 3, 4)) if least is not None else draw.randint(0, 4)
         made.lags.append((first, then, least, most, draw.choice(("end", "start"))))
+    _draw_setup(draw, made, "")
+
+
+def _draw_setup(draw: random.Random, made: Drawn, of: str) -> None:
+    """Days between kinds of tasks of the hall, or of somebody."""
     if draw.random() < 0.4:
         pairs = [(one, other) for one in _KINDS for other in _KINDS]
         times = {pair: draw.randint(0, 2) for pair in pairs if draw.random() < 0.7}
         if times:
-            made.setups[draw.choice(made.people)] = times
+            made.setups[of or draw.choice(made.people)] = times
 
 
 # --- all plans ---
@@ -205,11 +254,24 @@ class Done:
     waits: frozenset[int]
 
 
-def all_aways(made: Drawn) -> list[tuple[str, str, int, int]]:
-    """Absences, those of the weekdays on which somebody doesn't work too, day by day joined."""
-    found = list(made.aways)
+def dates_of(made: Drawn) -> list[date]:
+    """The dates of the days of a plan, and more."""
     dates = (START + timedelta(days=each) for each in range(99))
-    worked = [it for it in (WEEK[each.weekday()] for each in dates) if it not in made.off.split()]
+    return [each for each in dates if WEEK[each.weekday()] not in made.off.split()]
+
+
+def date_of(made: Drawn, day: int) -> date:
+    return dates_of(made)[day]
+
+
+def all_aways(made: Drawn) -> list[tuple[str, str, int, int]]:
+    """Absences, with the days on which somebody wishes to do nothing, and those of the weekdays on
+    which somebody doesn't work, day by day joined."""
+    found = list(made.aways)
+    for each in made.wanted:
+        if each.sort == "not_on" and isinstance(each.of, str):
+            found.append((each.premise, each.of, each.day, each.day + 1))
+    worked = [WEEK[each.weekday()] for each in dates_of(made)]
     for person, weekdays in made.works:
         begun = None
         for day in range(made.days + 1):
@@ -323,22 +385,39 @@ def broken_by(made: Drawn, at: int, done: Done) -> frozenset[str]:
             found.add(premise)
     if made.today is not None and told_of(made, at) is None and done.start < made.today:
         found.add("today")
+    needs = {at, None, *done.who, *([HALL] if task.uses else [])}
+    found |= {it.premise for it in made.wanted if it.of in needs and not is_as_wished(it, done)}
     return frozenset(found)
+
+
+def is_as_wished(wish: DrawnWish, done: Done) -> bool:
+    """Whether a task is done as it is wished. (Somebody who wishes to be off is away.)"""
+    if wish.sort == "before":
+        return done.end <= wish.day
+    if wish.sort == "not_on":
+        return isinstance(wish.of, str) or done.end <= wish.day or done.start > wish.day
+    return done.start == wish.day if wish.sort == "on" else done.start > wish.day
 
 
 def broken_by_two(made: Drawn, one: int, a: Done, other: int, b: Done) -> frozenset[str]:
     """The premises that don't hold of two tasks of somebody."""
-    found = set()
-    for person in a.who & b.who:
-        if not (a.end <= b.start or b.end <= a.start):
-            found.add(f"{person} does one thing at a time")
-        times = made.setups.get(person, {})
-        kinds = made.tasks[one].kind, made.tasks[other].kind
-        if None not in kinds and (times.get(kinds, 0) or times.get(kinds[::-1], 0)):
-            there, back = times.get(kinds, 0), times.get(kinds[::-1], 0)
-            if not (a.end + there <= b.start or b.end + back <= a.start):
-                found.add(f"{person} is set up")
+    tasks = (made.tasks[one], made.tasks[other])
+    found: set[str] = set()
+    if not (a.end <= b.start or b.end <= a.start):
+        found = {f"{person} does one thing at a time" for person in a.who & b.who}
+    for name in (a.who & b.who) | ({HALL} if all(it.uses for it in tasks) else set()):
+        for kinds, days in made.setups.get(name, {}).items():
+            # (either may be the one behind, or both where they take no day)
+            behind = [(b.start - a.end, (tasks[0].kind, tasks[1].kind))]
+            behind.append((a.start - b.end, (tasks[1].kind, tasks[0].kind)))
+            if any(0 <= between < days and kinds == own for between, own in behind):
+                found.add(setting_up(name, kinds, days))
     return frozenset(found)
+
+
+def setting_up(name: str, kinds: tuple[str, str], days: int) -> str:
+    """How it is called that somebody is set up."""
+    return f"{name} takes {days} from {kinds[0]} to {kinds[1]}"
 
 
 def is_full(made: Drawn, plan: Sequence[Done]) -> bool:
@@ -392,7 +471,7 @@ class Known:
         names = sorted({name for each in self.repairs for name in each})
         found: list[frozenset[str]] = []
         for size in range(len(names) + 1):
-            for some in map(frozenset, combinations(names, size)):
+            for some in (frozenset(each) for each in combinations(names, size)):
                 if all(some & it for it in self.repairs) and not any(it <= some for it in found):
                     found.append(some)
         return {*found}
@@ -456,6 +535,8 @@ def project_of(w: Workbench, made: Drawn) -> Project:
         p.pays(name, cost)
     if made.early_aways:
         state_aways(p, made)
+    early = [it for it in made.wanted if made.early_wishes and isinstance(it.of, str)]
+    state_wishes(p, made, early)
     done: list[Task] = []
     for number, task in enumerate(made.tasks):
         done.append(state_task(p, task, number, [done[before] for before in task.after]))
@@ -473,8 +554,18 @@ def project_of(w: Workbench, made: Drawn) -> Project:
         else:
             assert own is not None
             p.not_before(day, own, premise)
+    state_wishes(p, made, [it for it in made.wanted if it not in early])
     state_progress(p, made, done)
     return p
+
+
+def state_wishes(p: Project, made: Drawn, wishes: Sequence[DrawnWish]) -> None:
+    for it in wishes:
+        who = "all" if it.of is None else f"t{it.of}" if isinstance(it.of, int) else it.of
+        is_date = "-" in it.premise or (it.is_named and made.has_dates)
+        day: date | int = date_of(made, it.day) if is_date else it.day
+        named = it.premise if it.is_named else None
+        assert p.wish(who, named, None, weight=it.weight, **{it.sort: day}) == it.premise
 
 
 def state_aways(p: Project, made: Drawn) -> None:
@@ -504,7 +595,8 @@ def state_task(p: Project, task: DrawnTask, number: int, after: list[Task]) -> T
         who.append(own)
     if task.second[0]:
         who.append(any_of(task.second[0], *task.second[1]))
-    name, rest = f"t{number}", dict(who=who, after=after, pauses=task.pauses, kind=task.kind)
+    name = f"t{number}"
+    rest: dict[str, Any] = dict(who=who, after=after, pauses=task.pauses, kind=task.kind)
     rest["uses"] = {HALL: task.uses} if task.uses else None
     if task.speeds:
         days = dict(zip(task.others, task.speeds))
@@ -544,8 +636,10 @@ class Held:
         self.hold_wishes(w, p)
 
     def hold_conflicts(self, w: Workbench, p: Project) -> None:
-        repairs = w.repairs(keep=p.facts, most=1000)
+        repairs = w.repairs(p.weights, keep=p.facts, most=1000)
         self.check("repairs", {frozenset(it.names) for it in repairs}, self.known.repairs)
+        costs = [sum(map(self.made.weight_of, each.names)) for each in repairs]
+        self.check("what repairs cost", [it.cost for it in repairs], sorted(costs))
         self.check("all repairs", repairs.complete, True)
         if self.known.repairs:
             conflicts = w.conflicts(keep=p.facts, most=1000)
@@ -596,16 +690,22 @@ class Held:
 
     def hold_wishes(self, w: Workbench, p: Project) -> None:
         """The weight of what is given up, with the end."""
-        kinds = {it[0] for it in (*self.made.wishes, *self.made.aways)}
+        wishes = [it[0] for it in self.made.wishes] + [it.premise for it in self.made.wanted]
+        kinds = {*wishes, *(it[0] for it in self.made.aways)}
+        for name, times in self.made.setups.items():
+            kinds |= {setting_up(name, pair, days) for pair, days in times.items()}
         names = [it for it in w.believed if it in kinds or it in p.limits]
         weights = {name: self.draw.randint(1, 4) for name in names if self.draw.random() < 0.7}
+        is_usual = bool(wishes) and self.draw.random() < 0.4
+        if is_usual:
+            weights = {name: self.made.weight_of(name) for name in wishes}
         pairs = {
             (end, sum(weights[name] for name in out))
             for out, ends in self.known.broken.items()
             if out <= {*weights}
             for end in ends
         }
-        traded = w.trade_off(p.end, p.given_up(weights))
+        traded = w.trade_off(p.end, p.given_up(None if is_usual else weights))
         told = traded.pairs, traded.complete
         self.check("what is given up", told, (front(pairs), True))
 
@@ -641,10 +741,11 @@ def known_of(p: Project) -> list[object]:
     """What a project knows of itself."""
     tasks = [(str(it), it.kind, it.pauses, dict(it.uses)) for it in p.tasks.values()]
     said = [(name, p.workbench.model.text(name)) for name in p.workbench.premises]
-    return [p.people, p.days, p.calendar, p.facts, p.limits, p.resources, tasks, said]
+    own = [p.people, p.days, p.calendar, p.facts, p.limits, p.resources, p.weights]
+    return [*own, tasks, said]
 
 
-def plan_in(made: Drawn, p: Project, found: object) -> object:
+def plan_in(made: Drawn, p: Project, found: Planned) -> object:
     """Whether a schedule is one of all plans, and breaks nothing; else what it is."""
     schedule = p.schedule(found)
     aways, plan = all_aways(made), []

@@ -113,7 +113,12 @@ class LineModel(Questions):
     def chosen(self, plan: Mapping[str, Point]) -> Mapping[str, object]:
         return {}
 
-    def scheduled(self, plan: Mapping[str, Point]) -> None:
+    def scheduled(
+        self,
+        plan: Mapping[str, Point],
+        choices: Mapping[str, object],
+        why: Mapping[str, Sequence[str]],
+    ) -> None:
         return None
 
     def is_measured(self, cell: str) -> bool:

@@ -4,7 +4,7 @@ A recipe is an expression as nested tuples. `built` makes it of a workbench's ce
 works it out at points, by Python's own arithmetic and none of the package's.
 """
 
-from collections.abc import Iterator, Mapping
+from collections.abc import Callable, Iterator, Mapping
 from dataclasses import dataclass
 from itertools import product
 from typing import Any
@@ -56,13 +56,14 @@ def meant(recipe: Recipe, points: Points) -> Any:
         return meant(args[1] if meant(args[0], points) else args[2], points)
     if name in ("implies", "not", "and", "or", "xor"):
         truths = [meant(arg, points) for arg in args]
-        return {
+        ways: dict[str, Callable[[], object]] = {
             "implies": lambda: not truths[0] or truths[1],
             "not": lambda: not truths[0],
             "and": lambda: all(truths),
             "or": lambda: any(truths),
             "xor": lambda: truths[0] != truths[1],
-        }[name]()
+        }
+        return ways[name]()
     try:
         values = [meant(arg, points) for arg in args]
         return _worked_out(name, values)
@@ -76,7 +77,7 @@ def _worked_out(name: str, values: list[Any]) -> Any:
     first, *others = values
     if name in ("quotient", "remainder") and others[0] == 0:
         raise NoValue
-    return {
+    ways: dict[str, Callable[[], object]] = {
         "sum": lambda: sum(values),
         "total": lambda: sum(values),
         "difference": lambda: first - others[0],
@@ -99,7 +100,8 @@ def _worked_out(name: str, values: list[Any]) -> Any:
         "different": lambda: len(set(values)) == len(values),
         "later": lambda: (first, others[0]) in LATER,
         "early": lambda: first in ("mon", "tue"),
-    }[name]()
+    }
+    return ways[name]()
 
 
 COMPARISONS = frozenset(
@@ -116,7 +118,7 @@ def built(recipe: Recipe, cells: Mapping[str, Any]) -> Any:
         return args[0]
     values = [built(arg, cells) for arg in args]
     first, *others = values
-    return {
+    ways: dict[str, Callable[[], object]] = {
         "sum": lambda: first + others[0],
         "total": lambda: total(values),
         "difference": lambda: first - others[0],
@@ -145,7 +147,8 @@ def built(recipe: Recipe, cells: Mapping[str, Any]) -> Any:
         "or": lambda: first | others[0],
         "xor": lambda: first ^ others[0],
         "if": lambda: if_else(first, *others),
-    }[name]()
+    }
+    return ways[name]()
 
 
 def cell(name: str) -> Recipe:

@@ -16,8 +16,8 @@ class Rule:
     values that are known as long as some aren't."""
 
     names: Sequence[str]
-    test: Callable[..., bool]
-    may: Callable[[list[Any]], bool] | None = None
+    test: Callable[..., object]
+    may: Callable[[list[Any]], object] | None = None
 
     def allows(self, values: Mapping[str, Any]) -> bool:
         """Whether nothing speaks against these values."""

@@ -91,7 +91,8 @@ class Case:
         first, last = Fraction(low), Fraction(high)
         if depth == 0 or self.draw.random() < 0.5:
             ends = sorted(self.draw.sample(range(65), 2)) if self.draw.random() < 0.7 else [0, 64]
-            return self.quantity(*(first + (last - first) * end / 64 for end in ends))
+            low, high = (first + (last - first) * end / 64 for end in ends)
+            return self.quantity(low, high)
         term = self.term(depth)
         begun, ended = BoundsOf()(term.real)
         if begun == ended:
@@ -227,7 +228,7 @@ def _curve(case: Case, depth: int) -> Term:
     values = [Fraction(draw.randint(-40, 40), 8) for _ in arguments]
     if draw.random() < 0.6:
         values.sort(reverse=draw.random() < 0.5)
-    within = draw.choice([0, 0, "0.01", "0.5"])
+    within = draw.choice(["0", "0", "0.01", "0.5"])
     made = elementary.curve(f"t{draw.random()}", list(zip(arguments, values)), within=within)
     return made(case.within(arguments[0], arguments[-1], depth))
 
@@ -310,7 +311,7 @@ def read_some(case: Case) -> None:
             low, high = ends_of(real if by is None else by.shows(real))
             ends = (low - below - measure.offset, high + above - measure.offset)
             given = (ends[0] / measure.factor, ends[1] / measure.factor)
-            case.w.read(f"read {name}", quantity, given, by=by and by.device)
+            case.w.read(f"read {name}", quantity, given, by=None if by is None else by.device)
 
 
 def lost(case: Case, *, is_shaved: bool = False) -> list[str]:
@@ -357,7 +358,8 @@ def unmet(case: Case, *, is_read: bool = True) -> list[str]:
     """What is stated that does not hold where each cell holds what it does for its real, with what
     `is_read` or without: worked out in whole numbers, without the program. Raises Unfit."""
     points = numbers(case)
-    sorts = (Required, Told) if is_read else Required
+    sorts: tuple[type[Required], ...] | tuple[type[Required], type[Told]]
+    sorts = (Required, Told) if is_read else (Required,)
     events = [it for it in case.w._network.events if isinstance(it, sorts)]
     return [it.text for it in events if not it.is_met(points)]
 

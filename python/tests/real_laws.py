@@ -159,7 +159,7 @@ def _extreme(case: Case, depth: int) -> Drawn:
 def _mean(case: Case, depth: int) -> Drawn:
     several = [case.term(depth) for _ in range(case.draw.randint(2, 4))]
     values = [each.value for each in several]
-    return Drawn(mean([each.term for each in several]), sum(values) / len(values))
+    return Drawn(mean([each.term for each in several]), sum(values, Fraction(0)) / len(values))
 
 
 _MAKERS: list[Callable[[Case, int], Drawn]] = [
@@ -279,7 +279,7 @@ def read_some(case: Case) -> None:
             width = abs(number) * Fraction(draw.choice([0, 1, 5, 100]), 1000)
             below, above = (width * Fraction(draw.randint(0, 10), 10) for _ in range(2))
             given = (shown - below, shown + above)
-            case.w.read(f"read {name}", quantity, given, by=by and by.device)
+            case.w.read(f"read {name}", quantity, given, by=None if by is None else by.device)
 
 
 def lost(case: Case, *, is_shaved: bool = False) -> list[str]:
@@ -318,7 +318,8 @@ def unmet(case: Case, *, is_read: bool = True) -> list[str]:
     `is_read` or without: worked out in whole numbers, without the program. Raises Unfit for a root
     that is no fraction."""
     points = numbers(case)
-    sorts = (Required, Told) if is_read else Required
+    sorts: tuple[type[Required], ...] | tuple[type[Required], type[Told]]
+    sorts = (Required, Told) if is_read else (Required,)
     events = [it for it in case.w._network.events if isinstance(it, sorts)]
     return [it.text for it in events if not it.is_met(points)]
 

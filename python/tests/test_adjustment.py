@@ -1,13 +1,13 @@
 """Least squares beside exact fractions of the normal equations, and published examples."""
 
 import random
-import sys
 from collections.abc import Iterator
 from fractions import Fraction
 from math import sqrt
 from typing import Any
 
 import pytest
+from conftest import hide
 
 from normal_equations import normal, solved
 from propbench import Workbench, pi
@@ -220,9 +220,8 @@ def test_random_nets_beside_exact_fractions() -> None:
 def test_where_scipy_is_not_there(w: Workbench, monkeypatch: pytest.MonkeyPatch) -> None:
     """Statistics say what is missing; what is proved doesn't need it."""
     levelled(w, LEVELS)
-    modules: dict[str, Any] = sys.modules
     for name in ("scipy", "scipy.linalg", "scipy.stats"):
-        monkeypatch.setitem(modules, name, None)
+        hide(monkeypatch, name)
     with pytest.raises(NoScipy, match="sudo apt install python3-scipy"):
         w.adjust()
     assert list(w.outliers(seconds=60)) == [frozenset()]

@@ -113,6 +113,8 @@ def calls(name: str) -> dict[str, Call]:
         "away for nobody's task": lambda f: f.p.away("ben", 0, 1),
         "done by": lambda f: f.p.done_by(9, under=name),
         "task done by": lambda f: f.p.done_by(9, task=f.a),
+        "wish of somebody": lambda f: f.p.wish("ana", name, before=9, not_on=4),
+        "wish of a task": lambda f: f.p.wish(f.a, name, after=1, not_on=4),
         "end": lambda f: f.p.end,
         "total cost": lambda f: f.p.total_cost,
         "what if": lambda f: f.what_if(name),

@@ -15,7 +15,8 @@ pytest.importorskip("mpmath")
 
 HILL = Segments(tuple((Fraction(at), Fraction(to)) for at, to in ((0, 0), (10, 7), (20, 21))))
 # A curve, what its argument and its values may be, the steps of both, and the same by floats.
-CASES: list[tuple[Curve, tuple[int, int], tuple[int, int], str, str, Callable[[float], float]]] = [
+BendCase = tuple[Curve, tuple[int, int], tuple[int, int], str, str, Callable[[float], float]]
+CASES: list[BendCase] = [
     (Exponential(), (0, 3), (0, 30), "1/4", "1/3", math.exp),
     (Exponential(10), (-1, 1), (0, 20), "1/10", "1/2", lambda x: 10**x),
     (Power(Fraction(3, 2)), (0, 9), (0, 40), "1/2", "2", lambda x: float(max(x, 0) ** 1.5)),
@@ -57,16 +58,9 @@ def is_within(piece: Piece, argument: int, value: int) -> bool:
 
 
 @pytest.mark.parametrize("off", ["0", "3/2"])
-@pytest.mark.parametrize(("curve", "ends", "values", "step", "value_step", "plain"), CASES)
-def test_pieces_hold_at_all_reals(
-    curve: Curve,
-    ends: tuple[int, int],
-    values: tuple[int, int],
-    step: str,
-    value_step: str,
-    plain: Callable[[float], float],
-    off: str,
-) -> None:
+@pytest.mark.parametrize("case", CASES)
+def test_pieces_hold_at_all_reals(case: BendCase, off: str) -> None:
+    curve, ends, values, step, value_step, plain = case
     of_argument, of_value = measure(step, ends), measure(value_step, values)
     far = Fraction(off) * of_value.step
     cells = declared("u", of_argument, None), declared("v", of_value, None)

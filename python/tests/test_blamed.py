@@ -1,7 +1,7 @@
 """Conflicts and repairs that the program searches for itself, held to all points of small networks:
 with what is kept, weights, parts of all, in slices, cut short, and behind changes."""
 
-from collections.abc import Sequence
+from collections.abc import Callable, Sequence
 from typing import Any
 
 import pytest
@@ -85,7 +85,11 @@ def test_what_is_known_when_it_is_cut(lines: list[str], cuts: int) -> None:
             if left[0] == 0:
                 raise KeyboardInterrupt
 
-        for ask, wanted in ((model.conflicts, conflicts), (model.repairs, repairs)):
+        asks: list[tuple[Callable[..., object], set[frozenset[str]]]] = [
+            (model.conflicts, conflicts),
+            (model.repairs, repairs),
+        ]
+        for ask, wanted in asks:
             so_far: Any = None
             try:
                 so_far = ask(progress=stop)

@@ -9,8 +9,10 @@ from drawn_projects import drawn_project, faults, project_of, searched
 from propbench import Workbench, any_of, skilled
 from propbench.clock import Clock
 from propbench.planning import Project, Task, by_hand
+from propbench.planning.who import Who
 from propbench.questions.ends import Ending
 from propbench.questions.seeking import Seeker
+from propbench.values import Span
 
 
 @pytest.fixture
@@ -26,9 +28,9 @@ def test_they_change_no_answer(few: None) -> None:
 
 
 def test_they_fit_as_the_program_says_and_end_no_sooner_than_any(few: None) -> None:
-    """Of 40 small projects, of which a search of all plans tells which have some."""
+    """Of 60 small projects, of which a search of all plans tells which have some."""
     tried = fit = 0
-    for seed in range(6000, 6040):
+    for seed in range(6000, 6060):
         made = drawn_project(seed)
         least = min((end for end, _ in searched(made).fits), default=None)
         with Workbench() as w:
@@ -39,7 +41,9 @@ def test_they_fit_as_the_program_says_and_end_no_sooner_than_any(few: None) -> N
             tried += least is not None
             fit += points is not None
             # (what doesn't fit isn't told as if it did)
-            assert points is None or least is not None and points.values[line].low >= least
+            if points is not None:
+                value = points.values[line]
+                assert least is not None and isinstance(value, Span) and value.low >= least
     assert tried >= 20 and fit >= tried // 2
 
 
@@ -54,7 +58,7 @@ def many(w: Workbench, seed: int) -> Project:
     p.away("ana", 3, 6)
     made: list[Task] = []
     for number in range(20):
-        who = skilled(draw.choice(("welding", "wiring"))) if number % 3 else any_of(2, *names)
+        who: Who = skilled(draw.choice(("welding", "wiring"))) if number % 3 else any_of(2, *names)
         after = [task for task in made[-4:] if draw.random() < 0.2]
         uses = {"lift": 1} if draw.random() < 0.4 else None
         made.append(p.task(f"t{number}", draw.randint(1, 5), who=who, after=after, uses=uses))
@@ -72,7 +76,9 @@ def test_a_search_begins_with_one(wide: str, monkeypatch: pytest.MonkeyPatch, se
         with Seeker(w.model, Clock(20, None)) as seeker:
             points = seeker.by_hand()
             assert points is not None
-            first = points.values[w.model.cell_name(end)].low
+            value = points.values[w.model.cell_name(end)]
+            assert isinstance(value, Span)
+            first = value.low
             ending = Ending(seeker, end, "least")
             # (without time the plan that was made by hand is all that is known)
             ending.run(0)
@@ -85,6 +91,17 @@ def test_a_search_begins_with_one(wide: str, monkeypatch: pytest.MonkeyPatch, se
         with Workbench(wide) as other:
             again = many(other, seed)
             assert other.least(again.end).value == found.value and found.proved
+
+
+def test_one_waits_for_what_is_wished_for(few: None) -> None:
+    """Nothing of Ana's begins before that, and what Ben does begins at once."""
+    with Workbench() as w:
+        p = w.project(days=30, people="ana ben")
+        p.wish("ana", after=6)
+        p.task("venue", 2, who="ana")
+        p.task("review", 2, who="ben")
+        found = by_hand.made_by_hand(w.network)
+        assert (found["venue start"], found["review start"]) == (7, 0)
 
 
 def test_a_long_chain_is_made_at_once(wide: str) -> None:

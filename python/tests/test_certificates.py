@@ -10,7 +10,7 @@ from typing import Any
 
 import pytest
 from drawn_models import model_lines
-from conftest import TIMES
+from conftest import PROGRAMS, TIMES
 from hypothesis import given, settings
 from hypothesis import strategies as st
 from lines_model import LineModel
@@ -362,10 +362,9 @@ def test_random_wishes(program: str, recipes: list[Recipe]) -> None:
             assert certificate.check(program)
 
 
-def test_what_is_claimed_is_told_in_words(
-    tmp_path: Path, capsys: pytest.CaptureFixture[str]
-) -> None:
-    """As the page has it: with the hotel at 900 or the university at 300 a day."""
+def save_claims(tmp_path: Path) -> None:
+    """Claims and bases as the page has them: with the hotel at 900 or the university at 300 a
+    day."""
     with Workbench() as w:
         days, price, cost = (w.number(name, 0, 9000) for name in ("days", "price", "cost"))
         w.choose("venue", {"hotel": [price == 900], "uni": [price == 300]})
@@ -382,6 +381,12 @@ def test_what_is_claimed_is_told_in_words(
         table = w.scenarios({"Ben": dict(tell=[("Ben", days, 7, 9)])}, [cost])
         table.certificate.save(tmp_path / "table.claim")
         (tmp_path / "none.prop").write_text("")
+
+
+def test_what_is_claimed_is_told_in_words(
+    tmp_path: Path, capsys: pytest.CaptureFixture[str]
+) -> None:
+    save_claims(tmp_path)
 
     def told(name: str, base: str | None = None) -> list[str]:
         words = ["check", str(tmp_path / f"{name}.claim")]
@@ -413,6 +418,36 @@ def test_what_is_claimed_is_told_in_words(
         "The certificate doesn't hold: it is of another network; gone since then: kick comfort"
     )
     assert "gone since then: cell _yes truth, " in told("least", "none")[0]
+
+
+def test_a_certificate_is_read_again(tmp_path: Path) -> None:
+    save_claims(tmp_path)
+    for name, base in (("least", "plan"), ("repairs", "all"), ("table", "plan")):
+        read = Certificate.load(tmp_path / f"{name}.claim")
+        written = (tmp_path / f"{name}.claim").read_text(encoding="utf-8")
+        assert "".join(f"{line}\n" for line in read.lines) == written
+        assert read.check(base=tmp_path / f"{base}.prop")
+        with pytest.raises(CertificateError, match="another network"):
+            read.check(base=tmp_path / "none.prop")
+    with pytest.raises(CertificateError, match="not as it was written"):
+        Certificate.load(tmp_path / "plan.prop").check()
+    with pytest.raises(OSError):
+        Certificate.load(tmp_path / "no.claim")
+    with pytest.raises(TypeError, match=r"Certificate.load\('least.claim'\) reads a file"):
+        Certificate("least.claim")
+
+
+def test_what_a_program_lacks_is_said(
+    wide: str, tmp_path: Path, capsys: pytest.CaptureFixture[str]
+) -> None:
+    """A certificate of propwide, shown to propbench, which has no line `least`."""
+    with Workbench(wide) as w:
+        x = w.number("x", 0, 9)
+        w.require(x * x >= 5)
+        w.least(x).certificate.save(tmp_path / "least.claim")
+    words, says = ["check", str(tmp_path / "least.claim"), "--program"], "This program is not"
+    assert main([*words, wide]) == 0 and says not in capsys.readouterr().out
+    assert main([*words, PROGRAMS["propbench"]]) == 1 and says in capsys.readouterr().out
 
 
 def test_what_is_no_certificate_is_told_in_words(

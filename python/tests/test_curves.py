@@ -12,7 +12,7 @@ from propbench.desk import main
 from propbench.laboratory.bench_file import BadBench, bench_in
 from propbench.laboratory.curve_files import points_of_file
 
-POINTS = [(0, "20.1"), ("4.5", 30), (10, "55.5")]
+POINTS: list[tuple[int | str, int | str]] = [(0, "20.1"), ("4.5", 30), (10, "55.5")]
 BENCH = """\
 laws = ["inside == probe(voltage)", "twice == 2 * probe(voltage) - 'K'"]
 

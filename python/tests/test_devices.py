@@ -162,6 +162,7 @@ def test_no_truth_is_lost_beside_functions() -> None:
             wanted = {one: sides[0], other: sides[1], angle: degrees}
             for cell, truth in (*wanted.items(), (height, truths[number % 4 // 2])):
                 answer = cell.ask()
+                assert answer.low is not None and answer.high is not None
                 assert float(answer.low) - 1e-9 <= truth <= float(answer.high) + 1e-9, number
 
 

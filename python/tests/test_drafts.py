@@ -1,10 +1,11 @@
 """Plans as they are written down and worked on: rows that change, wishes in words, what is taken
 back, what was agreed on, and files of all that."""
 
-from collections.abc import Iterator
+from collections.abc import Callable, Iterator
 from datetime import date
 from itertools import product
 from pathlib import Path
+from typing import Any
 
 import pytest
 
@@ -104,6 +105,43 @@ def test_what_is_gone_is_gone_everywhere(plan: OpenPlan) -> None:
         plan.drop("tasks", 5)
 
 
+def test_setup_times_go_with_their_kinds(plan: OpenPlan) -> None:
+    """Ana has red and blue ones: 3 days, 4 more, and 2 with Ben, who has 5."""
+    plan.put("tasks", 0, TASKS[0] | {"kind": "red"})
+    plan.put("tasks", 2, TASKS[2] | {"kind": "blue", "after": "venue"})
+    row = {"person": "ana", "from": "red", "to": "blue", "days": "4"}
+    plan.put("setups", None, row)
+    plan.put("setups", None, row | {"from": "blue", "to": "red", "days": "1"})
+    assert ends(plan) == 3 + 5 + 2 == 10
+    plan.put("setups", 0, row | {"days": "6"})
+    assert ends(plan) == 3 + 6 + 2
+    plan.put("tasks", 2, TASKS[2] | {"kind": "green", "after": "venue"})
+    plan.put("people", 0, {"person": "Ana Lu"})
+    assert plan.draft is not None
+    called = {"person": "Ana Lu", "from": "red", "to": "green", "days": "6"}
+    assert plan.draft.rows("setups")[0] == called and ends(plan) == 11
+    assert draft_of(plan.draft.sheets()) == plan.draft
+    # a kind that there is already is none in its place
+    plan.put("tasks", 2, TASKS[2] | {"kind": "red", "who": "Ana Lu, ben", "after": "venue"})
+    assert plan.draft.rows("setups") == () and ends(plan) == 10
+    plan.undo()
+    assert ends(plan) == 11
+    plan.drop("tasks", 0)
+    assert plan.draft.rows("setups") == ()
+
+
+def test_what_stands_in_the_way_may_be_a_setup(plan: OpenPlan) -> None:
+    plan.put("tasks", 0, TASKS[0] | {"kind": "red"})
+    plan.put("tasks", 2, TASKS[2] | {"kind": "blue", "after": "venue"})
+    plan.put("setups", None, {"person": "ana", "from": "red", "to": "blue", "days": "6"})
+    plan.put("wishes", None, {"wish": "all by 20 March"})
+    found = plan.hindrances(60)
+    assert found.complete and {each.says: each.cost for each in found.repairs} == {
+        ("give up all by 20 March",): 1,
+        ("get ana to go from red to blue at once",): 20,
+    }
+
+
 def test_steps_are_taken_back_and_done_again(plan: OpenPlan) -> None:
     begun = plan.draft
     assert ends(plan) == 10
@@ -134,7 +172,7 @@ def test_steps_are_taken_back_and_done_again(plan: OpenPlan) -> None:
 
 def test_what_cannot_be_taken_leaves_all_as_it_was(plan: OpenPlan) -> None:
     before, workbench = plan.draft, plan.workbench
-    for table, row, why in (
+    cases: list[tuple[str, dict[str, Any], str]] = [
         ("tasks", {"task": "x", "days": "soon"}, "days: `soon` is not a whole number"),
         ("tasks", {"task": "x", "days": "1", "after": "y"}, "after: no task is called `y`"),
         ("tasks", {"task": "x", "days": "1", "who": "bee"}, "who: no person is called `bee`"),
@@ -144,7 +182,8 @@ def test_what_cannot_be_taken_leaves_all_as_it_was(plan: OpenPlan) -> None:
         ("tasks", {"task": ["x"]}, "a row of tasks has texts under its headings"),
         ("tasks", {"colour": "red"}, "a row of tasks has texts under its headings"),
         ("tasks", {"task": " "}, "there is nothing in this row"),
-    ):
+    ]
+    for table, row, why in cases:
         with pytest.raises(ValueError) as caught:
             plan.put(table, None, row)
         assert why in str(caught.value)
@@ -152,7 +191,7 @@ def test_what_cannot_be_taken_leaves_all_as_it_was(plan: OpenPlan) -> None:
 
 
 # What words say, of the ends of tasks that are enumerated: venue takes 3 days, review 5.
-RULES = {
+RULES: dict[str, Callable[[int, int], bool]] = {
     "review after venue": lambda v, r: r >= v + 3,
     "review at least 2 days after venue": lambda v, r: r >= v + 5,
     "review 2 days after venue": lambda v, r: r == v + 5,
@@ -311,7 +350,7 @@ def test_conflicts_are_told_by_their_fewest_wishes(plan: OpenPlan) -> None:
     plan.put("wishes", None, {"wish": "venue on 11 March"})
     found = plan.hindrances(60)
     told = [{name for name, _ in each.wishes} for each in found.conflicts]
-    assert sorted(map(sorted, told)) == [
+    assert sorted(sorted(each) for each in told) == [
         ["all by 19 March"],
         ["venue by 12 March", "venue on 11 March"],
     ]

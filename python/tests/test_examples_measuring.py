@@ -205,13 +205,13 @@ def test_a_traverse() -> None:
     # (to C one comes by two legs from A: the interval of their sum, and a little for rounding)
     legs = (("41.8", "63.05"), ("75.5", "55.80"))
     for way, share in (("east", sin), ("north", cos)):
-        low = high = 0.0
+        least = most = 0.0
         for degrees, metres in legs:
             middle, off = share(radians(float(degrees))), radians(0.05) + 2e-6
-            low += (float(metres) - 0.05) * (middle - off)
-            high += (float(metres) + 0.05) * (middle + off)
+            least += (float(metres) - 0.05) * (middle - off)
+            most += (float(metres) + 0.05) * (middle + off)
         answer = found[f"C {way}"][0]
-        assert low - 0.02 <= answer[0] and answer[1] <= high + 0.02
+        assert least - 0.02 <= answer[0] and answer[1] <= most + 0.02
 
 
 def test_a_net_of_levels() -> None:
@@ -220,7 +220,7 @@ def test_a_net_of_levels() -> None:
     up."""
     printed, found = shown("levels")
     lines = {
-        f"{begin}{end}": Fraction(rises)
+        (begin, end): Fraction(rises)
         for begin, end, rises in re.findall(r'"(\w)(\w)": "(.+)",', source("levels"))
     }
     off, names = Fraction(3, 1000), "BCDE"

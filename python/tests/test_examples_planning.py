@@ -3,6 +3,7 @@
 import re
 from collections.abc import Iterator
 from datetime import date
+from functools import partial
 from itertools import combinations, product
 
 from examples import ran, repairs_told, replies, tables
@@ -57,14 +58,16 @@ def week(some: Names) -> tuple[dict[str, list[str]], list[Rule]]:
     # (a shift and the next are never one person's: on one day, or late and then early)
     rules = [rule for pair in zip(SHIFTS, SHIFTS[1:]) for rule in differing(pair)]
     for who in PEOPLE:
-        rules.append(
-            Rule(
-                SHIFTS,
-                lambda *all, who=who: 3 <= all.count(who) <= 4,
-                lambda some, who=who: some.count(who) <= 4,
-            )
-        )
+        rules.append(Rule(SHIFTS, partial(is_fair, who), partial(may_be_fair, who)))
     return rooms, rules
+
+
+def is_fair(who: str, *people: str) -> bool:
+    return 3 <= people.count(who) <= 4
+
+
+def may_be_fair(who: str, people: list[str]) -> bool:
+    return people.count(who) <= 4
 
 
 def test_a_week() -> None:

@@ -15,7 +15,7 @@ FIVE = range(1, 6)
 # --- the five tenants ---
 
 TENANTS = ("Baker", "Cooper", "Fletcher", "Miller", "Smith")
-TOLD: dict[str, Callable[..., bool]] = {
+TOLD: dict[str, Callable[..., object]] = {
     "Baker isn't at the top": lambda b, c, f, m, s: b != 5,
     "Cooper isn't at the bottom": lambda b, c, f, m, s: c != 1,
     "Fletcher is at neither end": lambda b, c, f, m, s: f not in (1, 5),
@@ -23,7 +23,7 @@ TOLD: dict[str, Callable[..., bool]] = {
     "Smith isn't next to Fletcher": lambda b, c, f, m, s: abs(s - f) != 1,
     "Fletcher isn't next to Cooper": lambda b, c, f, m, s: abs(f - c) != 1,
 }
-POSTMAN: dict[str, Callable[..., bool]] = {
+POSTMAN: dict[str, Callable[..., object]] = {
     "the postman: Baker is above Miller": lambda b, c, f, m, s: m < b
 }
 
@@ -244,11 +244,13 @@ def test_queens() -> None:
     stands = {"white": (0, 1), "black": (1, 4), "red": (7, 5)}
 
     def left(some: Names) -> list[tuple[int, ...]]:
-        return [way for way in ways if all(way[x] == row for x, row in map(stands.get, some))]
+        return [
+            way for way in ways if all(way[x] == row for x, row in map(stands.__getitem__, some))
+        ]
 
     conflicts, repairs = conflicts_and_repairs(stands, lambda some: bool(left(some)))
     assert conflicts_in(printed) == [conflicts]
-    assert [*map(set, repairs_in(printed))] == [repairs]
+    assert [set(each) for each in repairs_in(printed)] == [repairs]
     [rows] = tables(printed, *"abcdefgh")
     given_up = next(iter(repairs_in(printed)[0]))
     shown = [tuple(int(row[column]) for column in "abcdefgh") for row in rows]

@@ -117,25 +117,24 @@ solve{goal};
 
 
 @pytest.mark.parametrize(
-    "words, goal, ends, count",
+    "asked, wanted",
     [
-        ([], " satisfy", "----------\n", 1),
-        (["-a"], " satisfy", "==========\n", 3),
-        (["-n", "2"], " satisfy", "----------\n", 2),
-        (["-n", "9"], " satisfy", "==========\n", 3),
-        ([], " minimize y", "==========\n", 1),
-        (["-t", "60000"], " maximize x", "==========\n", 1),
+        (([], " satisfy"), ("----------\n", 1)),
+        ((["-a"], " satisfy"), ("==========\n", 3)),
+        ((["-n", "2"], " satisfy"), ("----------\n", 2)),
+        ((["-n", "9"], " satisfy"), ("==========\n", 3)),
+        (([], " minimize y"), ("==========\n", 1)),
+        ((["-t", "60000"], " maximize x"), ("==========\n", 1)),
     ],
 )
 def test_the_options(
     program: str,
     tmp_path: Path,
     capsys: pytest.CaptureFixture[str],
-    words: list[str],
-    goal: str,
-    ends: str,
-    count: int,
+    asked: tuple[list[str], str],
+    wanted: tuple[str, int],
 ) -> None:
+    (words, goal), (ends, count) = asked, wanted
     file = tmp_path / "m.fzn"
     file.write_text(THREE.format(goal=goal))
     assert main([*words, str(file), "--program", program]) == 0

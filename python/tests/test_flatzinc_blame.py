@@ -3,7 +3,7 @@
 import re
 import shutil
 import subprocess
-from itertools import chain, combinations
+from itertools import chain, combinations, product
 from pathlib import Path
 
 import pytest
@@ -109,6 +109,31 @@ def test_the_desk_tells_what_is_to_blame(
     claim.write_text("\n".join([*lines[:place], *lines[place + 1 :]]))
     assert main(["check", str(claim), "--program", program]) == 1
     capsys.readouterr()
+
+
+def test_an_order_or_one_of_two_is_a_premise_of_one_line(program: str) -> None:
+    truths = "".join(f"var bool: {b} :: var_is_introduced :: is_defined_var;\n" for b in "abcd")
+    text = f"""var 0..5: x;\nvar 0..5: y;\nvar 0..5: z;\n{truths}
+constraint int_lin_le_reif([1,-1],[x,y],-3,a) :: defines_var(a);
+constraint int_lin_le_reif([1,-1],[y,x],-3,b) :: defines_var(b);
+constraint array_bool_or([a,b],c) :: defines_var(c);
+constraint int_lin_le_reif([1,-1],[y,z],-3,d) :: defines_var(d);
+constraint propbench_blame(c,"either");
+constraint propbench_blame(d,"order");
+solve satisfy;
+"""
+    with Workbench(program) as workbench:
+        Built(read(text), workbench)
+        lines = [it.split() for it in workbench.model.base() if it.startswith("tell ")]
+        assert sorted(line[1] for line in lines) == ["either", "order"]
+        assert len({line[2] for line in lines}) == 2
+        points = [(x, y, z) for x in range(6) for y in range(6) for z in range(6)]
+        right = [it for it in points if abs(it[0] - it[1]) >= 3 and it[1] + 3 <= it[2]]
+        plans = workbench.plans(show=["x", "y", "z"])
+        assert sorted(tuple(each[it] for it in "xyz") for each in plans) == right
+        workbench.kick("either")
+        left = [it for it in points if it[1] + 3 <= it[2]]
+        assert len(workbench.plans(show=["x", "y", "z"])) == len(left)
 
 
 def test_what_is_kept_is_not_given_up(
@@ -265,3 +290,45 @@ def test_the_cheapest_repair_is_written_as_a_model_and_a_page(
     shown = page.read_text()
     assert '<mark class="up" title="line 4: conflict 1' in shown and "q[1] &gt;= 8</mark>" in shown
     assert "<script" not in shown and "The model" in shown
+
+
+# A latin square whose rows go up while its columns go down.
+LATIN = """\
+include "globals.mzn";
+int: n = 3;
+array[1..n, 1..n] of var 1..n: square;
+constraint :: "row" forall(i in 1..n)(alldifferent(row(square, i)));
+constraint :: "column" forall(j in 1..n)(alldifferent(col(square, j)));
+constraint :: "up" forall(i in 1..n - 1)(lex_less(row(square, i), row(square, i + 1)));
+constraint :: "down" forall(j in 1..n - 1)(lex_greater(col(square, j), col(square, j + 1)));
+solve satisfy;
+"""
+
+
+def which_hold(cells: tuple[int, ...]) -> frozenset[str]:
+    """The constraints of the latin square that its cells meet, by their labels."""
+    rows = [cells[:3], cells[3:6], cells[6:]]
+    columns = list(zip(*rows))
+    found = {f"row (line 4, i={i})" for i, it in enumerate(rows, 1) if len(set(it)) == 3}
+    found |= {f"column (line 5, j={j})" for j, it in enumerate(columns, 1) if len(set(it)) == 3}
+    found |= {f"up (line 6, i={i})" for i in (1, 2) if rows[i - 1] < rows[i]}
+    found |= {f"down (line 7, j={j})" for j in (1, 2) if columns[j - 1] > columns[j]}
+    return frozenset(found)
+
+
+@pytest.mark.skipif(shutil.which("minizinc") is None, reason="MiniZinc isn't there")
+def test_a_latin_square_has_the_conflicts_of_brute_force(wide: str, tmp_path: Path) -> None:
+    model = tmp_path / "latin.mzn"
+    model.write_text(LATIN)
+    made = compiled(model, [])
+    names = frozenset(made.texts)
+    held = {which_hold(cells) for cells in product((1, 2, 3), repeat=9)}
+    most = {each for each in held if not any(each < other for other in held)}
+    every = chain.from_iterable(combinations(sorted(names), count) for count in range(11))
+    fails = {frozenset(some) for some in every if not any(set(some) <= each for each in most)}
+    with Workbench(wide) as workbench:
+        Built(made.flat, workbench)
+        conflicts, repairs = find_both(workbench.model, SetSearch(1000), made.texts)
+    assert conflicts.complete and repairs.complete and len(names) == 10
+    assert {frozenset(each) for each in conflicts} == least(fails)
+    assert {frozenset(each) for each in repairs} == {names - each for each in most}

@@ -89,3 +89,34 @@ def test_a_table_of_many_rows_and_columns(program: str) -> None:
     right = sorted(row for row in rows if row[0] == 3 and row[1] != row[2])
     assert found.is_complete and len(rows) > 64
     assert sorted(tuple(plan[name] for name in "xyz") for plan in found.plans) == right
+
+
+def test_a_table_of_a_few_blocks_has_no_cell_for_its_row(program: str) -> None:
+    blocks = [(range(3, 21), (*range(2, 10), 30)), (range(25, 31), range(5)), ((40, 9), (39, 40))]
+    rows = [(one, other) for ones, others in blocks for one in ones for other in others]
+    cells = ",".join(f"{one},{other}" for one, other in rows)
+    text = "var 0..40: x;\nvar 0..40: y;\n"
+    text += f"constraint propbench_table([x,y],[{cells}]);\nconstraint int_le(y,x);\n"
+    with Workbench(program) as workbench:
+        built = Built(read(f"{text}solve satisfy;\n"), workbench)
+        found = solve(built, Wanted(ALL_OF_THEM))
+        assert list(built.workbench.model.cells()) == ["x", "y"]
+    right = sorted({row for row in rows if row[1] <= row[0]})
+    assert found.is_complete and len(right) > 100
+    assert sorted((plan["x"], plan["y"]) for plan in found.plans) == right
+
+
+def test_one_or_another_order_takes_a_cell_for_each_and_one_for_both(program: str) -> None:
+    text = "var 0..9: x;\nvar 0..9: y;\n"
+    text += "".join(f"var bool: {b} :: var_is_introduced :: is_defined_var;\n" for b in "abc")
+    text += "constraint int_lin_le_reif([1,-1],[x,y],-3,a) :: defines_var(a);\n"
+    text += "constraint int_lin_le_reif([1,-1],[y,x],-4,b) :: defines_var(b);\n"
+    text += "constraint array_bool_or([a,b],c) :: defines_var(c);\nconstraint bool_eq(c,true);\n"
+    with Workbench(program) as workbench:
+        built = Built(read(f"{text}solve satisfy;\n"), workbench)
+        found = solve(built, Wanted(ALL_OF_THEM))
+        lines = built.workbench.model.base()
+    attached = sorted(line.split()[1] for line in lines if line.startswith("attach "))
+    assert attached == ["and", "less", "less", "sum", "sum"]
+    right = [(x, y) for x, y in product(range(10), repeat=2) if x + 3 <= y or y + 4 <= x]
+    assert found.is_complete and sorted((it["x"], it["y"]) for it in found.plans) == right

@@ -5,6 +5,7 @@ import shutil
 import subprocess
 from collections.abc import Callable
 from pathlib import Path
+from typing import Any
 
 import pytest
 from drawn_sets import ALL, DrawnSets, set_models
@@ -122,7 +123,7 @@ constraint forall(i, j in 1..7 where i < j)(card(line[i] intersect line[j]) = 1)
 constraint forall(i in 1..6)(line[i] < line[i + 1]);
 solve :: set_search(line, first_fail, indomain_min, complete) satisfy;
 """
-GLOBALS = {
+GLOBALS: dict[str, tuple[str, Callable[[Any], object]]] = {
     "partition_set": (
         "partition_set(s, 1..3)",
         lambda s: s[0] | s[1] == {1, 2, 3} and not s[0] & s[1],

@@ -2,13 +2,13 @@
 `math`, and ends have to lie outside them, and near."""
 
 import math
-import sys
 from collections.abc import Callable, Iterator
 from decimal import Decimal
 from fractions import Fraction
 from pathlib import Path
 
 import pytest
+from conftest import hide
 
 import propbench as p
 from propbench import Conflict, MixedUnits, NoReading, Undefined, Workbench
@@ -48,7 +48,11 @@ def is_near_interval(found: Interval, low: float, high: float) -> bool:
 
 Plain = Callable[[float], float]
 # A function, its unit, what its argument may be, what is read of it, and the same by `math`.
-CASES = [
+# A function, the unit of its argument, that quantity's ends, what is read, and the same by `math`.
+FunctionCase = tuple[
+    Callable[[Term], Term], str, tuple[float | str, float], tuple[float, float], Plain
+]
+CASES: list[FunctionCase] = [
     (p.exp, "1", (0, 10), (1.98, 2.02), math.exp),
     (p.exp, "1", (-20, 20), (-3, -2), math.exp),
     (p.ln, "1", ("0.001", 1000), (7.2, 7.5), math.log),
@@ -64,9 +68,9 @@ CASES = [
     (p.asin, "1", (-1, 1), (0.49, 0.51), math.asin),
     (p.acos, "1", (-1, 1), (-0.9, -0.8), math.acos),
     (p.atan, "1", (-100, 100), (-2, 3), math.atan),
-    (lambda x: x ** Fraction(2, 3), "1", (0, 100), (26, 28), lambda x: x ** (2 / 3)),
-    (lambda x: x ** Fraction(5, 2), "1", (0, 10), (2, 2.1), lambda x: x**2.5),
-    (lambda x: x ** Fraction(-1, 3), "1", (1, 1000), (8, 9), lambda x: x ** (-1 / 3)),
+    (lambda x: x ** Fraction(2, 3), "1", (0, 100), (26, 28), lambda x: float(x ** (2 / 3))),
+    (lambda x: x ** Fraction(5, 2), "1", (0, 10), (2, 2.1), lambda x: float(x**2.5)),
+    (lambda x: x ** Fraction(-1, 3), "1", (1, 1000), (8, 9), lambda x: float(x ** (-1 / 3))),
     (
         lambda x: p.degrees(p.asin(x)),
         "1",
@@ -79,15 +83,9 @@ CASES = [
 ]
 
 
-@pytest.mark.parametrize(("function", "unit", "ends", "read", "plain"), CASES)
-def test_each_function_in_both_directions(
-    w: Workbench,
-    function: Callable[[Term], Term],
-    unit: str,
-    ends: tuple[int, int],
-    read: tuple[float, float],
-    plain: Plain,
-) -> None:
+@pytest.mark.parametrize("case", CASES)
+def test_each_function_in_both_directions(w: Workbench, case: FunctionCase) -> None:
+    function, unit, ends, read, plain = case
     argument = w.measured("argument", unit=unit, low=ends[0], high=ends[1])
     in_unit = "deg" if function(argument).real.dimension else "1"
     most = 100_000 if function is p.exp else 1000
@@ -419,7 +417,7 @@ def test_a_file_keeps_what_was_told(w: Workbench, wide: str, tmp_path: Path) -> 
 
 def test_without_the_library_it_is_said(w: Workbench, monkeypatch: pytest.MonkeyPatch) -> None:
     x, y = w.measured("x", low=0, high=10), w.measured("y", low=0, high=30_000)
-    monkeypatch.setitem(sys.modules, "mpmath.ctx_iv", None)  # type: ignore[arg-type]
+    hide(monkeypatch, "mpmath.ctx_iv")
     enclosing._intervals.cache_clear()
     with pytest.raises(enclosing.NoLibrary, match="apt install python3-mpmath"):
         w.law(y == p.exp(x))
@@ -462,15 +460,9 @@ def test_a_turn_of_a_wave_has_its_extreme() -> None:
         assert low <= extreme <= high
 
 
-@pytest.mark.parametrize(("function", "unit", "ends", "read", "plain"), CASES[:17])
-def test_values_and_slopes_for_estimates(
-    w: Workbench,
-    function: Callable[[Term], Term],
-    unit: str,
-    ends: tuple[int, int],
-    read: tuple[float, float],
-    plain: Plain,
-) -> None:
+@pytest.mark.parametrize("case", CASES[:17])
+def test_values_and_slopes_for_estimates(w: Workbench, case: FunctionCase) -> None:
+    function, unit, ends, read, plain = case
     argument = w.measured("argument", unit=unit, low=ends[0], high=ends[1])
     at = (read[0] + read[1]) / 2
     value, slope = value_and_slope(function(argument).real.applied, at)

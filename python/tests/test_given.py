@@ -1,12 +1,12 @@
 """Times, counts, weights, names and paths that are none: each is told in the caller's words."""
 
 from collections.abc import Callable
+from typing import Any
 
 import pytest
 
 from propbench import Elements, Span, Workbench
 from propbench.errors import NoSuchName
-from propbench.planning import Project
 
 
 @pytest.fixture
@@ -17,7 +17,8 @@ def bench(program: str) -> Workbench:
     return w
 
 
-WRONG: list[tuple[str, Callable[[Workbench], object], type[Exception], str]] = [
+# (Each call is wrong on purpose: so the workbench is of any type here.)
+WRONG: list[tuple[str, Callable[[Any], object], type[Exception], str]] = [
     ("an answer's seconds", lambda w: w.cell("x").ask(seconds="1"), TypeError, "seconds=10: '1'"),
     ("seconds as a text", lambda w: w.least("x", seconds="10"), TypeError, "seconds=10: '10'"),
     ("less than no time", lambda w: w.conflicts(seconds=-1), ValueError, "can't take -1 seconds"),
@@ -37,13 +38,13 @@ WRONG: list[tuple[str, Callable[[Workbench], object], type[Exception], str]] = [
     ("a film of a text", lambda w: w.film("a"), TypeError, "steps is a whole number: 'a'"),
     ("a port as a text", lambda w: w.serve(port="a"), TypeError, "port is a whole number: 'a'"),
     ("a file as a number", lambda w: w.save(3), TypeError, "named by a text: 3"),
-    ("to load a number", lambda w: Workbench.load(3), TypeError, "named by a text: 3"),
+    ("to load a number", lambda w: type(w).load(3), TypeError, "named by a text: 3"),
     ("a picture's file", lambda w: w.picture().save(3), TypeError, "named by a text: 3"),
     ("a plan as a number", lambda w: _planned(w).chart(3), TypeError, "3 is no plan"),
 ]
 
 
-def _planned(w: Workbench) -> Project:
+def _planned(w: Workbench) -> Any:
     plan = w.project(days=9)
     plan.task("a", 2)
     return plan

@@ -10,6 +10,7 @@ from hypothesis import given, settings
 from hypothesis import strategies as st
 
 from propbench import Workbench
+from propbench.model.cells import NumberCell
 from propbench.questions import Interrupted, Optima, TradeOff
 
 MOST = 5
@@ -89,6 +90,12 @@ def slope() -> Workbench:
 PAIRS = [(1, 6), (2, 3), (3, 2), (6, 1)]
 
 
+def number(w: Workbench, name: str) -> NumberCell:
+    cell = w.cell(name)
+    assert isinstance(cell, NumberCell)
+    return cell
+
+
 def test_it_prints(slope: Workbench) -> None:
     found = slope.trade_off("x", "y")
     assert found.pairs == PAIRS
@@ -136,11 +143,15 @@ def test_choices_in_which_they_differ_are_told() -> None:
 
 
 def test_where_nothing_fits(slope: Workbench) -> None:
-    slope.require(slope.cell("x") + slope.cell("y") <= 3, under="little")
+    slope.require(number(slope, "x") + number(slope, "y") <= 3, under="little")
     found, best = slope.trade_off("x", "y"), slope.least(["x", "y"])
     assert found == [] and found.complete and str(found) == "x and y: nothing fits."
     assert best.values == () and best.proved and best.plan is None
-    assert str(best) == "The least x: nothing fits."
+    # (propbench alone doesn't tell by which premises)
+    is_wide = "least" in slope.session.tells
+    by = ": enough and little can't both hold" if is_wide else ""
+    assert str(best) == f"The least x: nothing fits{by}."
+    assert str(slope.slack("x")) == "The room of x: nothing fits."
 
 
 def test_without_time_nothing_is_claimed(slope: Workbench) -> None:
@@ -169,7 +180,7 @@ def test_what_is_known_when_it_is_stopped(slope: Workbench) -> None:
 
 
 def test_what_it_hangs_on_and_what_shows_it(slope: Workbench) -> None:
-    slope.require(slope.cell("y") <= 8, under="idle")
+    slope.require(number(slope, "y") <= 8, under="idle")
     best, found = slope.least(["x", "y"]), slope.trade_off("x", "y")
     assert set(best.because) <= {"enough", "idle"} and set(found.because) <= {"enough", "idle"}
     assert [step.certificate.check() for step in best.steps] == [True, True]
@@ -180,7 +191,8 @@ def test_what_it_hangs_on_and_what_shows_it(slope: Workbench) -> None:
 def test_names_that_are_taken(slope: Workbench) -> None:
     slope.require(True, under="the best x")
     slope.choose("the best y", slope.cell("y"), [2, 3, 6, 1])
-    assert slope.least("x y").values == (1, 6)
+    best = slope.least("x y")
+    assert isinstance(best, Optima) and best.values == (1, 6)
     assert slope.trade_off("x", "y").pairs == PAIRS
     assert slope.premises == ("enough", "the best x")
 

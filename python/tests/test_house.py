@@ -24,15 +24,10 @@ MOST_LINES, MOST_ARGUMENTS, COLUMNS = 40, 5, 100
 # call that is promised, what an answer holds, and a claim of certificates, whose file names them.
 LONG = set(
     """
-    python/tests/test_certificates.py:test_what_is_claimed_is_told_in_words
     python/tests/test_desk.py:test_a_conversation_at_a_terminal
-    python/tests/test_how.py:test_what_a_workbench_tells_is_enough
-    python/tests/test_notebook.py:test_a_notebook
     python/tests/test_page_server.py:test_the_desk_serves_a_plan
     python/tests/test_plan_view.py:test_a_plan_is_saved_as_tables
     python/tests/test_plan_view.py:walk
-    python/tests/test_watching.py:test_a_compound_is_taken_apart
-    python/tests/test_watching.py:test_steps_are_the_program_s
     """.split()
 )
 MANY_ARGUMENTS = set(
@@ -41,13 +36,7 @@ MANY_ARGUMENTS = set(
     python/src/propbench/planning/project.py:Project.lag
     python/src/propbench/planning/project.py:Project.task
     python/src/propbench/questions/checker.py:Checker.conflicts
-    python/measure/widths.py:around
     python/tests/judging.py:Judge._conflicts
-    python/tests/test_bends.py:test_pieces_hold_at_all_reals
-    python/tests/test_flatzinc.py:test_the_options
-    python/tests/test_functions.py:test_each_function_in_both_directions
-    python/tests/test_functions.py:test_values_and_slopes_for_estimates
-    python/tests/test_measured.py:test_a_tolerance_in_shares_is_of_what_will_be_shown
     """.split()
 )
 

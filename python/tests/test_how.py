@@ -39,11 +39,13 @@ from propbench import (
     maximum,
 )
 from propbench.completion import completions
+from propbench.model.cells import Cell
 from propbench.model.expressions import Number, Truth
 from propbench.pictures import picture_of
 from propbench.replies import lines_behind, reply_of
 from propbench.values import Held, both
 from propbench.watching import bears
+from propbench.watching.claims import Claim
 from propbench.watching.of_session import SessionWatched
 
 KINDS = {"z": "span", "x": "span", "t": "truth", "d": "day", "s": "symbol", "how": "span"}
@@ -376,6 +378,21 @@ def numbers(wide: str, highs: Iterable[int]) -> Workbench:
     return w
 
 
+def drawn_constraints(draw: random.Random) -> list[Drawn]:
+    return [
+        Drawn(
+            draw.choice(FORMS),
+            draw.sample(NAMES, 3),
+            draw.randint(1, 9),
+            draw.choice((None, "p", "q")),
+        )
+        for _ in range(draw.randint(3, 7))
+    ]
+
+
+SIDES = {"9": (9, 9), "2..6": (2, 6), "0..30": (0, 30)}
+
+
 def test_what_a_workbench_tells_is_enough(wide: str) -> None:
     """What is named of a value says the same by itself, and no cell is named that the user didn't
     make."""
@@ -383,45 +400,40 @@ def test_what_a_workbench_tells_is_enough(wide: str) -> None:
     for seed in range(40 * TIMES):
         draw = random.Random(seed)
         highs = [draw.randint(6, 30) for _ in NAMES]
-        drawn = [
-            Drawn(
-                draw.choice(FORMS),
-                draw.sample(NAMES, 3),
-                draw.randint(1, 9),
-                draw.choice((None, "p", "q")),
-            )
-            for _ in range(draw.randint(3, 7))
-        ]
+        drawn = drawn_constraints(draw)
         told, low, chosen = draw.choice(NAMES), draw.randint(0, 4), draw.choice(NAMES)
-        sides = {"9": (9, 9), "2..6": (2, 6), "0..30": (0, 30)}
         with numbers(wide, highs) as w:
             for each in drawn:
                 w.require(each.of(w), under=each.under)
             w.tell("told", w.cell(told), low, low + 5)
             if seed % 2:
-                w.choose("pick", w.cell(chosen), list(sides.values()))
+                w.choose("pick", w.cell(chosen), list(SIDES.values()))
             if not w.settle():
                 continue
             for cell in w.cells:
                 claim = cell.how()
-                names = {each.cell for each in claim.claims()}
-                assert names <= set(NAMES) and cell.picture().dot.count("rounded") == len(names)
-                sources = [it for each in claim.claims() for way in each.ways for it in way.sources]
-                texts = {source.text for source in sources}
-                assert not re.search(r"(?<!\w)_\w|#\d", str(claim))
+                sources = seen_sources(cell, claim)
                 with numbers(wide, highs) as kept:
                     for each in drawn:
-                        if each.text(w) in texts:
+                        if each.text(w) in sources:
                             kept.require(each.of(kept), under=each.under)
-                    if "told" in texts:
+                    if "told" in sources:
                         kept.tell("told", kept.cell(told), low, low + 5)
-                    for text, ends in sides.items():
-                        if f"pick: {text}" in texts:
+                    for text, ends in SIDES.items():
+                        if f"pick: {text}" in sources:
                             kept.fix(kept.cell(chosen), *ends)
                             by_choice += 1
                     assert kept.cell(cell.name).ask().value_text == claim.says, (seed, claim)
                 looked += 1
     assert looked > 60 and by_choice
+
+
+def seen_sources(cell: Cell, claim: Claim) -> set[str]:
+    """The texts of what a claim rests on, which names the user's cells alone."""
+    names = {each.cell for each in claim.claims()}
+    assert names <= set(NAMES) and cell.picture().dot.count("rounded") == len(names)
+    assert not re.search(r"(?<!\w)_\w|#\d", str(claim))
+    return {it.text for each in claim.claims() for way in each.ways for it in way.sources}
 
 
 def test_a_quantity_tells_how(wide: str) -> None:

@@ -8,6 +8,7 @@ import threading
 import time
 from collections.abc import Callable, Iterator
 from itertools import product
+from typing import Any
 
 import pytest
 from conftest import TIMES
@@ -116,7 +117,9 @@ def test_bases_change_by_lines() -> None:
 
 
 def test_the_same_question_has_the_same_answer_again(w: Workbench) -> None:
-    for ask in (lambda: w.plans(["y"]), lambda: w.least("y"), w.solve, lambda: w.slack("x")):
+    asks: list[Callable[[], Any]] = [lambda: w.plans(["y"]), lambda: w.least("y"), w.solve]
+    asks.append(lambda: w.slack("x"))
+    for ask in asks:
         first, again = ask(), ask()
         assert str(first) == str(again) and first.complete and again.complete
     assert sorted(plan["y"] for plan in w.plans(["y"])) == [5, 6, 7, 8, 9]

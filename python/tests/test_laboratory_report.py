@@ -2,7 +2,6 @@
 
 import hashlib
 import re
-import sys
 from base64 import b64decode
 from collections.abc import Iterator
 from fractions import Fraction
@@ -10,6 +9,7 @@ from html.parser import HTMLParser
 from pathlib import Path
 
 import pytest
+from conftest import hide
 
 from propbench import Certificate, CertificateError, Workbench
 from propbench.desk import main
@@ -177,7 +177,7 @@ def test_a_report_says_why_it_has_no_estimates(
     w: Workbench, monkeypatch: pytest.MonkeyPatch
 ) -> None:
     for name in ("scipy", "scipy.linalg", "scipy.stats"):
-        monkeypatch.setitem(sys.modules, name, None)
+        hide(monkeypatch, name)
     report = w.report("A ring", seconds=60)
     for text in (report.text, Page(report.html).text):
         assert "There are no estimates: statistics need SciPy" in text

@@ -330,7 +330,8 @@ def test_many_lines_have_their_time(held: Holding) -> None:
     asked = owing(held)
     before = asked.lines
     for late in (-1.0, 0.2):
-        for use in (asked.look, asked.send_all):
+        uses: list[Callable[..., object]] = [asked.look, asked.send_all]
+        for use in uses:
             with within(0.2), pytest.raises(OutOfTime):
                 use(["ask x"], until=time.monotonic() + late)
     assert asked.lines == before and held.is_same

@@ -11,11 +11,12 @@ from collections.abc import Callable, Iterator
 from concurrent.futures import Executor, Future
 from dataclasses import dataclass
 from pathlib import Path
+from xml.etree import ElementTree
 
 import pytest
 from drawn_plans import drawn_plan
 
-from propbench import Conflict, OutOfTime, Workbench
+from propbench import Conflict, OutOfTime, Session, Workbench
 from propbench.measuring.quantities import Quantity
 from propbench.model.answers import NotSettled
 from propbench.model.cells import Cell
@@ -164,6 +165,24 @@ def test_it_ends_on_a_slow_machine(slow: Bench, name: str) -> None:
     assert took({**QUESTIONS, **MORE}[name], slow, SECONDS) < SECONDS + OVER
 
 
+def test_a_session_is_mended_in_time_where_its_program_was_ended(
+    wide: str, monkeypatch: pytest.MonkeyPatch
+) -> None:
+    """To begin it anew takes a minute, as it was asked something."""
+    for name, value in (("SLOW_OF", wide), ("SLOW_BY", "0"), ("SLOW_HOW", "waits")):
+        monkeypatch.setenv(name, value)
+    with Session(str(SLOW)) as session:
+        session.send_all(["cell x span", "tell ana x 1..5", "tell ben x 7", "ask x"])
+        monkeypatch.setenv("SLOW_BY", "1")
+        session.end_by(time.monotonic())
+        with pytest.raises(OutOfTime):
+            session.send("ask x")
+        session.end_by(None)
+        begun = time.monotonic()
+        SessionWatched(session).mend(seconds=SECONDS)
+        assert time.monotonic() - begun < SECONDS + OVER
+
+
 @pytest.mark.parametrize("name", ["plans", "conflicts", "sensitivity", "critical", "chart"])
 def test_it_ends_where_plans_are_hard_to_find(bench: Bench, name: str) -> None:
     assert took(QUESTIONS[name], bench, SECONDS) < SECONDS + OVER
@@ -214,6 +233,59 @@ def test_one_plan_is_a_beginning_for_both_ends(bench: Bench) -> None:
     for seconds in (0.5, 3.0):
         found = bench.w.slack(bench.cell, seconds=seconds)
         assert (found.low is None) == (found.high is None)
+
+
+def spring(w: Workbench) -> Project:
+    """Ana has 3 days of work in front of Ben's 5, who has 2 more on days that are free."""
+    p = w.project(days=30, people="ana ben", start="2026-03-02", off="sat sun")
+    venue = p.task("venue", 3, who="ana", cost=4)
+    p.task("review", 5, who="ben", after=[venue])
+    p.task("books", 2, who="ben")
+    return p
+
+
+@pytest.mark.parametrize("by", ["chart", "end", "end and cost", "trade-off", "schedule"])
+def test_a_picture_frames_what_makes_the_end(wide: str, by: str) -> None:
+    with Workbench(wide) as w:
+        p = spring(w)
+        if by == "chart":
+            text = p.chart().svg
+        elif by == "trade-off":
+            text = w.trade_off(p.end, p.total_cost)[0].to_svg()
+        elif by == "schedule":
+            text = p.schedule(w.least([p.total_cost, p.end])).to_svg()
+        elif by == "end":
+            text = w.least(p.end).to_svg()
+        else:
+            text = w.least([p.end, p.total_cost]).to_svg()
+        drawn = ElementTree.fromstring(text)
+        texts = {each.text: each for each in drawn.iter() if each.tag.endswith("text")}
+        bold = {text for text, each in texts.items() if each.get("font-weight") == "bold"}
+        assert bold == {"venue (ana)", "review (ben)"} and {"books (ben)", "2 Mar"} <= {*texts}
+        says = [each[0].text or "" for each in drawn.iter() if each.get("stroke-width") == "1.5"]
+        assert len(says) == 2 and all(each.endswith("; it makes the end") for each in says)
+        assert [each.endswith("; it waits for venue; it makes the end") for each in says] == [0, 1]
+
+
+def test_no_picture_frames_what_isnt_known_to_make_the_end(wide: str) -> None:
+    """That is so of a plan that ends at some time, and of one of which only the cost is the least,
+    and of what is told again without a reason."""
+    with Workbench(wide) as w:
+        p = spring(w)
+        found, least = w.solve(), w.least(p.end)
+        cheap = w.least(p.total_cost)
+        assert least.plan is not None
+        texts = [p.chart(found, rooms=False).svg, found.to_svg(), cheap.to_svg(), cheap.to_html()]
+        texts += [p.schedule(least.plan).to_svg(), w.greatest(p.end).to_svg()]
+        assert not [text for text in texts if "makes the end" in text]
+        page = least.to_html()
+        assert page.count("; it makes the end</title>") == 2
+        table = page.partition("<h2>What makes the end</h2>")[2].partition("</table>")[0]
+        rows = [row.split("<td>")[3:] for row in table.split("<tr>")[2:]]
+        assert [[it.partition("<")[0] for it in row] for row in rows] == [
+            ["venue", "ana", ""],
+            ["review", "ben", "venue"],
+        ]
 
 
 def test_charts_and_reasons_tell_how_far_they_are(wide: str) -> None:

@@ -1,5 +1,6 @@
 """Means of repeated readings and how readings are distributed, beside exact fractions and SciPy."""
 
+from decimal import Decimal
 from fractions import Fraction
 from math import sqrt
 from pathlib import Path
@@ -8,6 +9,7 @@ import pytest
 
 from propbench import NoReading, Workbench
 from propbench.measuring.means import mean_in
+from propbench.measuring.quantities import Quantity
 from propbench.measuring.readings import reading_of
 from propbench.measuring.units import unit_of
 
@@ -85,8 +87,10 @@ def test_distributions_of_readings(tmp_path: Path) -> None:
             for bench in (w, again):
                 found = {each.name: each.u for each in bench.adjust()}
                 for name, divisor in shapes.items():
-                    answer = bench.cell(name).ask()
-                    assert (answer.low, answer.high) == (Fraction("4.8"), Fraction("5.2"))
+                    cell = bench.cell(name)
+                    assert isinstance(cell, Quantity)
+                    answer = cell.ask()
+                    assert (answer.low, answer.high) == (Decimal("4.8"), Decimal("5.2"))
                     assert found[name] == pytest.approx(0.2 / divisor)
                 assert found["mean"] == pytest.approx(0.3 / 3)
 

@@ -2,7 +2,7 @@
 formulas."""
 
 import time
-from collections.abc import Iterator
+from collections.abc import Callable, Iterator
 from decimal import Decimal
 from fractions import Fraction
 from itertools import product
@@ -11,6 +11,8 @@ from typing import Any
 
 import pytest
 
+import propbench
+from propbench import measuring
 from propbench import (
     CertificateError,
     Conflict,
@@ -24,11 +26,22 @@ from propbench import (
     total,
 )
 from propbench.measuring.quantities import MeasuredAnswer, Quantity
+from propbench.measuring.terms import Term
 from propbench.measuring.translation import TooCoarse
+from propbench.model.measures import Interval
 from propbench.questions.clock import Clock
 from propbench.questions.trial import Seen, Trial
 
 Ends = tuple[Fraction, Fraction]
+# A term, its unit, and between what it lies.
+Case = tuple[Term, str, tuple[str | int, str | int]]
+
+
+def test_what_measures_is_found_where_one_looks() -> None:
+    assert measuring.Quantity is Quantity is propbench.Quantity
+    assert measuring.Law is propbench.Law
+    with pytest.raises(AttributeError, match="has no attribute 'Quantty'"):
+        getattr(measuring, "Quantty")
 
 
 @pytest.fixture
@@ -108,7 +121,7 @@ def test_operations_beside_exact_intervals(w: Workbench) -> None:
     y = w.measured("y", unit="m", low=1, high=100, step="0.001")
     w.read("x", x, "-2..3")
     w.read("y", y, "4..5")
-    cases = [
+    cases: list[Case] = [
         (x + y, "m", (2, 8)),
         (x - 2 * y, "m", (-12, -5)),
         (x * y, "m2", (-10, 15)),
@@ -141,7 +154,7 @@ def test_roots_of_what_has_a_unit_or_none(w: Workbench) -> None:
     w.read("b", b, (4, 9))
     w.read("x", x, (4, 4))
     w.read("y", y, (9, 16))
-    cases = [
+    cases: list[Case] = [
         (b.sqrt() * "2 m", "m", (4, 6)),
         (x.sqrt() * y.sqrt(), "m", (6, 8)),
         (x.sqrt() * x.sqrt() + y, "m", (13, 20)),
@@ -345,11 +358,15 @@ def test_which_reading_to_improve(w: Workbench) -> None:
         w.read(f"tape {part.name}", part, f"10 +- {off} m")
     found = w.sensitivity(whole)
     assert [each.premise for each in found] == ["tape b", "tape a", "tape c"]
-    widths = {each.premise: each.halved.width for each in found if each.halved}
+    widths = {
+        each.premise: each.halved.width for each in found if isinstance(each.halved, Interval)
+    }
     for name, width in {"tape a": "5.2", "tape b": "4.2", "tape c": "6.1"}.items():
         assert 0 <= widths[name] - Decimal(width) < Decimal("0.001")
     left_out = {each.premise: each.left_out for each in found}["tape b"]
-    assert left_out and abs(left_out.width - Decimal("102.2")) < Decimal("0.001")
+    assert isinstance(left_out, Interval) and abs(left_out.width - Decimal("102.2")) < Decimal(
+        "0.001"
+    )
     assert "tape b" in str(found).split("\n")[2]
 
 
@@ -374,28 +391,27 @@ def reaches(shown: Fraction, share: Fraction, more: Fraction, left: Ends) -> boo
 
 
 @pytest.mark.parametrize(
-    "low, high, written, share, more",
+    "left, written, share, more",
     [
-        ("9.5", "11", "+- 5%", "0.05", "0"),
-        ("9.5", "11", "5 % + 0.25 mm", "0.05", "0.25"),
-        ("9.5", "11", "+- 2 % of reading +- 100 um", "0.02", "0.1"),
-        ("-2", "3", "10 % + 0.5 mm", "0.1", "0.5"),
-        ("-4", "-3", "50 %", "0.5", "0"),
-        ("1", "2", "+- 25 % + 3 mm", "0.25", "3"),
-        ("9.5", "11", "0.1 % of 20 mm", "0", "0.02"),
+        (("9.5", "11"), "+- 5%", "0.05", "0"),
+        (("9.5", "11"), "5 % + 0.25 mm", "0.05", "0.25"),
+        (("9.5", "11"), "+- 2 % of reading +- 100 um", "0.02", "0.1"),
+        (("-2", "3"), "10 % + 0.5 mm", "0.1", "0.5"),
+        (("-4", "-3"), "50 %", "0.5", "0"),
+        (("1", "2"), "+- 25 % + 3 mm", "0.25", "3"),
+        (("9.5", "11"), "0.1 % of 20 mm", "0", "0.02"),
     ],
 )
 def test_a_tolerance_in_shares_is_of_what_will_be_shown(
-    w: Workbench, low: str, high: str, written: str, share: str, more: str
+    w: Workbench, left: tuple[str, str], written: str, share: str, more: str
 ) -> None:
     """Beside all numbers of a fine grid: those that a further reading may show, and no others."""
     x = w.measured("x", unit="mm", low=-100, high=100, step="0.01")
-    w.read("a", x, (low, high))
+    w.read("a", x, left)
     found = w.predict(x, written)
     shows = Fraction(found.shows.low), Fraction(found.shows.high)
-    left = ends(low, high)
     grid = [Fraction(step, 100) for step in range(-2000, 2000)]
-    may = [it for it in grid if reaches(it, Fraction(share), Fraction(more), left)]
+    may = [it for it in grid if reaches(it, Fraction(share), Fraction(more), ends(*left))]
     assert may and all(shows[0] <= it <= shows[1] for it in may)
     near = Fraction(1, 100)
     assert min(may) - shows[0] < near and shows[1] - max(may) < near
@@ -403,7 +419,7 @@ def test_a_tolerance_in_shares_is_of_what_will_be_shown(
 
 def test_a_tolerance_that_tells_nothing_is_refused(w: Workbench) -> None:
     x = w.measured("x", unit="mm", low=0, high=100)
-    for written, says in (
+    refused: list[tuple[str | int, str]] = [
         ("2 digits", "only a reading tells"),
         ("+- 100 %", "tells nothing"),
         ("5 % hello", "'hello' behind `%`"),
@@ -412,7 +428,8 @@ def test_a_tolerance_that_tells_nothing_is_refused(w: Workbench) -> None:
         ("", "a tolerance is missing"),
         ("1e999999999", "at most 400 digits"),
         (-1, "less than nothing"),
-    ):
+    ]
+    for written, says in refused:
         with pytest.raises(NoReading, match=says):
             w.predict(x, written)
     with pytest.raises(MixedUnits):
@@ -431,7 +448,8 @@ def test_a_halved_reading_may_leave_the_quantity_s_ends(w: Workbench) -> None:
     # (half of 8 to 10^20 leaves nothing of x; half of 6 to 10 is 7 to 9)
     assert found["beyond"].halved is None
     near = found["near"].halved
-    assert near and 0 <= 8 - near.low < Decimal("0.001") and 0 <= near.high - 9 < Decimal("0.001")
+    assert isinstance(near, Interval) and 0 <= 8 - near.low < Decimal("0.001")
+    assert 0 <= near.high - 9 < Decimal("0.001")
 
 
 def test_outliers_return_in_time(w: Workbench, monkeypatch: pytest.MonkeyPatch) -> None:
@@ -510,10 +528,11 @@ def test_a_step_that_is_too_coarse_says_which_would_do(w: Workbench) -> None:
 
 
 def test_what_is_refused(w: Workbench) -> None:
-    x = w.measured("x", unit="m", low=0, high=10)
-    y = w.measured("y", unit="m", low=0, high=10)
-    days = w.number("days", 0, 9)
-    refused = [
+    # (What is asked of them is wrong on purpose: so they are of any type here.)
+    x: Any = w.measured("x", unit="m", low=0, high=10)
+    y: Any = w.measured("y", unit="m", low=0, high=10)
+    days: Any = w.number("days", 0, 9)
+    refused: list[tuple[Callable[[], object], type[Exception], str]] = [
         (lambda: w.require(x == y), TypeError, "state it by `w.law"),
         (lambda: days == x, TypeError, "is measured, and no whole number"),
         (lambda: x == days, TypeError, "no measured quantity"),
@@ -535,7 +554,7 @@ def test_what_is_refused(w: Workbench) -> None:
     ]
     for call, error, says in refused:
         with pytest.raises(error, match=says):
-            call()  # type: ignore[no-untyped-call]
+            call()
     with Workbench() as other:
         with pytest.raises(ValueError, match="another workbench"):
             other.law(x == y)
@@ -552,17 +571,18 @@ class Whole:
 
 
 def test_whole_numbers_of_other_sorts_are_numbers(w: Workbench) -> None:
-    one, two, three = map(Whole, (1, 2, 3))
-    x = w.measured("x", low=one, high=Whole(9), step=one)
+    numbers: Any = map(Whole, (1, 2, 3, 9, 16))
+    one, two, three, nine, sixteen = numbers
+    x = w.measured("x", low=one, high=nine, step=one)
     y = w.measured("y", low=0, high=99)
     w.law(y == two * x**three + one - x / two)
     w.read("x", x, (two, two))
     assert is_tight(y.ask(), ends(16, 16), "0.001")
     assert repr(mean(x, two)) == "mean(x, 2)" and repr(maximum(three)) == "3"
     assert w.predict(x, one).shows.high == 3
-    n = w.number("n", one, Whole(9))
-    w.require((n**two <= Whole(16)) & (total(n, two) >= three) & all_different(n, one))
-    w.tell("at least", n, two, Whole(9))
+    n = w.number("n", one, nine)
+    w.require((n**two <= sixteen) & (total(n, two) >= three) & all_different(n, one))
+    w.tell("at least", n, two, nine)
     assert (n.ask().low, n.ask().high) == (2, 4)
 
 
@@ -581,16 +601,16 @@ TOO_LONG = ["1e999999999", "1e-999999999", LONG, 10**5000, Decimal("1e999999")]
 
 
 @pytest.mark.parametrize("end", TOO_LONG, ids=range(len(TOO_LONG)))
-def test_what_is_too_long_is_refused_at_once(w: Workbench, end: str | int | Decimal) -> None:
+def test_what_is_too_long_is_refused_at_once(w: Workbench, end: Any) -> None:
     x = w.measured("x", unit="m", low=0, high=100)
-    calls = [
+    calls: list[Callable[[], object]] = [
         lambda: w.measured("a", "m", 0, end),
         lambda: w.measured("a", "m", end, 1),
         lambda: w.measured("a", "m", 0, 1, end),
         lambda: w.read("r", x, end),
         lambda: w.read("r", x, f"5 +- {end} m" if isinstance(end, str) else (0, end)),
         lambda: w.fix(x, end),
-        lambda: w.read("r", x, "5(1)", coverage=end),  # type: ignore[arg-type]
+        lambda: w.read("r", x, "5(1)", coverage=end),
         lambda: w.predict(x, end),
         lambda: x == end,
         lambda: x * (f"{end} m" if isinstance(end, str) else end),
@@ -631,9 +651,11 @@ def test_a_quantity_in_a_workbench(w: Workbench, tmp_path: Path) -> None:
     )
     with w.what_if(kick=["calliper"], tell=[("other", y, "1.5 +- 0.1 cm")]):
         assert is_tight(x.ask(), ends(28, 32))
-    rows = {"now": {}, "other": dict(kick=["calliper"], tell=[("other", y, "1.5 +- 0.1 cm")])}
+    rows: dict[str, dict[str, Any]] = {"now": {}}
+    rows["other"] = dict(kick=["calliper"], tell=[("other", y, "1.5 +- 0.1 cm")])
     table = w.scenarios(rows, [x])
-    assert is_tight(table["other"]["length of it"], ends(28, 32))
+    answer = table["other"]["length of it"]
+    assert isinstance(answer, MeasuredAnswer) and is_tight(answer, ends(28, 32))
     assert "length of it  19.7..20.3 mm" in str(w.table(x))
     w.choose("which", y, ["0.98..1.00 cm", "1.1..1.2"])
     assert is_tight(x.ask(), ends("19.7", "20"), "0.01")

@@ -42,32 +42,33 @@ def outputs(cells: list[str]) -> list[list[dict[str, Any]]]:
     ]
 
 
+# The cells of a notebook.
+CELLS = [
+    "%load_ext propbench.notebook",
+    "%%propbench\ncell x span\ncell y span\n# twice\n" "attach adder x x y\ntell ana x 3..5\nwhy y",
+    "%%propbench\nask x\nkick anna\nask y",
+    "%%propbench other\nworldview",
+    "(session.lines, str(other.send('settle')))",
+    "from propbench import Workbench\nw = Workbench()\nx = w.number('<b>x</b>', 0, 9)\n"
+    "y = w.number('y', 0, 9)\nw.require(x + y == 7)\nw.tell('ana', x, 2)\nw",
+    "w.picture()",
+    "w.film(3)",
+    "x.picture()",
+    "w.least(y)",
+    "from propbench.notebook import film, picture\npicture(session, 'y')",
+    "film(session)",
+    "picture(session, 'z')",
+    "%%propbench --new\ncell x span\nask x",
+    "%%propbench --new other\nworldview",
+    "(session.lines, len(other.lines))",
+    "%%propbench other --new\nworldview",
+    "%unload_ext propbench.notebook",
+    "%%propbench\nask x",
+]
+
+
 def test_a_notebook(environment: None) -> None:
-    shown = outputs(
-        [
-            "%load_ext propbench.notebook",
-            "%%propbench\ncell x span\ncell y span\n# twice\n"
-            "attach adder x x y\ntell ana x 3..5\nwhy y",
-            "%%propbench\nask x\nkick anna\nask y",
-            "%%propbench other\nworldview",
-            "(session.lines, str(other.send('settle')))",
-            "from propbench import Workbench\nw = Workbench()\nx = w.number('<b>x</b>', 0, 9)\n"
-            "y = w.number('y', 0, 9)\nw.require(x + y == 7)\nw.tell('ana', x, 2)\nw",
-            "w.picture()",
-            "w.film(3)",
-            "x.picture()",
-            "w.least(y)",
-            "from propbench.notebook import film, picture\npicture(session, 'y')",
-            "film(session)",
-            "picture(session, 'z')",
-            "%%propbench --new\ncell x span\nask x",
-            "%%propbench --new other\nworldview",
-            "(session.lines, len(other.lines))",
-            "%%propbench other --new\nworldview",
-            "%unload_ext propbench.notebook",
-            "%%propbench\nask x",
-        ]
-    )
+    shown = outputs(CELLS)
     assert shown[0] == []
     [told] = shown[1]
     assert "y = 6..10 because ana" in told["text/plain"] and "4 lines carried" in told["text/plain"]

@@ -8,6 +8,9 @@ import pytest
 from propbench import NothingFits, Workbench, any_of
 from propbench.planning import Project
 
+# The premises of setup times, by who is set up.
+FROM_RED, FROM_BLUE = "{} takes 3 from red to blue", "{} takes 2 from blue to red"
+
 
 @pytest.fixture
 def p(wide: str) -> Iterator[Project]:
@@ -75,16 +78,45 @@ def test_setting_up(p: Project, is_first: bool) -> None:
         p.task(name, 2, who="press", kind=kind)
     p.task("bread", 1, who="oven", kind="blue")
     if not is_first:
-        assert p.setup("press", times) == "press is set up"
+        assert p.setup("press", times) == (FROM_RED.format("press"), FROM_BLUE.format("press"))
     assert w.least(p.end).value == 2 + 2 + 2 + 2
     assert w.least(p.tasks["bread"].end).value == 1
     w.require(p.tasks["cards"].start >= p.tasks["flags"].end)
     assert w.least(p.end).value == 2 + 2 + 3 + 2
     chain = p.critical()
-    assert "press is set up" in chain.premises
+    # (where the other pair took no day all would end as late)
+    assert FROM_RED.format("press") in chain.premises
+    assert FROM_BLUE.format("press") not in chain.premises
     assert chain.links[-1].waits == "press, set up behind " + chain.links[-2].entry.task
-    w.kick("press is set up")
+    assert FROM_RED.format("press") in p.how().behind("cards")
+    assert FROM_RED.format("press") not in p.how().behind("posters")
+    w.kick(FROM_RED.format("press"))
     assert w.least(p.end).value == 6
+
+
+def test_each_two_kinds_have_a_premise(p: Project) -> None:
+    """Three red ones and then a blue one take 6 + 3 + 2 days: 10 only without the 3, or with help,
+    for what is done at once isn't done one behind another."""
+    w = p.workbench
+    red = [p.task(name, 2, who="press", kind="red") for name in ("posters", "flags", "cards")]
+    blue = p.task("maps", 2, who="press", kind="blue", after=red)
+    names = p.setup("press", {("red", "blue"): 3, ("blue", "red"): 2})
+    soon, limit = p.done_by(10, task=blue), "press does one thing at a time"
+    assert {it.names for it in w.repairs(keep=p.facts)} == {(names[0],), (limit,), (soon,)}
+    [conflict] = w.conflicts(keep=p.facts)
+    assert {*conflict.names} == {names[0], limit, soon}
+    assert w.model.text(names[0]) == "press takes 3 days from red to blue"
+
+
+def test_setting_up_for_more_of_a_kind(p: Project) -> None:
+    """Three red ones with a day between take 2 + 1 + 2 + 1 + 2 days, and none is lost by pairs that
+    take no day."""
+    for name in ("posters", "flags", "cards"):
+        p.task(name, 2, who="press", kind="red")
+    names = p.setup("press", {("red", "red"): 1, ("red", "blue"): 0}, under="cleaning")
+    assert names == ("cleaning",) and p.workbench.least(p.end).value == 8
+    p.workbench.kick("cleaning")
+    assert p.workbench.least(p.end).value == 6
 
 
 def test_setting_up_whoever_does_it(p: Project) -> None:
@@ -95,6 +127,33 @@ def test_setting_up_whoever_does_it(p: Project) -> None:
     assert w.least(p.end).value == 2
     p.away("oven", 0, 20)
     assert w.least(p.end).value == 13
+
+
+@pytest.mark.parametrize("is_first", [True, False])
+def test_a_machine_is_set_up(p: Project, is_first: bool) -> None:
+    """Of red, blue and red again on one lift the blue one comes first or last, whoever does it."""
+    w, times = p.workbench, {("red", "blue"): 3, ("blue", "red"): 2}
+    p.resource("lift")
+    p.resource("hall", 2)
+    if is_first:
+        p.setup("lift", times, "lift is set up")
+    for name, who, kind in (("posters", "press", "red"), ("cards", "oven", "blue")):
+        p.task(name, 2, who=who, kind=kind, uses="lift")
+    p.task("flags", 2, kind="red", uses="lift")
+    p.task("bread", 1, kind="blue", uses="hall")
+    if not is_first:
+        assert p.setup("lift", times, "lift is set up") == ("lift is set up",)
+    assert w.model.text("lift is set up") == (
+        "lift takes 3 days from red to blue; lift takes 2 days from blue to red"
+    )
+    assert w.least(p.end).value == 2 + 2 + 2 + 2
+    w.require(p.tasks["cards"].start >= p.tasks["flags"].end)
+    assert w.least(p.end).value == 2 + 2 + 3 + 2
+    assert p.critical().links[-1].waits.startswith("lift, set up behind ")
+    w.kick("lift is set up")
+    assert w.least(p.end).value == 6
+    with pytest.raises(ValueError, match="hall: there are 2, and set up is what there is one of"):
+        p.setup("hall", times)
 
 
 def test_what_is_no_set_up(p: Project) -> None:

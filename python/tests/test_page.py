@@ -14,7 +14,7 @@ from pathlib import Path
 from typing import Any
 
 import pytest
-from browsing import SWITCH, Shown, new_browser, shown
+from browsing import SWITCH, Shown, shown
 from conftest import ENDLESS, REPOSITORY, Bare
 
 from propbench import Session, Workbench, find_program
@@ -28,15 +28,6 @@ EXAMPLES = REPOSITORY / "examples"
 # What a name must not be taken for.
 NASTY = "<img src=x onerror=alert(1)>"
 NASTIER = "\"><script>document.title='gone'</script>&lt;b&gt;"
-
-
-@pytest.fixture(scope="module")
-def browser() -> Iterator[Any]:
-    made = new_browser()
-    try:
-        yield made
-    finally:
-        made.quit()
 
 
 @pytest.fixture

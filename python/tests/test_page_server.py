@@ -306,8 +306,8 @@ def test_texts_are_never_markup() -> None:
     banned += r"|createContextualFragment|srcdoc|setTimeout\(\s*[\"'`]|javascript:|\.style\b"
     banned += r"|https?://(?!www\.w3\.org/2000/svg)|//cdn|WebSocket|XMLHttpRequest|localStorage"
     scripts = sorted(STATIC.glob("*.js"))
-    names = ["drawing.js", "forms.js", "gantt.js", "layout.js", "page.js", "plan.js", "texts.js"]
-    assert [script.name for script in scripts] == names
+    names = "drawing forms gantt layout page plan texts trade".split()
+    assert [script.name for script in scripts] == [f"{name}.js" for name in names]
     for script in scripts:
         assert not re.search(banned, script.read_text()), script.name
     page = (STATIC / "index.html").read_text()
@@ -388,20 +388,20 @@ def test_a_page_is_closed_while_it_is_asked(
 
     def ask(**asked: object) -> None:
         try:
-            came.append(do(page, **asked))
+            came.append(do(closed, **asked))
         except (OSError, http.client.HTTPException):
             came.append(None)
 
     with Session(program) as session:
         session.send_all(lines)
-        page = Page(SessionWatched(session), "endless")
+        closed = Page(SessionWatched(session), "endless")
         asking = [threading.Thread(target=ask, kwargs=asked)]
         asking[0].start()
-        until_busy(page)
+        until_busy(closed)
         asking.append(threading.Thread(target=ask, kwargs={"what": "look"}))
         asking[1].start()
         begun = time.monotonic()
-        page.close()
+        closed.close()
     for each in (*asking, *threading.enumerate()):
         if each in asking or "process_request_thread" in each.name:
             each.join(20)

@@ -9,14 +9,15 @@ come one after another and take 3, 5 and 1: so with help for person 2 it would b
 
 import threading
 import time
-from collections.abc import Iterator
+from contextlib import suppress
 from dataclasses import replace
 from datetime import date
 from pathlib import Path
 from typing import Any
 
 import pytest
-from browsing import Shown, new_browser, shown
+from browsing import Shown, shown
+from selenium.common.exceptions import StaleElementReferenceException
 from selenium.webdriver.common.action_chains import ActionChains
 from selenium.webdriver.common.keys import Keys
 
@@ -36,7 +37,7 @@ from propbench.watching.of_workbench import WorkbenchWatched
 WIDE, PHONE = (1280, 800), (390, 844)
 DONE, EARLIER = "All is done on Fri 20 Mar 2026", "All would be done on Thu 19 Mar 2026."
 # The tasks: days, who, after which.
-TASKS = [
+TASKS: list[tuple[int, list[str], list[str]]] = [
     (3, ["person 1"], []),
     (5, ["person 2"], ["task 1"]),
     (2, ["person 1"], ["task 1"]),
@@ -45,15 +46,6 @@ TASKS = [
 ]
 WISH = "all by 19 Mar 2026"
 HELP = "person 2 does one thing at a time"
-
-
-@pytest.fixture(scope="module")
-def browser() -> Iterator[Any]:
-    made = new_browser()
-    try:
-        yield made
-    finally:
-        made.quit()
 
 
 @pytest.fixture(autouse=True)
@@ -90,11 +82,19 @@ class Hand:
     def press(self, wanted: str) -> None:
         """Presses what has this id, or the only one that is shown with this text."""
         if not self.by_keys:
-            self.page.browser.execute_script("arguments[0].scrollIntoView()", self._found(wanted))
-            self._found(wanted).click()
+            self.page.until(lambda: self._click(wanted))
             return
         self._go_to(wanted)
         self._type(Keys.SPACE)
+
+    def _click(self, wanted: str) -> bool:
+        """Whether it was clicked: what is shown may be made anew meanwhile."""
+        try:
+            self.page.browser.execute_script("arguments[0].scrollIntoView()", self._found(wanted))
+            self._found(wanted).click()
+        except StaleElementReferenceException:
+            return False
+        return True
 
     def _found(self, wanted: str) -> Any:
         return self.page.until(
@@ -113,12 +113,20 @@ class Hand:
 
     def _go_to(self, wanted: str) -> None:
         """Goes on by Tab until that has the focus."""
+        is_there = "return document.activeElement === arguments[0]"
         for _ in range(250):
-            # (what is shown may be made anew meanwhile)
-            if self.page.js("return document.activeElement === arguments[0]", self._found(wanted)):
-                return
+            with suppress(StaleElementReferenceException):
+                if self.page.js(is_there, self._found(wanted)):
+                    return
             self._type(Keys.TAB)
         raise AssertionError(f"{wanted} isn't reached by Tab")
+
+    def change(self, wanted: str) -> None:
+        """Presses that, and waits for the plan that comes of it: what was told of the one before is
+        gone then."""
+        self.page.js("document.getElementById('supposed').textContent = 'before'")
+        self.press(wanted)
+        self.page.until(lambda: self.page.text("supposed") == "")
 
 
 def walk(page: Shown, hand: Hand, plan: OpenPlan, name: str) -> None:
@@ -150,7 +158,7 @@ def walk(page: Shown, hand: Hand, plan: OpenPlan, name: str) -> None:
     page.until(lambda: page.all(".repair"))
     assert page.text("plan-head") == "There is no plan."
     told = page.text("hinders-says")
-    assert f"{WISH}: all done before Fri 20 Mar 2026" in told and HELP in told
+    assert f"{WISH}: all done by Thu 19 Mar 2026" in told and HELP in told
     assert "task 4 takes 4" in told and "task 2 takes 5" in told
     offered = [each.text.split("\n")[0] for each in page.all(".repair span")]
     assert offered == [f"give up {WISH}", "get somebody to help person 2"]
@@ -252,6 +260,112 @@ def test_what_if_words_and_filters(browser: Any) -> None:
         ActionChains(browser).key_down(Keys.CONTROL).send_keys("z").key_up(Keys.CONTROL).perform()
         page.until(lambda: page.text("plan-head") == DONE)
         assert plan.draft is not None and plan.draft.rows("wishes") == ()
+
+
+@pytest.mark.parametrize("size", [WIDE, PHONE])
+@pytest.mark.parametrize("by_keys", [False, True])
+def test_setup_times(browser: Any, by_keys: bool, size: tuple[int, int]) -> None:
+    """With two days between task 4 and task 2 person 2 has 4 + 2 + 5 days, and then both have one:
+    12 in all, to the 24th. The other way round it would be 3 + 5 + 4 and 1."""
+    sized(browser, size)
+    plan = planned()
+    with shown(browser, Page(plan, "plan", path="-")) as page:
+        hand = Hand(page, by_keys)
+        page.until(lambda: page.text("plan-head") == DONE)
+        for number, task in enumerate(("task 4", "task 2"), 1):
+            hand.press(task)
+            hand.press("More")
+            hand.press(f"chip kind {number}")
+            hand.change("row-done")
+        hand.press("Setup times")
+        hand.press("add-setups")
+        hand.press("chip person 2")
+        hand.press("from kind 1")
+        hand.press("row-done")
+        page.until(lambda: page.all("#row-form .wrong"))
+        said = page.one("#row-form .wrong").text
+        assert said == "person: say under `to` of which kind the task behind it is"
+        page.browser.get_log("browser")
+        hand.press("to kind 2")
+        hand.press("field-days-more")
+        hand.press("row-done")
+        page.until(lambda: page.text("plan-head") == "All is done on Tue 24 Mar 2026")
+        page.until(lambda: "set up behind task 4" in page.text("chain"))
+        assert plan.draft is not None and plan.draft.rows("setups") == (
+            {"person": "person 2", "from": "kind 1", "to": "kind 2", "days": "2"},
+        )
+        assert page.js("return document.documentElement.scrollWidth") <= size[0]
+        page.keep(f"plan-setups-{'keys' if by_keys else 'mouse'}-{size[0]}")
+
+
+def priced() -> OpenPlan:
+    """A venue for money in 2 days, or for less in 5, and a review of 5 days behind it."""
+    plan = planned()
+    assert plan.draft is not None
+    rows = [
+        {"task": "venue", "days": "2", "who": "person 1", "cost": "4000", "way": "hotel"},
+        {"task": "venue", "days": "5", "cost": "1500", "way": "university"},
+        {"task": "review", "days": "5", "who": "person 2", "after": "venue"},
+    ]
+    return OpenPlan(plan.draft.with_rows("tasks", rows), Workbench)
+
+
+def told_by(page: Shown) -> list[list[str]]:
+    """What the table of a trade-off says, but for its buttons."""
+    rows = page.all(".traded tbody tr")
+    return [[it.text for it in row.find_elements("css selector", "th, td")][:-1] for row in rows]
+
+
+@pytest.mark.parametrize("size", [WIDE, PHONE])
+@pytest.mark.parametrize("by_keys", [False, True])
+def test_what_an_earlier_end_costs(browser: Any, by_keys: bool, size: tuple[int, int]) -> None:
+    """By the hotel the review is the days 2 to 6, to the 17th, and by the university 5 to 9, to the
+    20th. To keep within 1500 counts 5, and to be done by the 18th 2: one of them is given up."""
+    sized(browser, size)
+    plan = priced()
+    soon, late = "Tue 17 Mar 2026", "Fri 20 Mar 2026"
+    with shown(browser, Page(plan, "plan", path="-")) as page:
+        hand = Hand(page, by_keys)
+        page.until(lambda: page.text("plan-head") == f"All is done on {soon}")
+        hand.press("trade-wishes")
+        page.until(lambda: "nothing is wished for" in page.text("trade-told"))
+        page.browser.get_log("browser")
+        hand.press("trade-cost")
+        page.until(lambda: page.all("#trade-picture"))
+        assert told_by(page) == [[soon, "4000", "hotel"], [late, "1500", "university"]]
+        said = "None of these 2 plans is better in both. There is no other choice."
+        assert page.text("trade-says") == said
+        places = [
+            (float(it.get_attribute("cx")), float(it.get_attribute("cy")))
+            for it in page.all("#trade-picture circle")
+        ]
+        # (later to the right, and cheaper below)
+        assert len(places) == 2 and places[0][0] < places[1][0] and places[0][1] < places[1][1]
+        page.keep(f"plan-trade-{'keys' if by_keys else 'mouse'}-{size[0]}")
+        hand.press("take plan 2")
+        page.until(lambda: page.text("plan-head") == f"All is done on {late}")
+        hand.press("undo")
+        page.until(lambda: page.text("plan-head") == f"All is done on {soon}")
+        assert page.js("return document.documentElement.scrollWidth") <= size[0]
+
+
+def test_an_earlier_end_costs_wishes(browser: Any) -> None:
+    sized(browser, WIDE)
+    plan = priced()
+    plan.put("wishes", None, {"wish": "cheap", "cost": "1500", "weight": "5"})
+    plan.put("wishes", None, {"wish": "soon", "latest": "2026-03-18", "weight": "2"})
+    with shown(browser, Page(plan, "plan", path="-")) as page:
+        page.until(lambda: page.text("plan-head") == "There is no plan.")
+        page.press("trade-wishes")
+        page.until(lambda: page.all("#trade-picture"))
+        assert told_by(page) == [
+            ["Tue 17 Mar 2026", "5: without cheap", "hotel"],
+            ["Fri 20 Mar 2026", "2: without soon", "university"],
+        ]
+        page.keep("plan-trade-wishes")
+        page.one("#trade tbody tr:nth-child(2) button").click()
+        page.until(lambda: page.text("plan-head") == "All is done on Fri 20 Mar 2026")
+        assert "soon" not in plan.workbench.believed and "cheap" in plan.workbench.believed
 
 
 def test_the_gap_is_shown_while_it_runs(browser: Any, monkeypatch: pytest.MonkeyPatch) -> None:
@@ -413,6 +527,10 @@ def test_a_project_in_python_is_shown_and_not_changed(wide: str, browser: Any) -
             page.until(lambda: page.all(".repair"))
             assert not page.one("#plan-forms").is_displayed()
             assert not page.one("#save-plan").is_displayed()
+            page.press("trade-wishes")
+            page.until(lambda: page.all(".traded"))
+            assert told_by(page) == [["day 8", "1: without in time"]]
+            assert page.text("trade-says") == "One plan is best in both."
             [take] = page.all(".repair .take")
             take.click()
             page.until(lambda: page.text("plan-head") == "All is done by day 8")

@@ -57,7 +57,7 @@ def test_its_calls(wide: str) -> None:
     """Each call of its table is one, and has the premise that one expects."""
     table = PYTHON.partition("| Call | Says |\n")[2].partition("\n\n")[0]
     calls = [call for row in table.split("\n")[1:] for call in row.split(" | ")[0].split("`")[1::2]]
-    assert len(calls) == 12
+    assert len(calls) == 13
     Path("free.ics").write_text(FREE)
     with Workbench(wide) as w:
         p = w.project(
@@ -75,9 +75,9 @@ def test_its_calls(wide: str) -> None:
         assert {"x takes 3 by ana or 5 by ben", "ana works mon tue", "b 2 to 5 after a"} < {
             *w.premises
         }
-        assert {"press is set up", "a done 3 to 4", "today is 5"} < {*w.premises}
+        assert {"press takes 2 from red to blue", "a done 3 to 4", "today is 5"} < {*w.premises}
         assert {"hall holds 2", "ana costs 300 a day", "c has 2 days left"} < {*w.premises}
-        assert "ana's days off" in w.premises
+        assert "ana's days off" in w.premises and p.weights == {"ana before 9": 3}
         assert p.tasks["t0"].doers == ("ana", "ben") and p.tasks["t1"].people == ("ana",)
         # (b begins on a day from 4 + 2 to 4 + 5)
         assert w.least(b.start).value == 6 and w.greatest(b.start).value == 9

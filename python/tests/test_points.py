@@ -159,7 +159,8 @@ def test_a_program_that_does_not_search_says_so(program: str) -> None:
         session.send_all(LINES)
         assert session.tells == () and not session.seeks
         asks: list[Callable[[], object]] = [session.solve, lambda: session.least("x")]
-        for ask in [*asks, lambda: session.plans(2, "x")]:
+        asks.append(lambda: session.plans(2, "x"))
+        for ask in asks:
             with pytest.raises(UnknownCommand, match="needs propwide: this program doesn't tell"):
                 ask()
         assert session.lines == LINES
@@ -171,7 +172,7 @@ def test_a_program_that_does_not_search_says_so(program: str) -> None:
 def test_each_question(wide: str) -> None:
     with Session(wide) as session:
         session.send_all(LINES)
-        told = ("solve", "least", "greatest", "plans", "conflicts", "repairs")
+        told = ("solve", "least", "greatest", "plans", "conflicts", "repairs", "require")
         assert session.seeks and session.tells[3:] == told
         found = session.solve()
         assert isinstance(found, Points) and found.sides in (("v=1",), ("v=2",))
@@ -382,7 +383,8 @@ def test_what_is_left_at_work_is_gone_on_with(
         session.send_all(LINES)
         held.hold("least plans")
         asks: list[Callable[[], object]] = [lambda: session.least("z", seconds=0.2)]
-        for ask in [*asks, lambda: session.plans(2, "x", seconds=0)]:
+        asks.append(lambda: session.plans(2, "x", seconds=0))
+        for ask in asks:
             pid, before = session.pid, session.lines
             with pytest.raises(OutOfTime, match="still at work"):
                 ask()

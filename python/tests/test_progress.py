@@ -1,7 +1,7 @@
 """Plans while the work goes on: what was done is fact, nothing else begins before today, and what
 moved since is told; beside trying all starts."""
 
-from collections.abc import Iterator
+from collections.abc import Callable, Iterator
 from itertools import product
 
 import pytest
@@ -59,7 +59,7 @@ def test_what_is_past_may_be_against_the_plan(p: Project) -> None:
     w = p.workbench
     p.done(p.tasks["venue"], 0, 5)
     p.done(p.tasks["call"], 3, 6)
-    assert [*map(set, w.conflicts())] == [
+    assert [set(each) for each in w.conflicts()] == [
         {"call done 3 to 6", "call after venue", "venue done 0 to 5"}
     ]
     w.kick("call after venue")
@@ -68,7 +68,7 @@ def test_what_is_past_may_be_against_the_plan(p: Project) -> None:
     assert not w.conflicts() and w.least(p.end).value == 6 + 4
     p.today(8)
     conflicts = w.conflicts(keep=p.facts)
-    assert [*map(set, conflicts)] == [{"today is 8", "soon"}]
+    assert [set(each) for each in conflicts] == [{"today is 8", "soon"}]
     assert "what isn't done begins on Thu 12 Mar 2026 or later" in str(conflicts)
 
 
@@ -76,7 +76,7 @@ def test_what_cannot_have_been(p: Project) -> None:
     w = p.workbench
     venue, call = p.tasks["venue"], p.tasks["call"]
     before = w.premises, w.believed, p.facts
-    for wrong, says in (
+    cases: list[tuple[Callable[[], object], str]] = [
         (lambda: p.done(venue, 0, 3), "venue takes 2 or 5 days, and can't have taken 3"),
         (lambda: p.done(call, 4, 3), "call: it can't be over before it begins"),
         (lambda: p.done(call, 4, 8, under="venue"), "'venue' is a choice"),
@@ -84,7 +84,8 @@ def test_what_cannot_have_been(p: Project) -> None:
         (lambda: p.today(99), "the plan has the days 0 to 40, and no day 99"),
         (lambda: p.today("soon"), "'soon' is no date"),
         (lambda: p.today(3, under="venue"), "'venue' is a choice"),
-    ):
+    ]
+    for wrong, says in cases:
         with pytest.raises(ValueError, match=says):
             wrong()
         assert (w.premises, w.believed, p.facts) == before
@@ -161,11 +162,12 @@ def test_what_is_told_anew_has_no_trace_of_what_was_told_before() -> None:
             return False
         return True
 
-    for left, wanted in (
+    cases: list[tuple[list[tuple[int, int | None]], tuple[str, ...]]] = [
         ([(1, None)], ()),
         ([(0, 1)], ("ana does it",)),
         ([(1, None), (0, 1)], ("ana does it",)),
         ([(0, 1), (1, None)], ()),
-    ):
+    ]
+    for left, wanted in cases:
         with Workbench() as w:
             assert told(w, *left) == wanted

@@ -39,16 +39,16 @@ COMMANDS = "run check blame plan measure minizinc shell draw page"
 
 def test_names_stay() -> None:
     """Each can be imported as ever, and is where one looks for it first."""
-    first = {*propbench.__all__, *errors.__all__, *replies.__all__}
+    first = {name for it in (propbench, errors, replies) for name in vars(it)["__all__"]}
     assert set(NAMES.split()) <= first
-    assert all(hasattr(propbench, name) for name in [*NAMES.split(), *propbench.__all__])
+    assert all(hasattr(propbench, name) for name in [*NAMES.split(), *vars(propbench)["__all__"]])
 
 
 def test_functions_of_laws_are_there_too() -> None:
     """By the names that they have in laws; but a star doesn't bring them in."""
     for name, function in {**FUNCTIONS, "curve": curve, "pi": pi}.items():
         assert getattr(propbench, name) is function and name in dir(propbench)
-        assert name not in propbench.__all__
+        assert name not in vars(propbench)["__all__"]
 
 
 @pytest.mark.parametrize("module", [errors, replies])
@@ -64,8 +64,8 @@ def test_errors_and_replies_are_one_place_each(module: ModuleType) -> None:
 def test_what_users_name_first() -> None:
     wanted = """Workbench Session Project Task Quantity Law Answer Optimum Conflicts Repairs
         NothingFits Conflict errors replies"""
-    assert set(wanted.split()) <= set(propbench.__all__)
-    assert len(propbench.__all__) <= 40
+    assert set(wanted.split()) <= set(vars(propbench)["__all__"])
+    assert len(vars(propbench)["__all__"]) <= 40
     named = [each for each in classes_of_the_package() if each.__name__ == "Conflict"]
     assert named == [propbench.Conflict]
 

@@ -1,12 +1,13 @@
 """Readings in spreadsheets: as the same readings in a file of comma-separated values."""
 
-import sys
 from collections.abc import Callable
 from datetime import date
+from decimal import Decimal
 from fractions import Fraction
 from pathlib import Path
 
 import pytest
+from conftest import hide
 
 pytest.importorskip("openpyxl")
 pytest.importorskip("odf.opendocument")
@@ -45,8 +46,8 @@ def test_a_sheet_states_what_a_file_would(saved: Saved, ending: str, tmp_path: P
         assert w.read_csv(path, decimal=",") == 3
         assert w.premises == ("balance", "volume 1", "mass 1")
         mass, volume = (each.ask() for each in w.quantities)
-        assert (mass.low, mass.high) == (Fraction("99.75"), Fraction("100.5"))
-        assert (volume.low, volume.high) == (Fraction("6.9"), Fraction("7.1"))
+        assert (mass.low, mass.high) == (Decimal("99.75"), Decimal("100.5"))
+        assert (volume.low, volume.high) == (Decimal("6.9"), Decimal("7.1"))
         texts = [w.network.premises.text(name) for name in ("balance", "volume 1")]
         assert "taken at 2026-03-02" in texts[0] and "taken at noon" in texts[1]
 
@@ -84,7 +85,7 @@ def test_what_is_no_sheet(
         path.write_text("quantity,value\n")
         with bench() as w, pytest.raises(SheetError, match=rf"is no .{ending} file"):
             w.read_csv(path)
-        monkeypatch.setitem(sys.modules, module, None)
+        hide(monkeypatch, module)
         with bench() as w, pytest.raises(NoSheetReader, match="or save it as .csv"):
             w.read_csv(path)
         assert main(["measure", str(tmp_path / "bench.toml"), str(path)]) == 3

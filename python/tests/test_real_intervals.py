@@ -2,7 +2,9 @@
 time."""
 
 import random
+from collections.abc import Callable
 from fractions import Fraction
+from typing import Any
 
 import pytest
 
@@ -22,7 +24,7 @@ EXACT = MPContext()
 EXACT.dps = 80
 TINY = Fraction(1, 10**50)
 # Each function, its arguments, and the same by mpmath's numbers.
-FUNCTIONS = {
+FUNCTIONS: dict[FunctionName, tuple[tuple[Fraction | int, Fraction | int], Callable[..., Any]]] = {
     FunctionName.EXP: ((-6, 6), EXACT.exp),
     FunctionName.EXP10: ((-3, 3), lambda x: EXACT.power(10, x)),
     FunctionName.LN: ((Fraction(1, 1000), 1000), EXACT.ln),
@@ -37,14 +39,16 @@ FUNCTIONS = {
 OF_ANGLES = (FunctionName.SIN, FunctionName.COS, FunctionName.TAN)
 
 
-def number(exact: Fraction) -> object:
+def number(exact: Fraction) -> Any:
     return EXACT.mpf(exact.numerator) / exact.denominator
 
 
-def is_held(found: object, wanted: object) -> bool:
+def is_held(found: Any, wanted: Any) -> bool:
     """Whether an interval holds a number of 80 digits, and little more."""
     low, high = ends_of(found)
-    return number(low) <= wanted <= number(high) and high - low < TINY * max(1, abs(high))
+    return bool(number(low) <= wanted <= number(high)) and high - low < TINY * max(
+        Fraction(1), abs(high)
+    )
 
 
 @pytest.mark.parametrize("name", FUNCTIONS)
@@ -63,12 +67,15 @@ def test_intervals_hold_the_functions(name: FunctionName) -> None:
 
 
 def test_roots_powers_and_lines() -> None:
-    assert is_held(root(Fraction(2)), EXACT.sqrt(2)) and ends_of(root(Fraction(0))) == (0, 0)
+    assert is_held(root(Fraction(2)), EXACT.sqrt(2)) and ends_of(root(Fraction(0))) == (
+        Fraction(0),
+        Fraction(0),
+    )
     for exponent in (Fraction(2, 3), Fraction(-1, 5), Fraction(7, 2)):
         assert is_held(powered(Fraction(5), exponent), EXACT.power(5, number(exponent)))
     assert powered(Fraction(5), Fraction(-2)) == Fraction(1, 25)
     points = ((Fraction(0), Fraction(1)), (Fraction(2), Fraction(5)), (Fraction(3), Fraction(-1)))
-    assert [on_lines(points, Fraction(at)) for at in (-1, 0, 1, 2, "5/2", 3, 9)] == [
+    assert [on_lines(points, Fraction(at)) for at in "-1 0 1 2 5/2 3 9".split()] == [
         *(1, 1, 3, 5, 2, -1, -1)
     ]
     low, high = ends_of(on_lines(points, between(Fraction("1.5"), Fraction("2.5"))))
@@ -85,8 +92,12 @@ def test_columns_say_what_each_point_does() -> None:
                 stated_case(w, draw)
             except (Unfit, ValueError):
                 continue
-            cells = [it for it in w.network.cells.values() if it.measure is not None]
-            columns = {it: [draw.randint(it.low, it.high) for _ in range(20)] for it in cells}
+            ends = {
+                it: (it.low, it.high)
+                for it in w.network.cells.values()
+                if it.measure is not None and it.low is not None and it.high is not None
+            }
+            columns = {it: [draw.randint(*each) for _ in range(20)] for it, each in ends.items()}
             many = ManyPoints(columns)
             for told in (it for it in w.network.events if isinstance(it, Required)):
                 try:

@@ -78,6 +78,31 @@ def test_what_is_said_of_a_resource_later_counts_too() -> None:
         assert w.least(p.end).value == 4
 
 
+def test_a_resource_is_there_by_its_calendar(tmp_path: Path) -> None:
+    free = tmp_path / "free.csv"
+    free.write_text("date,holiday\n2026-03-04,Founders' day\n")
+    with Workbench() as w:
+        p = w.project(days=30, people="ana", start="2026-03-02", off="sat sun")
+        assert p.resource("press", calendar="mon wed") == "press holds 1"
+        assert p.resource("hall", 2, calendar=["2026-03-02"]) == "hall holds 2"
+        posters = p.task("posters", 2, uses="press")
+        talk = p.task("talk", 1, uses="hall", pauses=False)
+        # (Monday and Wednesday; and Tuesday)
+        assert w.least(posters.end).value == 3 and w.least(talk.start).value == 1
+        assert p.resource("ana", calendar=str(free)) == "ana's days off"
+        review = p.task("review", 3, who="ana")
+        # (Monday, Tuesday and Thursday)
+        assert w.least(review.end).value == 4
+        w.kick("ana's days off")
+        assert w.least(review.end).value == 3
+        before = len(w.session.lines)
+        with pytest.raises(ValueError, match="mun"):
+            p.resource("van", calendar="mun")
+        with pytest.raises(ValueError, match="'ana' is a person, who does one thing at a time"):
+            p.resource("ana", 2, calendar="mon")
+        assert "van" not in p.resources and len(w.session.lines) == before
+
+
 def test_work_keeps_its_resource_while_it_pauses() -> None:
     with Workbench() as w:
         p = w.project(days=20, people="ana ben")
@@ -152,8 +177,8 @@ def test_what_is_left_of_a_task_under_way() -> None:
         p.today(8)
         p.done(wall, 0, 8)
         p.progress(roof, 1, 8, who="ben")
-        best = w.least([p.end, roof.start])
-        assert best.values == (9, 8) and p.schedule(best).entries[1].people == ("ben",)
+        both = w.least([p.end, roof.start])
+        assert both.values == (9, 8) and p.schedule(both).entries[1].people == ("ben",)
         with pytest.raises(ValueError, match="done already"):
             p.progress(wall, 1)
         with pytest.raises(ValueError, match="none of those who may do it"):
@@ -219,7 +244,7 @@ def test_the_weight_of_what_is_given_up() -> None:
         with pytest.raises(ValueError, match="no premise 'leaf'. Did you mean leave?"):
             p.given_up({"leaf": 1}, "more")
         with pytest.raises(TypeError, match="whole number"):
-            p.given_up({"leave": 0.5}, "more")  # type: ignore[dict-item]
+            p.given_up({"leave": 0.5}, "more")
 
 
 def test_all_wishes_weigh_one() -> None:
@@ -272,7 +297,7 @@ def test_a_project_is_saved_whole(tmp_path: Path) -> None:
             assert [each.task for each in moved] == ["wall", "roof"]
             again.done(again.tasks["wall"], "2026-03-02", "2026-03-05", who="ben")
             assert "wall done 2026-03-02 to 2026-03-05" in again.facts
-            with pytest.raises(ValueError, match="add tasks before the end"):
+            with pytest.raises(ValueError, match="add tasks before the end.*begin a new"):
                 again.task("door", 1)
     text = path.read_text()
     for old, new in (('"is": "task"', '"is": "tasks"'), ('"task": "wall"', '"task": "hall"')):

@@ -2,7 +2,7 @@
 
 import csv
 import io
-from collections.abc import Iterator
+from collections.abc import Callable, Iterator
 from datetime import date, datetime, timedelta, timezone
 from html.parser import HTMLParser
 from pathlib import Path
@@ -110,16 +110,16 @@ def test_conflicts_say_dates(p: Project) -> None:
     p.done_by(3, task=p.tasks["venue"])
     conflicts = p.workbench.conflicts(keep=p.facts)
     away, late = "ben away 2026-03-04 to 2026-03-09", "venue not before 2026-03-06"
-    assert {*map(frozenset, conflicts)} == {
+    assert {frozenset(each) for each in conflicts} == {
         frozenset({"in time", away}),
         frozenset({"in time", late}),
         frozenset({"venue done by 3", late}),
     }
     told = str(conflicts)
-    # (the 14th is a Saturday: what is done before it is done before the Monday)
-    assert "all done before Mon 16 Mar 2026\n" in told
+    # (the 14th is a Saturday, so what is done before it is done by the Friday)
+    assert "all done by Fri 13 Mar 2026\n" in told
     assert "venue begins on Fri 6 Mar 2026 or later\n" in told
-    assert "venue done before Mon 9 Mar 2026" in told
+    assert "venue done by Fri 6 Mar 2026" in told
     assert "no task of ben 4-6 Mar\n" in told and " | " not in told
 
 
@@ -252,7 +252,8 @@ def test_dates_in_short() -> None:
 
 def test_files(p: Project, tmp_path: Path) -> None:
     best = p.workbench.least(p.end)
-    writers = {"csv": best.to_csv, "ics": best.to_ics, "html": best.to_html, "svg": best.to_svg}
+    writers: dict[str, Callable[[Path], str]] = {"csv": best.to_csv, "ics": best.to_ics}
+    writers |= {"html": best.to_html, "svg": best.to_svg}
     for ending, write in writers.items():
         path = tmp_path / f"plan.{ending}"
         text = write(path)

@@ -3,7 +3,6 @@ can't be read is told by its place."""
 
 import csv
 import io
-import sys
 from collections.abc import Callable, Iterator
 from dataclasses import dataclass
 from datetime import date
@@ -12,7 +11,7 @@ from pathlib import Path
 
 import openpyxl
 import pytest
-from conftest import TIMES
+from conftest import TIMES, hide
 from examples import EXAMPLES, conflicts_in, repairs_in
 from examples import ran as examples_ran
 from hypothesis import given, settings
@@ -28,6 +27,7 @@ from propbench.planning.brief import Given
 from propbench.planning.days import date_in, days_in
 from propbench.planning.reading import brief_of
 from propbench.planning.sheets import SheetError, sheets_of
+from propbench.planning.who import AnyOf
 
 Value = str | int | float | date | None
 Tables = dict[str, list[list[Value]]]
@@ -162,7 +162,7 @@ def test_a_schedule_of_a_file(ran: Ran, tmp_path: Path) -> None:
     ]
     status, out, err = ran(tmp_path / "plan.xlsx")
     assert (status, err) == (1, "") and "1     cheap\n" in out and "With --give-up" in out
-    conflicts = "venue done before 2026-03-16", "Ana holiday 5 March to 2026-03-09", "cheap"
+    conflicts = "venue done by 2026-03-13", "Ana holiday 5 March to 2026-03-09", "cheap"
     assert all(name in out for name in conflicts)
 
 
@@ -297,6 +297,46 @@ def test_whoever_suits_best(ran: Ran, tmp_path: Path) -> None:
     assert "weekdays need a start" in ran(tmp_path)[2]
 
 
+def team_of(who: str, folder: Path) -> str:
+    """A folder with a table in which Ana and Ben have tasks, and a third is `who`'s."""
+    rows = f'task,days,who\ndesign,3,ana\nengine,9,ben\nguide,4,"{who}"\n'
+    (folder / "tasks.csv").write_text(rows)
+    return str(folder)
+
+
+@pytest.mark.parametrize(
+    "who, people, groups",
+    [
+        ("ana or ben", (), (AnyOf(1, ("ana", "ben")),)),
+        ("either of ana or ben", (), (AnyOf(1, ("ana", "ben")),)),
+        ("either ana or ben", (), (AnyOf(1, ("ana", "ben")),)),
+        ("any of ana, ben", (), (AnyOf(1, ("ana", "ben")),)),
+        ("ana & ben", ("ana", "ben"), ()),
+        ("ana and ben", ("ana", "ben"), ()),
+        ("ana lopez", ("ana lopez",), ()),
+        ("cem/dan", ("cem/dan",), ()),
+    ],
+)
+def test_who_does_a_task(
+    who: str, people: tuple[str, ...], groups: tuple[AnyOf, ...], tmp_path: Path
+) -> None:
+    job = brief_of(sheets_of(team_of(who, tmp_path)), Given()).jobs["guide"]
+    assert (job.people, job.groups) == (people, groups)
+
+
+@pytest.mark.parametrize("who", ["ana / ben", "ana/ben", "any of ana|ben", "ana ben", "ana/cem"])
+def test_several_people_are_no_name(who: str, tmp_path: Path) -> None:
+    """What may be meant for several people is not taken for a new one, unless a table has him."""
+    folder, other = team_of(who, tmp_path), who[-3:]
+    says = rf"row 4, column C \(who\): .*`ana, {other}` for all of them, `ana or {other}` for"
+    with pytest.raises(SheetError, match=says):
+        brief_of(sheets_of(folder), Given())
+    name = who.removeprefix("any of ")
+    (tmp_path / "people.csv").write_text(f"person\nana\nben\n{name}\n")
+    job = brief_of(sheets_of(folder), Given()).jobs["guide"]
+    assert name in (*job.people, *(each for group in job.groups for each in group.names))
+
+
 SITE = (
     "task,days,who,uses,after,left,started\n"
     "walls,4,skilled in masonry; skilled in wiring,2 crew,,,\n"
@@ -333,6 +373,60 @@ def test_resources(ran: Ran, tmp_path: Path) -> None:
     (tmp_path / "wishes.csv").write_text("wish,latest,weight\nsoon,7,9\n")
     status, out, _ = ran(tmp_path, "--give-up")
     assert "The first of these takes more of lift.\nWithout lift holds 1:" in out
+
+
+def test_setup_times(ran: Ran, tmp_path: Path) -> None:
+    """Red ones take 3 and 1 days, a blue one 2: behind the blue one it takes 4 days to go on with
+    red ones, and 1 the other way round. So the blue one is the last, and all takes 7 days, where
+    nobody is busy elsewhere."""
+    (tmp_path / "tasks.csv").write_text(
+        "task,days,who,uses,kind\nposters,3,ana,press,red\ncards,2,ben,press,blue\n"
+        "flags,1,ben,press,red\n"
+    )
+    (tmp_path / "people.csv").write_text("person,holds\nana,\nben,\npress,1\n")
+    (tmp_path / "setup times.csv").write_text(
+        "machine,from,to,days\npress,red,blue,1\npress,blue,red,4\n"
+    )
+    status, out, err = ran(tmp_path, "--why", "--csv", tmp_path / "out" / ".." / "out.csv")
+    assert (status, err) == (0, "") and "by day 7, and no sooner" in out
+    assert "press, set up behind" in out
+    (tmp_path / "wishes.csv").write_text("wish\nposters after cards\n")
+    assert "by day 10, and" in ran(tmp_path, "--why")[1]
+    (tmp_path / "wishes.csv").write_text("wish,latest\nsoon,6\n")
+    status, out, err = ran(tmp_path)
+    # (the pair that a plan may do without is none of the reasons)
+    assert (status, err) == (1, "") and "press takes 1 from red to blue" in out
+    with (tmp_path / "setup times.csv").open("a") as file:
+        file.write("press,red,blue,2\n")
+    with pytest.raises(SheetError, match=r"row 4, column B \(from\): another row says how many"):
+        brief_of(sheets_of(str(tmp_path)), Given())
+    (tmp_path / "setup times.csv").write_text("machine,from,to,days\npress,red,bleu,1\n")
+    with pytest.raises(SheetError, match="no kind of task is called `bleu`. Did you mean blue"):
+        brief_of(sheets_of(str(tmp_path)), Given())
+    (tmp_path / "people.csv").write_text("person,holds\nana,\nben,\npress,2\n")
+    with pytest.raises(SheetError, match="there are 2, and set up is what there is one of"):
+        brief_of(sheets_of(str(tmp_path)), Given())
+
+
+def test_a_plan_is_as_long_as_what_is_waited_for(ran: Ran, tmp_path: Path) -> None:
+    """Three lags of five days between tasks of one, of what was to take one 9 days are left, and
+    an event of three days finds none together before day 12."""
+    tasks, wishes = tmp_path / "tasks.csv", tmp_path / "wishes.csv"
+    tasks.write_text("task,days,who\na,1,\nb,1,\nc,1,\nd,1,\n")
+    wishes.write_text(
+        "wish\nb at least 5 days after a\nc at least 5 days after b\nd at least 5 days after c\n"
+    )
+    status, out, _ = ran(tmp_path)
+    assert status == 0 and out.startswith("From day 0 to 19:")
+    wishes.unlink()
+    tasks.write_text("task,days,left\na,1,9\nb,1,\n")
+    status, out, _ = ran(tmp_path, "--today", "2")
+    assert status == 0 and out.startswith("From day 0 to 11:")
+    tasks.write_text("task,days,who,pauses\nfair,3,ana,no\n")
+    off = ", ".join(f"2026-03-{day:02d}" for day in range(4, 14, 3))
+    (tmp_path / "people.csv").write_text(f'person,off\nana,"{off}"\n')
+    status, out, _ = ran(tmp_path, "--start", "2026-03-02")
+    assert status == 0 and "14-16 Mar fair" in out
 
 
 def test_what_is_left(ran: Ran, tmp_path: Path) -> None:
@@ -568,6 +662,10 @@ WRONG = [
         "(weight): `much` is not a weight, as 2 or 0.5",
     ),
     ("wishes.csv", "wish,latest\na,3\n", "a task is called so: give the wish a name of its own"),
+    ("setups.csv", "who,from,to,days\n,b,c,1\n", "column B (from): this row has no person"),
+    ("setups.csv", "who,from,to,days\nAna,,c,1\n", "(who): say under `from` of which kind the"),
+    ("setups.csv", "who,from,to,days\nAnna,b,c,1\n", "no person is called `Anna`. Did you mean"),
+    ("setups.csv", "who,from,to,days\nAna,b,c,1\n", "(from): no kind of task is called `b`. There"),
 ]
 
 
@@ -603,7 +701,7 @@ def test_what_is_no_table(ran: Ran, tmp_path: Path, monkeypatch: pytest.MonkeyPa
         in ran(as_folder(three, tmp_path / "three"))[2]
     )
     for ending, package in (("xlsx", "openpyxl"), ("ods", "odf.opendocument")):
-        monkeypatch.setitem(sys.modules, package, None)
+        hide(monkeypatch, package)
         status, _, err = ran(tmp_path / f"x.{ending}")
         assert status == 3 and f"install Debian's python3-{package.split('.')[0]}" in err
 

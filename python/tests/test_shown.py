@@ -5,6 +5,7 @@ import types
 from typing import Any
 
 import pytest
+from conftest import hide
 
 from propbench import Workbench
 
@@ -36,7 +37,7 @@ def test_tables_of_pandas(monkeypatch: pytest.MonkeyPatch) -> None:
         x, t = w.number("x", 0, 2), w.truth("t")
         w.require(t == (x > 0))
         found = w.plans([x, t])
-        monkeypatch.setitem(sys.modules, "pandas", None)
+        hide(monkeypatch, "pandas")
         with pytest.raises(ImportError, match="needs pandas, which isn't installed"):
             found.to_pandas()
         fake = types.ModuleType("pandas")
@@ -69,16 +70,16 @@ def test_what_is_kept_is_in_no_conflict() -> None:
         x = w.number("x", 0, 9)
         for name, low, high in (("a", 0, 3), ("b", 2, 5), ("c", 4, 9), ("d", 7, 9)):
             w.tell(name, x, low, high)
-        assert {*map(frozenset, w.conflicts())} == {
+        assert {frozenset(each) for each in w.conflicts()} == {
             frozenset("ac"),
             frozenset("ad"),
             frozenset("bd"),
         }
         kept = w.conflicts(keep=["a"])
-        assert {*map(frozenset, kept)} == {frozenset("c"), frozenset("d")}
+        assert {frozenset(each) for each in kept} == {frozenset("c"), frozenset("d")}
         assert kept.complete and kept.certificate.check()
         mended = w.repairs(keep=["a"])
-        assert mended == [{"c", "d"}] and mended.certificate.check()
+        assert [set(each) for each in mended] == [{"c", "d"}] and mended.certificate.check()
         assert w.conflicts(keep=["a", "c"]) == [frozenset()] and w.repairs(keep=["a", "c"]) == []
         assert str(w.conflicts(keep=["a", "c"])).startswith(
             "What always holds with what is kept can't"
@@ -96,7 +97,7 @@ def test_what_is_wrong_is_told() -> None:
         with pytest.raises(ValueError, match="There is no cell `lenght`. Did you mean length?"):
             w.least("lenght")
         with pytest.raises(TypeError, match="is no cell"):
-            w.least(x + 1)  # type: ignore[arg-type]  # (wrong on purpose)
+            w.least(x + 1)  # type: ignore[call-overload]  # (wrong on purpose)
         with pytest.raises(ValueError, match="not for numbers"):
             w.least(t)
         with pytest.raises(ValueError, match="There is no premise `anna`. Did you mean ana?"):

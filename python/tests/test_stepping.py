@@ -40,7 +40,7 @@ from propbench.watching import Use
 from propbench.watching.of_session import SessionWatched
 from propbench.watching.of_workbench import WorkbenchWatched
 
-ORDERS = ({}, {"order": "lifo"}, {"order": "mixed", "seed": 7})
+ORDERS: tuple[dict[str, Any], ...] = ({}, {"order": "lifo"}, {"order": "mixed", "seed": 7})
 # What a step is answered, the kinds of cells, and what that says.
 KINDS = {"z": "span", "t": "truth", "d": "day", "s": "symbol"}
 READ = [

@@ -203,8 +203,8 @@ def test_a_number_is_in_the_quantity_s_unit_whatever_its_uncertainty_is_in(w: Wo
         {"quantity": "volume", "value": "7.0", "uncertainty": "u=100 mm3"},
     ]
     assert w.read_table(rows) == 3
-    assert ends(w, "mass") == (98, 102)
-    assert ends(w, "room") == (20, 21) and room.ask().because == ("room 1",)
+    assert ends(w, "mass") == (Fraction(98), Fraction(102))
+    assert ends(w, "room") == (Fraction(20), Fraction(21)) and room.ask().because == ("room 1",)
     assert ends(w, "volume") == (Fraction("6.7"), Fraction("7.3"))
     with pytest.raises(BadTable, match="'1.234,5 g': leave out what stands between thousands"):
         w.read_table([{"quantity": "mass", "value": "1.234,5 g"}], decimal=",")
@@ -351,7 +351,9 @@ def test_a_quantity_may_be_called_as_a_function(wide: str) -> None:
         acid = w.measured("acid", unit="mol/L", low="0.001", high=1)
         w.measured("pH", unit="pH", low=0, high=14)
         w.law("pH = pH (acid)")
-        w.read("meter", w.cell("pH"), "2.00 +- 0.01")
+        level = w.cell("pH")
+        assert isinstance(level, Quantity)
+        w.read("meter", level, "2.00 +- 0.01")
         answer = acid.ask()
         assert answer.low is not None and answer.high is not None
         assert float(answer.low) == pytest.approx(10**-2.01, rel=1e-3)

@@ -17,6 +17,7 @@ from propbench.watching.bearing import bearing
 from propbench.watching.of_session import SessionWatched
 from propbench.watching.of_workbench import WorkbenchWatched
 from propbench.watching.opening import opened
+from propbench.watching.steps import Frame
 
 ORDERS = (["--order", "fifo"], ["--order", "lifo"], ["--order", "mixed", "--seed", "7"])
 
@@ -31,24 +32,26 @@ def texts(use: Use) -> list[str]:
     return [f"{leaf.text} {' '.join(leaf.cells)}{leaf.given}" for leaf in use.leaves()]
 
 
+COMPOUNDS = [
+    "define triple x z = local y like x ; sum x x y ; sum y x z",
+    "define scaled x z = local k span ; product x k z by *",
+    "define both x z = triple x z ; scaled x z by 5",
+    "cell a span",
+    "cell c span",
+    "attach both a c",
+    "attach scaled a c by 3",
+    "attach adder a a c",
+    "choose w a 3 or 4..5",
+    "fix c 3..9",
+    "tell ana a 4",
+    "tell ana c 5..7",
+    "tell ben c 8",
+    "kick ben",
+]
+
+
 def test_a_compound_is_taken_apart(program: str) -> None:
-    lines = [
-        "define triple x z = local y like x ; sum x x y ; sum y x z",
-        "define scaled x z = local k span ; product x k z by *",
-        "define both x z = triple x z ; scaled x z by 5",
-        "cell a span",
-        "cell c span",
-        "attach both a c",
-        "attach scaled a c by 3",
-        "attach adder a a c",
-        "choose w a 3 or 4..5",
-        "fix c 3..9",
-        "tell ana a 4",
-        "tell ana c 5..7",
-        "tell ben c 8",
-        "kick ben",
-    ]
-    network = network_of(lines, program)
+    network = network_of(COMPOUNDS, program)
     both, scaled, adder = network.uses
     assert texts(both) == [
         "adder a a 1.1.y",
@@ -68,6 +71,10 @@ def test_a_compound_is_taken_apart(program: str) -> None:
     assert [part.text for part in both.parts] == ["triple", "scaled"]
     assert scaled.given == "3" and texts(scaled)[0] == "multiplier a 2.k c3"
     assert texts(adder) == ["adder a a c"] and adder.one_way and not adder.parts
+
+
+def test_what_was_said_is_seen(program: str) -> None:
+    network = network_of(COMPOUNDS, program)
     assert [(cell.name, cell.kind) for cell in network.cells] == [("a", "span"), ("c", "span")]
     says = {each.name: [said.text for said in each.says] for each in network.premises}
     assert says == {"ana": ["a = 4", "c = 5..7"], "ben": ["c = 8"]}
@@ -159,6 +166,20 @@ def test_what_does_not_bear_is_not_lit(program: str) -> None:
         assert lit.cells == set("abcdef")
 
 
+def first_steps(session: Session) -> list[Frame]:
+    steps = SessionWatched(session).steps()
+    frames = steps.take(50)
+    steps.close()
+    return frames
+
+
+def said_of(told: str, cell: str) -> tuple[str, list[str]]:
+    """The value of a cell in what the program told, and the premises that it rests on."""
+    [said] = [each for each in told.split("\n") if each.startswith(f"{cell} = ")]
+    value, _, because = said.partition(" = ")[2].replace(" unsettled", "").partition(" because ")
+    return value, [each for each in because.split(" ") if "=" not in each]
+
+
 @pytest.mark.parametrize("options", ORDERS)
 def test_steps_are_the_program_s(program: str, bare: Bare, options: list[str]) -> None:
     order, seed = options[1], int(options[3]) if len(options) > 2 else 0
@@ -171,9 +192,7 @@ def test_steps_are_the_program_s(program: str, bare: Bare, options: list[str]) -
         asks = ["limit 0", *(f"why {cell}" for cell in cells), "nogoods"]
         with Session(program, order=order, seed=seed) as session:
             session.send_all(lines)
-            steps = SessionWatched(session).steps()
-            frames = steps.take(50)
-            steps.close()
+            frames = first_steps(session)
         known: dict[str, str] = {}
         nogoods = 0
         for frame in frames:
@@ -190,10 +209,7 @@ def test_steps_are_the_program_s(program: str, bare: Bare, options: list[str]) -
             if end.startswith("contradiction"):
                 break
             for cell in cells:
-                [said] = [each for each in told.split("\n") if each.startswith(f"{cell} = ")]
-                value = said.partition(" = ")[2].replace(" unsettled", "")
-                value, _, because = value.partition(" because ")
-                named = [each for each in because.split(" ") if "=" not in each]
+                value, named = said_of(told, cell)
                 shown = known.get(cell, "nothing because no premise")
                 assert shown.startswith(f"{value} because"), (frame.number, cell)
                 assert all(each in shown for each in named)

@@ -219,7 +219,8 @@ def test_ctrl_c_leaves_all_as_it_was() -> None:
                 w.require(one != other)
         w.tell("a", holes[0], 1, 5)
         questions: list[Callable[..., object]] = [w.conflicts, w.repairs, w.plans]
-        for ask in [*questions, partial(w.least, holes[0])]:
+        questions.append(partial(w.least, holes[0]))
+        for ask in questions:
             # (It is under way when it first tells of itself.)
             timer = threading.Timer(0.2, os.kill, (os.getpid(), signal.SIGINT))
             with pytest.raises(Interrupted) as caught:

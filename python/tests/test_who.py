@@ -1,11 +1,13 @@
 """Who does a task: whoever suits best, with what skills, and in how many days."""
 
-from collections.abc import Iterator
+from collections.abc import Callable, Iterator
+from typing import Any
 
 import pytest
 
 from propbench import Workbench, any_of, skilled
 from propbench.planning import Project
+from propbench.planning.who import Who
 
 SKILLS = {"ana": "welding", "ben": ["welding", "wiring"]}
 
@@ -85,7 +87,7 @@ def test_names_are_given_as_everywhere(wide: str) -> None:
     """One by one, as a list, or in one text; a name that has a space is one where there is one."""
     with Workbench(wide) as w:
         p = w.project(days=30, people=["ana", "ben", "Cem Oz"])
-        given = [
+        given: list[Who] = [
             any_of("ana", "ben"),
             any_of("ana ben"),
             any_of(["ana", "ben"]),
@@ -120,6 +122,7 @@ def test_it_is_written(wide: str) -> None:
 def test_what_is_wrong_is_said(p: Project) -> None:
     wrong: list[tuple[object, object, str]] = [
         (any_of("ana", "anna"), 1, "nobody in the plan is called 'anna'. Did you mean ana?"),
+        ("ana or ben", 1, "nobody in the plan is called 'or'. Whoever suits best of two is any_of"),
         (any_of(3, "ana", "ben"), 1, "t: 3 are needed, and there is only ana and ben"),
         (["ana", any_of("ana")], 1, "t: 1 are needed, and there is nobody else"),
         (skilled("weldign"), 1, "t: nobody is skilled in 'weldign'. Did you mean welding?"),
@@ -133,11 +136,13 @@ def test_what_is_wrong_is_said(p: Project) -> None:
     for given, days, says in wrong:
         with pytest.raises(ValueError, match=says):
             p.task("t", days, who=given)  # type: ignore[arg-type]
+    days_of: Any = {"ana": 3, "ben": "long"}
     with pytest.raises(TypeError, match="'long' days of ben is no whole number"):
-        p.task("t", {"ana": 3, "ben": "long"}, who=any_of("ana ben"))  # type: ignore[dict-item]
+        p.task("t", days_of, who=any_of("ana ben"))
     with pytest.raises(TypeError, match="names are one text"):
-        p.task("t", 1, who=any_of("ana", 3))  # type: ignore[arg-type]
-    for call in (lambda: any_of(), lambda: skilled(2)):
+        p.task("t", 1, who=any_of("ana", 3))
+    calls: list[Callable[[], object]] = [lambda: any_of(), lambda: skilled(2)]
+    for call in calls:
         with pytest.raises(ValueError, match="name at least one"):
             call()
     with pytest.raises(ValueError, match="any_of: 0 of some people is nobody"):

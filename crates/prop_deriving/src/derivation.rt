@@ -15,11 +15,15 @@ use prop_learned::weights::Weights;
 use prop_procedures::Rule;
 use prop_refuting::{Barred, Called, Claim, Nogood, clashing, weaken};
 use prop_trail::{Source, Trail};
+use smallvec::SmallVec;
 use std::alloc::{AllocError, Global};
 use std::marker::Model;
 
 /// How often what a clash says may be explained by what was just said.
 const ROUNDS: usize = 8;
+
+/// As many inputs as most instances have at the most: their arguments take no memory.
+const FEW: usize = 4;
 
 /// A nogood under way, and how many calls of instances its steps made.
 #[derive(Drop)]
@@ -500,7 +504,7 @@ fn arguments<R: Rule + Drop>(
     basis: &Ground<'_, R>,
     cells: &[usize],
     before: usize,
-) -> Result<Vec<Info>, AllocError>
+) -> Result<SmallVec<Info, FEW>, AllocError>
     ensures { IfOk result (λ infos. length infos.items ≡ length cells.now) }
 {
     cells
@@ -513,7 +517,7 @@ fn arguments<R: Rule + Drop>(
 fn widest_arguments<R: Rule + Drop>(
     basis: &Ground<'_, R>,
     cells: &[usize],
-) -> Result<Vec<Info>, AllocError>
+) -> Result<SmallVec<Info, FEW>, AllocError>
     ensures { IfOk result (λ infos. length infos.items ≡ length cells.now) }
 {
     cells

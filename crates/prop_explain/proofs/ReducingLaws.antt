@@ -15,10 +15,10 @@ use Rattle.prop_scheduler.specs.Agendas.{Waiting}
 use Rattle.prop_scheduler.specs.Potential.{most_steps}
 use Rattle.prop_cells.proofs.Keeping.{All-at}
 use Rattle.prop_scheduler.specs.Shifts.{AreShifted}
-use Rattle.prop_scheduler.specs.Turns.{IsSettled, IsUnderWay, Turns}
+use Rattle.prop_scheduler.specs.Turns.{IsSettled, IsUnderWay}
 use Rattle.prop_scheduler.specs.Watching.{IsWatched}
 use Rattle.prop_scheduler.specs.Live.{IsReady}
-use Rattle.prop_explain.specs.inner.Ready.{StaysReady}
+use Rattle.prop_explain.specs.inner.Ready.{Called, StaysReady}
 use Rattle.prop_explain.specs.Trying.{TriesOf, last_of}
 use Rattle.prop_explain.specs.Trying.TriesOf.{tried}
 use Rattle.prop_explain.proofs.TryingLaws.{AreHeld, few_more, held_next, lacks_itself, next_believed, next_held}
@@ -89,12 +89,6 @@ pub record HasTried {O : Type 0} (picks : O → ℕ → ℕ → O → Type 0) (l
   pub last : t ≡ last_of why sets
   pub tries : TriesOf picks library why start before.line first sets steps d agenda.line order
   pub held : AreHeld why sets s rest
-
--- so many calls in the second worldview, for which those wait whose cells shift from the first
-abbrev pub Called : {O : Type 0} → (O → ℕ → ℕ → O → Type 0) → List Stored → Members → Members → Data → List ℕ → O → ℕ
-    → Data → List ℕ → O → Type 0
-Called picks library t s d line order calls new after next = (waiting : List ℕ)
-    × AreShifted t s d (length d.kinds) line waiting × Turns picks library s d waiting order calls new after next
 
 -- without the next premise what is left is tried, in so many calls
 abbrev pub tried_on : {O : Type 0} {picks : O → ℕ → ℕ → O

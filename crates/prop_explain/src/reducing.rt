@@ -4,13 +4,13 @@ ghost use Rattle.std.specs.Prelude.{◌≡◌, ◌≢◌, ◌<◌, ◌≤◌, �
 ghost use Rattle.std.specs.Prelude.{length, IfOk};
 ghost use Rattle.prop_lattice.specs.Order.{Below};
 ghost use Rattle.std.specs.List.Sorted.{IsStrictlyIncreasing};
-ghost use Rattle.prop_numbers.specs.Sets.{Members, set_of, IsPart};
+ghost use Rattle.prop_numbers.specs.Sets.{Members, set_of, without, IsPart};
 ghost use Rattle.prop_procedures.specs.Kept.{AllMean};
 ghost use Rattle.prop_cells.specs.Problems.{Entails, IsConsistent};
 ghost use Rattle.prop_cells.specs.inner.Problems.{Premises};
 ghost use Rattle.prop_cells.specs.Reach.{Explains};
 ghost use Rattle.prop_explain.specs.Irreducible.{IsIrreducible, IfLeast, IfNotReduced, OfCore};
-ghost use Rattle.prop_explain.specs.inner.Ready.{StaysReady};
+ghost use Rattle.prop_explain.specs.inner.Ready.{Called, StaysReady};
 ghost use Rattle.prop_explain.specs.Trying.{Tries, TriesOf};
 ghost use Rattle.prop_cells.specs.Data.{beliefs};
 ghost use Rattle.prop_scheduler.specs.Live.{cells_of, line_of, library_of, problem_in};
@@ -20,7 +20,7 @@ ghost use Rattle.prop_scheduler.specs.Turns.{IsSettled, Turns};
 ghost use Rattle.prop_scheduler.specs.Potential.{most_steps};
 
 use prop_lattice::{Info, Partial};
-use prop_premises::{PremiseSet, Worldview};
+use prop_premises::{Premise, PremiseSet, Worldview};
 use prop_procedures::Rule;
 use prop_scheduler::{Ended, Live, Order, Run, alert_shifted, run, wake_all};
 use prop_tms::Supported;
@@ -48,6 +48,14 @@ struct Left {
 struct Claim {
     cell: usize,
     value: Info,
+}
+
+/// What is left of a support so far, and the worldview in which the network was run last.
+#[derive(Drop)]
+struct Trial {
+    claim: Claim,
+    support: PremiseSet,
+    believed: Worldview,
 }
 
 /// What came of a set of premises.
@@ -192,37 +200,129 @@ fn left_of<R: Rule + Drop, O: Order>(
         (cells_of live.old) (line_of live.old) order.old sets r.steps (cells_of live.new)
         (line_of live.new) order.new) }
 {
-    let mut support = why.support.copy()?;
-    let mut believed = Worldview::of(live.alloc(), &support)?;
+    let support = why.support.copy()?;
+    let believed = Worldview::of(live.alloc(), &support)?;
+    let claim = Claim {
+        cell,
+        value: why.value,
+    };
+    let mut trial = Trial {
+        claim,
+        support,
+        believed,
+    };
     let mut steps: u64 = 0;
-    let value = why.value;
     for premise in why.support.iter() {
-        let less = support.without(premise)?;
-        let next = Worldview::of(live.alloc(), &less)?;
-        alert_shifted(live, &believed, &next);
-        believed = next;
-        let tried = attempt(
-            live,
-            order,
-            &believed,
-            Claim { cell, value },
-            budget - steps,
-        )?;
+        let tried = leave_out(live, order, &mut trial, premise, budget - steps)?;
         steps += tried.steps;
         match tried.end {
-            Tried::Enough => support = less,
-            Tried::TooFew => drop(less),
-            Tried::Spent => {
-                drop(less);
-                let is_least = false;
-                let end = Left { support, is_least };
-                return Ok(Ended { end, steps });
-            }
+            Tried::Enough => {}
+            Tried::TooFew => {}
+            Tried::Spent => return Ok(trial.ended(false, steps)),
         }
     }
-    let is_least = true;
-    let end = Left { support, is_least };
-    Ok(Ended { end, steps })
+    Ok(trial.ended(true, steps))
+}
+
+impl Trial {
+    /// What is left, after so many steps.
+    fn ended(self, is_least: bool, steps: u64) -> Ended<Left>
+        ensures support { result.end.support ≡ self.support }
+        ensures is_least { result.end.is_least ≡ is_least }
+        ensures steps { result.steps ≡ steps }
+    {
+        let support = self.support;
+        let end = Left { support, is_least };
+        Ended { end, steps }
+    }
+}
+
+/// Tries what is left without one of its premises, which is left out where the others are enough.
+fn leave_out<R: Rule + Drop, O: Order>(
+    live: &mut Live<R>,
+    order: &mut O,
+    trial: &mut Trial,
+    premise: Premise,
+    budget: u64,
+) -> Result<Ended<Tried>, AllocError>
+    requires means { AllMean R.value_of live.old.network.library.procedures.items }
+    requires alive { IsLiveIn R.value_of (set_of trial.old.believed) live.old }
+    requires cell { trial.old.claim.cell < length (cells_of live.old).kinds }
+    requires consistent { IsConsistent (problem_in R.value_of live.old)
+        (set_of trial.old.support) }
+    ensures same { live.new.network.library ≡ live.old.network.library }
+    ensures left { StaysReady (library_of R.value_of live.old) (cells_of live.old)
+        (cells_of live.new) live.new.agenda }
+    ensures claim { trial.new.claim ≡ trial.old.claim }
+    ensures believed { IfOk result (λ _. set_of trial.new.believed
+        ≡ without (set_of trial.old.support) premise) }
+    ensures alive { IfOk result (λ _. IsLiveIn R.value_of (set_of trial.new.believed) live.new) }
+    ensures enough { IfOk result (λ r. r.end ≡ Tried.Enough
+        → (set_of trial.new.support ≡ without (set_of trial.old.support) premise)
+        × Entails (problem_in R.value_of live.old) (without (set_of trial.old.support) premise)
+        trial.old.claim.cell trial.old.claim.value) }
+    ensures too_few { IfOk result (λ r. r.end ≡ Tried.TooFew
+        → (trial.new.support ≡ trial.old.support)
+        × ¬ (Entails (problem_in R.value_of live.old) (without (set_of trial.old.support) premise)
+        trial.old.claim.cell trial.old.claim.value)) }
+    ensures spent { IfOk result (λ r. r.end ≡ Tried.Spent
+        → (trial.new.support ≡ trial.old.support) × (r.steps ≡ budget)
+        × (budget < most_steps (problem_in R.value_of live.old))) }
+    ensures falls { IfOk result (λ r. r.steps ≤ most_steps (problem_in R.value_of live.old)) }
+    ensures steps { IfOk result (λ r. r.steps ≤ budget) }
+    ensures called { IfOk result (λ r. Called O.picks (library_of R.value_of live.old)
+        (set_of trial.old.believed) (without (set_of trial.old.support) premise)
+        (cells_of live.old) (line_of live.old) order.old r.steps (cells_of live.new)
+        (line_of live.new) order.new) }
+{
+    let less = trial.support.without(premise)?;
+    let tried = try_in(live, order, trial, &less, budget)?;
+    match tried.end {
+        Tried::Enough => trial.support = less,
+        Tried::TooFew => drop(less),
+        Tried::Spent => drop(less),
+    }
+    Ok(tried)
+}
+
+/// Runs the network in the worldview of these premises, and tells whether the claim is believed
+/// there.
+fn try_in<R: Rule + Drop, O: Order>(
+    live: &mut Live<R>,
+    order: &mut O,
+    trial: &mut Trial,
+    less: &PremiseSet,
+    budget: u64,
+) -> Result<Ended<Tried>, AllocError>
+    requires means { AllMean R.value_of live.old.network.library.procedures.items }
+    requires alive { IsLiveIn R.value_of (set_of trial.old.believed) live.old }
+    requires cell { trial.old.claim.cell < length (cells_of live.old).kinds }
+    requires consistent { IsConsistent (problem_in R.value_of live.old) (set_of less.now) }
+    ensures same { live.new.network.library ≡ live.old.network.library }
+    ensures left { StaysReady (library_of R.value_of live.old) (cells_of live.old)
+        (cells_of live.new) live.new.agenda }
+    ensures others { trial.new ≡ record trial.old { believed = trial.new.believed } }
+    ensures believed { IfOk result (λ _. trial.new.believed ≡ less.now) }
+    ensures alive { IfOk result (λ _. IsLiveIn R.value_of (set_of less.now) live.new) }
+    ensures enough { IfOk result (λ r. r.end ≡ Tried.Enough
+        → Entails (problem_in R.value_of live.old) (set_of less.now) trial.old.claim.cell
+        trial.old.claim.value) }
+    ensures too_few { IfOk result (λ r. r.end ≡ Tried.TooFew
+        → ¬ (Entails (problem_in R.value_of live.old) (set_of less.now) trial.old.claim.cell
+        trial.old.claim.value)) }
+    ensures spent { IfOk result (λ r. r.end ≡ Tried.Spent → r.steps ≡ budget) }
+    ensures earned { IfOk result (λ r. r.end ≡ Tried.Spent
+        → budget < most_steps (problem_in R.value_of live.old)) }
+    ensures falls { IfOk result (λ r. r.steps ≤ most_steps (problem_in R.value_of live.old)) }
+    ensures steps { IfOk result (λ r. r.steps ≤ budget) }
+    ensures called { IfOk result (λ r. Called O.picks (library_of R.value_of live.old)
+        (set_of trial.old.believed) (set_of less.now) (cells_of live.old) (line_of live.old)
+        order.old r.steps (cells_of live.new) (line_of live.new) order.new) }
+{
+    let next = Worldview::of(live.alloc(), less)?;
+    alert_shifted(live, &trial.believed, &next);
+    trial.believed = next;
+    attempt(live, order, &trial.believed, trial.claim, budget)
 }
 
 /// Runs the network in the worldview, and tells whether the claim is believed there.

@@ -19,7 +19,7 @@ use prop_procedures::{Kinded, Rule};
 const MOST_INPUTS: usize = 128;
 
 /// As many inputs as most instances have at the most: room for more is filled for the others alone.
-const FEW: usize = 8;
+const FEW: usize = 16;
 
 /// Whether an information leaves one point alone: one number, one element or a symbol.
 fn is_single(info: Info) -> bool

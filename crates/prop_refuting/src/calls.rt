@@ -165,22 +165,24 @@ fn weaken_argument<R: Rule + Drop>(
     if replace_argument(network, claim, args, place, widest) {
         return;
     }
-    let (higher, lower) = with_one_end(own, widest);
-    if replace_argument(network, claim, args, place, higher) {
+    let (first, second) = with_one_end(claim.fact, own, widest);
+    if replace_argument(network, claim, args, place, first) {
         return;
     }
-    replace_argument(network, claim, args, place, lower);
+    replace_argument(network, claim, args, place, second);
 }
 
-/// A span with the upper end of a wider one, and with its lower end; other informations as they
-/// are.
-fn with_one_end(own: Info, widest: Info) -> (Info, Info) {
-    match (own, widest) {
-        (Info::Span(own), Info::Span(widest)) => (
-            Info::between(own.lo(), widest.hi()),
-            Info::between(widest.lo(), own.hi()),
-        ),
-        _ => (own, own),
+/// A span with one end of a wider one, first that which a fact about an end needs less often; other
+/// informations as they are.
+fn with_one_end(fact: Fact, own: Info, widest: Info) -> (Info, Info) {
+    let (Info::Span(own), Info::Span(widest)) = (own, widest) else {
+        return (own, own);
+    };
+    let higher = Info::between(own.lo(), widest.hi());
+    let lower = Info::between(widest.lo(), own.hi());
+    match fact {
+        Fact::AtMost(_) => (lower, higher),
+        _ => (higher, lower),
     }
 }
 

@@ -102,7 +102,8 @@ impl Gate {
     pub(crate) fn is_shut(&self, present: &Present) -> bool {
         match present.info(self.place) {
             Info::Set(elements) => {
-                elements.bits().count_ones() != 1 || elements.bits() & self.speaks == 0
+                let bits = elements.bits();
+                bits & bits.wrapping_sub(1) != 0 || bits & self.speaks == 0
             }
             _ => true,
         }

@@ -12,6 +12,7 @@ pub mod bound;
 mod choosing;
 pub mod earlier;
 mod gate;
+mod heaviest;
 mod heeding;
 pub mod news;
 mod pace;

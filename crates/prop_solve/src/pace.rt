@@ -1,7 +1,7 @@
 //! After how many contradictions a search begins again.
 
 /// How many contradictions the shortest run takes.
-const RUN: u64 = 128;
+const RUN: u64 = 64;
 
 /// Runs whose lengths are `RUN` times the numbers 1, 1, 2, 1, 1, 2, 4, 1, .. (Luby, Sinclair and
 /// Zuckerman 1993), by Knuth's reluctant doubling.

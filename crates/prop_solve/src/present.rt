@@ -1,7 +1,9 @@
 //! What a trail believes now, laid out so that much of it is read quickly.
 
+use crate::heaviest::Heaviest;
 use prop_deriving::Course;
 use prop_lattice::Info;
+use prop_learned::weights::Weights;
 use prop_trail::Trail;
 use std::alloc::{AllocError, Global};
 
@@ -17,13 +19,19 @@ pub(crate) struct Present {
     open: Vec<u64>,
     course: Course,
     kept: Vec<Info>,
+    heaviest: Heaviest,
+}
+
+/// Whether several bits are set. (That is quicker than to count them.)
+fn has_several(bits: u64) -> bool {
+    bits & bits.wrapping_sub(1) != 0
 }
 
 /// Whether something is known, and several values are left.
 fn is_open(info: Info) -> bool {
     match info {
         Info::Span(span) => span.lo() < span.hi(),
-        Info::Set(elements) => elements.bits().count_ones() > 1,
+        Info::Set(elements) => has_several(elements.bits()),
         _ => false,
     }
 }
@@ -32,7 +40,7 @@ fn is_open(info: Info) -> bool {
 pub(crate) fn is_decided(info: Info) -> bool {
     match info {
         Info::Span(span) => span.lo() == span.hi(),
-        Info::Set(elements) => elements.bits().count_ones() == 1,
+        Info::Set(elements) => !has_several(elements.bits()),
         _ => false,
     }
 }
@@ -45,6 +53,7 @@ impl Present {
             open: vec![in alloc; 0; beliefs.len() / WORD + 1]?,
             course: Course::new(alloc, beliefs.len())?,
             kept: Vec::from_slice(alloc, beliefs)?,
+            heaviest: Heaviest::new(alloc),
         };
         for (place, info) in beliefs.iter().enumerate() {
             present.set(place, *info);
@@ -106,6 +115,17 @@ impl Present {
         }
     }
 
+    /// Looks at what the open places weigh, where some may have come to weigh more since the last
+    /// look, or to be open: so it is each time that something is taken back.
+    pub(crate) fn weigh(&mut self, weights: &Weights) -> Result<(), AllocError> {
+        self.heaviest.look(weights, &self.open)
+    }
+
+    /// No open one of 64 places weighs more than this.
+    pub(crate) fn heaviest_among(&self, word: usize) -> u64 {
+        self.heaviest.among(word)
+    }
+
     /// How many times 64 places there are.
     pub(crate) fn words(&self) -> usize {
         self.open.len()
@@ -124,6 +144,7 @@ impl Present {
 
     /// All is as it was before the levels above this one.
     pub(crate) fn take_back(&mut self, trail: &Trail, level: usize) {
+        self.heaviest.forget();
         if level >= trail.level() {
             return;
         }

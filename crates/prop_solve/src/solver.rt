@@ -673,6 +673,7 @@ impl Solver {
             self.pace.begin();
             return self.spread.restart();
         }
+        self.spread.weigh(&self.weights)?;
         match self.next_place() {
             Some(place) => {
                 let first = self.first(place);

@@ -10,6 +10,9 @@ use indexmap::IndexSet;
 use std::alloc::{AllocError, Global};
 use std::marker::Model;
 
+/// Among so few names it doesn't count how many have a part of their hash in common.
+const FEW: usize = 32;
+
 /// The names of one space, each with its number: the first has 0.
 #[derive(Drop)]
 pub struct Names {
@@ -112,7 +115,7 @@ impl Names {
         if self.sorted.len() > 0 {
             return self.sorted.push(alloc, name);
         }
-        if self.crowd.admits(alloc, name)? {
+        if self.hashed.len() < FEW || self.crowd.admits(alloc, name)? {
             push_hashed(&mut self.hashed, alloc, name)
         } else {
             self.sorted.push(alloc, name)

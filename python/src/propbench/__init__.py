@@ -17,7 +17,9 @@ where each constraint holds on it, as it evaluates them (`violated` in model/sea
 
 What is raised stands in `propbench.errors`, what a session replies in `propbench.replies`. The
 handbook is docs/ of the sources, /usr/share/doc/propbench/docs of the Debian package: CLAIMS.md
-tells what is proved, PIPE.md how another program drives this one, HOSTING.md how one embeds it.
+tells what is proved, PIPE.md how a program in any language drives this one, HOSTING.md how a crate
+of Rattle embeds it. A loop in Python that tells, asks and kicks out, with limits of time, stands in
+python/README.md; what to catch around it, `help(propbench.errors)` tells.
 """
 
 from typing import TYPE_CHECKING

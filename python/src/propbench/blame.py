@@ -10,7 +10,19 @@ from itertools import islice
 
 from propbench.commands import usages_of
 from propbench.fitting import Fitting, Misfit
-from propbench.grammar import BLAMING, FORMS, KINDS, SEEKING, Expected, Parse, Place, Role, parsed
+from propbench import required
+from propbench.grammar import (
+    BLAMING,
+    FORMS,
+    KINDS,
+    REQUIRING,
+    SEEKING,
+    Expected,
+    Parse,
+    Place,
+    Role,
+    parsed,
+)
 from propbench.kit import KIT
 from propbench.known import Known, steps_of
 from propbench.showing import quoted
@@ -51,6 +63,7 @@ _UNTOLD = {
     "list": "what it holds",
     **dict.fromkeys(SEEKING, "which points fit"),
     **dict.fromkeys(BLAMING, "what can't all hold"),
+    **dict.fromkeys(REQUIRING, "what a constraint says"),
 }
 
 
@@ -99,6 +112,11 @@ class _Case:
         """The kind of the cell of which the line says a value."""
         cells = self.parse.of(Role.CELL)
         return self.known.cells.get(cells[0].text, "") if cells else ""
+
+    @property
+    def is_constraint(self) -> bool:
+        """Whether the line states a constraint as one writes it."""
+        return self.command in REQUIRING
 
     def steps(self) -> list[list[Place]]:
         """The steps of a definition; of an `attach` all that it attaches is one step."""
@@ -211,6 +229,8 @@ def _not_a_name(case: _Case) -> Blame:
 
 
 def _not_a_number(case: _Case) -> Blame:
+    if case.is_constraint:
+        return Blame(says=required.RANGE)
     for token in case.parse.of(Role.STEPS):
         says = "A limit is a whole number of steps from 0 to 1,000,000,000,000,000."
         return _at(token, says)
@@ -281,11 +301,20 @@ def _no_such_relation(case: _Case) -> Blame:
 
 
 def _no_such_cell(case: _Case) -> Blame:
+    if case.is_constraint:
+        return _no_such_word(case)
     if case.command == "define":
         return _no_such_inner_cell(case)
     for token in case.parse.of(Role.CELL):
         if token.text not in case.known.cells:
             return _at(token, f"There is no cell {quoted(token.text)}.", case.known.cells)
+    return Blame()
+
+
+def _no_such_word(case: _Case) -> Blame:
+    for token in required.unknown_words(case.parse.of(Role.TERM), case.known):
+        says = f"There is no cell {quoted(token.text)}, and no element."
+        return _at(token, says, case.known.cells)
     return Blame()
 
 
@@ -348,6 +377,8 @@ def _said_kind(kind: str) -> str:
 
 
 def _wrong_kind(case: _Case) -> Blame:
+    if case.is_constraint:
+        return Blame(says=required.KIND)
     if case.command == "attach":
         return _wrong_kind_of_cell(case)
     for place in case.parse.places:
@@ -385,6 +416,8 @@ def _wrong_parameter(case: _Case) -> Blame:
 
 
 def _not_in_the_domain(case: _Case) -> Blame:
+    if case.is_constraint:
+        return Blame(says=required.ELEMENT)
     if case.command == "relation":
         return _no_pair(case)
     elements = case.known.domain_of(case.parse.of(Role.CELL)[0].text)

@@ -17,6 +17,8 @@ from propbench.showing import printable
 
 # What a certificate ends with, whatever is wrong with it otherwise.
 _CHECKSUM = re.compile(r"\n[0-9a-f]{64}\s*$")
+# How the program answers a command that it doesn't have.
+_NO_COMMAND = ": error 3: unknown command"
 _NO_BASE = (
     "Whether its network is yours was not looked at: --base FILE compares it with a saved one."
 )
@@ -56,6 +58,8 @@ def _check_certificate(lines: list[str], program: str | None, base: str | None) 
         check_lines(lines, found.path)
     except CertificateError as error:
         print(printable(f"The certificate doesn't hold: {error}"))
+        if str(error).endswith(_NO_COMMAND):
+            print("This program is not propwide, which is asked for that: name one by --program.")
         return 1
     print(f"The certificate holds, of a network of {len(lines) - 4} lines:")
     for said in claims_in(lines):

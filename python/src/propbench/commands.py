@@ -87,6 +87,10 @@ TOLD = tuple(
             "N minimal sets of premises without which the others can hold; the cheapest, where P"
             " costs M, and others 1",
         ),
+        (
+            "require E [under P]",
+            "has a constraint hold, such as `x + 2 <= y`, where P is believed if that is said",
+        ),
     )
 )
 

@@ -5,6 +5,7 @@ from collections.abc import Iterable
 from propbench.grammar import FORMS, KINDS, Parse, Role, parsed
 from propbench.kit import KIT
 from propbench.known import Known
+from propbench.required import WORDS
 from propbench.words import MARKS
 
 
@@ -50,6 +51,8 @@ def _names(role: Role, parse: Parse, known: Known) -> Iterable[str]:
         return known.domains
     if role is Role.CELL:
         return _cells(parse, known)
+    if role is Role.TERM:
+        return [*known.cells, *(it for each in known.domains.values() for it in each), *WORDS]
     if role is Role.INNER_CELL:
         return [token.text for token in parse.of(Role.NEW_PARAMETER, Role.NEW_LOCAL)]
     if role is Role.PROCEDURE:

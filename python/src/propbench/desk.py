@@ -301,8 +301,9 @@ _COMMANDS: dict[str, tuple[str, str, Callable[[argparse.ArgumentParser], None]]]
     "plan": (
         "make a schedule of the tables of a spreadsheet",
         "Reads tables of tasks, people, absences and wishes, and tells a schedule that ends as soon"
-        " as can be, or what stands in the way: then the status is 1. One table alone, or that"
-        " called `tasks`, has the columns task, days, who, after, earliest, latest, cost.",
+        " as can be; or conflicts, which can't all hold, and repairs, what to give up so that the"
+        " rest fits: then the status is 1. One table alone, or that called `tasks`, has the columns"
+        " task, days, who (`ana, ben` both, `ana or ben` one), after, earliest, latest, cost.",
         _add_plan,
     ),
     "measure": (

@@ -4,6 +4,20 @@ Every refusal of the program is a `Refused`, of a class for each number (docs/LA
 "Refusals"). A session raises what befell its program; a workbench `Conflict` where what is believed
 can't all hold, and a question of many asks `NothingFits`. What a user writes of quantities is
 refused by ValueErrors that say what is wrong with it.
+
+Around the calls of a workbench catch
+
+- `Conflict` of `ask`: its `premises` can't all hold, so kick one out and ask again;
+- `NothingFits` of `solve`: where its `premises` are None there was not the time to find a plan, or
+  to refute that there is one;
+- `OutOfTime`: no answer came; the next call goes on from there;
+- `ProgramEnded`: `w.session.replay()` begins the program anew with all that was stated before;
+- `Refused`: there is too much of something (`LimitReached`), or no memory (`OutOfMemory`);
+- ValueError and TypeError: what you told or asked for can't be taken, and nothing was stated;
+- `NoProgram` of `Workbench()`.
+
+That `seconds` are over is no error where something is known: an answer isn't `settled`, a best is
+not `proved` (and its `value` None where no plan was found), a list is not `complete`.
 """
 
 from typing import TYPE_CHECKING

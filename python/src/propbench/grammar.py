@@ -9,7 +9,7 @@ from collections.abc import Callable, Generator
 from dataclasses import dataclass
 from enum import Enum
 
-from propbench.words import MOST_SIDES, Token, tokens_of
+from propbench.words import MOST_SIDES, Token, constraint_of, tokens_of
 
 KINDS = ("span", "truth", "symbol")
 
@@ -40,6 +40,7 @@ class Role(Enum):
     GIVEN = "a scale or a relation"
     STEPS = "a number of steps"
     COUNT = "a number of plans"
+    TERM = "a constraint"
     END = "the end of the line"
 
 
@@ -227,6 +228,14 @@ def _repairs() -> Form:
             yield (Role.COUNT,)
 
 
+def _require() -> Form:
+    yield (Role.TERM,)
+    while (yield (Role.TERM, "under", Role.END)) != "under":
+        pass
+    yield (Role.TOLD,)
+    yield (Role.END,)
+
+
 def _limit() -> Form:
     yield (Role.STEPS,)
     yield (Role.END,)
@@ -267,7 +276,9 @@ SEEKING: dict[str, Callable[[], Form]] = {
 }
 # Those that ask what can't all hold, and what to give up: propwide has them as well.
 BLAMING: dict[str, Callable[[], Form]] = {"conflicts": _counted, "repairs": _repairs}
-_ALL = {**FORMS, **TELLING, **SEEKING, **BLAMING}
+# That which states a constraint as one writes it: propwide has it as well.
+REQUIRING: dict[str, Callable[[], Form]] = {"require": _require}
+_ALL = {**FORMS, **TELLING, **SEEKING, **BLAMING, **REQUIRING}
 # Those that ask: they are answered by more than `ok`, and change nothing that was said.
 ASKING = RUNNING | TELLING.keys() | SEEKING.keys() | BLAMING.keys() | {"nogoods"}
 
@@ -277,6 +288,8 @@ def parsed(line: str) -> Parse:
     tokens = tokens_of(line)
     if not tokens or tokens[0].text not in _ALL:
         return Parse((), False, tokens[0] if tokens else None, (Role.COMMAND,))
+    if tokens[0].text in REQUIRING:
+        tokens[1:] = constraint_of(line, tokens[0].end)
     places = [Place(tokens[0], Role.COMMAND)]
     form = _ALL[tokens[0].text]()
     expected = next(form)
@@ -295,6 +308,8 @@ def parsed(line: str) -> Parse:
 def _placed(token: Token, expected: Expected) -> Place | None:
     if token.text in expected:
         return Place(token, None)
+    if Role.TERM in expected:
+        return Place(token, Role.TERM if token.is_word else None)
     roles = [role for role in expected if isinstance(role, Role) and role is not Role.END]
     return Place(token, roles[0]) if roles and not token.is_mark else None
 

@@ -102,6 +102,7 @@ class Known:
             "relation": self._relation,
             "define": self._define,
             "choose": self._choose,
+            "require": self._require,
         }
         self.definitions = {**_prelude(), **self.definitions}
 
@@ -123,6 +124,10 @@ class Known:
 
     def _tell(self, words: list[str], line: str) -> None:
         self.premises[words[1]] = None
+
+    def _require(self, words: list[str], line: str) -> None:
+        for token in parsed(line).of(Role.TOLD):
+            self.premises[token.text] = None
 
     def _choose(self, words: list[str], line: str) -> None:
         self.choices[words[1]] = None

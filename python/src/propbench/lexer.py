@@ -15,6 +15,7 @@ from pygments.token import (
 )
 
 from propbench.grammar import Place, Role, parsed
+from propbench.required import WORDS
 from propbench.words import ends_of, is_silent
 
 _STYLES: dict[Role, _TokenType] = {
@@ -76,6 +77,8 @@ def _pieces(line: str) -> Iterator[tuple[int, _TokenType, str]]:
 def _kind(place: Place) -> _TokenType:
     if place.role is None:
         return Punctuation if place.token.is_mark else Keyword
-    if place.role in (Role.VALUE, Role.GIVEN) and ends_of(place.text):
+    if place.role is Role.TERM and place.text in WORDS:
+        return Keyword
+    if place.role in (Role.VALUE, Role.GIVEN, Role.TERM) and ends_of(place.text):
         return Number
     return _STYLES.get(place.role, Name.Variable)

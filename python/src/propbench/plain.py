@@ -254,6 +254,7 @@ class PlainWorkbench(Questions, Closing):
 
         While the premise is kicked out the constraint has no effect at all, also where it is false
         or can't be worked out; while it is believed it tells as much as one that holds always.
+        `w.lines(constraint)` shows what is sent.
 
         >>> w = Workbench()
         >>> x = w.number("x", 0, 9)
@@ -651,7 +652,9 @@ class PlainWorkbench(Questions, Closing):
         With them stand those that make the cells in them which have no name of yours. Raises
         ValueError for one that was not required.
 
-        Lines may rest on other constraints: where `z == x + y` holds, `z` stands for that sum.
+        Lines may rest on other constraints: where `z == x + y` holds, `z` stands for that sum. Of
+        all that is stated, of choices, what is told and projects too, the file that `save` writes
+        has the lines, each below a comment that tells what it stands for.
 
         >>> w = Workbench()
         >>> x = w.number("x", 0, 9)
@@ -849,7 +852,7 @@ class PlainWorkbench(Questions, Closing):
         are none."""
         found = list(dict.fromkeys(line for node in nodes for line in self._network.lines_of(node)))
         if not found:
-            raise ValueError(f"`{constraint!r}` was not required")
+            raise ValueError(f"`{constraint!r}` was not required: state it by `w.require` first")
         return found
 
     def _own(self, cell: object) -> Declared:

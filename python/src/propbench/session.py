@@ -22,7 +22,7 @@ from propbench.closing import Closing
 from propbench.conversation import Conversation, WrongReply
 from propbench.finding import find_program
 from propbench.given import seconds_given
-from propbench.grammar import ASKING, BLAMING, FORMS, RUNNING, SEEKING
+from propbench.grammar import ASKING, BLAMING, FORMS, REQUIRING, RUNNING, SEEKING
 from propbench.known import Known
 from propbench.points import Best, NoneFits, Points, Several, SoFar
 from propbench.program import OutOfTime, Program, ProgramEnded, StillAtWork
@@ -560,7 +560,7 @@ class Session(Closing):
     @property
     def tells(self) -> tuple[str, ...]:
         """Those of the commands `step`, `how` and `list`, `solve`, `least`, `greatest` and `plans`,
-        `conflicts` and `repairs` that the program has. It is asked once.
+        `conflicts` and `repairs`, and `require`, that the program has. It is asked once.
 
         >>> with Session() as session:
         ...     print(session.tells[:7])
@@ -570,6 +570,7 @@ class Session(Closing):
             # (none of these is carried out but `list`)
             asked = {"how _": ["step", "how"], "list": ["list"]}
             asked |= {"least": list(SEEKING), "repairs": list(BLAMING)}
+            asked |= {"require": list(REQUIRING)}
             replies = zip(asked.values(), self.look(asked))
             found = [words for words, reply in replies if not isinstance(reply, UnknownCommand)]
             self._tells = tuple(word for words in found for word in words)

@@ -20,6 +20,7 @@ MARKS = "{};=*"
 NO_NAMES = frozenset("by local span symbol truth yes no nothing contradiction".split())
 
 _TOKEN = re.compile(r"[{};=*]|[^{};=* \t]+")
+_CONSTRAINT = re.compile(r"'[^']*'|\w+|==|!=|<=|>=|//|\*\*|\.\.|\S")
 _NUMBER = re.compile(r"-?[0-9]+")
 
 
@@ -39,6 +40,11 @@ class Token:
     def is_mark(self) -> bool:
         """Whether it is one of the marks, which stand for themselves."""
         return self.text in MARKS
+
+    @property
+    def is_word(self) -> bool:
+        """Whether it is a name, a number, or a name in quotes."""
+        return self.text[0] in "_'" or self.text[0].isalnum()
 
 
 def encoded(line: str) -> bytes:
@@ -90,6 +96,13 @@ def tokens_of(line: str) -> list[Token]:
     """The words and marks of a line, in order."""
     text = line.removesuffix("\r")
     return [Token(found.group(), found.start()) for found in _TOKEN.finditer(text)]
+
+
+def constraint_of(line: str, start: int) -> list[Token]:
+    """The words and marks of the constraint that begins there, in order: more marks than in other
+    lines stand for themselves."""
+    text = line.removesuffix("\r")
+    return [Token(found.group(), found.start()) for found in _CONSTRAINT.finditer(text, start)]
 
 
 def is_name(word: str) -> bool:

@@ -69,8 +69,9 @@ class Workbench(PlainWorkbench, Laboratory):
     - what if: `what_if`, `scenarios`, `sweep`, `sensitivity`, `snapshot`, `diff`, `compare`.
     - quantities closer: `quantities`, `sought`, `device`, `devices`, `read_csv`, `read_table`,
       `read_laws`, `results`, `predict`, `adjust`, `report`.
-    - why an answer is so wide: `x.why()` names the premises that it rests on, `improvements` which
-      reading to improve, `room` what a law costs in width; `shave` makes it narrower.
+    - why an answer is so wide: `x.why()` names the premises that it rests on, `sensitivity` what
+      each is worth, `improvements` which reading to improve, `room` what a law costs in width;
+      `shave` makes it narrower.
     - what shows an answer: conflicts, repairs, optima and plans have a `certificate`, which
       `propdesk check` asks a fresh program again.
     - to look at: `picture`, `film`, `serve`.

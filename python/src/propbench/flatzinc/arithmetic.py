@@ -8,8 +8,9 @@ from collections.abc import Sequence
 from typing import TypeVar
 
 from propbench.flatzinc.terms import Numbers
+from propbench.model.definedness import needs_of
 from propbench.model.expressions import Number, Truth, count, if_else, implies, total
-from propbench.model.nodes import FALSE, TRUE, Op, all_of, any_of
+from propbench.model.nodes import FALSE, TRUE, Node, Op, all_of, any_of, less
 from propbench.model.nodes import number as number_node
 from propbench.model.ranges import range_of
 
@@ -30,8 +31,21 @@ def every(truths: Sequence[Truth]) -> Truth:
 
 
 def some(truths: Sequence[Truth]) -> Truth:
-    """That one of these holds."""
+    """That one of these holds; where all deny something, that not all of it holds, which takes
+    fewer cells."""
+    found = [denied(each.node) for each in truths]
+    kept = [each for each in found if each is not None]
+    if 1 < len(kept) == len(found):
+        return ~Truth(all_of(kept))
     return Truth(any_of(each.node for each in truths))
+
+
+def denied(truth: Node) -> Node | None:
+    """What a truth denies, None where it doesn't: that a number is no more than another denies that
+    the other is less, where both have a value everywhere."""
+    if truth.op is Op.AT_MOST and needs_of(truth) is TRUE:
+        return less(truth.args[1], truth.args[0])
+    return truth.args[0] if truth.op is Op.NOT else None
 
 
 def same_truth(first: Truth, second: Truth) -> Truth:

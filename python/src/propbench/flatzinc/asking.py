@@ -179,7 +179,7 @@ class BestSolution(SolutionQuestion):
         """Takes in what the program has found."""
         points = points_of(reply)
         if points is not None:
-            self._tell(seeker.fits(points).plan)
+            self.tell(seeker.fits(points).plan)
         self.told.is_complete = isinstance(reply, Best | NoneFits)
 
     def go_by_cases(self, clock: Clock) -> None:
@@ -193,10 +193,11 @@ class BestSolution(SolutionQuestion):
 
     def _take(self, found: Optimum) -> None:
         if found.plan is not None:
-            self._tell(found.plan)
+            self.tell(found.plan)
         self.told.is_complete = found.proved
 
-    def _tell(self, plan: Plan) -> None:
+    def tell(self, plan: Mapping[str, Point]) -> None:
+        """Takes in a solution, where it is better than those before."""
         value = plan[self.cell]
         assert isinstance(value, int)
         if self.value is None or self.sign * value < self.sign * self.value:

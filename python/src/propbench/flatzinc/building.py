@@ -8,9 +8,19 @@ from collections.abc import Callable, Iterable, Sequence
 from fractions import Fraction
 
 from propbench.flatzinc import meaning, symbolic
-from propbench.flatzinc.arithmetic import NO, YES, constant, every, same_truth, some, within
+from propbench.flatzinc.arithmetic import (
+    NO,
+    YES,
+    constant,
+    denied,
+    every,
+    same_truth,
+    some,
+    within,
+)
 from propbench.flatzinc.floats import EXACT, Floats, is_of_floats
 from propbench.flatzinc.forms import check
+from propbench.flatzinc.lookups import with_pairs
 from propbench.flatzinc.meaning import differing
 from propbench.flatzinc.sets import Members, elements_of, is_same, places_of
 from propbench.flatzinc.terms import (
@@ -36,9 +46,11 @@ from propbench.model.expressions import (
     element,
     pairs,
 )
+from propbench.model.harmless import is_harmless
 from propbench.model.kinds import Domain, Point
 from propbench.model.meaning import PlanPoints as Points
 from propbench.model.meaning import value_of
+from propbench.model.nodes import Node, Op
 from propbench.plain import PlainWorkbench
 from propbench.questions import Plan
 
@@ -57,6 +69,7 @@ class Built:
     def __init__(self, flat: Flat, workbench: PlainWorkbench) -> None:
         """States all of the model. Raises NotSupported, and ValueError where there is no room."""
         check(flat)
+        flat = with_pairs(flat)
         self.flat, self.workbench = flat, workbench
         # What the floats are, where there are some.
         has_floats = any(each.is_float for each in flat.variables.values())
@@ -82,8 +95,8 @@ class Built:
             and each.defined not in kept
         }
         self._done: set[int] = set()
-        # How many tables have a cell for their row.
-        self._rows = 0
+        # How many tables have a cell for their row, and premises one that says if they hold.
+        self._rows, self._blamed = 0, 0
         try:
             self._state_all(flat)
         except RecursionError:
@@ -443,7 +456,7 @@ class Built:
         if constraint.name == BLAMED:
             holds, label = constraint.args
             assert isinstance(label, Text)
-            self._require(self.truth(holds), label.text)
+            self._believe(self.truth(holds), label.text)
         elif self.floats is not None and is_of_floats(constraint.name):
             said = self.floats.said(self, constraint)
             self._require(said.loose)
@@ -452,9 +465,30 @@ class Built:
         else:
             self._require(meaning.stated(self, constraint))
 
+    def _believe(self, truth: Truth, label: str) -> None:
+        """States a constraint of the model by its label: of two numbers, or one of several, by a
+        cell that always says whether it holds, as a premise of one line is soon looked at."""
+        told = denied(truth.node)
+        alone, holds = (truth.node, True) if told is None else (told, False)
+        if not _is_told_of_a_cell(alone, holds) or not is_harmless(alone):
+            self._require(truth, label)
+            return
+        self._blamed += 1
+        cell = self.workbench.truth(f"premise {self._blamed} holds")
+        self._require(cell == Truth(alone))
+        self.workbench.tell(label, cell, holds)
+
     def _require(self, truth: Truth, under: str | None = None) -> None:
         if truth.node is not YES.node or under is not None:
             self.workbench.require(truth, under=under)
+
+
+def _is_told_of_a_cell(each: Node, holds: bool) -> bool:
+    """Whether what is stated or denied is told of a cell of its own: one of several, or how two
+    numbers compare. (With a constant it is told of the number.)"""
+    if each.op is Op.LESS:
+        return all(it.op is not Op.CONSTANT for it in each.args)
+    return each.op is (Op.OR if holds else Op.AND)
 
 
 def _may_be(column: Element | str, value: str) -> bool:

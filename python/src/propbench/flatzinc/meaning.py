@@ -26,6 +26,8 @@ from propbench.model.expressions import (
 
 # What all differ are looked at so many at a time, beside any two of them.
 _AT_ONCE = 8
+# A table of two columns is told by sets where there are so many times fewer of these than rows.
+_SHORTER = 8
 
 
 class Terms(Protocol):
@@ -193,9 +195,24 @@ def _is_row(terms: Terms, args: Args) -> Truth:
     rows = rows_of(terms.constants(args[1]), len(columns))
     if not columns or not rows:
         return arithmetic.NO if columns else arithmetic.YES
+    if len(columns) == 2 and (blocks := _blocks(rows)):
+        return some([every([*map(arithmetic.within, columns, each)]) for each in blocks])
     row = terms.fresh(len(rows))
     places = (picked(row, 1, [*map(arithmetic.constant, each)]) for each in zip(*rows))
     return every([found == column for found, column in zip(places, columns)])
+
+
+def _blocks(rows: Sequence[tuple[int, ...]]) -> list[tuple[Numbers, Numbers]]:
+    """What may stand in two columns, as sets of which each number goes with each; empty where that
+    is not much shorter than the rows."""
+    seconds: dict[int, list[int]] = {}
+    for first, second in rows:
+        seconds.setdefault(first, []).append(second)
+    firsts: dict[Numbers, list[int]] = {}
+    for first, others in seconds.items():
+        firsts.setdefault(Numbers.of(others), []).append(first)
+    is_short = len(firsts) * _SHORTER <= len(rows)
+    return [(Numbers.of(some), others) for others, some in firsts.items()] if is_short else []
 
 
 def rows_of(cells: Sequence[int], wide: int) -> list[tuple[int, ...]]:

@@ -8,6 +8,7 @@ from collections.abc import Callable
 from contextlib import closing, suppress
 from dataclasses import dataclass, field, replace
 from fractions import Fraction
+from typing import TYPE_CHECKING
 
 from propbench.flatzinc.asking import (
     AnySolution,
@@ -27,12 +28,17 @@ from propbench.questions.bounding import GREATEST, LEAST
 from propbench.questions.clock import Clock
 from propbench.questions.seeking import Unlike, seeks
 
+if TYPE_CHECKING:
+    from propbench.flatzinc.leaping import Leaps
+
 # More solutions than there can be time for.
 ALL = 10**9
 # So many seconds it goes by cases first, where the greatest values are to be tried first.
 _FROM_TOP = 0.5
 # So many seconds bounds on the best float close in first.
 _BY_BOUNDS = 10.0
+# Where the best value is far off, it leaps for half of a turn, and so many seconds at least.
+_LEAPING = 1.0
 # Of a turn so much goes to the cases, and so much where a solution was found already.
 _SHARE, _SMALL_SHARE = 0.5, 0.125
 # The premise that an objective is better than the best in steps.
@@ -172,6 +178,14 @@ class _Search:
             return AnySolution(self._told, is_all)
         return ManySolutions(self._told, show, self._wanted.most)
 
+    def _leaps(self) -> "Leaps | None":
+        """The leaps towards a best value, where one is asked for."""
+        if not isinstance(self._asked, BestSolution):
+            return None
+        from propbench.flatzinc.leaping import leaps_of
+
+        return leaps_of(self._built, self._asked)
+
     def _take_turns(self, sought: Sought) -> None:
         """Has the program search, and goes by cases, in turns."""
         asked, clock = self._asked, self._clock
@@ -182,9 +196,12 @@ class _Search:
         elif any(each.is_from_top for each in first) and clock.seconds_left() != 0:
             # (the program itself tries the least ones)
             asked.go_by_cases(clock.turn(_FROM_TOP))
+        leaps = self._leaps()
         for seconds in clock.turns():
             if not (asked.is_done or clock.is_over()):
                 sought.run(seconds)
+            if leaps is not None:
+                leaps.run(clock.turn(max(_LEAPING, seconds / 2)))
             if asked.is_done or clock.is_over():
                 return
             part = seconds * (_SMALL_SHARE if self._told.count else _SHARE)

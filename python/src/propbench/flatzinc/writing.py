@@ -4,7 +4,6 @@ from collections.abc import Iterator, Mapping
 from fractions import Fraction
 
 from propbench.flatzinc.building import Built
-from propbench.flatzinc.residuals import off_by
 from propbench.flatzinc.solving import Solutions
 from propbench.flatzinc.terms import FlatTerm, Name, Numbers
 from propbench.questions import Plan
@@ -35,6 +34,9 @@ def solution(built: Built, plan: Plan) -> Iterator[str]:
             values = ",".join(_value(built, plan, each) for each in array.elements)
             yield f"{array.name} = array{len(array.printed)}d({sets},[{values}]);"
     if built.floats is not None:
+        # (most models have no floats)
+        from propbench.flatzinc.residuals import off_by
+
         off = off_by(built.flat, built.read(plan))
         yield f"% within {float(off):.1e}"
 

@@ -36,6 +36,8 @@ _LAW = ("law", "under")
 
 
 _Made = TypeVar("_Made")
+# What a table of the file may hold, but for the points of a curve.
+_Entry = str | int | Decimal
 
 
 class BadBench(ValueError):
@@ -46,11 +48,18 @@ class Stating(Protocol):
     """What a bench is stated to: a workbench."""
 
     def measured(
-        self, name: str, unit: str = "1", low: Any = None, high: Any = None, step: Any = None
+        self,
+        name: str,
+        unit: str = "1",
+        low: _Entry | None = None,
+        high: _Entry | None = None,
+        step: _Entry | None = None,
     ) -> object:
         """Makes a quantity."""
 
-    def device(self, name: str, offset: Any = None, scale: Any = None) -> object:
+    def device(
+        self, name: str, offset: _Entry | None = None, scale: _Entry | None = None
+    ) -> object:
         """Makes a device."""
 
     def law(
@@ -68,9 +77,9 @@ class BenchFile:
 
     path: Path
     title: str
-    quantities: Mapping[str, Mapping[str, Any]]
-    devices: Mapping[str, Mapping[str, Any]]
-    curves: Mapping[str, Mapping[str, Any]]
+    quantities: Mapping[str, Mapping[str, _Entry]]
+    devices: Mapping[str, Mapping[str, _Entry]]
+    curves: Mapping[str, Mapping[str, object]]
     laws: Sequence[Mapping[str, str]] | Path
 
     def state(self, to: Stating) -> None:
@@ -90,12 +99,14 @@ class BenchFile:
             call = partial(to.law, law["law"], law.get("under"), curves=made)
             self._state(f"laws, {place}", call)
 
-    def _curve(self, name: str, given: Mapping[str, Any]) -> Calibration:
+    def _curve(self, name: str, given: Mapping[str, object]) -> Calibration:
         """A curve by its points, or by those of the file that it names."""
-        points = given[_POINTS]
+        # (Whether the rest is what it should be, `curve` sees.)
+        rest: dict[str, Any] = dict(given)
+        points = rest.pop(_POINTS)
         if isinstance(points, str):
             points = points_of_file(self.path.parent / points)
-        return curve(name, points, **{key: it for key, it in given.items() if key != _POINTS})
+        return curve(name, points, **rest)
 
     def _state(self, part: str, call: Callable[[], _Made]) -> _Made:
         try:
@@ -109,23 +120,23 @@ def bench_in(path: str | os.PathLike[str]) -> BenchFile:
     with open(path, "rb") as file:
         data = file.read()
     try:
-        read: Mapping[str, Any] = _toml().loads(data.decode("utf-8"), parse_float=Decimal)
-        return _bench(Path(path), read)
+        return _bench(Path(path), _toml_in(data.decode("utf-8")))
     except ValueError as error:
         raise BadBench(f"{printable(os.fspath(path))}: {error}") from None
 
 
-def _toml() -> Any:
-    """What reads TOML: Python's own from 3.11 on."""
+def _toml_in(text: str) -> Mapping[str, object]:
+    """What a text in TOML says, by Python's own reader from 3.11 on. Raises ValueError."""
     for name in ("tomllib", "tomli"):
         try:
-            return import_module(name)
+            loads: Callable[..., dict[str, object]] = import_module(name).loads
         except ImportError:
             continue
+        return loads(text, parse_float=Decimal)
     raise BadBench("to read TOML Python 3.11 is needed, or the package tomli (python3-tomli)")
 
 
-def _bench(path: Path, read: Mapping[str, Any]) -> BenchFile:
+def _bench(path: Path, read: Mapping[str, object]) -> BenchFile:
     _check_keys("the file", read, _TOP)
     quantities = _tables("quantities", read.get("quantities", {}), _QUANTITY)
     if not quantities:
@@ -140,7 +151,7 @@ def _bench(path: Path, read: Mapping[str, Any]) -> BenchFile:
     return BenchFile(path, title, quantities, devices, curves, _laws(path, read.get("laws", [])))
 
 
-def _curves(given: object) -> Mapping[str, Mapping[str, Any]]:
+def _curves(given: object) -> Mapping[str, Mapping[str, object]]:
     """Curves by name, each with its points or the name of a file that has them."""
     found = _tables("curves", given, _CURVE)
     for name, table in found.items():
@@ -167,8 +178,9 @@ def _laws(path: Path, given: object) -> Sequence[Mapping[str, str]] | Path:
     return found
 
 
-def _tables(name: str, given: object, keys: Sequence[str]) -> Mapping[str, Mapping[str, Any]]:
-    """Tables by name, which have no other keys than these."""
+def _tables(name: str, given: object, keys: Sequence[str]) -> dict[str, dict[str, _Entry]]:
+    """Tables by name, which have no other keys than these, and texts and numbers behind them (a
+    curve's points are looked at elsewhere)."""
     if not isinstance(given, dict) or not all(isinstance(it, dict) for it in given.values()):
         raise BadBench(f"`{name}` has a table for each, as `name = {{ {keys[0]} = .. }}`")
     for each, table in given.items():
@@ -180,7 +192,7 @@ def _tables(name: str, given: object, keys: Sequence[str]) -> Mapping[str, Mappi
     return given
 
 
-def _check_keys(where: str, table: Mapping[str, Any], keys: Sequence[str]) -> None:
+def _check_keys(where: str, table: Mapping[str, object], keys: Sequence[str]) -> None:
     for key in table:
         if key not in keys:
             near = near_names(key, keys)

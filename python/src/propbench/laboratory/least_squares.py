@@ -17,6 +17,8 @@ from propbench.model.nodes import Declared
 _ROUNDS, _CLOSE, _FREE = 60, 1e-11, 1e-10
 # A variance below this, as a part of what the quantity is squared, is rounding.
 _NOTHING = 1e-26
+# An array of numpy. It comes with SciPy, which may be missing where types are checked.
+_Array = Any
 
 
 class NoScipy(ImportError):
@@ -54,7 +56,7 @@ class Correlations:
     with a row and a column at each quantity's place."""
 
     places: Mapping[Declared, int]
-    table: Any
+    table: _Array
 
     def of(self, one: Declared, other: Declared) -> float | None:
         """From -1 to 1; None where one of both isn't determined, or is exact."""
@@ -76,7 +78,7 @@ class Estimates:
 
 
 def scipy(part: str) -> Any:
-    """A part of SciPy. Raises NoScipy, which says how to get it."""
+    """A part of SciPy, which has no types. Raises NoScipy, which says how to get it."""
     try:
         return import_module(part)
     except ImportError:
@@ -124,7 +126,7 @@ class _Adjusting:
             "least squares came to no end: give quantities narrower ends, or read more"
         )
 
-    def _step(self) -> tuple[Any, Any]:
+    def _step(self) -> tuple[_Array, _Array]:
         """What is free under the laws at the point, by columns, and the step to the next point."""
         slopes, off = self._planes()
         if not len(slopes):
@@ -137,7 +139,7 @@ class _Adjusting:
             towards = towards + free @ self._linalg.lstsq(self._weighed @ free, left, cond=_FREE)[0]
         return free, towards
 
-    def _planes(self) -> tuple[Any, Any]:
+    def _planes(self) -> tuple[_Array, _Array]:
         """The slopes of the laws at the point, each row of length 1, and how far they are off."""
         at = dict(zip(self._cells, map(float, self._x * self._size)))
         rows = self._numpy.zeros((len(self._laws), len(self._cells)))
@@ -151,7 +153,7 @@ class _Adjusting:
             off[row] = found.value / length
         return rows, off
 
-    def _estimates(self, free: Any) -> Estimates:
+    def _estimates(self, free: _Array) -> Estimates:
         """The estimates at the point that was found, with their covariances."""
         design = self._weighed @ free
         # (of nothing LAPACK makes an error)
@@ -186,7 +188,7 @@ class _Adjusting:
         return Estimates(values, tests, degrees, chi_square, together)
 
     def _correlations(
-        self, covariance: Any, values: Mapping[Declared, tuple[float, float] | None]
+        self, covariance: _Array, values: Mapping[Declared, tuple[float, float] | None]
     ) -> Correlations:
         """Those of the quantities that have a deviation."""
         varying = [cell for cell, value in values.items() if value is not None and value[1]]

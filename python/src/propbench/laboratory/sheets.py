@@ -190,6 +190,7 @@ def rows_of(table: object, decimal: str = ".") -> ReadingSheet:
     frame of pandas. The first one is row 1, and a list of names has none. Raises BadTable, and
     TypeError for what is no table."""
     if hasattr(table, "columns") and hasattr(table, "itertuples"):
+        # (pandas may be missing where types are checked)
         frame: Any = table
         return _rows(
             Head.of(list(frame.columns)), enumerate(frame.itertuples(index=False), 1), decimal

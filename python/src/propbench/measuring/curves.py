@@ -7,9 +7,16 @@ which laws need of a function. python/REALS.md says how.
 from bisect import bisect_right
 from dataclasses import dataclass
 from fractions import Fraction
-from typing import Any, Protocol
+from typing import Protocol
 
-from propbench.measuring.enclosing import EnclosingEnds, enclosed, guessed, pi_ends
+from propbench.measuring.enclosing import (
+    EnclosingEnds,
+    MpContext,
+    MpNumber,
+    enclosed,
+    guessed,
+    pi_ends,
+)
 
 # Where a curve has a value, None where that has no end.
 ArgumentEnds = tuple[Fraction | None, Fraction | None]
@@ -112,7 +119,7 @@ class Exponential:
             return Fraction(-MOST_EXPONENT)
         return guessed(lambda its, x: its.ln(x) / (its.ln(self.base) if self.base else 1), value)
 
-    def _of(self, its: Any, x: Any) -> Any:
+    def _of(self, its: MpContext, x: MpNumber) -> MpNumber:
         return its.exp(x * its.log(its.mpf(self.base)) if self.base else x)
 
 
@@ -142,7 +149,7 @@ class Power:
         above, below = self.exponent.denominator, self.exponent.numerator
         return guessed(lambda its, x: its.power(x, its.mpf(above) / below), value)
 
-    def _of(self, its: Any, x: Any) -> Any:
+    def _of(self, its: MpContext, x: MpNumber) -> MpNumber:
         exponent = its.mpf(self.exponent.numerator) / self.exponent.denominator
         return its.exp(its.log(x) * exponent)
 
@@ -182,14 +189,14 @@ class Wave:
     def guess(self, value: Fraction) -> Fraction:
         return guessed(self._inverse, min(max(value, Fraction(-1)), Fraction(1)))
 
-    def _of(self, its: Any, x: Any) -> Any:
+    def _of(self, its: MpContext, x: MpNumber) -> MpNumber:
         angle = x * self._scale(its)
         return its.cos(angle) if self.is_cosine else its.sin(angle)
 
-    def _scale(self, its: Any) -> Any:
+    def _scale(self, its: MpContext) -> MpNumber:
         return its.pi / 180 if self.in_degrees else its.mpf(1)
 
-    def _inverse(self, its: Any, value: Any) -> Any:
+    def _inverse(self, its: MpContext, value: MpNumber) -> MpNumber:
         principal = its.acos(value) if self.is_cosine else its.asin(value)
         if self.branch % 2:
             principal = its.pi - principal if self.is_cosine else -principal
@@ -223,15 +230,15 @@ class Tangent:
             lambda its, x: (its.atan(x) + self.branch * its.pi) / self._scale(its), value
         )
 
-    def _of(self, its: Any, x: Any) -> Any:
+    def _of(self, its: MpContext, x: MpNumber) -> MpNumber:
         angle = x * self._scale(its)
         return its.sin(angle) / its.cos(angle)
 
-    def _bent(self, its: Any, x: Any) -> Any:
+    def _bent(self, its: MpContext, x: MpNumber) -> MpNumber:
         tangent = self._of(its, x)
         return 2 * tangent * (1 + tangent**2) * self._scale(its) ** 2
 
-    def _scale(self, its: Any) -> Any:
+    def _scale(self, its: MpContext) -> MpNumber:
         return its.pi / 180 if self.in_degrees else its.mpf(1)
 
 

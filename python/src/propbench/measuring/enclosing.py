@@ -11,6 +11,10 @@ from importlib import import_module
 from typing import Any
 
 EnclosingEnds = tuple[Fraction, Fraction]
+# A number of mpmath or one of its intervals; and what works with either, as `its.exp(x)`. Both have
+# no types, and may be missing where these are checked.
+MpNumber = Any
+MpContext = Any
 # Intervals are worked out to so many binary digits.
 _DIGITS = 200
 
@@ -20,7 +24,7 @@ class NoLibrary(ValueError):
 
 
 @cache
-def _intervals() -> Any:
+def _intervals() -> MpContext:
     """The intervals of mpmath. Raises NoLibrary."""
     try:
         made = import_module("mpmath.ctx_iv").MPIntervalContext()
@@ -34,7 +38,7 @@ def _intervals() -> Any:
 
 
 @cache
-def _numbers() -> Any:
+def _numbers() -> MpContext:
     """The numbers of mpmath, rounded: by these it is only guessed where something lies."""
     _intervals()
     made = import_module("mpmath").MPContext()
@@ -42,7 +46,9 @@ def _numbers() -> Any:
     return made
 
 
-def enclosed(function: Callable[[Any, Any], Any], low: Fraction, high: Fraction) -> EnclosingEnds:
+def enclosed(
+    function: Callable[[MpContext, MpNumber], MpNumber], low: Fraction, high: Fraction
+) -> EnclosingEnds:
     """Between what the values of a function lie, for all numbers from `low` to `high`. It is given
     the intervals of mpmath, and the numbers as one of them."""
     intervals = _intervals()
@@ -53,7 +59,7 @@ def enclosed(function: Callable[[Any, Any], Any], low: Fraction, high: Fraction)
     return _fraction(below), _fraction(above)
 
 
-def guessed(function: Callable[[Any, Any], Any], at: Fraction) -> Fraction:
+def guessed(function: Callable[[MpContext, MpNumber], MpNumber], at: Fraction) -> Fraction:
     """About what a function is at a number."""
     numbers = _numbers()
     return _fraction(function(numbers, numbers.mpf(at.numerator) / at.denominator)._mpf_)
@@ -65,7 +71,7 @@ def pi_ends() -> EnclosingEnds:
     return enclosed(lambda intervals, zero: zero + intervals.pi, Fraction(0), Fraction(0))
 
 
-def _fraction(number: Any) -> Fraction:
+def _fraction(number: tuple[MpNumber, ...]) -> Fraction:
     """A number of mpmath as it keeps it. Raises OverflowError for what has no end."""
     sign, digits, exponent, length = number
     if digits == 0 and exponent != 0:

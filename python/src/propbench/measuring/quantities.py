@@ -19,13 +19,15 @@ _FINE, _FINEST, _MOST = 10**8, 10**15, 8 * 10**17
 
 
 class Quantity(Cell, Term):
-    """A measured quantity: a real number in a unit, whose cell counts steps of it.
+    """A measured quantity: a real number in a unit, whose cell counts steps of it. `w.measured`
+    makes one, and `w.read` tells a reading; it lies where all readings of it overlap.
 
     >>> w = Workbench()
     >>> height = w.measured("height", "m", 0, 100, step="0.1")
     >>> w.read("tape", height, "12.0 m +- 0.5 m")
+    >>> w.read("laser", height, "12.3 m +- 0.4 m")
     >>> print(height.ask())
-    height = 11.5..12.5 m because of tape
+    height = 11.9..12.5 m because of tape, laser
     """
 
     def __init__(self, declared: Declared, workbench: Answerer) -> None:

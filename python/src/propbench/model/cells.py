@@ -31,6 +31,12 @@ class Cell(Expression):
     """A cell: it has a name, and can be asked what follows for it."""
 
     def __init__(self, declared: Declared, workbench: Answerer) -> None:
+        """Of a workbench, which makes it. Raises TypeError for what was not declared there."""
+        if not isinstance(declared, Declared):
+            raise TypeError(
+                f"{declared!r}: a workbench makes a cell, as w.number('days', 0, 60), and a "
+                "quantity, as w.measured('length', 'm', 0, 100)"
+            )
         super().__init__(cell(declared))
         self._declared = declared
         self._workbench = workbench
@@ -59,6 +65,9 @@ class Cell(Expression):
     def ask(self, *, over: str | None = None, seconds: float | None = None) -> Answer:
         """What follows for the cell. Under choices that is the answer in one plan, the first that
         fits; with `over="all plans"` it is the true range over all of them.
+
+        It may be wider than what plans have, never narrower: `w.slack(x)` tells their range,
+        `x.how()` what makes up the answer, `w.sensitivity(x)` what each premise is worth.
 
         A run that isn't done after `seconds` is cut, and the answer says that it isn't settled.
         Raises Conflict where what is believed can't all hold.

@@ -5,7 +5,7 @@ TypeError. Constants may stand where a cell may; they are whole numbers, `True` 
 names of elements and symbols.
 """
 
-from collections.abc import Iterable, Mapping
+from collections.abc import Iterable, Iterator, Mapping
 from numbers import Integral
 from operator import index
 from typing import NoReturn, SupportsIndex, TypeVar, cast, overload
@@ -63,7 +63,8 @@ class Expression:
     # (Two expressions that look alike are not the same: `==` states a constraint.)
     __hash__ = object.__hash__
 
-    def __iter__(self) -> NoReturn:
+    # (By its type too a value is no list of numbers, which `total` and `maximum` take.)
+    def __iter__(self) -> Iterator[object]:
         raise TypeError(f"`{self!r}` is one value, not several")
 
 
@@ -271,7 +272,8 @@ def point_of(value: object, kind: Kind) -> Point:
         return _checked_number(value)
     if kind is Plain.TRUTH:
         if not isinstance(value, bool):
-            raise TypeError(f"{value!r} is no truth: write True or False")
+            hint = ", or a constraint without quotes" if isinstance(value, str) else ""
+            raise TypeError(f"{value!r} is no truth: write True or False{hint}")
         return value
     if not isinstance(value, str):
         raise TypeError(f"{value!r} is not {kind_text(kind)}: write its name as a text")

@@ -23,8 +23,12 @@ if TYPE_CHECKING:
     from propbench.questions.planned import Scheduled
 
 
-# What makes a schedule of a plan and the alternatives in it, where a network has tasks.
-Scheduling = Callable[[Network, Mapping[str, Point], Mapping[str, object]], "Scheduled | None"]
+# What makes a schedule of a plan and the alternatives in it, where a network has tasks; of cells it
+# is told by which premises they are no less.
+Scheduling = Callable[
+    [Network, Mapping[str, Point], Mapping[str, object], Mapping[str, Sequence[str]]],
+    "Scheduled | None",
+]
 # What makes a plan by hand, of which it tells the values of some cells.
 MakingByHand = Callable[[Network], Mapping[str, Point]]
 
@@ -165,11 +169,17 @@ class BenchModel:
             name: choices[name].stands_on(side) for name, side in sides.items() if side is not None
         }
 
-    def scheduled(self, plan: Mapping[str, Point]) -> "Scheduled | None":
-        """These points as a schedule, where there are tasks of one project."""
+    def scheduled(
+        self,
+        plan: Mapping[str, Point],
+        choices: Mapping[str, object],
+        why: Mapping[str, Sequence[str]],
+    ) -> "Scheduled | None":
+        """These points, with the alternatives that they take, as a schedule, where there are tasks
+        of one project; and of cells the premises `why` they are no less."""
         if self._scheduling is None:
             return None
-        return self._scheduling(self._network, plan, self.chosen(plan))
+        return self._scheduling(self._network, plan, choices, why)
 
     def by_hand(self) -> Mapping[str, Point]:
         """Values of some cells at which a plan may be, none where nothing is known."""

@@ -14,6 +14,7 @@ from propbench.planning.seen import (
     groups_of,
     says_of,
     schedule_seen,
+    trade_seen,
 )
 from propbench.planning.sheet_files import written
 from propbench.questions.asking import Interrupted
@@ -43,6 +44,7 @@ class PlanAsking(ServedNetwork):
             "hinders": lambda asked: _unless_stopped(self._hinders, asked),
             "without": lambda asked: _unless_stopped(self._without, asked),
             "suppose": lambda asked: _unless_stopped(self._suppose, asked),
+            "trade": lambda asked: _unless_stopped(self._trade, asked),
             "give up": self._give_up,
             "put": self._put,
             "drop": self._drop,
@@ -125,6 +127,14 @@ class PlanAsking(ServedNetwork):
         """What the plan would be if something were otherwise."""
         text = text_in(asked, "text")
         return {"says": self._said(self._plan.supposed(text, _SECONDS, self._telling))}
+
+    def _trade(self, asked: Mapping[str, object]) -> dict[str, object]:
+        """What an earlier end costs, in money or in wishes."""
+        goal = text_in(asked, "goal")
+        if goal not in ("cost", "wishes"):
+            raise ValueError(f"no end is traded for {goal!r}")
+        traded = self._plan.traded(goal, _SECONDS, self._telling)
+        return trade_seen(traded.found, traded.lost)
 
     def _said(self, found: Optimum | Optima) -> str:
         """A plan that isn't made, in a sentence."""

@@ -45,6 +45,7 @@ _FILES = {
     "gantt.js": ("gantt.js", "text/javascript; charset=utf-8"),
     "forms.js": ("forms.js", "text/javascript; charset=utf-8"),
     "texts.js": ("texts.js", "text/javascript; charset=utf-8"),
+    "trade.js": ("trade.js", "text/javascript; charset=utf-8"),
 }
 _JSON, _TEXT = "application/json", "text/plain; charset=utf-8"
 

@@ -8,7 +8,7 @@ from propbench.planning.rules import Rule
 from propbench.planning.who import AnyOf, Skilled
 
 # What it costs to give something up where no weight says it: a wish, leave, that somebody does one
-# thing at a time.
+# thing at a time, or is set up.
 WISH, LEAVE, HELP = 1.0, 5.0, 20.0
 
 
@@ -26,7 +26,7 @@ class TaskWanted:
     """A task of a table. It begins on the day `earliest` or later, and ends before `latest`; `done`
     are its first day and that by which it was over, where it was done, and `left` the days that are
     left of one under way, with that on which it `began`. `people` do it, and some of each of the
-    `groups`; it `pauses` while they are away, and `uses` so much of resources."""
+    `groups`; it `pauses` while they are away, `uses` so much of resources, and is of a `kind`."""
 
     name: str
     ways: tuple[NamedWay, ...]
@@ -40,6 +40,18 @@ class TaskWanted:
     uses: dict[str, int] = field(default_factory=dict)
     left: int | None = None
     began: int | None = None
+    kind: str | None = None
+
+
+@dataclass(frozen=True)
+class SetupWanted:
+    """The days in which somebody, or a machine, is set up from one kind of task to another, and
+    what it costs to give that up."""
+
+    person: str
+    kinds: tuple[str, str]
+    days: int
+    weight: float
 
 
 @dataclass(frozen=True)
@@ -55,17 +67,20 @@ class Leave:
 
 @dataclass(frozen=True)
 class Wish:
-    """What is wished for: of a task, or of all of them. A task that begins `on` a day doesn't later
-    either."""
+    """What is wished for: of a task, of all that a `person` does or that uses a resource, or of all
+    of them. A task that begins `on` a day doesn't later either, and isn't done in the days `off`.
+    """
 
     name: str
-    task: str | None
-    earliest: int | None
-    latest: int | None
-    cost: int | None
-    way: str | None
     weight: float
+    task: str | None = None
+    earliest: int | None = None
+    latest: int | None = None
+    cost: int | None = None
+    way: str | None = None
     is_on: bool = False
+    person: str | None = None
+    off: tuple[int, int] | None = None
 
 
 @dataclass(frozen=True)
@@ -112,6 +127,7 @@ class Brief:
     leaves: list[Leave] = field(default_factory=list)
     wishes: list[Wish] = field(default_factory=list)
     rules: list[Rule] = field(default_factory=list)
+    setups: list[SetupWanted] = field(default_factory=list)
     given_up: list[str] = field(default_factory=list)
     baseline: list[Agreed] = field(default_factory=list)
     unread: list[str] = field(default_factory=list)

@@ -27,6 +27,7 @@ from propbench.planning.tasks import (
     TaskTold,
     Wished,
 )
+from propbench.planning.wishes import WorkWished
 
 # Of a project with fewer tasks a program finds plans at once.
 _FEWEST = 12
@@ -136,8 +137,12 @@ class _KnownWork:
         elif isinstance(event, KeptWithin):
             there = self.holds.get(event.resource, event.holds)
             self.holds[event.resource] = min(event.holds, there)
+        elif isinstance(event, WorkWished) and event.task is not None:
+            work = self.jobs[event.task]
+            if event.person not in work.task.may:
+                work.earliest = max(work.earliest, event.first or 0)
         elif isinstance(event, SetUp):
-            self.setups.setdefault(event.person, {}).update(event.times)
+            self.setups.setdefault(event.person, {})[event.kinds] = event.days
 
 
 def _projects(network: Network) -> list[_KnownWork]:
@@ -230,16 +235,17 @@ class _Maker:
     def _has_room(self, task: Task, start: int, end: int, who: frozenset[str]) -> bool:
         """Whether those who do a task are free then, and there is enough of what it uses."""
         for other in self._placed.values():
-            for person in who & other.who:
-                there, back = self._between(person, other.task, task)
+            shared = {name for name in task.uses if name in other.task.uses}
+            for name in (who & other.who) | shared:
+                there, back = self._between(name, other.task, task)
                 is_apart = other.end + there <= start or end + back <= other.start
-                if not is_apart and (person in self._known.single or there or back):
+                if not is_apart and (name in self._known.single or there or back):
                     return False
         return all(self._has_enough(task, name, start, end) for name in task.uses)
 
-    def _between(self, person: str, one: Task, other: Task) -> tuple[int, int]:
-        """The days between two tasks of somebody, in either order."""
-        times, kinds = self._known.setups.get(person, {}), (str(one.kind), str(other.kind))
+    def _between(self, name: str, one: Task, other: Task) -> tuple[int, int]:
+        """The days between two tasks of somebody, or of a machine, in either order."""
+        times, kinds = self._known.setups.get(name, {}), (str(one.kind), str(other.kind))
         return times.get(kinds, 0), times.get(kinds[::-1], 0)
 
     def _has_enough(self, task: Task, name: str, start: int, end: int) -> bool:

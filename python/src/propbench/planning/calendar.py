@@ -4,6 +4,8 @@ import re
 from collections.abc import Iterable, Sequence
 from dataclasses import dataclass, field
 from datetime import date, datetime, timedelta
+from operator import index
+from typing import SupportsIndex
 
 _NAMES = ("mon", "tue", "wed", "thu", "fri", "sat", "sun")
 MONTHS = ("Jan", "Feb", "Mar", "Apr", "May", "Jun", "Jul", "Aug", "Sep", "Oct", "Nov", "Dec")
@@ -25,6 +27,11 @@ def date_given(given: object) -> date:
     except ValueError:
         pass
     raise ValueError(f"{given!r} is no date: write it as 2026-12-04")
+
+
+def day_named(given: SupportsIndex | date | str) -> str:
+    """A day as it was given, by its number or its date, as premises are called by it."""
+    return str(index(given) if isinstance(given, SupportsIndex) else date_given(given))
 
 
 def date_said(day: date) -> str:

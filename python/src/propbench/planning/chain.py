@@ -236,7 +236,8 @@ class Walk:
         self._entries = {entry.task: entry for entry in schedule.entries}
         self._busy = {it.person for it in self._stated if isinstance(it, KeptApart)}
         self._full = {it.resource for it in self._stated if isinstance(it, KeptWithin)}
-        self._setups = {it.person: dict(it.times) for it in self._stated if isinstance(it, SetUp)}
+        found = [it for it in self._stated if isinstance(it, SetUp) and it.days]
+        self._setups = dict.fromkeys((it.person, it.kinds, it.days) for it in found)
 
     def links(self) -> Iterator[Link]:
         """The tasks of the chain, by their first days."""
@@ -293,8 +294,8 @@ class Walk:
             days = self._schedule.days_said(away.first, away.last)
             words.append(f"{printable(away.person)}, away {days}")
         for each in self._stated:
-            if isinstance(each, NotYet) or isinstance(each, Wished) and each.task == entry.task:
-                if each.first == entry.start:
+            if isinstance(each, NotYet | Wished) and each.first == entry.start:
+                if isinstance(each, NotYet) or each.speaks_of(entry.task, entry.needs):
                     words.append(printable(str(each.premise)))
         return "; ".join(dict.fromkeys(words)), before
 
@@ -310,11 +311,10 @@ class Walk:
     def _wait_for_setups(self, entry: Entry, into: tuple[list[str], list[Entry]]) -> None:
         """Takes in the tasks behind which somebody is set up for this one."""
         tasks = self._project.tasks
-        for person in (it for it in entry.people if it in self._setups):
-            for other in (it for it in self._entries.values() if person in it.people):
-                kinds = str(tasks[other.task].kind), str(tasks[entry.task].kind)
-                days = self._setups[person].get(kinds, 0)
-                if days and other.end + days == entry.start and other not in into[1]:
+        for person, kinds, days in (it for it in self._setups if it[0] in entry.needs):
+            for other in (it for it in self._entries.values() if person in it.needs):
+                is_so = (tasks[other.task].kind, tasks[entry.task].kind) == kinds
+                if is_so and other.end + days == entry.start and other not in into[1]:
                     into[0].append(printable(f"{person}, set up behind {other.task}"))
                     into[1].append(other)
 

@@ -1,4 +1,5 @@
-"""A Gantt chart as SVG: a bar for each task, and behind it the room that it has over all plans."""
+"""A Gantt chart as SVG: a bar for each task, those that make the end with a frame, and behind it
+the room that it has over all plans."""
 
 import os
 from collections.abc import Collection, Mapping
@@ -7,6 +8,7 @@ from html import escape
 from typing import TYPE_CHECKING
 
 from propbench.outputs import write_as
+from propbench.planning.calendar import MONTHS
 from propbench.planning.exports import ENDINGS
 from propbench.planning.schedule import Entry, Schedule
 from propbench.planning.tasks import Away
@@ -90,7 +92,7 @@ def drawn(schedule: Schedule, rooms: Mapping[str, tuple[int, int]], days: int) -
             *(
                 part
                 for row, entry in enumerate(schedule.entries)
-                for part in _row(schedule, entry, rooms.get(entry.task), _HEAD + row * _ROW)
+                for part in _row(schedule, entry, rooms.get(entry.task), row)
             ),
             "</svg>",
         ]
@@ -158,20 +160,26 @@ def _days(schedule: Schedule, days: int, height: int) -> list[str]:
     parts = []
     for day in range(0, days + 1, 5):
         x = _NAMES + day * _DAY
-        told = f"{schedule.calendar.date_of(day):%d.%m.}" if schedule.calendar else str(day)
+        told = str(day)
+        if schedule.calendar is not None:
+            date = schedule.calendar.date_of(day)
+            told = f"{date.day} {MONTHS[date.month - 1]}"
         parts.append(f'<line x1="{x}" y1="{_HEAD - 6}" x2="{x}" y2="{height}" stroke="#ccc"/>')
         parts.append(f'<text x="{x}" y="{_HEAD - 10}" text-anchor="middle">{told}</text>')
     return parts
 
 
-def _row(schedule: Schedule, entry: Entry, room: tuple[int, int] | None, top: int) -> list[str]:
-    """The bar of a task, its room, and its name."""
-    names = (*entry.people, *entry.used)
+def _row(schedule: Schedule, entry: Entry, room: tuple[int, int] | None, row: int) -> list[str]:
+    """The bar of a task, its room, and its name; where it makes the end, with what it waits for."""
+    names, top = (*entry.people, *entry.used), _HEAD + row * _ROW
+    makes_end, waits = entry.task in schedule.chain, schedule.chain.get(entry.task)
     who = f" ({', '.join(names)})" if names else ""
     told = printable(f"{entry.task}{who}")
     says = f"{escape(told)}: {_when(schedule, entry.start, entry.end)}"
-    label = told if len(told) <= _LETTERS else f"{told[: _LETTERS - 1]}\u2026"
-    parts = [f'<text x="4" y="{top + 16}">{escape(label)}</text>']
+    # (bold letters are wider)
+    bold, most = (' font-weight="bold"', _LETTERS - 2) if makes_end else ("", _LETTERS)
+    label = told if len(told) <= most else f"{told[: most - 1]}\u2026"
+    parts = [f'<text x="4" y="{top + 16}"{bold}>{escape(label)}</text>']
     parts += [
         _bar((away.first, away.last), (top + 2, 20), "#eeddcc", _said_of(schedule, away))
         for away in schedule.staff.aways
@@ -187,13 +195,15 @@ def _row(schedule: Schedule, entry: Entry, room: tuple[int, int] | None, top: in
         if away.last == entry.start and away.person in entry.needs
     ]:
         says += f"; it starts when {escape(listed(back))} is back"
+    says += f"; it waits for {escape(waits)}" if waits else ""
+    says += "; it makes the end" if makes_end else ""
     colour = "#555555"
     if entry.needs:
         known = (*schedule.people, *schedule.staff.resources)
         colour = _COLOURS[known.index(entry.needs[0]) % len(_COLOURS)]
     if entry.pauses:
         parts.append(_bar((entry.start, entry.end), (top + 11, 2), colour))
-    return [*parts, *(_bar(part, (top + 4, 16), colour, says) for part in entry.parts)]
+    return [*parts, *(_bar(part, (top + 4, 16), colour, says, makes_end) for part in entry.parts)]
 
 
 def _said_of(schedule: Schedule, away: Away) -> str:
@@ -207,12 +217,16 @@ def _when(schedule: Schedule, start: int, end: int) -> str:
     return said if schedule.calendar else f"day {said}"
 
 
-def _bar(days: tuple[int, int], lies: tuple[int, int], colour: str, says: str = "") -> str:
+def _bar(
+    days: tuple[int, int], lies: tuple[int, int], colour: str, says: str = "", framed: bool = False
+) -> str:
     """A bar from one day to another, which lies at a height and is so high."""
     (start, end), (top, height) = days, lies
     x, width = _NAMES + start * _DAY, max(2, (end - start) * _DAY)
     title = f"<title>{says}</title>" if says else ""
+    frame = ' stroke="#111" stroke-width="1.5"' if framed else ""
     return (
-        f'<rect x="{x}" y="{top}" width="{width}" height="{height}" rx="2" fill="{colour}">'
+        f'<rect x="{x}" y="{top}" width="{width}" height="{height}" rx="2" fill="{colour}"'
+        f"{frame}>"
         f"{title}</rect>"
     )

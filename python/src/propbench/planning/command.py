@@ -57,7 +57,7 @@ def plan_file(path: str, asked: PlanOptions, program: str | None) -> int:
     if brief.given_up:
         print(f"Given up already: {printable(listed(brief.given_up))}.")
     with Workbench(program) as w:
-        plan = plan_of(w, brief, _SPARE if asked.what_ifs else 0)
+        plan = plan_of(w, brief, _SPARE if asked.what_ifs else 0).in_force()
         goals = goals_of(plan, asked.goals)
         best = best_of(plan.project, asked.seconds)
         if best.plan is None:

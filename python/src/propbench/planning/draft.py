@@ -19,10 +19,14 @@ DraftRow = Mapping[str, str]
 _NAMES = {"tasks": "task", "people": "person"}
 _NAMED: dict[str, dict[str, tuple[str, ...]]] = {
     "tasks": {"tasks": ("after",), "wishes": ("task",)},
-    "people": {"tasks": ("who", "uses"), "absences": ("person",)},
+    "people": {"tasks": ("who", "uses"), "absences": ("person",), "setups": ("person",)},
 }
 # What a row can't do without, where it stands in it.
-_NEEDED = {"absences": ("person",), "wishes": ("task", "wish")}
+_NEEDED = {
+    "absences": ("person",),
+    "wishes": ("task", "wish"),
+    "setups": ("person", "from", "to"),
+}
 _BETWEEN = re.compile(r"(\s*[,;\n&+]\s*|\s+(?:and|or)\s+)")
 # What may stand in front of a name: `2 of ana`, `2 crew`.
 _BEFORE = re.compile(r"(?:(?:\d{1,6}|one|any)\s+(?:of\s+)?)", re.I)
@@ -54,6 +58,7 @@ class Draft:
         made = self.with_rows(table, rows)
         if table not in _NAMED:
             return made
+        made = made._without_kind(before.get("kind"), row.get("kind"), self._kinds())
         own = _NAMES[table]
         old, new = before.get(own, ""), row.get(own, "")
         if old == new or not new or any(each.get(own) == old for each in rows):
@@ -69,16 +74,36 @@ class Draft:
         if table not in _NAMED:
             return made
         own = _NAMES[table]
+        made = made._without_kind(gone.get("kind"), None, self._kinds())
         if any(each.get(own) == gone.get(own) for each in rows):
             return made
         made = made._renamed(table, gone.get(own, ""), "")
-        kept = {
-            other: [row for row in made.rows(other) if all(row.get(it) != "" for it in columns)]
-            for other, columns in _NEEDED.items()
-        }
-        for other, left in kept.items():
-            made = made.with_rows(other, left)
+        return made._without_lost()
+
+    def _without_lost(self) -> "Draft":
+        """The same without rows that can't do without what is gone."""
+        made = self
+        for table, columns in _NEEDED.items():
+            if rows := self.rows(table):
+                kept = [row for row in rows if all(row.get(it) != "" for it in columns)]
+                made = made.with_rows(table, kept)
         return made._without_empty()
+
+    def _kinds(self) -> set[str | None]:
+        """The kinds of tasks that there are."""
+        return {row.get("kind") for row in self.rows("tasks")}
+
+    def _without_kind(self, old: str | None, new: str | None, before: set[str | None]) -> "Draft":
+        """The same where no task is of a kind any more, if so: setup times speak of a new one in
+        its place, which wasn't there `before`, or are gone."""
+        if old is None or old in self._kinds():
+            return self
+        called = "" if new is None or new in before else new
+        rows = [
+            {key: called if key in ("from", "to") and text == old else text for key, text in it}
+            for it in (row.items() for row in self.rows("setups"))
+        ]
+        return self.with_rows("setups", rows)._without_lost() if rows else self
 
     def _without_empty(self) -> "Draft":
         """The same without texts in which nothing stands."""
@@ -101,7 +126,7 @@ class Draft:
                 }
                 for row in made.rows(other)
             ]
-            made = made.with_rows(other, rows)
+            made = made.with_rows(other, rows) if rows else made
         names = {old, *(str(row.get(it)) for own, it in _NAMES.items() for row in self.rows(own))}
         wishes = [_said(row, (old, new), names) for row in made.rows("wishes")]
         return made.with_rows("wishes", wishes) if wishes else made

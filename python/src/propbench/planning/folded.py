@@ -1,16 +1,15 @@
 """Why a plan ends no sooner, in short: of all the premises that the program names the chain of
 tasks that they make, and the premises themselves on demand."""
 
-from collections.abc import Iterator, Mapping, Sequence
+from collections.abc import Mapping, Sequence
 from typing import TYPE_CHECKING
 
 from propbench.model.events import Statement
 from propbench.planning.chain import Link, Walk
 from propbench.planning.order import SetUp
-from propbench.planning.schedule import Entry, Schedule
+from propbench.planning.schedule import Entry, Schedule, steps_of
 from propbench.planning.tasks import KeptApart, KeptOff, TaskBy, TaskOrdered, TaskTold, Wished
 from propbench.questions.bounding import LEAST, Optimum
-from propbench.questions.goals import Optima
 from propbench.questions.planned import Planned
 from propbench.questions.shown import Shown
 from propbench.showing import printable
@@ -111,10 +110,8 @@ def folded_of(project: "Project", plan: Planned) -> FoldedChain:
 
 def _end_of(project: "Project", plan: Planned) -> Optimum:
     """What is known of the end."""
-    steps: Iterator[Planned] = iter(plan.steps if isinstance(plan, Optima) else [plan])
-    for step in steps:
-        is_end = isinstance(step, Optimum) and step.cell == project.end.name
-        if isinstance(step, Optimum) and is_end and step.sort == LEAST and step.proved:
+    for step in steps_of(plan):
+        if step.cell == project.end.name and step.sort == LEAST and step.proved:
             return step
     raise ValueError(
         printable(f"what is shown is why {project.end.name} is no less: ask for the least of it")
@@ -129,8 +126,11 @@ def _speaks(each: Statement, entry: Entry) -> bool:
         return each.task.name == entry.task
     if isinstance(each, TaskOrdered):
         return each.later.name == entry.task
-    if isinstance(each, KeptApart | SetUp):
-        return each.person in entry.people
+    if isinstance(each, SetUp):
+        kind = each.project.tasks[entry.task].kind
+        return each.person in entry.needs and kind == each.kinds[1]
+    if isinstance(each, KeptApart):
+        return each.person in entry.needs
     if isinstance(each, KeptOff):
         return each.away.person in entry.people
-    return isinstance(each, Wished) and each.task == entry.task
+    return isinstance(each, Wished) and each.speaks_of(entry.task, entry.needs)

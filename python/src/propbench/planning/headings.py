@@ -41,6 +41,7 @@ TASKS = Columns(
         "left": ("days left", "remaining"),
         "pauses": ("pause",),
         "uses": ("use", "room", "machine"),
+        "kind": ("sort", "type"),
     },
     ("task", "days"),
 )
@@ -65,6 +66,16 @@ ABSENCES = Columns(
         "weight": (),
     },
     ("person", "from"),
+)
+SETUPS = Columns(
+    {
+        "person": ("who", "machine", "people", "resource"),
+        "from": ("first", "from kind"),
+        "to": ("then", "to kind"),
+        "days": ("takes", "day"),
+        "weight": (),
+    },
+    ("person", "from", "to", "days"),
 )
 WISHES = Columns(
     {
@@ -115,6 +126,7 @@ SORTS = {
     "people": ("people", "persons", "resources", "team", "staff"),
     "absences": ("absences", "absence", "leave", "away"),
     "wishes": ("wishes", "wish", "constraints", "goals"),
+    "setups": ("setups", "setup", "setup times", "changeovers"),
     "plan": ("plan", "calendar", "project", "settings"),
     "baseline": ("baseline", "agreed"),
     "given up": ("given up",),
@@ -126,6 +138,7 @@ COLUMNS = {
     "tasks": TASKS,
     "absences": ABSENCES,
     "wishes": WISHES,
+    "setups": SETUPS,
     "baseline": BASELINE,
     "given up": GIVEN_UP,
 }

@@ -30,6 +30,7 @@ from propbench.planning.tasks import (
     TaskTold,
     Wished,
 )
+from propbench.planning.wishes import WorkWished
 
 if TYPE_CHECKING:
     from propbench.workbench import Workbench
@@ -110,16 +111,24 @@ def _parts(event: Event) -> dict[str, object] | None:
     if isinstance(event, Told):
         return _told_parts(event)
     if isinstance(event, Wished):
-        return {"is": "wish", "says": event.written, "task": event.task, "first": event.first}
+        return _wish_parts(event)
     if isinstance(event, KeptApart):
         return {"is": "apart", "person": event.person}
     if isinstance(event, KeptWithin):
         return {"is": "within", "resource": event.resource, "holds": event.holds}
     if isinstance(event, SetUp):
-        return {"is": "setup", "person": event.person, "times": event.times}
+        return {"is": "setup", "person": event.person, "kinds": event.kinds, "days": event.days}
     if isinstance(event, KeptOff):
         return {"is": "off", "away": _away_parts(event.away)}
     return _order_parts(event)
+
+
+def _wish_parts(event: Wished) -> dict[str, object]:
+    """The same of what is wished for."""
+    says = [event.written, event.task, event.first, event.weight]
+    if isinstance(event, WorkWished):
+        return {"is": "work wish", "says": says, "person": event.person, "last": event.last}
+    return {"is": "wish", "says": says}
 
 
 def _order_parts(event: Event) -> dict[str, object] | None:
@@ -177,13 +186,16 @@ class Restored:
         self._tasks: dict[tuple[int, str], Task] = {}
         self._required: dict[str, Callable[[Required, Note], Required]] = {
             "task": self._task_made,
-            "wish": lambda it, note: Wished(*_of(it), note["says"], note["task"], note["first"]),
+            "wish": lambda it, note: Wished(*_wished(it, note)),
+            "work wish": lambda it, note: WorkWished(
+                *_wished(it, note), self._own(note), note["person"], note["last"]
+            ),
             "apart": lambda it, note: KeptApart(*_under(it), note["person"], self._own(note)),
             "within": lambda it, note: KeptWithin(
                 *_under(it), note["resource"], note["holds"], self._own(note)
             ),
             "setup": lambda it, note: SetUp(
-                *_of(it), self._own(note), note["person"], _times(note["times"])
+                *_under(it), self._own(note), note["person"], _two(note["kinds"]), note["days"]
             ),
             "off": lambda it, note: KeptOff(*_of(it), Away(*note["away"]), self._own(note)),
             "order": lambda it, note: TaskOrdered(*_of(it), self._own(note), *self._two(note)),
@@ -293,6 +305,11 @@ def _under(event: Required) -> tuple[Any, str]:
     return event.constraint, event.premise
 
 
+def _wished(event: Required, note: Note) -> tuple[Any, str, str, str | None, int | None, float]:
+    written, task, first, weight = note["says"]
+    return *_under(event), written, task, first, weight
+
+
 def _groups(note: Note) -> tuple[tuple[int, tuple[str, ...]], ...]:
     """How many of which others do a task. (An older file says how many alone.)"""
     if "groups" in note:
@@ -300,5 +317,6 @@ def _groups(note: Note) -> tuple[tuple[int, tuple[str, ...]], ...]:
     return ((note["number"], tuple(note["may"])),) if note["number"] else ()
 
 
-def _times(times: Sequence[Any]) -> tuple[tuple[tuple[str, str], int], ...]:
-    return tuple(((one, other), days) for (one, other), days in times)
+def _two(names: Sequence[str]) -> tuple[str, str]:
+    one, other = names
+    return one, other

@@ -9,7 +9,7 @@ from dataclasses import dataclass
 from propbench.closing import Closing
 from propbench.planning.brief import Brief, Given
 from propbench.planning.draft import Draft, DraftRow, clean, with_people
-from propbench.planning.planner import WeighedProject, best_of, plan_of, taking
+from propbench.planning.planner import WeighedProject, best_of, goals_of, plan_of, taking
 from propbench.planning.project import Project
 from propbench.planning.reading import brief_of
 from propbench.planning.schedule import Schedule
@@ -20,6 +20,7 @@ from propbench.questions.bounding import Optimum
 from propbench.questions.clock import Progress
 from propbench.questions.goals import Optima
 from propbench.questions.shown import listed
+from propbench.questions.trading import TradeOff
 from propbench.workbench import Workbench
 
 # So many repairs are looked for at the most, and so many conflicts shown.
@@ -46,6 +47,14 @@ class WayOut:
     premises: tuple[str, ...]
     says: tuple[str, ...]
     cost: float
+
+
+@dataclass(frozen=True)
+class Traded:
+    """What an earlier end costs: of each plan the wishes that are `lost` by it."""
+
+    found: TradeOff
+    lost: tuple[tuple[str, ...], ...]
 
 
 @dataclass(frozen=True)
@@ -222,6 +231,18 @@ class OpenPlan(Closing):
             suppose(project, text)
             return best_of(project, seconds, progress)
 
+    def traded(self, goal: str, seconds: float | None, progress: Progress | None = None) -> Traded:
+        """What an earlier end costs, by `cost`, or in `wishes` that are given up. Raises ValueError
+        where there is no task as yet, and as `given_up`."""
+        if self.plan is None:
+            raise ValueError("there is no task as yet")
+        plan = self.plan.in_force()
+        with self.workbench.what_if():
+            first, second = goals_of(plan, ["end", goal])
+            found = self.workbench.trade_off(first, second, seconds=seconds, progress=progress)
+            lost = [tuple(plan.wishes_lost(each.plan or {})) for each in found]
+        return Traded(found, tuple(lost) if goal == "wishes" else ((),) * len(lost))
+
     # --- within ---
 
     def _draft(self) -> Draft:
@@ -312,7 +333,9 @@ def plan_in(workbench: PlainWorkbench) -> OpenPlan | None:
     projects = workbench.projects if isinstance(workbench, Workbench) else ()
     if len(projects) != 1 or not projects[0].tasks:
         return None
-    return OpenPlan(None, Workbench, plan=WeighedProject(projects[0], {}))
+    weights = projects[0].weights
+    plan = WeighedProject(projects[0], weights, tuple(weights))
+    return OpenPlan(None, Workbench, plan=plan)
 
 
 def _rows_of(schedule: Schedule) -> list[DraftRow]:

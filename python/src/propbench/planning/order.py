@@ -2,11 +2,12 @@
 those in which somebody, or a machine, is set up for another kind of task."""
 
 from collections.abc import Iterable, Iterator, Mapping
-from dataclasses import dataclass
+from dataclasses import dataclass, replace
+from itertools import combinations
 from typing import TYPE_CHECKING, SupportsIndex
 
 from propbench.model.events import Required
-from propbench.model.expressions import Truth
+from propbench.model.expressions import Truth, implies
 from propbench.model.nodes import TRUE
 from propbench.planning.tasks import Task, TaskOrdered, by_both
 from propbench.showing import printable
@@ -33,17 +34,20 @@ class TaskLagged(TaskOrdered):
 
 @dataclass(frozen=True)
 class SetUp(Required):
-    """Somebody is set up from one kind of task to another in some days."""
+    """Somebody, or a machine, is set up from one kind of task to another in some days: said of all
+    tasks, where the constraint is nothing, or of two."""
 
+    premise: str
     project: "Project"
     person: str
-    times: tuple[tuple[tuple[str, str], int], ...]
+    kinds: tuple[str, str]
+    days: int
 
     @property
     def told(self) -> str:
-        """What is stated, of all kinds."""
-        says = (f"{days} from {one} to {other}" for (one, other), days in self.times)
-        return printable(f"{self.person} needs {', '.join(says)}")
+        """What is stated, of all tasks of these kinds."""
+        days = f"{self.days} {'day' if self.days == 1 else 'days'}"
+        return printable(f"{self.person} takes {days} from {' to '.join(self.kinds)}")
 
 
 def lag_said(first: Task, then: Task, days: tuple[int | None, int | None], of: str) -> str:
@@ -76,14 +80,17 @@ def lags(
         yield then.start <= begun + most, None
 
 
-def state_setup(project: "Project", event: SetUp, tasks: Iterable[Task]) -> None:
-    """Has somebody be set up between these tasks."""
-    theirs = [task for task in tasks if event.person in task.doers and task.kind is not None]
+def setting_up(person: str, kinds: tuple[str, str], days: int) -> str:
+    """The premise that somebody is set up from one kind of task to another in some days."""
+    return f"{person} takes {days} from {' to '.join(kinds)}"
+
+
+def state_setup(project: "Project", said: SetUp, tasks: Iterable[Task]) -> None:
+    """Has somebody, or a machine, be set up between these tasks."""
     # (a premise under which nothing is stated yet would not be known)
-    project.state(event)
-    for place, task in enumerate(theirs):
-        for other in theirs[:place]:
-            _state_between(project, event, (other, task))
+    project.state(said)
+    for one, other in combinations(tasks, 2):
+        _state_between(project, said, one, other)
 
 
 def state_setups(project: "Project", task: Task, others: Iterable[Task]) -> None:
@@ -93,22 +100,21 @@ def state_setups(project: "Project", task: Task, others: Iterable[Task]) -> None
         for each in project.workbench.network.events
         if isinstance(each, SetUp) and each.project is project and each.constraint is TRUE
     ]
-    for event in known:
-        if event.person in task.doers and task.kind is not None:
-            for other in others:
-                if event.person in other.doers and other.kind is not None:
-                    _state_between(project, event, (other, task))
+    for said in known:
+        for other in others:
+            _state_between(project, said, other, task)
 
 
-def _state_between(project: "Project", event: SetUp, tasks: tuple[Task, Task]) -> None:
-    """Either of two tasks comes first, and so many days behind it the other."""
-    one, other = tasks
-    times = dict(event.times)
-    there, back = (times.get((str(a.kind), str(b.kind)), 0) for a, b in (tasks, tasks[::-1]))
-    if there or back:
-        apart = (one.end + there <= other.start) | (other.end + back <= one.start)
-        node = by_both(event.person, one, other, apart).node
-        project.state(SetUp(node, event.premise, project, event.person, event.times))
+def _state_between(project: "Project", said: SetUp, one: Task, other: Task) -> None:
+    """Of two tasks of these kinds the one behind begins so many days later."""
+    if not said.days or any(said.person not in it.needs for it in (one, other)):
+        return
+    for first, then in ((one, other), (other, one)):
+        if (first.kind, then.kind) == said.kinds:
+            # (they are kept apart by who does one thing at a time)
+            later = implies(first.end <= then.start, first.end + said.days <= then.start)
+            both = by_both(said.person, one, other, later)
+            project.state(replace(said, constraint=both.node))
 
 
 def times_given(person: str, times: object) -> tuple[tuple[tuple[str, str], int], ...]:

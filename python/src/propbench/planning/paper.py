@@ -1,7 +1,7 @@
-"""A schedule as one page of HTML, for a browser and for a printer: the chart, the days, who does
-what. It loads nothing, and runs nothing."""
+"""A schedule as one page of HTML, for a browser and for a printer: the chart, the days, what makes
+the end, who does what. It loads nothing, and runs nothing."""
 
-from collections.abc import Iterable, Sequence
+from collections.abc import Iterable, Iterator, Sequence
 from html import escape
 
 from propbench.planning.schedule import Schedule
@@ -20,6 +20,10 @@ th { border-bottom: 2px solid #555; }
 .chart { overflow-x: auto; }
 svg { max-width: 100%; height: auto; }
 rect { print-color-adjust: exact; -webkit-print-color-adjust: exact; }
+@media screen and (max-width: 40em) {
+  table { display: block; overflow-x: auto; }
+  td:nth-child(-n+2):not(:last-child) { white-space: nowrap; }
+}
 @page { size: A4 landscape; margin: 12mm; }
 @media print {
   body { margin: 0; max-width: none; padding: 0; font-size: 9.5pt; }
@@ -49,9 +53,20 @@ def page_of(schedule: Schedule, title: str) -> str:
         "<h2>By date</h2>",
         _table(schedule.heads(), schedule.rows()),
     ]
+    if schedule.chain:
+        heads = (*schedule.heads()[:2], "task", "who", "waits for")
+        parts += ["<h2>What makes the end</h2>", _table(heads, _links(schedule))]
     if doings := schedule.doings():
         parts += ["<h2>By person</h2>", _table(("who", "does"), doings)]
     return "\n".join([*parts, "</body></html>", ""])
+
+
+def _links(schedule: Schedule) -> Iterator[tuple[object, ...]]:
+    """The tasks that make the end, in order, with what each waits for."""
+    for entry in schedule.by_date():
+        if entry.task in schedule.chain:
+            waits = schedule.chain[entry.task]
+            yield *schedule.ends(entry), entry.task, entry.needs, waits
 
 
 def _table(heads: Sequence[str], rows: Iterable[Sequence[object]]) -> str:

@@ -1,17 +1,21 @@
 """A project of what a planner wants, and its best plan."""
 
-from collections.abc import Callable, Iterable, Mapping, Sequence
-from dataclasses import dataclass
+from collections.abc import Callable, Collection, Iterable, Mapping, Sequence
+from dataclasses import dataclass, replace
 
 from propbench.model.cells import NumberCell
+from propbench.model.expressions import Truth
 from propbench.model.kinds import Point
+from propbench.model.nodes import TRUE
 from propbench.planning.bounds import limit_of
 from propbench.planning.brief import LEAVE, Brief, TaskWanted, Wish
+from propbench.planning.order import SetUp
 from propbench.planning.project import Project
 from propbench.planning.resources import KeptWithin, rates_of
 from propbench.planning.rules import state_rule
 from propbench.planning.schedule import Entry, Schedule, Staff
 from propbench.planning.tasks import KeptApart, KeptOff, Option, Task
+from propbench.planning.wishes import DaysWanted, WishSaid, state_days
 from propbench.questions.asking import CellLike
 from propbench.questions.bounding import Optimum
 from propbench.questions.clock import Progress
@@ -40,6 +44,11 @@ class WeighedProject:
         """The weights of those of these premises that have one."""
         return {name: self.weights[name] for name in premises if name in self.weights}
 
+    def in_force(self) -> "WeighedProject":
+        """The same with those wishes that aren't given up already."""
+        believed = self.project.workbench.believed
+        return replace(self, wishes=tuple(name for name in self.wishes if name in believed))
+
     def wishes_lost(self, found: Mapping[str, Point]) -> list[str]:
         """The wishes that a plan doesn't keep."""
         kept = self.project.workbench.model.held(found)
@@ -58,6 +67,9 @@ def plan_of(workbench: Workbench, brief: Brief, spare: int = 0) -> WeighedProjec
         project.pays(name, cost)
     for job in brief.jobs.values():
         _add(project, job)
+    for setup in brief.setups:
+        [name] = project.setup(setup.person, {setup.kinds: setup.days})
+        weights[name] = setup.weight
     for job in brief.jobs.values():
         if job.done is not None:
             project.done(project.tasks[job.name], *job.done, f"{job.name} was done")
@@ -74,18 +86,12 @@ def plan_of(workbench: Workbench, brief: Brief, spare: int = 0) -> WeighedProjec
         weights[project.works(person, weekdays)] = LEAVE
     for person, (premise, off) in brief.off.items():
         weights[project.off(person, off, premise)] = LEAVE
-    for wish in brief.wishes:
-        _wish(project, wish, brief)
-        weights[wish.name] = wish.weight
-    for rule in brief.rules:
-        state_rule(project, rule)
-        weights[rule.name] = rule.weight
+    wishes = _wishes(project, brief)
     for name in brief.given_up:
         if name in workbench.believed:
             workbench.kick(name)
     _agree(project, brief)
-    wishes = *(wish.name for wish in brief.wishes), *(rule.name for rule in brief.rules)
-    return WeighedProject(project, weights, wishes)
+    return WeighedProject(project, weights | wishes, tuple(wishes))
 
 
 def _agree(project: Project, brief: Brief) -> None:
@@ -103,23 +109,39 @@ def _days(brief: Brief, spare: int) -> int:
     behind another, and some more."""
     if brief.days is not None:
         return brief.days
-    work = sum(max(way.days for way in job.ways) for job in brief.jobs.values())
-    if brief.works:
-        work *= _WEEK
     away = sum(leave.back - leave.first for leave in brief.leaves)
-    late = [job.earliest or 0 for job in brief.jobs.values()]
-    late += [wish.earliest or 0 for wish in brief.wishes]
-    late += [leave.back for leave in brief.leaves]
-    late += [sum(it or 0 for it in rule.days) for rule in brief.rules]
-    late += [job.done[1] for job in brief.jobs.values() if job.done is not None]
-    late.append(brief.today or 0)
-    wanted = max(1, work + away + max(late, default=0)) + spare
     off = {day for _, own in brief.off.values() for day in own}
+    wanted = max(1, _work(brief) + away + _latest(brief, off)) + spare
     days = 0
     while wanted > 0:
         wanted -= days not in off
         days += 1
     return days
+
+
+def _work(brief: Brief) -> int:
+    """How many days all tasks take, one behind another, with the days between them."""
+    jobs = brief.jobs.values()
+    work = sum(max([way.days for way in job.ways] + [job.left or 0]) for job in jobs)
+    if brief.works:
+        work *= _WEEK
+    between = sum(rule.days[0] or 0 for rule in brief.rules)
+    longest = max((setup.days for setup in brief.setups), default=0)
+    return work + between + len(jobs) * longest
+
+
+def _latest(brief: Brief, off: Collection[int]) -> int:
+    """The day from which on nobody has to wait for any day that is told."""
+    jobs = brief.jobs.values()
+    late = [job.earliest or 0 for job in jobs]
+    late += [max(wish.earliest or 0, *(wish.off or (0,))) for wish in brief.wishes]
+    late += [leave.back for leave in brief.leaves]
+    late += [job.done[1] for job in jobs if job.done is not None]
+    late.append(brief.today or 0)
+    if not all(job.pauses for job in jobs):
+        # (an event may fit between no two days off)
+        late += [day + 1 for day in off]
+    return max(late)
 
 
 def _add(project: Project, job: TaskWanted) -> Task:
@@ -130,21 +152,35 @@ def _add(project: Project, job: TaskWanted) -> Task:
         options: dict[str, Option] = {
             way.name: {"days": way.days, "cost": way.cost} for way in job.ways
         }
-        pauses, uses = job.pauses, job.uses
         task = project.task(
-            job.name, who=who, after=after, options=options, pauses=pauses, uses=uses
+            job.name,
+            who=who,
+            after=after,
+            options=options,
+            pauses=job.pauses,
+            kind=job.kind,
+            uses=job.uses,
         )
     else:
-        [way], pauses, uses = job.ways, job.pauses, job.uses
+        [way] = job.ways
         task = project.task(
-            job.name, way.days, cost=way.cost, who=who, after=after, pauses=pauses, uses=uses
+            job.name,
+            way.days,
+            cost=way.cost,
+            who=who,
+            after=after,
+            pauses=job.pauses,
+            kind=job.kind,
+            uses=job.uses,
         )
     if job.earliest is not None:
         project.not_before(
             job.earliest, task, f"{job.name} not before {_told(project, job.earliest)}"
         )
     if job.latest is not None:
-        project.done_by(job.latest, f"{job.name} done before {_told(project, job.latest)}", task)
+        day, calendar = job.latest, project.calendar
+        until = f"by {calendar.last_date(0, day)}" if calendar and day else f"before {day}"
+        project.done_by(day, f"{job.name} done {until}", task)
     return task
 
 
@@ -153,25 +189,34 @@ def _told(project: Project, day: int) -> str:
     return str(day) if project.calendar is None else str(project.calendar.date_of(day))
 
 
+def _wishes(project: Project, brief: Brief) -> dict[str, float]:
+    """States what is wished for, in columns or in words, and tells what that weighs."""
+    for wish in brief.wishes:
+        _wish(project, wish, brief)
+    for rule in brief.rules:
+        state_rule(project, rule)
+    weights = {wish.name: wish.weight for wish in brief.wishes}
+    return weights | {rule.name: rule.weight for rule in brief.rules}
+
+
 def _wish(project: Project, wish: Wish, brief: Brief) -> None:
     task = None if wish.task is None else project.tasks[wish.task]
-    require = project.workbench.require
-    if wish.earliest is not None and task is not None:
-        project.not_before(wish.earliest, task, wish.name)
-        if wish.is_on:
-            said = f"{printable(task.name)} begins {project.day_said(wish.earliest)}"
-            project.wish(task.start <= wish.earliest, wish.name, said)
-    if wish.latest is not None:
-        project.done_by(wish.latest, wish.name, task)
+    days = DaysWanted(wish.earliest, wish.latest, wish.off, wish.is_on)
+    if days != DaysWanted():
+        state_days(project, wish.person or task, days, WishSaid(wish.name, wish.weight))
     if wish.cost is not None:
         cost = project.total_cost if task is None else task.cost
-        require(True if cost is None else cost <= wish.cost, wish.name)
+        what = "all" if task is None else printable(task.name)
+        kept = Truth(TRUE) if cost is None else cost <= wish.cost
+        says = f"{what} costs {wish.cost} at most"
+        project.wish(kept, wish.name, says, weight=wish.weight)
     if wish.way is not None and task is not None:
         [way] = [way for way in brief.jobs[task.name].ways if way.name == wish.way]
         takes = task.days == way.days
         if task.cost is not None:
             takes = takes & (task.cost == way.cost)
-        project.wish(takes, wish.name, printable(f"{task.name} by way of {way.name}"))
+        says = printable(f"{task.name} by way of {way.name}")
+        project.wish(takes, wish.name, says, weight=wish.weight)
 
 
 def best_of(
@@ -188,7 +233,9 @@ def best_of(
 
 def given_up(plan: WeighedProject) -> NumberCell:
     """The weight of the wishes that are given up, which nothing has to hold any more. Raises
-    ValueError where one weighs what is no whole number."""
+    ValueError where there is no wish, and where one weighs what is no whole number."""
+    if not plan.wishes:
+        raise ValueError("nothing is wished for, so no wish can be given up")
     weights: dict[str, int] = {}
     for name in plan.wishes:
         if plan.weights[name] % 1:
@@ -206,6 +253,8 @@ def taking(project: Project, premises: Iterable[str]) -> list[str]:
             found[f"somebody to help {each.person}"] = None
         elif isinstance(each, KeptWithin):
             found[f"more of {each.resource}"] = None
+        elif isinstance(each, SetUp):
+            found[f"{each.person} to go from {' to '.join(each.kinds)} at once"] = None
         elif isinstance(each, KeptOff):
             found[f"{each.away.person} to be there {each.away.written}"] = None
     return list(found)

@@ -11,8 +11,17 @@ from propbench.model.events import Required, Told
 from propbench.model.expressions import Number, Truth, implies, total
 from propbench.model.given import values_of
 from propbench.model.nodes import TRUE
+from propbench.model.writing import text_of
 from propbench.planning.bounds import limit_of, state_bounds, state_end
-from propbench.planning.calendar import Calendar, date_given, date_said, dates_said, spans_of
+from propbench.planning.calendar import (
+    Calendar,
+    date_given,
+    date_said,
+    dates_said,
+    day_named,
+    spans_of,
+)
+from propbench.planning.calendar_files import holidays, is_file
 from propbench.planning.groups import roles_of, state_groups
 from propbench.planning.order import (
     SetUp,
@@ -20,6 +29,7 @@ from propbench.planning.order import (
     Times,
     lag_said,
     lags,
+    setting_up,
     state_setup,
     state_setups,
     times_given,
@@ -55,6 +65,17 @@ from propbench.planning.tasks import (
     tasks_in,
 )
 from propbench.planning.who import Doers, Staffing, Who, speeds_given
+from propbench.planning.wishes import (
+    DaysWanted,
+    WishSaid,
+    days_wanted,
+    state_days,
+    state_wishes,
+    weight_given,
+    weights_of,
+    wished_of,
+)
+from propbench.questions.bounding import reasons_of
 from propbench.questions.clock import Clock, Progress
 from propbench.questions.model import Plan
 from propbench.questions.outcomes import NothingFits
@@ -176,11 +197,22 @@ class Project:
         """
         return resources_of(self, self.workbench.network.events)
 
-    def resource(self, name: str, holds: int = 1, under: str | None = None) -> str:
+    def resource(
+        self,
+        name: str,
+        holds: int = 1,
+        under: str | None = None,
+        *,
+        calendar: str | Iterable[Day] | None = None,
+    ) -> str:
         """There is so much of a resource, which no more is in use of at once by tasks that say what
         they use (`uses={"hall": 1}`), also while these pause; the premise of that, which is named
         `hall holds 2` where no name is given. What is said of one that is there holds beside that.
-        Raises ValueError for the name of a person and for less than one, and TypeError.
+
+        Its `calendar` tells when it is there: the weekdays on which it is (as `works`), or the days
+        on which it isn't, as a list or as a file of them (as `off`). A person holds one, and the
+        premise is that of the calendar. Raises ValueError for the name of a person who has no
+        calendar here and for less than one, as `works` and `off`, and TypeError.
 
         >>> w = Workbench()
         >>> p = w.project(days=30)
@@ -190,12 +222,29 @@ class Project:
         >>> w.least(p.end).value
         6
         """
-        if name in self.people:
+        is_person = name in self.people
+        if is_person and (calendar is None or holds != 1):
             raise ValueError(f"{name!r} is a person, who does one thing at a time")
+        if is_person and calendar is not None:
+            return self._there(name, calendar, under)
         number, premise = holds_given(name, holds), under or holding(name, int(holds))
         said = KeptWithin(TRUE, premise, name, number, self)
-        self.workbench.network.whole(lambda: state_resource(self, said, self.tasks.values()))
+
+        def state() -> None:
+            state_resource(self, said, self.tasks.values())
+            if calendar is not None:
+                self._there(name, calendar, None)
+
+        self.workbench.network.whole(state)
         return premise
+
+    def _there(self, name: str, calendar: str | Iterable[Day], under: str | None) -> str:
+        """Somebody is there by a calendar, or a resource is; the premise of that."""
+        if not isinstance(calendar, str):
+            return self.off(name, calendar, under)
+        if is_file(calendar):
+            return self.off(name, holidays(calendar), under)
+        return self.works(name, calendar, under)
 
     def pays(self, name: str, cost: int, under: str | None = None) -> str:
         """A person, or each of a resource, costs so much for a day of work on a task, beside what
@@ -288,6 +337,7 @@ class Project:
             state_uses(self, task, others)
             state_setups(self, task, others)
             state_pauses(self, task, [away for away in aways if away.person in task.needs])
+            state_wishes(self, task)
             return task
 
         return self.workbench.network.whole(state)
@@ -310,7 +360,7 @@ class Project:
         self._known(person)
         begin, end = self.day(first), self.day(last)
         if begin == end and _is_before(first, last):
-            premise = under or f"{person} away {self._said(first)} to {self._said(last)}"
+            premise = under or f"{person} away {day_named(first)} to {day_named(last)}"
             self.workbench.require(True, under=premise)
             return premise
         if begin >= end:
@@ -318,8 +368,8 @@ class Project:
                 f"{person} can't be away from {_day_text(first)} to {_day_text(last)}:"
                 " the second is the day of the return"
             )
-        premise = under or f"{person} away {self._said(first)} to {self._said(last)}"
-        away = Away(person, begin, end, premise, self._span(begin, end))
+        premise = under or f"{person} away {day_named(first)} to {day_named(last)}"
+        away = Away(person, begin, end, premise, self.span_said(begin, end))
         self._keep_off([away])
         return away.premise
 
@@ -343,7 +393,7 @@ class Project:
         premise = under or f"{person} works {' '.join(names)}"
         spans = self.calendar.spans_off(names, self.days)
         if spans:
-            self._keep_off([Away(person, *it, premise, self._span(*it), True) for it in spans])
+            self._keep_off([Away(person, *it, premise, self.span_said(*it), True) for it in spans])
         else:
             self.workbench.require(True, under=premise)
         return premise
@@ -368,7 +418,7 @@ class Project:
         premise = under or f"{person}'s days off"
         spans = [it for it in self._spans(days) if it[0] < self.days]
         if spans:
-            self._keep_off([Away(person, *it, premise, self._span(*it)) for it in spans])
+            self._keep_off([Away(person, *it, premise, self.span_said(*it)) for it in spans])
         else:
             self.workbench.require(True, under=premise)
         return premise
@@ -408,26 +458,37 @@ class Project:
         self.workbench.network.whole(state)
         return premise
 
-    def setup(self, person: str, times: Times, under: str | None = None) -> str:
-        """Between any task of one `kind` and any of another behind it, both of somebody or of a
-        machine, there are so many days: `{("red", "blue"): 2}`; the premise of that, which is named
-        `press is set up` where no name is given. Raises ValueError and TypeError for what says
-        none.
+    def setup(self, person: str, times: Times, under: str | None = None) -> tuple[str, ...]:
+        """Between any task of one `kind` and any of another behind it, both of somebody, or of a
+        resource that there is one of, there are so many days: `{("red", "blue"): 2}`. Of each two
+        kinds there is a premise, named `press takes 2 from red to blue`, or one of all `under` a
+        name: these premises. Raises ValueError and TypeError for what says none.
 
         >>> w = Workbench()
         >>> p = w.project(days=30, people="press")
         >>> red = p.task("posters", 3, who="press", kind="red")
         >>> blue = p.task("leaflets", 1, who="press", kind="blue")
         >>> p.setup("press", {("red", "blue"): 2, ("blue", "red"): 1})
-        'press is set up'
+        ('press takes 2 from red to blue', 'press takes 1 from blue to red')
         >>> w.least(p.end).value
         5
         """
-        self.staffing.known(person)
-        premise = under or f"{person} is set up"
-        event = SetUp(TRUE, premise, self, person, times_given(person, times))
-        self.workbench.network.whole(lambda: state_setup(self, event, self.tasks.values()))
-        return premise
+        self._known(person)
+        if self.resources.get(person, 1) > 1:
+            raise ValueError(
+                f"{person}: there are {self.resources[person]}, and set up is what there is one of"
+            )
+        said = [
+            SetUp(TRUE, under or setting_up(person, kinds, days), self, person, kinds, days)
+            for kinds, days in times_given(person, times)
+        ]
+
+        def state() -> None:
+            for each in said:
+                state_setup(self, each, self.tasks.values())
+
+        self.workbench.network.whole(state)
+        return tuple(dict.fromkeys(each.premise for each in said))
 
     def done_by(self, day: Day, under: str | None = None, task: Task | None = None) -> str:
         """A task, or all, is done before the beginning of a day; the premise of that.
@@ -439,15 +500,8 @@ class Project:
         >>> w.greatest(venue.start).value
         6
         """
-        last, what = self.day(day), "all" if task is None else task.name
-        premise = under or f"{what} done by {self._said(day)}"
-        written = f"{printable(what)} done before {self._told(last)}"
-
-        def state() -> None:
-            end = self.end if task is None else task.end
-            self.wish(end <= last, premise, written)
-
-        self.workbench.network.whole(state)
+        premise = under or f"{'all' if task is None else task.name} done by {day_named(day)}"
+        state_days(self, task, DaysWanted(last=self.day(day)), WishSaid(premise))
         return premise
 
     def not_before(self, day: Day, task: Task, under: str | None = None) -> str:
@@ -462,11 +516,8 @@ class Project:
         >>> w.least(venue.start).value
         5
         """
-        first = self.day(day)
-        premise = under or f"{task.name} not before {self._said(day)}"
-        written = f"{printable(task.name)} begins on {self._told(first)} or later"
-        constraint = self.workbench.constraint_of(task.start >= first)
-        self.state(Wished(constraint, premise, written, task.name, first))
+        premise = under or f"{task.name} not before {day_named(day)}"
+        state_days(self, task, DaysWanted(self.day(day)), WishSaid(premise))
         return premise
 
     def done(
@@ -494,7 +545,7 @@ class Project:
         from propbench.planning.progress import DoneBy, state_done
 
         self._check_there(task)
-        premise = under or f"{task.name} done {self._said(first)} to {self._said(end)}"
+        premise = under or f"{task.name} done {day_named(first)} to {day_named(end)}"
         by = DoneBy(premise, None if who is None else names_given(who, self.people))
         state_done(self, task, (self.day(first), self.day(end)), by)
         return premise
@@ -547,22 +598,79 @@ class Project:
         """
         from propbench.planning.progress import state_today
 
-        premise = under or f"today is {self._said(day)}"
+        premise = under or f"today is {day_named(day)}"
         state_today(self, self.day(day), premise)
         return premise
 
-    def wish(self, constraint: Truth, under: str, says: str) -> None:
-        """States a constraint under a premise, which is told in these words where somebody asks
-        what it says.
+    def wish(
+        self,
+        what: Truth | Task | str,
+        under: str | None = None,
+        says: str | None = None,
+        *,
+        weight: float = 1,
+        **days: Day,
+    ) -> str:
+        """Of somebody, a resource or a task it is wished that it is done `before` a day, begins
+        `after` it, isn't done in it by `not_on`, or begins `on` it, which is for a task; of "all"
+        that it is done `before` a day. The premise of that, named `ana before 2026-12-12` where no
+        name is given, is given up at its weight by `w.repairs(p.weights)` and `p.given_up()`. What
+        somebody may do counts where he does it, and tasks that are added later do.
+
+        A constraint may be wished for too, `under` a name, and is told as it `says`. Raises
+        ValueError where there is nobody of that name, for what can't be wished for of these, and
+        for a weight below 0, and TypeError.
 
         >>> w = Workbench()
-        >>> p = w.project(days=30, start="2026-03-02", off="sat sun", people="ana")
-        >>> venue, review = p.task("venue", 3, who="ana"), p.task("review", 5, who="ana")
+        >>> p = w.project(days=30, people="ana ben")
+        >>> p.wish("ana", before=4, weight=3)
+        'ana before 4'
+        >>> venue, review = p.task("venue", 5, who="ana"), p.task("review", 2, who="ben")
+        >>> p.wish(review, not_on=4, weight=2)
+        'review not on 4'
         >>> p.wish(venue.end <= review.start, "order", "the venue comes before the review")
-        >>> w.least(review.start).value
-        3
+        'order'
+        >>> [(each.names, each.cost) for each in w.repairs(p.weights, keep=p.facts)]
+        [(('ana before 4',), 3)]
         """
-        self.state(Wished(self.workbench.constraint_of(constraint), under, says))
+        if isinstance(what, Truth):
+            if days:
+                raise TypeError("a constraint is wished for as it is, without a day")
+            return self._wish_for(what, under, says, weight)
+        if says is not None:
+            raise TypeError("says= is for a constraint: what is wished for by days says its own")
+        who = wished_of(self, what)
+        if isinstance(who, Task):
+            self._check_there(who)
+        wanted, said = days_wanted(self, who, days)
+        premise = under or said
+        state_days(self, who, wanted, WishSaid(premise, weight_given(premise, weight)))
+        return premise
+
+    def _wish_for(
+        self, constraint: Truth, under: str | None, says: str | None, weight: float
+    ) -> str:
+        """A constraint is wished for, which is told in these words."""
+        if under is None:
+            raise ValueError("a constraint that is wished for has a name: say under=")
+        node = self.workbench.constraint_of(constraint)
+        told = says or text_of(node)
+        self.state(Wished(node, under, told, None, None, weight_given(under, weight)))
+        return under
+
+    @property
+    def weights(self) -> dict[str, float]:
+        """What it costs to give up each wish, by its premise, 1 where it wasn't said: `w.repairs(
+        p.weights, keep=p.facts)` has the cheapest first.
+
+        >>> w = Workbench()
+        >>> p = w.project(days=30, people="ana")
+        >>> venue = p.task("venue", 3, who="ana")
+        >>> early, late = p.wish("ana", before=2, weight=3), p.not_before(4, venue)
+        >>> p.weights
+        {'ana before 2': 3, 'venue not before 4': 1}
+        """
+        return weights_of(self.workbench.network.events)
 
     @property
     def goals_made(self) -> list[str | None]:
@@ -600,7 +708,7 @@ class Project:
 
     def given_up(self, weights: "Weights" = None, name: str = "given up") -> NumberCell:
         """A goal: the weight of what is given up of these premises, which are kicked out for that;
-        of all wishes, at 1 each, where none are named. The least of it is a best plan over all
+        of all wishes, at their own, where none are named. The least of it is a best plan over all
         repairs. Raises ValueError for what is no premise or no weight, and TypeError.
 
         >>> w = Workbench()
@@ -707,10 +815,10 @@ class Project:
           who  does
           ana  2-4 Mar venue; 5-11 Mar review
         """
-        from propbench.planning.schedule import schedule_of, values_in
+        from propbench.planning.schedule import schedule_of, steps_of, values_in
 
         values, ways = values_in(self.workbench.model, plan)
-        return schedule_of(self.workbench.network, self, values, ways)
+        return schedule_of(self, values, ways, reasons_of(steps_of(plan)))
 
     @property
     def baseline(self) -> "Schedule | None":
@@ -835,7 +943,10 @@ class Project:
         if name in self.tasks:
             raise ValueError(f"there is a task {name!r}")
         if any(cell is not None and self._has(cell) for cell in (self._end, self._total)):
-            raise ValueError(f"{name}: add tasks before the end or the total cost is asked for")
+            raise ValueError(
+                f"{name}: add tasks before the end or the total cost is asked for; for one more "
+                "begin a new workbench"
+            )
         return self.staffing.doers(name, who)
 
     def _earlier(self, name: str, after: Iterable[Task]) -> tuple[Task, ...]:
@@ -878,12 +989,13 @@ class Project:
             cells += [it.cell for it in pauses.get(task, ())]
         return frozenset([*(it.name for it in cells), *rates, *(it.name for it in tasks)])
 
-    def _said(self, day: Day) -> str:
-        """A day as it was given, as names have it."""
-        return str(index(day) if isinstance(day, SupportsIndex) else date_given(day))
+    def span_said(self, begin: int, end: int) -> str:
+        """The days from one to the beginning of another, by their dates where there are such.
 
-    def _span(self, begin: int, end: int) -> str:
-        """The days from one to the beginning of another, by their dates where there are such."""
+        >>> w = Workbench()
+        >>> w.project(days=30, start="2026-03-02", off="sat sun").span_said(3, 5)
+        '5-6 Mar'
+        """
         if self.calendar is None or begin < 0:
             return f"{begin} to {end}"
         return dates_said(self.calendar.date_of(begin), self.calendar.last_date(begin, end))
@@ -920,6 +1032,17 @@ class Project:
         if self.calendar is None or day < 0:
             return f"day {day}"
         return date_said(self.calendar.date_of(day))
+
+    def until_said(self, day: int) -> str:
+        """Before the beginning of a day, by the date of the one before where there are dates.
+
+        >>> w = Workbench()
+        >>> w.project(days=30, start="2026-03-02", off="sat sun").until_said(5)
+        'by Fri 6 Mar 2026'
+        """
+        if self.calendar is None or day < 1:
+            return f"before {self._told(day)}"
+        return f"by {date_said(self.calendar.last_date(0, day))}"
 
     def _has(self, cell: NumberCell) -> bool:
         """Whether the workbench has the cell: one that was made for a what-if is gone behind it."""

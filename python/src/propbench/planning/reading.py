@@ -20,23 +20,25 @@ from propbench.planning.brief import (
     TaskWanted,
     Leave,
     NamedWay,
+    SetupWanted,
     Wish,
 )
 from propbench.planning.calendar import Calendar, date_said
+from propbench.planning.calendar_files import beside, holidays, is_file
 from propbench.planning.days import date_in, days_in
-from propbench.planning.holidays import beside, holidays, is_file
 from propbench.planning.headings import (
     ABSENCES,
     BASELINE,
     GIVEN_UP,
     PEOPLE,
     PLAN,
+    SETUPS,
     SORTS,
     TASKS,
     WISHES,
     rows_of,
 )
-from propbench.planning.rules import Rule, said_in
+from propbench.planning.rules import Rule, RuleSaid, said_in
 from propbench.planning.sheets import Field, Sheet, SheetError
 from propbench.planning.who import AnyOf, Skilled
 from propbench.questions.shown import listed
@@ -53,12 +55,20 @@ _BETWEEN = re.compile(r"[,;\n]")
 _WHOLE = re.compile(r"\n")
 _BETWEEN_PEOPLE = re.compile(r"[,;\n&+]|\band\b")
 # Some of several people, as `2 of Ana, Ben, Cem`, or of those who can do something.
-_SOME = re.compile(r"\s*(?:(\d{1,3})|one|any)\s+of\s+(.+)", re.I | re.S)
+_SOME = re.compile(r"\s*(?:(?:(\d{1,3})|one|any|either)\s+of|either)\s+(.+)", re.I | re.S)
 _ABLE = re.compile(r"\s*(?:(\d{1,3})\s+)?skilled\s+in\s+(.+)", re.I | re.S)
 _OR = re.compile(r"\bor\b", re.I)
+# What makes one name of what may be meant for several: one of somebody known, with a mark, or all.
+_MARK = re.compile(r"[/|]")
+_GLUE = re.compile(r"[/|\s]+")
 # So much of a resource, as `2 crew`.
 _MANY = re.compile(r"(\d{1,6})\s+(.+)", re.S)
 _HOLDS = "write how many there are under `holds`, in the table of people"
+_SET_UP = {
+    "from": "of which kind the task before is",
+    "to": "of which kind the task behind it is",
+    "days": "how many days lie between",
+}
 
 
 def brief_of(sheets: Sequence[Sheet], given: Given) -> Brief:
@@ -72,6 +82,7 @@ def brief_of(sheets: Sequence[Sheet], given: Given) -> Brief:
     reader.read_plan(sorts.get("plan"), given)
     reader.read_people(sorts.get("people"))
     reader.read_tasks(sorts["tasks"])
+    reader.read_setups(sorts.get("setups"))
     reader.read_absences(sorts.get("absences"))
     reader.read_wishes(sorts.get("wishes"))
     reader.read_given_up(sorts.get("given up"))
@@ -108,6 +119,8 @@ class _Reader:
         self.brief, self._folder = brief, folder
         # Whether people are those of a table, and no others.
         self._is_closed = False
+        # Where each of them is named first, without a table.
+        self._named: dict[str, Field] = {}
         # The files of days off that are named, without their endings.
         self.files: set[str] = set()
 
@@ -249,14 +262,16 @@ class _Reader:
         for own in rows.values():
             for row in own:
                 _known(row.get("after"), _BETWEEN, jobs, "task")
+        self._check_apart()
         self.brief.jobs = _ordered(jobs, rows)
 
     def _job(self, name: str, rows: Sequence[Fields]) -> TaskWanted:
         after = _once(rows, "after")
         earliest, latest = _once(rows, "earliest"), _once(rows, "latest")
         people, groups = self._doers(_once(rows, "who"))
-        pauses, left = _once(rows, "pauses"), self._left(rows)
-        done = None if left else self._done(_once(rows, "started"), _once(rows, "finished"))
+        pauses, kind, told = _once(rows, "pauses"), _once(rows, "kind"), self._left(rows)
+        done = None if told else self._done(_once(rows, "started"), _once(rows, "finished"))
+        left, began = told or (None, None)
         return TaskWanted(
             name,
             tuple(_ways(name, rows)),
@@ -268,7 +283,9 @@ class _Reader:
             tuple(groups),
             pauses is None or _yes(pauses),
             self._uses(_once(rows, "uses")),
-            *(left or (None, None)),
+            left,
+            began,
+            None if kind is None else kind.text,
         )
 
     def _left(self, rows: Sequence[Fields]) -> tuple[int, int | None] | None:
@@ -344,7 +361,41 @@ class _Reader:
         people = _split(given, _BETWEEN_PEOPLE)
         for person in people:
             self.brief.people.setdefault(person, HELP)
+            if given is not None:
+                self._named.setdefault(person, given)
         return people
+
+    def _check_apart(self) -> None:
+        """Raises SheetError where several people were told so that they are one with all names."""
+        for name, given in self._named.items():
+            parts = [part for part in _GLUE.split(name) if part]
+            enough = any if _MARK.search(name) else all
+            if parts[1:] and enough(part in self.brief.people for part in parts):
+                raise given.wrong(
+                    f"`{cut(name)}` is one name: write `{cut(', '.join(parts))}` for all of them, "
+                    f"`{cut(' or '.join(parts))}` for one, or list it in a table `people`"
+                )
+
+    def read_setups(self, sheet: Sheet | None) -> None:
+        """In how many days who is set up from one kind of task to another."""
+        told = dict.fromkeys(job.kind for job in self.brief.jobs.values())
+        kinds = [kind for kind in told if kind is not None]
+        for row in rows_of(sheet, SETUPS) if sheet else ():
+            person = _first(row, "person")
+            _known(person, _WHOLE, (*self.brief.people, *self.brief.resources), "person")
+            holds = self.brief.resources.get(person.text, (1, HELP))[0]
+            if holds > 1:
+                raise person.wrong(f"there are {holds}, and set up is what there is one of")
+            for column in ("from", "to", "days"):
+                if column not in row:
+                    raise person.wrong(f"say under `{column}` {_SET_UP[column]}")
+            for column in ("from", "to"):
+                _known(row[column], _WHOLE, kinds, "kind of task")
+            pair = row["from"].text, row["to"].text
+            if (person.text, pair) in ((it.person, it.kinds) for it in self.brief.setups):
+                raise row["from"].wrong("another row says how many days lie between these")
+            days, weight = _whole(row["days"], 0), _weight(row, HELP)
+            self.brief.setups.append(SetupWanted(person.text, pair, days, weight))
 
     def read_absences(self, sheet: Sheet | None) -> None:
         """Who is away when, each by a premise of its own."""
@@ -380,29 +431,30 @@ class _Reader:
             said = said_in(wish.text, [*brief.jobs], [*brief.people, *brief.resources])
         except ValueError as error:
             raise wish.wrong(str(error)) from None
+        day = replace(wish, text=said.rest)
         if said.sort == "away":
             [person] = said.names
-            first, back = self._days_from(replace(wish, text=said.rest))
-            brief.leaves.append(Leave(person, first, back, wish.text, weight))
-        elif said.sort in ("by", "from", "on", "cost"):
-            task, day = next(iter(said.names), None), replace(wish, text=said.rest)
-            begins = self._day(day) if said.sort in ("from", "on") else None
-            brief.wishes.append(
-                Wish(
-                    wish.text,
-                    task,
-                    begins,
-                    self._day(day, True) if said.sort == "by" else None,
-                    int(said.rest) if said.sort == "cost" else None,
-                    None,
-                    weight,
-                    said.sort == "on",
-                )
-            )
-        else:
+            brief.leaves.append(Leave(person, *self._days_from(day), wish.text, weight))
+        elif said.sort in ("lag", "apart", "together", "does", "does not"):
             first_name, other = said.names
             rule = Rule(wish.text, said.sort, first_name, other, said.days, weight)
             brief.rules.append(rule)
+        else:
+            brief.wishes.append(self._wish_said(said, day, Wish(wish.text, weight)))
+
+    def _wish_said(self, said: RuleSaid, day: Field, wish: Wish) -> Wish:
+        """What is wished for in words of a task, of somebody, or of all."""
+        [name] = said.names or [None]
+        if name is not None:
+            is_task = name in self.brief.jobs
+            wish = replace(wish, task=name) if is_task else replace(wish, person=name)
+        if said.sort == "cost":
+            return replace(wish, cost=int(said.rest))
+        if said.sort == "not on":
+            return replace(wish, off=self._days_from(day))
+        if said.sort in ("by", "before"):
+            return replace(wish, latest=self._day(day, said.sort == "by"))
+        return replace(wish, earliest=self._day(day, said.sort == "after"), is_on=said.sort == "on")
 
     def _days_from(self, given: Field) -> tuple[int, int]:
         """The first of some days, and that behind the last."""
@@ -460,12 +512,12 @@ class _Reader:
             _known(row["way"], _WHOLE, ways, f"way of {printable(task)}")
         return Wish(
             wish.text,
+            _weight(row, WISH),
             task,
             self._day(row["earliest"]) if "earliest" in row else None,
             self._day(row["latest"], True) if "latest" in row else None,
             _whole(row["cost"], 0) if "cost" in row else None,
             row["way"].text if "way" in row else None,
-            _weight(row, WISH),
         )
 
 

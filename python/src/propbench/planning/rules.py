@@ -15,9 +15,10 @@ if TYPE_CHECKING:
     from propbench.planning.project import Project
 
 FORMS = (
-    "`review done by 13 March`, `review not before 9 March`, `review on 9 March`, `review after"
-    " venue`, `review 2 to 5 days after venue`, `review and venue not at once`, `review together"
-    " with venue`, `ana does review`, `ana away 3-7 March`, `cost at most 5000`"
+    "`review done by 13 March`, `review not before 9 March`, `review on 9 March`, `ana after 9"
+    " March`, `ana before 13 March`, `ana not on 9 March`, `review after venue`, `review 2 to 5"
+    " days after venue`, `review and venue not at once`, `review together with venue`, `ana does"
+    " review`, `ana away 3-7 March`, `cost at most 5000`"
 )
 # (of several that fit the first one counts, in the order in which they are read)
 _DAYS = r"(\d{1,6})(?:\s+(or\s+more|to\s+(\d{1,6})))?\s+days?"
@@ -40,6 +41,8 @@ _AWAY = _words(r"(.+?)", rf"(?:is\s+)?{_ILL}", r"(.+)")
 _DOES = _words(r"(.+?)", r"(does|doesn't\s+do|does\s+not\s+do)", r"(.+)")
 _BY = _words(r"(.+?)", r"(?:is\s+)?(?:(?:done|over|finished|ready|ends?)\s+)?(?:by|until)", r"(.+)")
 _FROM = _words(r"(.+?)", r"(?:is\s+)?(?:not\s+before|begins\s+from|from)", r"(.+)")
+_BEFORE = _words(r"(.+?)", r"(?:is\s+)?(?:(?:done|over|finished)\s+)?before", r"(.+)")
+_NOT_ON = _words(r"(.+?)", r"(?:is\s+)?not\s+on", r"(.+)")
 _ON = _words(r"(.+?)", r"(?:(?:begins|starts|is)\s+)?on", r"(.+)")
 _EVERY = ("all", "everything", "the plan")
 
@@ -79,6 +82,8 @@ def said_in(text: str, tasks: Sequence[str], people: Sequence[str]) -> RuleSaid:
         reader.does,
         reader.by,
         reader.since,
+        reader.before,
+        reader.not_on,
         reader.on,
     ):
         found = read()
@@ -116,6 +121,8 @@ class _Reading:
         found = _LAG.fullmatch(self._text)
         if found is None:
             return None
+        if found[3] is None and self._is_day(found[6]):
+            return RuleSaid("after", (self._whom(found[1]),), found[6])
         names = self._two(found[1], found[6])
         if found[3] is None:
             return RuleSaid("lag", names, days=(0, None))
@@ -142,15 +149,31 @@ class _Reading:
         return RuleSaid(sort, (self._one(found[1], self._people), self._one(found[3], self._tasks)))
 
     def by(self) -> RuleSaid | None:
-        """That a task, or all, is done by a day."""
+        """That a task, what somebody does, or all is done by a day."""
         if found := _BY.fullmatch(self._text):
-            return RuleSaid("by", self._task_or_all(found[1]), found[2])
+            return RuleSaid("by", self._whom_or_all(found[1]), found[2])
         return None
 
     def since(self) -> RuleSaid | None:
-        """That a task doesn't begin before a day."""
+        """That a task, or what somebody does, doesn't begin before a day."""
         if found := _FROM.fullmatch(self._text):
-            return RuleSaid("from", (self._one(found[1], self._tasks),), found[2])
+            return RuleSaid("from", (self._whom(found[1]),), found[2])
+        return None
+
+    def before(self) -> RuleSaid | None:
+        """That a task comes before another, or that it, what somebody does, or all is done before a
+        day."""
+        found = _BEFORE.fullmatch(self._text)
+        if found is None:
+            return None
+        if not self._is_day(found[2]):
+            return RuleSaid("lag", self._two(found[2], found[1]), days=(0, None))
+        return RuleSaid("before", self._whom_or_all(found[1]), found[2])
+
+    def not_on(self) -> RuleSaid | None:
+        """That a task isn't done on a day, or somebody does nothing then."""
+        if found := _NOT_ON.fullmatch(self._text):
+            return RuleSaid("not on", (self._whom(found[1]),), found[2])
         return None
 
     def on(self) -> RuleSaid | None:
@@ -161,6 +184,20 @@ class _Reading:
 
     def _two(self, one: str, other: str) -> tuple[str, str]:
         return self._one(one, self._tasks), self._one(other, self._tasks)
+
+    def _is_day(self, text: str) -> bool:
+        """Whether a text is rather a day than a task: it has a number, and no task is like it."""
+        return bool(re.search(r"\d", text)) and not near_names(text, self._tasks)
+
+    def _whom(self, text: str) -> str:
+        """The task, or who does some."""
+        return self._one(text, [*self._tasks, *self._people])
+
+    def _whom_or_all(self, text: str) -> tuple[str, ...]:
+        """The same, none where all are meant."""
+        if text.lower() in _EVERY and _named(text, self._tasks) is None:
+            return ()
+        return (self._whom(text),)
 
     def _task_or_all(self, text: str) -> tuple[str, ...]:
         """The task that is named, none where all are meant."""
@@ -188,16 +225,17 @@ def state_rule(project: "Project", rule: Rule) -> None:
     other = project.tasks[rule.other]
     if rule.sort in ("does", "does not"):
         does = _does(rule, project)
-        project.wish(does if rule.sort == "does" else ~does, rule.name, rule.name)
+        said = does if rule.sort == "does" else ~does
+        project.wish(said, rule.name, rule.name, weight=rule.weight)
         return
     one = project.tasks[rule.first]
     if rule.sort == "lag":
         project.lag(other, one, *rule.days, under=rule.name)
     elif rule.sort == "apart":
         apart = (one.end <= other.start) | (other.end <= one.start)
-        project.wish(apart, rule.name, rule.name)
+        project.wish(apart, rule.name, rule.name, weight=rule.weight)
     else:
-        project.wish(one.start == other.start, rule.name, rule.name)
+        project.wish(one.start == other.start, rule.name, rule.name, weight=rule.weight)
 
 
 def _does(rule: Rule, project: "Project") -> Truth:

@@ -88,10 +88,16 @@ class Schedule(Shown):
     _certificate = None
 
     def __init__(
-        self, entries: Sequence[Entry], staff: Staff, told: frozenset[str] = frozenset()
+        self,
+        entries: Sequence[Entry],
+        staff: Staff,
+        told: frozenset[str] = frozenset(),
+        chain: Mapping[str, str] | None = None,
     ) -> None:
-        """Of these entries, which tell the values of these cells and choices."""
+        """Of these entries, which tell the values of these cells and choices. Where it is known
+        which tasks make the end, `chain` has each with what it waits for, in words."""
         self.entries, self.staff, self.told = tuple(entries), staff, told
+        self.chain = dict(chain or {})
 
     @property
     def people(self) -> tuple[str, ...]:
@@ -252,7 +258,7 @@ class Schedule(Shown):
         return write_as(page_of(self, title), path, ENDINGS["html"])
 
     def to_svg(self, path: str | os.PathLike[str] | None = None) -> str:
-        """The schedule as a Gantt chart."""
+        """The schedule as a Gantt chart, with a frame around what makes the end."""
         from propbench.planning.chart import drawn
         from propbench.outputs import write_as
         from propbench.planning.exports import ENDINGS
@@ -268,21 +274,30 @@ def _said_of(entry: Entry) -> tuple[object, ...]:
 
 
 def schedule_in(
-    network: Network, plan: Mapping[str, Point], ways: Mapping[str, object]
+    network: Network,
+    plan: Mapping[str, Point],
+    ways: Mapping[str, object],
+    why: Mapping[str, Sequence[str]],
 ) -> Schedule | None:
-    """The schedule of a plan, with the alternatives that it takes of choices; None where a network
-    has no tasks, or those of several projects."""
+    """The schedule of a plan, with the alternatives that it takes of choices, and of some cells the
+    premises why they are no less; None where a network has no tasks, or those of several projects.
+    """
     made = [each for each in network.events if isinstance(each, TaskMade)]
     projects = {id(each.project): each.project for each in made}
     if len(projects) != 1:
         return None
-    return schedule_of(network, made[0].project, plan, ways)
+    return schedule_of(made[0].project, plan, ways, why)
 
 
 def schedule_of(
-    network: Network, project: "Project", plan: Mapping[str, Point], ways: Mapping[str, object]
+    project: "Project",
+    plan: Mapping[str, Point],
+    ways: Mapping[str, object],
+    why: Mapping[str, Sequence[str]],
 ) -> Schedule:
-    """The schedule of what a plan says of a project. Raises ValueError where it lacks a task."""
+    """The schedule of what a plan says of a project, with the chain where the premises are known
+    why it ends no sooner. Raises ValueError where the plan lacks a task."""
+    network = project.workbench.network
     tasks = [
         each.task
         for each in network.events
@@ -298,7 +313,24 @@ def schedule_of(
     aways = [away for away in aways_of(project, network.events) if away.premise in believed]
     parts = project.people, project.days, project.calendar, tuple(aways)
     staff = Staff(*parts, project.resources)
-    return Schedule(entries, staff, project.cells_told(tasks))
+    made = Schedule(entries, staff, project.cells_told(tasks))
+    end = project.end_made
+    because = () if end is None else why.get(end.name, ())
+    return _chained(project, made, because) if because else made
+
+
+def _chained(project: "Project", schedule: Schedule, because: Sequence[str]) -> Schedule:
+    """The same with the tasks that make the end, by these premises."""
+    from propbench.planning.chain import Walk
+
+    walk = Walk(project.workbench.network, project, schedule, because)
+    chain = {link.entry.task: link.waits for link in walk.links()}
+    return Schedule(schedule.entries, schedule.staff, schedule.told, chain)
+
+
+def steps_of(plan: object) -> Sequence[Optimum]:
+    """The least and greatest values that a result tells, none where it tells none."""
+    return plan.steps if isinstance(plan, Optima) else [plan] if isinstance(plan, Optimum) else []
 
 
 def values_in(

@@ -1,6 +1,6 @@
 """A plan as a page shows it: values for JSON, with all days in words."""
 
-from collections.abc import Iterator
+from collections.abc import Iterator, Sequence
 from dataclasses import dataclass
 
 from propbench.planning.calendar import MONTHS
@@ -24,6 +24,7 @@ from propbench.planning.tasks import (
 from propbench.questions.bounding import Optimum
 from propbench.questions.goals import Optima
 from propbench.questions.shown import said
+from propbench.questions.trading import TradeOff
 from propbench.showing import printable
 
 # A chart has so many days behind the end.
@@ -151,6 +152,33 @@ def chain_seen(chain: FoldedChain | Chain) -> Iterator[dict[str, object]]:
         when = chain.schedule.days_said(entry.start, entry.end)
         who = said(entry.people)
         yield {"task": entry.task, "when": when, "who": who, "waits": link.waits}
+
+
+def trade_seen(found: TradeOff, lost: Sequence[Sequence[str]]) -> dict[str, object]:
+    """What an earlier end costs: of each plan its end, by date and in short for an axis, what it
+    costs, the wishes that are lost by it, and the ways in which these plans differ."""
+    rows: list[dict[str, object]] = []
+    has_dates = any(each.schedule and each.schedule.date_said() for each in found)
+    # (where some plan isn't proved the last column says so)
+    first, last = 3 if has_dates else 2, None if all(it.proved for it in found) else -1
+    for (end, value), row, names in zip(found.pairs, found.rows(), lost):
+        done = str(row[2]) if has_dates else f"day {end}"
+        short = " ".join(done.split()[1:3]) if has_dates else str(end)
+        ways = [said(it) for it in row[first:last]]
+        told = {"done": done, "short": short, "end": end, "value": value}
+        rows.append({**told, "ways": ways, "lost": list(names)})
+    differ = list(found.heads()[first:last])
+    return {"says": _trade_said(found), "differ": differ, "rows": rows, "all": found.complete}
+
+
+def _trade_said(found: TradeOff) -> str:
+    """How many plans there are to trade, in a sentence."""
+    if not found:
+        return "There is no such plan." if found.complete else "No plan was found in time."
+    if len(found) == 1 and found.complete:
+        return "One plan is best in both."
+    many = "" if len(found) == 1 else f"None of these {len(found)} plans is better in both. "
+    return f"{many}{'There is no other choice.' if found.complete else 'There may be others.'}"
 
 
 def _today(project: Project) -> int | None:

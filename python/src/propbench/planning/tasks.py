@@ -199,17 +199,28 @@ class KeptApart(Required):
 
 @dataclass(frozen=True)
 class Wished(Required):
-    """What is wished for of a plan, in words: that something is done before a day, or that a task
-    doesn't begin before the day `first`."""
+    """What is wished for of a plan, in words, and what it weighs: that something is done before a
+    day, or that a task doesn't begin before the day `first`."""
 
+    premise: str
     written: str
-    task: str | None = None
-    first: int | None = None
+    task: str | None
+    first: int | None
+    weight: float
 
     @property
     def told(self) -> str:
         """What is stated, as the day was given."""
         return self.written
+
+    def speaks_of(self, task: str, needs: Iterable[str]) -> bool:
+        """Whether it is wished for of a task, which needs these people and resources.
+
+        >>> from propbench.model.nodes import TRUE
+        >>> Wished(TRUE, "soon", "venue done soon", "venue", None, 1).speaks_of("venue", ["ana"])
+        True
+        """
+        return self.task == task
 
 
 @dataclass(frozen=True)

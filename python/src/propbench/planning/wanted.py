@@ -11,12 +11,12 @@ from propbench.model.kinds import Plain
 from propbench.model.nodes import Node, Op, all_of, cell, constant, node, number
 from propbench.nearby import near_names
 from propbench.planning.schedule import Entry, Schedule
-from propbench.planning.tasks import Task, Wished
+from propbench.planning.tasks import Task
 
 if TYPE_CHECKING:
     from propbench.planning.project import Project
 
-Weights = Mapping[str, int] | Sequence[str] | None
+Weights = Mapping[str, float] | Sequence[str] | None
 
 
 def given_up_of(project: "Project", weights: Weights, name: str) -> NumberCell:
@@ -41,11 +41,10 @@ def given_up_of(project: "Project", weights: Weights, name: str) -> NumberCell:
 
 
 def _weights(project: "Project", weights: Weights) -> dict[str, int]:
-    """What may be given up, and its weight; without any said each wish, at 1."""
+    """What may be given up, and its weight; without any said each wish, at its own."""
     w = project.workbench
     if weights is None:
-        stated = w.network.premises.statements
-        weights = [it for it in w.believed if any(isinstance(each, Wished) for each in stated[it])]
+        weights = {it: weight for it, weight in project.weights.items() if it in w.believed}
     if not isinstance(weights, Mapping):
         weights = {premise: 1 for premise in weights}
     for premise, weight in weights.items():

@@ -63,7 +63,7 @@ def _one_of(name: str, names: Iterable[str], text: str) -> str:
         if each.casefold() == name.casefold():
             return each
     near = near_names(name, known)
-    hint = f"Did you mean {near[0]}?" if near else _FORMS
+    hint = f"Did you mean {near[0]}?" if near else f"{_FORMS[0].upper()}{_FORMS[1:]}"
     raise ValueError(f"{quoted(text)}: nothing in the plan is called {quoted(name)}. {hint}")
 
 

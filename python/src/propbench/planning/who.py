@@ -110,7 +110,7 @@ class Staffing:
         """The name of somebody. Raises ValueError for another."""
         if person not in self.people:
             near = near_names(person, self.people)
-            hint = f" Did you mean {near[0]}?" if near else ""
+            hint = _EITHER if person == "or" else f" Did you mean {near[0]}?" if near else ""
             raise ValueError(f"nobody in the plan is called {person!r}.{hint}")
         return person
 
@@ -172,6 +172,8 @@ def _check_enough(task: str, number: int, others: tuple[str, ...]) -> None:
 
 
 _FORM = 'skills={"ana": "welding"}'
+# What `ana or ben` of a spreadsheet is in Python.
+_EITHER = " Whoever suits best of two is any_of('ana', 'ben')."
 
 
 def _has_groups(who: object) -> bool:

@@ -195,7 +195,11 @@ class Questions:
     ) -> Optimum | Optima:
         """The least value of a cell in any plan. Raises ValueError where there is no such cell, and
         TypeError where it holds no numbers. Where nothing fits, `value` is None and `proved` is
-        True. What stands behind `proved`, docs/CLAIMS.md tells in "propwide's own lines".
+        True; `w.repairs()` tells what to give up then.
+
+        Where it is `proved`, propwide has answered so, and it is proved of propwide that the plan
+        fits the lines, and that by `because` nothing less does: docs/FITTING.md, "What is proved".
+        That lines say what you wrote is tested. Over propbench it has contradicted each case.
 
         Of several cells, `w.least([end, cost])`, it is the least of the first, then that of the
         second in the plans that have it, and so on.

@@ -1,11 +1,11 @@
 """The least and the greatest value of a cell in any plan, by bounds that close in on it."""
 
-from collections.abc import Mapping, Sequence
+from collections.abc import Iterable, Mapping, Sequence
 from dataclasses import dataclass, field, replace
 
 from propbench.questions.certificate import Certificate, Evidence
 from propbench.questions.model import Model, Plan
-from propbench.questions.outcomes import Cannot, Fits, Fork
+from propbench.questions.outcomes import Cannot, Fits, Fork, NothingFits
 from propbench.questions.rooms import NumberRoom
 from propbench.questions.planned import Planned, Scheduled
 from propbench.questions.shown import NOT_REFUTED
@@ -65,7 +65,9 @@ class Optimum(Planned):
         >>> w.least(x).seen_by(w.model, {"x": 3}).choices
         {}
         """
-        return replace(self, choices=model.chosen(plan), schedule=model.scheduled(plan))
+        choices = model.chosen(plan)
+        schedule = model.scheduled(plan, choices, reasons_of([self]))
+        return replace(self, choices=choices, schedule=schedule)
 
     @property
     def complete(self) -> bool:  # type: ignore[override]  # (what `proved` says)
@@ -81,11 +83,10 @@ class Optimum(Planned):
     def headline(self) -> str:
         best = "The least" if self.sort == LEAST else "The greatest"
         if self.value is None:
-            says = (
-                "nothing fits"
-                if self.proved
-                else f"no plan was found; that there is one is {NOT_REFUTED}"
-            )
+            says = f"no plan was found; that there is one is {NOT_REFUTED}"
+            if self.proved:
+                # (over propbench nothing is known of the premises)
+                says = str(NothingFits.because_of(self.because)) if self.because else "nothing fits"
             return f"{best} {self.cell}: {says}."
         if self.proved:
             return f"{best} {self.cell} is {self.value}:"
@@ -98,6 +99,12 @@ class Optimum(Planned):
 
     def rows(self) -> Sequence[Sequence[object]]:
         return [*(self.plan or {}).items(), *self.choices.items()]
+
+
+def reasons_of(steps: Iterable[Optimum]) -> dict[str, tuple[str, ...]]:
+    """Of each cell whose least value is proved the premises why it is no less."""
+    proved = (step for step in steps if step.sort == LEAST and step.proved)
+    return {step.cell: step.because for step in proved if step.value is not None}
 
 
 class Bounding:

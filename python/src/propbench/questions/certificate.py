@@ -31,16 +31,39 @@ Tree = list[object] | dict[str, str] | str | None
 class Certificate:
     """Claims, what shows them, and the lines that make the network, its base.
 
+    Conflicts, repairs, optima, plans, the room of a cell (`w.slack`) and tables of scenarios have
+    one. What `ask` tells has none: `w.scenarios({"now": {}}, [x])` says the same, and has one.
+    Whoever gets the file asks a fresh program again, by `propdesk check least.claim --base
+    plan.prop`, or in Python:
+
     >>> w = Workbench()
     >>> x = w.number("x", 3, 9)
     >>> w.least(x).certificate.save("least.claim")
+    >>> w.save("plan.prop")
+    >>> Certificate.load("least.claim").check(base="plan.prop")
+    True
     """
 
     def __init__(
         self, lines: Iterable[str], finish: Callable[[], Sequence[str]] | None = None
     ) -> None:
-        """Of these lines, or of those that something gives once they are asked for."""
+        """Of these lines, or of those that something gives once they are asked for. `load` reads a
+        file. Raises TypeError for a text."""
+        if isinstance(lines, str):
+            raise TypeError(f"it is made of lines; Certificate.load({lines!r}) reads a file")
         self._lines, self._finish = tuple(lines), finish
+
+    @staticmethod
+    def load(path: str | os.PathLike[str]) -> "Certificate":
+        """The certificate that a file has. Raises OSError; `check` tells whether it is one.
+
+        >>> w = Workbench()
+        >>> x = w.number("x", 3, 9)
+        >>> w.least(x).certificate.save("least.claim")
+        >>> Certificate.load("least.claim").check()
+        True
+        """
+        return Certificate(_text_of(path_given(path)).removesuffix("\n").split("\n"))
 
     def finished(self) -> "Certificate":
         """Itself, once it has its lines. Raises ValueError where a plan can't be shown, and as
@@ -119,11 +142,16 @@ def check_base(lines: Sequence[str], base: str | os.PathLike[str] | Sequence[str
     """Raises CertificateError where the network of a certificate is not made of these lines, or
     those of a file, and OSError."""
     if isinstance(base, str | os.PathLike):
-        with open(base, encoding="utf-8", errors="surrogateescape", newline="\n") as file:
-            base = file.read().split("\n")
+        base = _text_of(base).split("\n")
     now, then = _said(base), _said(lines[3:-1])
     if now != then:
         raise CertificateError(f"it is of another network; {_changes(then, now)}")
+
+
+def _text_of(path: str | os.PathLike[str]) -> str:
+    """What a file has, whatever bytes there are. Raises OSError."""
+    with open(path, encoding="utf-8", errors="surrogateescape", newline="\n") as file:
+        return file.read()
 
 
 def _said(lines: Iterable[str]) -> list[str]:

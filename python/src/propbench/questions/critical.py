@@ -57,7 +57,8 @@ class Slack(Shown):
 
     def headline(self) -> str:
         if self.room is None:
-            return f"No plan was found for {self.cell}."
+            says = f"no plan was found; that there is one is {NOT_REFUTED}"
+            return f"The room of {self.cell}: {'nothing fits' if self.complete else says}."
         return f"Over all plans{'' if self.complete else f' (more is {NOT_REFUTED})'}:"
 
     def heads(self) -> Sequence[str]:

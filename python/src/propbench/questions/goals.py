@@ -3,13 +3,13 @@ another in the plans that have it."""
 
 from collections.abc import Iterator, Mapping, Sequence
 from contextlib import suppress
-from dataclasses import dataclass
+from dataclasses import dataclass, replace
 
 from propbench.clock import Clock, Progress
 from propbench.given import names_given
 from propbench.questions.asking import CellLike, Interrupted, tried_by, whole_named
 from propbench.questions.bench import Bench
-from propbench.questions.bounding import LEAST, Optimum
+from propbench.questions.bounding import LEAST, Optimum, reasons_of
 from propbench.questions.certificate import Certificate
 from propbench.questions.ends import find_optimum
 from propbench.questions.model import Model, Plan
@@ -208,7 +208,16 @@ def _joined(
 ) -> Optima:
     by = dict.fromkeys(name for step in steps for name in step.because if name not in told)
     order = [name for name in model.premises() if name in by]
-    return Optima(tuple(names), sort, tuple(steps), tuple(order))
+    return Optima(tuple(names), sort, explained(model, steps), tuple(order))
+
+
+def explained(model: Model, steps: Sequence[Optimum]) -> tuple[Optimum, ...]:
+    """The same steps, where the schedule of the last plan tells of each goal why it is no less."""
+    last = next((step for step in reversed(steps) if step.plan is not None), None)
+    if last is None or last.plan is None or len(steps) < 2:
+        return tuple(steps)
+    told = replace(last, schedule=model.scheduled(last.plan, last.choices, reasons_of(steps)))
+    return tuple(told if step is last else step for step in steps)
 
 
 def told_within(bench: Bench, step: Optimum) -> str:

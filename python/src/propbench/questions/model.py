@@ -90,8 +90,14 @@ class Model(Protocol):
         """For each choice the alternative that holds at these points, as the user wrote it."""
         ...
 
-    def scheduled(self, plan: Mapping[str, Point]) -> Scheduled | None:
-        """These points as a schedule, where they are those of one project's tasks."""
+    def scheduled(
+        self,
+        plan: Mapping[str, Point],
+        choices: Mapping[str, object],
+        why: Mapping[str, Sequence[str]],
+    ) -> Scheduled | None:
+        """These points, with the alternatives that they take, as a schedule, where they are those
+        of one project's tasks; and of cells the premises `why` they are no less."""
         ...
 
     def by_hand(self) -> Mapping[str, Point]:

@@ -45,7 +45,8 @@ Outcome = Fits | Cannot | Open
 
 class NothingFits(ValueError):
     """There is no plan, or none was found in time: so nothing can be said of one. `premises` can't
-    all hold where it is known that there is none, and are None where it isn't."""
+    all hold where it is told why there is none, and are None where it isn't: after the end of
+    `seconds` that means nothing of whether there is a plan."""
 
     premises: tuple[str, ...] | None = None
 

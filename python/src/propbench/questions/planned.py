@@ -92,7 +92,8 @@ class Planned(Shown):
         return self._scheduled().to_ics(path, who=who)
 
     def to_html(self, path: str | os.PathLike[str] | None = None, title: str = "Schedule") -> str:
-        """The schedule as one page for a browser and a printer.
+        """The schedule as one page for a browser and a printer, with what makes its end where it is
+        proved to end soonest.
 
         >>> w = Workbench()
         >>> p = w.project(days=30, start="2026-03-02", off="sat sun", people="ana")
@@ -103,7 +104,8 @@ class Planned(Shown):
         return self._scheduled().to_html(path, title)
 
     def to_svg(self, path: str | os.PathLike[str] | None = None) -> str:
-        """The schedule as a Gantt chart.
+        """The schedule as a Gantt chart; where it is proved to end soonest what makes its end has a
+        frame, and tells what it waits for.
 
         >>> w = Workbench()
         >>> p = w.project(days=30, start="2026-03-02", off="sat sun", people="ana")

@@ -23,7 +23,7 @@ class Shown:
     _certificate: "Certificate | None"
 
     def headline(self) -> str:
-        """The result in a sentence.
+        """The result in a sentence, here of a `least`.
 
         >>> w = Workbench()
         >>> x = w.number("x", 3, 9)
@@ -33,7 +33,7 @@ class Shown:
         raise NotImplementedError
 
     def heads(self) -> Sequence[str]:
-        """The heads of the table.
+        """The heads of the table, here of `plans`.
 
         >>> w = Workbench()
         >>> x = w.number("x", 3, 9)
@@ -43,7 +43,7 @@ class Shown:
         raise NotImplementedError
 
     def rows(self) -> Sequence[Sequence[object]]:
-        """The rows of the table.
+        """The rows of the table, here of `plans`.
 
         >>> w = Workbench()
         >>> x = w.number("x", 3, 4)

@@ -44,4 +44,5 @@ class Solution(Planned, dict[str, Point]):
 def solution_of(model: Model, fits: Fits, certificate: Certificate | None) -> Solution:
     """The plan of a model, without quantities, of which no plan has the real number."""
     plan = {cell: value for cell, value in fits.plan.items() if not model.is_measured(cell)}
-    return Solution(plan, model.chosen(fits.plan), certificate, model.scheduled(fits.plan))
+    choices = model.chosen(fits.plan)
+    return Solution(plan, choices, certificate, model.scheduled(fits.plan, choices, {}))

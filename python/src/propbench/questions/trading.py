@@ -15,7 +15,7 @@ from propbench.questions.asking import CellLike, tried_by, whole_named
 from propbench.questions.bench import Bench
 from propbench.questions.bounding import LEAST, Optimum
 from propbench.questions.certificate import Certificate
-from propbench.questions.goals import Optima, ask, told_at_most
+from propbench.questions.goals import Optima, ask, explained, told_at_most
 from propbench.questions.shown import NOT_REFUTED, Shown
 from propbench.showing import printable
 
@@ -223,7 +223,8 @@ class _Trading:
         """Takes in what was found of one pair."""
         self.steps += own
         if any(step.plan is not None for step in own):
-            self.found.append(Optima(self.cells, LEAST, tuple(own), self._because(own)))
+            steps = explained(self.bench.model, own)
+            self.found.append(Optima(self.cells, LEAST, steps, self._because(own)))
 
     def _tell(self, cell: str, most: int | None) -> str:
         assert most is not None

@@ -1,6 +1,6 @@
 """A session as views see it: its cells, the procedures and compounds on them, its premises."""
 
-from collections.abc import Sequence
+from collections.abc import Callable, Sequence
 from contextlib import suppress
 
 from propbench.clock import Clock
@@ -30,6 +30,9 @@ from propbench.watching.steps import CallInWords, RunReading, Steps
 SETTLES = "With one value for each cell the program settles."
 # So many conflicts and repairs are looked for at the most.
 _MOST_MENDS = 30
+# So many seconds the program's search for these has: it looks for points, and where numbers have no
+# end it may narrow one for good.
+_SEARCH = 3.0
 
 
 class SessionWatched:
@@ -86,15 +89,27 @@ class SessionWatched:
 
     def mend(self, progress: Progress | None = None, seconds: float | None = None) -> Mending:
         clock = Clock(seconds, progress)
+        searched = self._mended_by(clock, self._by_search)
+        return searched if searched.complete else self._mended_by(clock, self._by_what_follows)
+
+    def _mended_by(self, clock: Clock, mend: Callable[[Session, Clock], Mending]) -> Mending:
+        """What one way of mending finds, in a session of its own, as far as there is time."""
         with self.session.fresh() as other:
             other.end_by(clock.latest)
             with suppress(OutOfTime):
-                other.send_all(self.lines())
-                if other.blames:
-                    return told(other, _MOST_MENDS, clock)
-                believed = self._believed(self._read(clock.last).told)
-                return mended(other, believed, _MOST_MENDS, clock)
+                return mend(other, clock)
         return NOT_MENDED
+
+    def _by_search(self, other: Session, clock: Clock) -> Mending:
+        if not other.blames:
+            return NOT_MENDED
+        other.send_all(self.lines())
+        return told(other, _MOST_MENDS, clock.turn(_SEARCH))
+
+    def _by_what_follows(self, other: Session, clock: Clock) -> Mending:
+        believed = self._believed(self._read(clock.last).told)
+        other.send_all(self.lines())
+        return mended(other, believed, _MOST_MENDS, clock)
 
     def without(self, premises: Sequence[str], progress: RunProgress | None = None) -> SeenNow:
         with self.session.fresh() as other:

@@ -111,7 +111,12 @@ class SessionModel:
         """Nothing: what a choice of a session takes is a value of a cell."""
         return {}
 
-    def scheduled(self, plan: Mapping[str, Point]) -> None:
+    def scheduled(
+        self,
+        plan: Mapping[str, Point],
+        choices: Mapping[str, object],
+        why: Mapping[str, Sequence[str]],
+    ) -> None:
         """A session has no tasks."""
         return None
 

@@ -1,4 +1,4 @@
-use Rattle.std.proofs.Common.{◌≡◌, ◌∙◌, ◌∷◌, [], refl, sym, ap, subst, arith, append_assoc}
+use Rattle.std.proofs.Common.{◌∙◌, ◌∷◌, [], refl, sym, subst, arith, append_assoc}
 use Rattle.std.proofs.lemmas.List.Elements.{All-nil}
 use Rattle.prop_numbers.specs.Sets.{Members, set_of, without, IsPart}
 use Rattle.prop_numbers.proofs.MergeLemmas.{Rising, rising_from_increasing}
@@ -16,6 +16,7 @@ loop-premise-init g c =
     let copied = c.in_ok-support.ensures in
     let so_far = c.into_iter-premise-iterator.ensures.into_iter_gives ∙ c.iter-premise-items.ensures.all in
     record {
+      claim = refl;
       so_far = so_far;
       same = refl;
       done = record {
@@ -43,110 +44,84 @@ loop-premise-init g c =
       part = rw copied (λ p h. h);
     }
 
-pub alert_shifted-requires : goal.alert_shifted-requires
-alert_shifted-requires g c = record { alive = c.loop-premise.invariant.alive }
-
-pub attempt-requires-clause-consistent : goal.attempt-requires-clause-consistent
-attempt-requires-clause-consistent g c =
+pub leave_out-requires-clause-consistent : goal.leave_out-requires-clause-consistent
+leave_out-requires-clause-consistent g c =
     let kept = c.loop-premise.invariant in
     let library = stored_of g.R.Rule.value_of c.args.live.now.network.library in
     let start = c.args.live.now.network.cells in
-    let less_is : set_of c.in_ok-less.less ≡ without (set_of c.loop-premise.support) c.in-Some.premise =
-    λ i p. c.in_ok-less.ensures p i in
     let problem = same_problem library library start c.loop-premise.live.network.cells refl kept.done.left.rest in
-    rw (c.in_ok-next.ensures.of, c.alert_shifted.ensures.network, kept.same, problem)
-    (consistent_fewer (problem_of library start) (set_of c.in_ok-less.less) (set_of c.args.why.now.support)
-    (less_is_part (set_of c.loop-premise.support) (set_of c.args.why.now.support) (set_of c.in_ok-less.less)
-    c.in-Some.premise less_is kept.part) c.requires.consistent)
+    rw (kept.same, problem) (consistent_fewer (problem_of library start) (set_of c.loop-premise.trial.support)
+    (set_of c.args.why.now.support) kept.part c.requires.consistent)
 
 pub loop-premise-preserved-in-Enough : goal.loop-premise-preserved-in-Enough
 loop-premise-preserved-in-Enough g c =
     let kept = c.loop-premise.invariant in
     let try = c.in_ok-tried.ensures in
-    let network = c.alert_shifted.ensures.network in
-    let next = c.in_ok-next.ensures.of in
     let library = stored_of g.R.Rule.value_of c.args.live.now.network.library in
     let start = c.args.live.now.network.cells in
-    let less_is : set_of c.in_ok-less.less ≡ without (set_of c.loop-premise.support) c.in-Some.premise =
-    λ i p. c.in_ok-less.ensures p i in
-    let part = less_is_part (set_of c.loop-premise.support) (set_of c.args.why.now.support) (set_of c.in_ok-less.less)
-    c.in-Some.premise less_is kept.part in
+    let s = set_of c.loop-premise.trial.support in
+    let p = c.in-Some.premise in
+    let part = less_is_part s (set_of c.args.why.now.support) (without s p) p refl kept.part in
     let problem = same_problem library library start c.loop-premise.live.network.cells refl kept.done.left.rest in
     let done = rw c.in-Some.ensures.steps at kept.done in
-    let holds = subst (λ (t : Members). IsPart (set_of c.next.new.self) t) (sym less_is)
-    (less_holds c.in-Some.premise c.next.new.self done.held) in
+    let enough = try.enough c.in-Enough.is in
     record {
-      so_far = append_assoc c.loop-premise.yielded (c.in-Some.premise ∷ []) c.next.new.self
+      claim = try.claim ∙ kept.claim;
+      so_far = append_assoc c.loop-premise.yielded (p ∷ []) c.next.new.self
           ∙ (rw c.in-Some.ensures.steps at kept.so_far);
-      same = try.same ∙ ap (λ n. n.library) network ∙ kept.same;
-      done = rw next (one_more library start c.loop-premise.live.network.cells c.loop-premise.yielded c.next.new.self
-          c.in-Some.premise c.loop-premise.steps c.in_ok-tried.tried.steps (set_of c.loop-premise.believed)
-          (set_of c.in_ok-less.less) (set_of c.in_ok-less.less) less_is done part holds
-          (rw (network, kept.same) at try.left) try.steps (rw (network, kept.same) at try.falls) (
-            c.alert_shifted.new.live.agenda.line,
-            rw next at c.alert_shifted.ensures.shifted,
-            rw (next, network, kept.same) at try.turns,
-          ));
+      same = try.same ∙ kept.same;
+      done = rw (try.believed, enough.0) (one_more library start c.loop-premise.live.network.cells
+          c.loop-premise.yielded c.next.new.self p c.loop-premise.steps c.in_ok-tried.tried.steps
+          (set_of c.loop-premise.trial.believed) (without s p) (without s p) refl done part
+          (less_holds p c.next.new.self done.held) (rw kept.same at try.left) try.steps (rw kept.same at try.falls)
+          (rw kept.same at try.called));
       alive = try.alive;
-      tried = rw less_is (left_out (problem_of library start) c.args.cell c.args.why.now.value c.loop-premise.yielded
-          (set_of c.loop-premise.support) c.in-Some.premise kept.tried
-          (rw (next, network, kept.same, problem, less_is) at try.enough c.in-Enough.is));
-      part = part;
+      tried = rw enough.0 (left_out (problem_of library start) c.args.cell c.args.why.now.value c.loop-premise.yielded s
+          p kept.tried (rw (kept.same, problem, kept.claim) at enough.1));
+      part = subst (λ (u : Members). IsPart u (set_of c.args.why.now.support)) (sym enough.0) part;
     }
 
 pub loop-premise-preserved : goal.loop-premise-preserved
 loop-premise-preserved g c =
     let kept = c.loop-premise.invariant in
     let try = c.in_ok-tried.ensures in
-    let network = c.alert_shifted.ensures.network in
-    let next = c.in_ok-next.ensures.of in
     let library = stored_of g.R.Rule.value_of c.args.live.now.network.library in
     let start = c.args.live.now.network.cells in
-    let less_is : set_of c.in_ok-less.less ≡ without (set_of c.loop-premise.support) c.in-Some.premise =
-    λ i p. c.in_ok-less.ensures p i in
-    let part = less_is_part (set_of c.loop-premise.support) (set_of c.args.why.now.support) (set_of c.in_ok-less.less)
-    c.in-Some.premise less_is kept.part in
+    let s = set_of c.loop-premise.trial.support in
+    let p = c.in-Some.premise in
+    let part = less_is_part s (set_of c.args.why.now.support) (without s p) p refl kept.part in
     let problem = same_problem library library start c.loop-premise.live.network.cells refl kept.done.left.rest in
     let done = rw c.in-Some.ensures.steps at kept.done in
+    let few = try.too_few c.in-TooFew.is in
     record {
-      so_far = append_assoc c.loop-premise.yielded (c.in-Some.premise ∷ []) c.next.new.self
+      claim = try.claim ∙ kept.claim;
+      so_far = append_assoc c.loop-premise.yielded (p ∷ []) c.next.new.self
           ∙ (rw c.in-Some.ensures.steps at kept.so_far);
-      same = try.same ∙ ap (λ n. n.library) network ∙ kept.same;
-      done = rw next (one_more library start c.loop-premise.live.network.cells c.loop-premise.yielded c.next.new.self
-          c.in-Some.premise c.loop-premise.steps c.in_ok-tried.tried.steps (set_of c.loop-premise.believed)
-          (set_of c.in_ok-less.less) (set_of c.loop-premise.support) less_is done part
-          (still_left c.in-Some.premise c.next.new.self done.held)
-          (rw (network, kept.same) at try.left) try.steps (rw (network, kept.same) at try.falls) (
-            c.alert_shifted.new.live.agenda.line,
-            rw next at c.alert_shifted.ensures.shifted,
-            rw (next, network, kept.same) at try.turns,
-          ));
+      same = try.same ∙ kept.same;
+      done = rw (try.believed, few.0) (one_more library start c.loop-premise.live.network.cells
+          c.loop-premise.yielded c.next.new.self p c.loop-premise.steps c.in_ok-tried.tried.steps
+          (set_of c.loop-premise.trial.believed) (without s p) s refl done part
+          (still_left p c.next.new.self done.held) (rw kept.same at try.left) try.steps (rw kept.same at try.falls)
+          (rw kept.same at try.called));
       alive = try.alive;
-      tried = stays (problem_of library start) c.args.cell c.args.why.now.value c.loop-premise.yielded
-          (set_of c.loop-premise.support) c.in-Some.premise kept.tried
-          (rw (next, network, kept.same, problem, less_is) at try.too_few c.in-TooFew.is);
-      part = kept.part;
+      tried = rw few.0 (stays (problem_of library start) c.args.cell c.args.why.now.value c.loop-premise.yielded s
+          p kept.tried (rw (kept.same, problem, kept.claim) at few.1));
+      part = rw few.0 kept.part;
     }
 
 pub returns-in-Spent-clause-tries : goal.returns-in-Spent-clause-tries
 returns-in-Spent-clause-tries g c =
     let kept = c.loop-premise.invariant in
-    let network = c.alert_shifted.ensures.network in
-    let next = c.in_ok-next.ensures.of in
-    let less_is : set_of c.in_ok-less.less ≡ without (set_of c.loop-premise.support) c.in-Some.premise =
-    λ i p. c.in_ok-less.ensures p i in
-    let part = less_is_part (set_of c.loop-premise.support) (set_of c.args.why.now.support) (set_of c.in_ok-less.less)
-    c.in-Some.premise less_is kept.part in
+    let s = set_of c.loop-premise.trial.support in
+    let p = c.in-Some.premise in
+    let part = less_is_part s (set_of c.args.why.now.support) (without s p) p refl kept.part in
     let done = rw c.in-Some.ensures.steps at kept.done in (
-      set_of c.in_ok-less.less ∷ done.sets,
-      tried_on (stored_of g.R.Rule.value_of c.args.live.now.network.library) c.in-Some.premise
-          (set_of c.loop-premise.believed) (set_of c.in_ok-less.less) _ _ done.sets less_is done.last done.tries
-          done.held part (
-            c.alert_shifted.new.live.agenda.line,
-            rw next at c.alert_shifted.ensures.shifted,
-            rw (next, network, kept.same) at c.in_ok-tried.ensures.turns,
-          ),
+      without s p ∷ done.sets,
+      rw c.ended.ensures.steps (tried_on (stored_of g.R.Rule.value_of c.args.live.now.network.library) p
+          (set_of c.loop-premise.trial.believed) (without s p) _ _ done.sets refl done.last done.tries done.held part
+          (rw kept.same at c.in_ok-tried.ensures.called)),
     )
 
 pub returns-clause-tries : goal.returns-clause-tries
-returns-clause-tries g c = let done = c.loop-premise.invariant.done in (done.sets, done.tries)
+returns-clause-tries g c =
+    let done = c.loop-premise.invariant.done in (done.sets, rw c.ended-2.ensures.steps done.tries)

@@ -13,6 +13,7 @@ const FIELDS = {
     ["uses", "Needs", "uses"], ["earliest", "Not before", "date"],
     ["latest", "Has to be done by", "date"], ["cost", "Cost", "number"],
     ["way", "Which way to do it", "text"], ["pauses", "Pauses over days off", "yes"],
+    ["kind", "Kind, which setup times speak of", "kind"],
     ["started", "Began on", "date"], ["finished", "Was done on", "date"],
     ["left", "Days left of it today", "number"],
   ],
@@ -36,6 +37,12 @@ const FIELDS = {
     ["earliest", "Not before", "date"], null, ["cost", "Cost at most", "number"], ["wish", "Called", "text"],
     ["weight", "What it would cost to give it up", "number"],
   ],
+  setups: [
+    ["person", "Of whom, or of which machine", "one"],
+    ["from", "Behind tasks of the kind", "kinds"], ["to", "Before tasks of the kind", "kinds"],
+    ["days", "Days between", "number"], null,
+    ["weight", "What it would cost to do without", "number"],
+  ],
   plan: [
     ["start", "Begins on", "date"], ["off", "Days off", "off"], null, ["today", "Today is", "date"],
     ["days", "Days at most", "number"],
@@ -48,11 +55,12 @@ const SECTIONS = [
   ["tasks", "Tasks", [["tasks", "Add a task"]]],
   ["absences", "Absences", [["absences", "Add an absence"]]],
   ["wishes", "Wishes", [["wishes", "Add a wish"]]],
+  ["setups", "Setup times", [["setups", "Add a setup time"]]],
   ["plan", "The days", [["plan", "Say when it begins"]]],
 ];
 const PROPOSED = { tasks: "task", people: "person", things: "room" };
-const EXAMPLES = "review by 13 March; review after venue; ana does review; ana away 3-7 March;"
-  + " review and venue not at once; review at least 2 days after venue; cost at most 5000";
+const EXAMPLES = "review by 13 March; ana before 9 March; ana not on 4 March; ana away 3-7 March;"
+  + " review after venue; ana does review; review and venue not at once; cost at most 5000";
 
 const tableOf = (form) => (form === "things" ? "people" : form);
 const formOf = (table, row) => (table === "people" && row.holds ? "things" : table);
@@ -154,6 +162,10 @@ export class Forms {
       const days = `${dated(row.from)}${after(row.to === row.from ? "" : dated(row.to), " to ")}`;
       return [named(row.person ?? "?"), made("small", {}, days)];
     }
+    if (table === "setups") {
+      const days = row.days === "1" ? "1 day" : `${row.days ?? "?"} days`;
+      return [named(row.person ?? "?"), made("small", {}, `${row.from} to ${row.to}, ${days}`)];
+    }
     if (table === "wishes") {
       const ends = [after(dated(row.earliest), "from "), after(dated(row.latest), "by ")];
       const parts = [row.task, ...ends];
@@ -227,6 +239,7 @@ export class Forms {
     if (form === "things") fresh.holds = "1";
     if (form === "absences") Object.assign(fresh, { from: this._start(), to: this._start() });
     if (form === "wishes") fresh.latest = this._start();
+    if (form === "setups") fresh.days = "1";
     if (form === "plan") fresh.start = shifted("", 0, new Date().toISOString().slice(0, 10));
     return fresh;
   }
@@ -319,12 +332,13 @@ export class Forms {
     return shown;
   }
 
-  // Buttons for names, of which several are pressed, or one.
-  _chips(names, isOn, press) {
+  // Buttons for names, of which several are pressed, or one; with what stands before their ids, and
+  // what is told where there is none.
+  _chips(names, isOn, press, { prefix = "chip", none = "none yet" } = {}) {
     const chips = made("span", { class: "chips" });
     const shown = () => {
       chips.replaceChildren(...names.map((name) => {
-        const chip = made("button", { type: "button", class: "chip", id: `chip ${name}`,
+        const chip = made("button", { type: "button", class: "chip", id: `${prefix} ${name}`,
           "aria-pressed": String(isOn(name)) }, named(name));
         chip.dataset.name = name;
         chip.addEventListener("click", () => {
@@ -336,7 +350,7 @@ export class Forms {
       }));
     };
     shown();
-    if (!names.length) chips.append(made("span", { class: "hint" }, "none yet"));
+    if (!names.length) chips.append(made("span", { class: "hint" }, none));
     return { node: chips };
   }
 
@@ -348,12 +362,13 @@ export class Forms {
     });
   }
 
-  _single(names, value, set) {
+  _single(names, value, set, told) {
     let picked = value;
-    return this._chips(names, (name) => picked === name, (name) => {
+    const press = (name) => {
       picked = picked === name ? "" : name;
       set(picked);
-    });
+    };
+    return this._chips(names, (name) => picked === name, press, told);
   }
 
   _people(isThing = false) {
@@ -405,6 +420,35 @@ export class Forms {
 
   _task(id, value, set) {
     return this._single(this._taskNames(), value, set);
+  }
+
+  // The kinds of tasks there are.
+  _kindNames() {
+    return [...new Set((this.tables.tasks ?? []).map((row) => row.kind))].filter((kind) => kind);
+  }
+
+  _kinds(id, value, set, key) {
+    const none = "none yet: the form of a task has its kind, under More";
+    return this._single(this._kindNames(), value, set, { prefix: key, none });
+  }
+
+  // A kind that there is, a new one that is proposed, or another name.
+  _kind(id, value, set) {
+    const names = this._kindNames();
+    let number = 1;
+    while (names.includes(`kind ${number}`)) number++;
+    const shown = this._text(id, value, set);
+    const chips = this._single([...names, `kind ${number}`], value, (text) => {
+      shown.input.value = text;
+      set(text);
+    });
+    return { input: shown.input, node: made("span", {}, shown.node, chips.node) };
+  }
+
+  // Somebody, or what there is one of.
+  _one(id, value, set) {
+    const things = (this.tables.people ?? []).filter((row) => row.holds === "1");
+    return this._single([...this._people(), ...things.map((row) => row.person)], value, set);
   }
 
   _person(id, value, set) {

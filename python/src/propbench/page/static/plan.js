@@ -4,6 +4,7 @@
 import { Forms, tellWrong } from "./forms.js";
 import { Gantt, colourOf } from "./gantt.js";
 import { joined, made, named, tell } from "./texts.js";
+import { traded } from "./trade.js";
 
 const at = (id) => document.getElementById(id);
 // A plan is looked for so many seconds at first, then more and more, up to so many at a time.
@@ -39,6 +40,8 @@ export class PlanView {
     press("save-plan", () => page.save({}));
     press("why", () => this._why());
     press("agree", () => this._change({ what: "agree", agreed: true }));
+    press("trade-cost", () => this._trade("cost"));
+    press("trade-wishes", () => this._trade("wishes"));
     at("tabs").addEventListener("keydown", (event) => {
       if (event.key !== "ArrowLeft" && event.key !== "ArrowRight") return;
       this.turn(event.key === "ArrowLeft");
@@ -146,6 +149,8 @@ export class PlanView {
     if (this.found) this.last = this.found;
     at("hinders").hidden = !told.none;
     at("plan-more").hidden = !this.found;
+    at("trade").hidden = Boolean(told.empty);
+    at("trade-told").replaceChildren();
     at("plan-middle").classList.toggle("none", Boolean(told.none));
     at("why-says").replaceChildren();
     at("supposed").textContent = "";
@@ -227,6 +232,25 @@ export class PlanView {
     const told = await this._long({ what: "suppose", text }, (wrong) => said.push(wrong));
     tell(at("supposed"), told ? told.says : said.join(" "));
     at("supposed").classList.toggle("wrong", !told);
+  }
+
+  // What an earlier end costs, in money or in wishes.
+  async _trade(goal) {
+    const version = this.planned;
+    const said = [];
+    at("trade-told").replaceChildren(made("p", {}, "Looking for all of them."));
+    const told = await this._long({ what: "trade", goal }, (wrong) => said.push(wrong));
+    if (this.planned !== version) return;
+    // A plan is taken by what else would be wished for, or by what is given up.
+    const take = goal === "wishes"
+      ? ({ lost }) => this._change({ what: "give up", premises: lost })
+      : ({ value }) => this._change({ what: "put", table: "wishes", place: null,
+        row: { wish: `cost at most ${value}` } });
+    const canTake = goal === "wishes" || this.plan.editable;
+    const wrong = said.map((text) => made("p", { class: "wrong" }, text));
+    const parts = told ? traded(told, { goal, take: canTake ? take : null }) : wrong;
+    at("trade-told").replaceChildren(...parts);
+    at("trade-told").scrollIntoView({ block: "nearest" });
   }
 
   // --- what stands in its way ---
