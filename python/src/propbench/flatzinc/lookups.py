@@ -6,10 +6,10 @@ that the constants have, and there is no need for a truth of each element.
 """
 
 from collections import Counter
-from collections.abc import Iterable, Iterator
+from collections.abc import Iterator
 from dataclasses import replace
 
-from propbench.flatzinc.terms import TABLE, Call, Constraint, Flat, FlatTerm, Name, Numbers
+from propbench.flatzinc.terms import TABLE, Constraint, Flat, FlatTerm, Name, Numbers
 
 _LOOKED_UP, _IN = "array_set_element", "set_in"
 # A table has so many rows at the most.
@@ -45,7 +45,7 @@ def with_pairs(flat: Flat) -> Flat:
 def _rows_by_set(flat: Flat) -> dict[str, tuple[FlatTerm, tuple[int, ...]]]:
     """The place, and the pairs behind one another, of each set of which nothing else is said."""
     said = Counter(_set_of(each) for each in flat.constraints if each.name == _IN)
-    used = Counter(_names(flat, _terms(flat))) if said else said
+    used = Counter(flat.names(_terms(flat))) if said else said
     found = {}
     for each in flat.constraints:
         name = _set_of(each)
@@ -88,15 +88,3 @@ def _terms(flat: Flat) -> Iterator[FlatTerm]:
         is_told = variable.has("output_var") or variable.value is not None
         yield from (Name(variable.name),) if is_told else ()
     yield from flat.goal.annotations
-
-
-def _names(flat: Flat, terms: Iterable[FlatTerm]) -> Iterator[str]:
-    """The variables in these, each as often as it stands there."""
-    for term in terms:
-        found = flat.resolved(term)
-        if isinstance(found, Name):
-            yield found.text
-        elif isinstance(found, tuple):
-            yield from _names(flat, found)
-        elif isinstance(found, Call):
-            yield from _names(flat, found.args)

@@ -33,15 +33,15 @@ def compared(flat: Flat, constraint: Constraint) -> list[FlatTerm] | None:
 def domains(flat: Flat) -> dict[str, tuple[int, ...]]:
     """The variables that are only told apart, with the values of all that they are compared to."""
     groups = _Groups()
-    counted: set[str] = set(_names(flat, [flat.goal.objective] if flat.goal.objective else []))
+    counted: set[str] = set(flat.names([flat.goal.objective] if flat.goal.objective else []))
     for constraint in flat.constraints:
         values = compared(flat, constraint)
         if values is None and constraint.name not in LOOKED_UP:
-            counted.update(_names(flat, constraint.args))
+            counted.update(flat.names(constraint.args))
         elif values is None:
             # (of the index alone)
             groups.join([flat.resolved(constraint.args[0])])
-            counted.update(_names(flat, constraint.args[1:]))
+            counted.update(flat.names(constraint.args[1:]))
         elif constraint.name == TABLE:
             # (columns are not compared with one another)
             for each in values:
@@ -50,7 +50,7 @@ def domains(flat: Flat) -> dict[str, tuple[int, ...]]:
             groups.join([flat.resolved(each) for each in values])
     for variable in flat.variables.values():
         if variable.value is not None:
-            counted.update((variable.name, *_names(flat, [variable.value])))
+            counted.update((variable.name, *flat.names([variable.value])))
     found: dict[str, tuple[int, ...]] = {}
     for group in groups.all():
         names = {each.text for each in group if isinstance(each, Name)}
@@ -93,12 +93,3 @@ def _array(flat: Flat, term: FlatTerm) -> tuple[FlatTerm, ...]:
     found = flat.resolved(term)
     assert isinstance(found, tuple)
     return found
-
-
-def _names(flat: Flat, terms: Iterable[FlatTerm]) -> Iterable[str]:
-    for term in terms:
-        found = flat.resolved(term)
-        if isinstance(found, Name):
-            yield found.text
-        elif isinstance(found, tuple):
-            yield from _names(flat, found)

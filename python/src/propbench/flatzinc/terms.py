@@ -191,6 +191,18 @@ class Flat:
                 return self.arrays[term.text].elements
         return term
 
+    def names(self, terms: Iterable[FlatTerm]) -> Iterator[str]:
+        """The names in these that aren't those of parameters and arrays, each as often as it
+        stands there."""
+        for term in terms:
+            found = self.resolved(term)
+            if isinstance(found, Name):
+                yield found.text
+            elif isinstance(found, tuple):
+                yield from self.names(found)
+            elif isinstance(found, Call):
+                yield from self.names(found.args)
+
 
 def _name(term: FlatTerm) -> str | None:
     if isinstance(term, Call):

@@ -4,9 +4,8 @@
 // a thousand cells stay fluent. All that a session says is set as text, never as markup.
 
 import { CELL, USE, layout } from "./layout.js";
-import { printable } from "./texts.js";
+import { drawn, printable } from "./texts.js";
 
-const SVG = "http://www.w3.org/2000/svg";
 // So many letters a box has room for; of a value some more, in small ones.
 const LETTERS = { cell: 17, value: 15, small: 20, use: 14 };
 // Nearer than this texts are shown.
@@ -19,13 +18,6 @@ const MANY = 600;
 const PATHS = ["wires", "wires lit", "uses", "out", "cells", "changed", "bears", "picked", "here"];
 const MARKS = PATHS.filter((name) => name !== "wires" && name !== "cells");
 
-function made(tag, attributes, text = "") {
-  const node = document.createElementNS(SVG, tag);
-  for (const [name, value] of Object.entries(attributes)) node.setAttribute(name, value);
-  node.textContent = printable(text);
-  return node;
-}
-
 const short = (text, most) => (text.length <= most ? text : `${text.slice(0, most - 1)}\u2026`);
 
 export class Drawing {
@@ -34,9 +26,9 @@ export class Drawing {
     this.sheet = sheet;
     this.under = under;
     this.pick = pick;
-    this.paths = new Map(PATHS.map((name) => [name, made("path", { class: name })]));
+    this.paths = new Map(PATHS.map((name) => [name, drawn("path", { class: name })]));
     this.said = new Map();
-    this.texts = made("g", {});
+    this.texts = drawn("g", {});
     this.sheet.append(...this.paths.values(), this.texts);
     this.network = { cells: [], uses: [] };
     this.places = { x: [], y: [], width: 1, height: 1 };
@@ -218,10 +210,10 @@ export class Drawing {
     const use = this.network.uses[at - this.network.cells.length];
     const texts = [];
     if (cell) {
-      texts.push(made("text", { x, y: y - 4 }, short(cell.text, LETTERS.cell)));
-      texts.push(made("text", { x, y: y + 12, class: "value" }));
+      texts.push(drawn("text", { x, y: y - 4 }, short(cell.text, LETTERS.cell)));
+      texts.push(drawn("text", { x, y: y + 12, class: "value" }));
     } else {
-      texts.push(made("text", { x, y: y + 4, class: "used" }, short(use.text, LETTERS.use)));
+      texts.push(drawn("text", { x, y: y + 4, class: "used" }, short(use.text, LETTERS.use)));
     }
     this.texts.append(...texts);
     return texts;

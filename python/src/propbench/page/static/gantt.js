@@ -1,9 +1,8 @@
 // The chart of a plan: a row for each task, a column for each day of work. What a plan says is set
 // as text, never as markup.
 
-import { printable } from "./texts.js";
+import { drawn, printable } from "./texts.js";
 
-const SVG = "http://www.w3.org/2000/svg";
 // Sizes in pixels: of the names in front, of a row, of a bar in it, and of the dates above; where
 // there is little room names stand above the bars.
 const WIDE = { names: 150, row: 28, bar: 17, top: 5, head: 22 };
@@ -15,13 +14,6 @@ const LETTER = 6.6;
 const BOLD = 1.12;
 // People have so many colours.
 const COLOURS = 8;
-
-function made(tag, attributes, text = "") {
-  const node = document.createElementNS(SVG, tag);
-  for (const [name, value] of Object.entries(attributes)) node.setAttribute(name, value);
-  if (text) node.textContent = printable(text);
-  return node;
-}
 
 const cut = (text, room) => {
   const most = Math.max(1, Math.floor(room / LETTER));
@@ -85,11 +77,11 @@ export class Gantt {
   }
 
   _hatch() {
-    const hatch = made("pattern", {
+    const hatch = drawn("pattern", {
       id: "hatch", width: 6, height: 6, patternUnits: "userSpaceOnUse",
       patternTransform: "rotate(45)",
     });
-    hatch.append(made("rect", { width: 3, height: 6, class: "hatch" }));
+    hatch.append(drawn("rect", { width: 3, height: 6, class: "hatch" }));
     return hatch;
   }
 
@@ -99,7 +91,7 @@ export class Gantt {
 
   _line(day, sort) {
     const x = this._x(day).toFixed(1);
-    return made("line", { x1: x, x2: x, y1: this.sizes.head - 4, y2: this.height, class: sort });
+    return drawn("line", { x1: x, x2: x, y1: this.sizes.head - 4, y2: this.height, class: sort });
   }
 
   // Lines between days, those behind days off stronger, and the dates above.
@@ -112,7 +104,7 @@ export class Gantt {
       }
       const x = this._x(day);
       if (each.label && x >= free) {
-        parts.push(made("text", { x: x + 2, y: 14, class: "date" }, each.label));
+        parts.push(drawn("text", { x: x + 2, y: 14, class: "date" }, each.label));
         free = x + (each.label.length + 1) * LETTER;
       }
     });
@@ -125,23 +117,23 @@ export class Gantt {
     const parts = [each.task, each.when, who, each.way].filter((text) => text);
     if (each.chain) parts.push("makes the end");
     if (each.waits) parts.push(`behind ${each.waits}`);
-    const node = made("g", {
+    const node = drawn("g", {
       class: `row${each.chain ? " chain" : ""}`, tabindex: 0, role: "button",
       "aria-label": printable(parts.join(", ")),
     });
     node.dataset.task = each.task;
-    node.append(made("title", {}, parts.join("\n")));
+    node.append(drawn("title", {}, parts.join("\n")));
     const width = this._x(this.plan.days.length);
-    node.append(made("rect", { x: 0, y: top, width, height: row, class: "ground" }));
+    node.append(drawn("rect", { x: 0, y: top, width, height: row, class: "ground" }));
     if (names) {
       const name = cut(each.task, names - 12);
-      node.append(made("text", { x: 4, y: top + 18, class: "name" }, name));
+      node.append(drawn("text", { x: 4, y: top + 18, class: "name" }, name));
     } else {
       const told = `${each.task} \u00b7 ${each.when}${who ? ` \u00b7 ${who}` : ""}`;
       const room = told.length * LETTER * (each.chain ? BOLD : 1);
       const left = Math.max(0, Math.min(this._x(each.parts[0][0]), width - room));
       const shown = cut(told, width - left);
-      node.append(made("text", { x: left, y: top + 14, class: "name" }, shown));
+      node.append(drawn("text", { x: left, y: top + 14, class: "name" }, shown));
     }
     const last = this.plan.days.length;
     for (const away of each.aways) {
@@ -166,7 +158,7 @@ export class Gantt {
     const room = (each.parts[0][1] - from) * this.day - 6;
     if (names && who && room > 3 * LETTER) {
       const y = top + under + bar - 4;
-      node.append(made("text", { x: this._x(from) + 4, y, class: "who" }, cut(who, room)));
+      node.append(drawn("text", { x: this._x(from) + 4, y, class: "who" }, cut(who, room)));
     }
     node.addEventListener("click", () => this.pick(each.task));
     return node;
@@ -174,7 +166,7 @@ export class Gantt {
 
   _bar(from, to, y, height, sort) {
     const width = Math.max(3, (to - from) * this.day - 1);
-    return made("rect", {
+    return drawn("rect", {
       x: this._x(from).toFixed(1), y, width: width.toFixed(1), height, rx: 2, class: sort,
     });
   }

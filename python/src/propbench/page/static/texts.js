@@ -28,6 +28,14 @@ export function made(tag, attributes, ...inner) {
   return node;
 }
 
+// A node of a picture, with a text.
+export function drawn(tag, attributes, text = "") {
+  const node = document.createElementNS("http://www.w3.org/2000/svg", tag);
+  for (const [name, value] of Object.entries(attributes)) node.setAttribute(name, value);
+  if (text) node.textContent = printable(text);
+  return node;
+}
+
 // Has a node say these parts, texts or nodes, and nothing else.
 export function tell(node, ...parts) {
   node.replaceChildren(...nodesOf(parts));

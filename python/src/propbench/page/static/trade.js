@@ -1,21 +1,13 @@
 // What an earlier end costs: a table of plans of which none is better in both, and a picture of it.
 // All that is told is the server's answer.
 
-import { joined, made, named, printable } from "./texts.js";
+import { drawn, joined, made, named, printable } from "./texts.js";
 
-const SVG = "http://www.w3.org/2000/svg";
 // Sizes in pixels: of the picture, and around what is drawn.
 const SIZE = { wide: 420, high: 220, left: 58, right: 26, top: 26, below: 40 };
 // So wide a letter is about; so many marks stand on an axis at the most.
 const LETTER = 6.4;
 const MARKS = 5;
-
-function drawn(tag, attributes, text = "") {
-  const node = document.createElementNS(SVG, tag);
-  for (const [name, value] of Object.entries(attributes)) node.setAttribute(name, value);
-  if (text) node.textContent = printable(text);
-  return node;
-}
 
 // Where numbers stand between two places, with room around them.
 function axis(numbers, begin, end) {
