@@ -1,4 +1,6 @@
--- Which sides of choices a nogood speaks against.
+-- Which sides of choices a nogood speaks against. Its culprits are its own premises and those that
+-- stand behind them by kept reasons; a choice leaves a believed side only where the side is a
+-- culprit.
 use Rattle.std.specs.Prelude.{◌≡◌, ℕ, IsTrue, List, [], Some, slice_get, slice_index_or, Contains}
 use Rattle.prop_numbers.specs.Sets.{Members, set_of, IsPart}
 use Rattle.prop_premises.specs.declared.choice.Choice.{Choice}
@@ -6,8 +8,8 @@ use Rattle.prop_premises.specs.ChoiceLists.{hypothetical}
 use Rattle.prop_amb.specs.Search.{Stand, choices_in, believed_with}
 use Rattle.prop_amb.specs.Resolving.{MayAdvance}
 
--- The culprits of a nogood: its premises, and where the last side of a choice is one, those of each
--- reason kept against another side of the choice.
+-- Each premise of a nogood is a culprit of it. Where the last side of a choice is a culprit, so is
+-- each premise of each reason that is kept against another side of the choice.
 pub data IsCulprit (s : Stand) (n : List ℕ) : ℕ → Type 0 where
   own : (p : ℕ) → IsTrue (set_of n p) → IsCulprit s n p
   joined : (j p : ℕ) (choice : Choice) (reason : List ℕ) → slice_get (choices_in s) j ≡ Some choice
@@ -19,7 +21,7 @@ pub data IsCulprit (s : Stand) (n : List ℕ) : ℕ → Type 0 where
 abbrev pub AreCulprits : Stand → List ℕ → Members → Type 0
 AreCulprits s n set = (p : ℕ) → IsTrue (set p) → IsCulprit s n p
 
--- each premise of the set is a culprit of a noted nogood that is believed
+-- each premise of the set is a culprit of one noted nogood that is believed
 pub record IsBlamed (s : Stand) (set : Members) : Type 0 where
   pub nogood : List ℕ
   pub noted : Contains s.listed nogood

@@ -1,4 +1,6 @@
--- What settling does, step by step.
+-- What settling does, step by step. It calls waiting instances in the worldview of the choice list
+-- on which the search stands, and where a nogood is believed there, or would be with one more side,
+-- a choice goes on to its next side.
 use Rattle.std.specs.Prelude.{◌≡◌, ℕ, ◌+◌, ◌<◌, ◌⊎◌, false, List, [], length, Contains}
 use Rattle.prop_numbers.specs.Sets.{set_of, IsPart}
 use Rattle.prop_procedures.specs.Stored.{Stored}
@@ -23,7 +25,7 @@ pub record Work (O : Type 0) : Type 0 where
 abbrev pub work : {O : Type 0} → Stand → Data → List ℕ → O → Work O
 work s d line order = record { search = s; cells = d; line = line; order = order }
 
--- the same over a network under way
+-- the same over a network under way, with its cells and the instances that wait in it
 abbrev pub work_on : {R : Type 0} {X : Type 0} {F : X → Type 0} {g : _} {O : Type 0} → Stand
     → Live R X F g → O → Work O
 work_on s live order = work s (cells_of live) (line_of live) order
@@ -42,13 +44,15 @@ pub record MayDeepen {O : Type 0} (w : Work O) : Type 0 where
   pub free : IsFree (believed_with w.search) w.cells
   pub left : w.search.level < length w.search.list
 
--- the side of one choice more isn't its last, and with it a noted nogood would be believed
+-- The first choice of which no side is believed may skip the side on which it stands: the side
+-- isn't its last, and with it this noted nogood would be believed.
 pub record MaySkip (s : Stand) (nogood : List ℕ) : Type 0 where
   pub noted : Contains s.listed nogood
   pub believed : IsPart (set_of nogood) (believed_with (deepened s))
   pub may : MayAdvance s s.level
 
--- a choice may go on: for a noted nogood that is believed, or for one that would be
+-- a choice may go on: for a noted nogood that is believed, or for one that would be believed with
+-- one more side
 abbrev pub MayPass : Stand → Type 0
 MayPass s = ((j : ℕ) × MayMove s j) ⊎ ((nogood : List ℕ) × MaySkip s nogood)
 
@@ -56,19 +60,20 @@ MayPass s = ((j : ℕ) × MayMove s j) ⊎ ((nogood : List ℕ) × MaySkip s nog
 abbrev pub MayGoOn : {O : Type 0} → Work O → Type 0
 MayGoOn w = MayCall w ⊎ MayPass w.search
 
--- the side on which the first choice stands of which none is believed is believed then, unless it
--- isn't its last and a noted nogood would be believed with it
+-- What follows a skip. If the first choice of which no side is believed may skip its side too,
+-- nothing changes. Otherwise the side on which it stands is believed.
 abbrev pub MayBelieve : Stand → Stand → Type 0
 MayBelieve s later =
     (((n : List ℕ) × MaySkip s n) × (later ≡ s))
     ⊎ (((n : List ℕ) → MaySkip s n → ⊥)
     × (later ≡ record (deepened s) { worldview = later.worldview }))
 
--- The choices went on by so many moves: by each, one that may goes to its next side, for a reason
--- all of whose premises are culprits, and the later ones to their first. Of these none is believed.
--- Or the first choice of which no side is believed goes to its next side, for a noted nogood that
--- would be believed with the one on which it stands; the next is believed unless it may be passed
--- over too.
+-- The choices went on by so many moves. By a move (`next`) a choice that may leave its side goes to
+-- its next side, and keeps a reason against the one that it left, all of whose premises are
+-- culprits. The later choices go to their first sides, and of these none is believed. By a skip
+-- (`skipped`) the first choice of which no side is believed goes to its next side, for a noted
+-- nogood that would be believed with the one that it left. The next side is believed unless it may
+-- be skipped too.
 pub data Passes (old : Stand) : ℕ → Stand → Type 0 where
   none : Passes old 0 old
   next : (n j : ℕ) (s later : Stand) (reason : List ℕ) → Passes old n s →
@@ -82,11 +87,11 @@ pub data Passes (old : Stand) : ℕ → Stand → Type 0 where
   skipped : (n : ℕ) (s later : Stand) (nogood : List ℕ) → Passes old n s → MaySkip s nogood →
       MayBelieve (passed_over s nogood) later → Passes old (n + 1) later
 
--- The second work is reached from the first by as many steps: calls of waiting instances, each at
--- the place that the order picks, and moves, between two calls maybe several. After moves the
--- readers and writers of the cells that they shift wait too. Two things take no step: a clash is
--- noted, and where nothing waits the side of one more choice is believed, and the readers of the
--- cells that this shifts wait.
+-- The second work is reached from the first by so many steps. A step is a call of the waiting
+-- instance at the place that the order picks, or a move of a choice; there may be several moves
+-- between two calls. After moves the readers and the writers of the cells that shift wait too. Two
+-- things take no step. A clash is noted as a nogood. And where nothing waits, the side of one more
+-- choice is believed, and the readers of the cells that shift wait.
 pub data Goes {O : Type 0} (picks : O → ℕ → ℕ → O → Type 0) (library : List Stored) (start : Work O)
     :
     ℕ → Work O → Type 0 where

@@ -1,4 +1,5 @@
--- How a stand changes: by names, by choices, and by moves from one list to a later one.
+-- How the stand of a search changes: by new names, by new choices, and by moves from one choice
+-- list to a later one.
 use Rattle.std.specs.Prelude.{◌≡◌, ℕ, zero, suc, ◌+◌, List, [], ◌∷◌, ◌++◌, length, map}
 use Rattle.std.specs.Prelude.{if◌then◌else◌, ◌==◌, false}
 use Rattle.prop_premises.specs.Origins.{Origin, with_name, with_choice}
@@ -17,14 +18,14 @@ first_sides list = map (λ side. 1) list
 abbrev pub no_reasons : List (List (List ℕ)) → List (List (List ℕ))
 no_reasons reasons = map (λ each. []) reasons
 
--- of how many choices, from the first one and up to the level, the side is their first
+-- how many choices in a row, from the first one on and up to the level, stand on their first side
 abbrev pub level_first : ℕ → List ℕ → ℕ
 level_first zero list = 0
 level_first (suc level) [] = 0
 level_first (suc level) (side ∷ list) = if side == 1 then suc (level_first level list) else 0
 
--- every choice stands on its first side, and no reason is kept; the sides that were believed and
--- are first ones still are, up to the first other
+-- Every choice stands on its first side, and no reason is kept. The sides that count as believed
+-- are the first ones that did before, up to the first choice that stood on another.
 abbrev pub restarted : Stand → Stand
 restarted s = record s {
   list = first_sides s.list;
@@ -32,7 +33,7 @@ restarted s = record s {
   reasons = no_reasons s.reasons;
 }
 
--- a new name is believed
+-- a new name becomes a premise of the user's, and is believed
 abbrev pub interned : Stand → List ℕ → Stand
 interned s name = record s {
   premises = with_name s.premises name;
@@ -57,7 +58,7 @@ pub record IsLastChoice (origins : List Origin) (choice : Choice) : Type 0 where
 abbrev pub IsFresh : Problem → Choice → Type 0
 IsFresh problem choice = (p cell : ℕ) → Reaches problem p cell → is_side_of choice p ≡ false
 
--- the side of one choice more is believed
+-- one more choice counts as one whose side is believed; the worldview is as it was
 abbrev pub deepened : Stand → Stand
 deepened s = record s { level = s.level + 1 }
 
@@ -73,7 +74,7 @@ reasons_advanced [] j reason = []
 reasons_advanced (each ∷ reasons) zero reason = (each ++ reason ∷ []) ∷ no_reasons reasons
 reasons_advanced (each ∷ reasons) (suc j) reason = each ∷ reasons_advanced reasons j reason
 
--- the first choice of which no side is believed goes to its next side, for this reason
+-- the first choice of which no side is believed goes to its next side, and keeps this reason
 abbrev pub passed_over : Stand → List ℕ → Stand
 passed_over s reason = record s {
   list = advanced s.list s.level;

@@ -1,4 +1,6 @@
--- Sets of premises that no choice list can believe, and the first list that holds.
+-- Sets of premises that are refuted with every choice list, and the first choice list that is
+-- consistent. A choice list takes one side of each choice, and lists stand in the order of a
+-- dictionary.
 use Rattle.std.specs.Prelude.{◌≡◌, ℕ, IsTrue, List, false}
 use Rattle.prop_numbers.specs.Sets.{Members, IsPart, union}
 use Rattle.prop_premises.specs.declared.choice.Choice.{Choice}
@@ -8,26 +10,26 @@ use Rattle.prop_cells.specs.Problems.{Problem, IsConsistent}
 use Rattle.prop_cells.specs.Reach.{Reaches}
 use Rattle.prop_nogoods.specs.Stores.{has_part}
 
--- The set names at most one side of each choice, and is contradictory with every choice list that
+-- The set has at most one side of each choice. It is contradictory with every choice list that
 -- takes these sides.
 pub record IsRefuted (problem : Problem) (choices : List Choice) (n : Members) : Type 0 where
   pub one_side : (list : List ℕ) × IsChoiceList choices list × TakesSidesIn n choices list
   pub always : (list : List ℕ) → IsChoiceList choices list → TakesSidesIn n choices list
       → ¬ (IsConsistent problem (union n (hypotheticals_of choices list)))
 
--- with every choice list before this one, what is believed is contradictory
+-- what is believed with any choice list before this one is contradictory
 abbrev pub AllBeforeRefuted : Problem → Members → List Choice → List ℕ → Type 0
 AllBeforeRefuted problem believed choices list = (earlier : List ℕ) → IsChoiceList choices earlier
     → IsBefore earlier list → ¬ (IsConsistent problem (worldview believed choices earlier))
 
--- the choice list that isn't refuted and before which every list is
+-- what is believed with this choice list is consistent, and with each list before it contradictory
 pub record IsFirstConsistent (problem : Problem) (believed : Members) (choices : List Choice)
     (list : List ℕ) : Type 0 where
   pub is_list : IsChoiceList choices list
   pub consistent : IsConsistent problem (worldview believed choices list)
   pub earlier : AllBeforeRefuted problem believed choices list
 
--- a refuted set each of whose premises reaches one same cell
+-- a nogood: a refuted set, all of whose premises reach one and the same cell
 pub record IsNogood (problem : Problem) (choices : List Choice) (n : Members) : Type 0 where
   pub refuted : IsRefuted problem choices n
   pub cell : ℕ
@@ -39,13 +41,13 @@ IsGrounded problem choices n = (p : ℕ) → IsTrue (n p) → is_hypothetical ch
     → (m : Members) × IsTrue (m p) × IsNogood problem choices m
     × ((q : ℕ) → IsTrue (m q) → is_hypothetical choices q ≡ false → IsTrue (n q))
 
--- with every choice list, some listed set is part of the set and the list's hypothetical premises
+-- whichever choice list is taken, some listed set is part of the set with the sides of the list
 abbrev pub IsCovered : List Choice → List (List ℕ) → Members → Type 0
 IsCovered choices listed m = (list : List ℕ) → IsChoiceList choices list
     → IsTrue (has_part listed (union m (hypotheticals_of choices list)))
 
--- Believed premises of the user's that are refuted, for reasons that lie in the set and are listed:
--- so every choice list is refuted.
+-- Why every choice list is refuted: a refuted set of believed premises. It is grounded in nogoods
+-- and covered by the listed ones.
 pub record IsRuledOut (problem : Problem) (believed : Members) (choices : List Choice)
     (listed : List (List ℕ)) (n : Members) : Type 0 where
   pub believes : IsPart n believed

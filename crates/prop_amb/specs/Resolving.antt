@@ -1,5 +1,5 @@
--- What a nogood shows of the choices: the side that one of them leaves, or that none of their lists
--- holds.
+-- What a nogood shows of the choices: that one of them has to leave its side, or that every choice
+-- list is refuted.
 use Rattle.std.specs.Prelude.{◌≡◌, ◌<◌, ℕ, List, Some, slice_get}
 use Rattle.prop_numbers.specs.Sets.{Members, set_of}
 use Rattle.prop_premises.specs.declared.choice.Choice.{Choice}
@@ -23,12 +23,12 @@ IsReason problem s j n =
     (choice : Choice) (side : ℕ) → slice_get (choices_in s) j ≡ Some choice
     → slice_get s.list j ≡ Some side → IsKept problem s j choice side n
 
--- where a choice leaves its side, its place
+-- where a choice is to leave its side, P holds of the choice's place
 abbrev pub IfAgainst : Resolved → (ℕ → Type 0) → Type 0
 IfAgainst (Against j n) P = P j
 IfAgainst (RuledOut n) P = Unit {0}
 
--- the premises that make the reason, or with which every list is refuted
+-- the premises of the reason, or those with which every choice list is refuted
 abbrev pub premises_of : Resolved → List ℕ
 premises_of (Against j n) = n
 premises_of (RuledOut n) = n

@@ -1,4 +1,6 @@
--- Where the search for the first consistent list stands, what it keeps, and how long it may take.
+-- Where the search for the first consistent choice list stands, what it keeps, and how long it may
+-- take. A choice list takes one side of each choice; a side that is believed is a hypothetical
+-- premise.
 use Rattle.std.specs.Prelude.{◌≡◌, ◌≢◌, ◌≤◌, ◌<◌, ◌⊎◌, ℕ, ◌+◌, ◌-◌, ◌*◌, IsTrue, List, [], length}
 use Rattle.std.specs.Prelude.{Option, Some, slice_get, slice_index_or, take, All}
 use Rattle.std.specs.List.{AllZip}
@@ -14,8 +16,9 @@ use Rattle.prop_nogoods.specs.Stores.{AreMinimal, has_part}
 use Rattle.prop_scheduler.specs.Potential.{most_steps}
 use Rattle.prop_amb.specs.Refuted.{IsRefuted, IsNogood, IsGrounded, IsCovered}
 
--- the premises, the side on which each choice stands, of how many choices the side is believed, the
--- reasons against the sides that each left, the nogoods, and what is believed
+-- The stand of a search: the premises; the side on which each choice stands; of how many choices,
+-- from the first on, this side is believed; for each choice the reasons against the sides that it
+-- left; the noted nogoods; and the premises that are believed.
 pub record Stand : Type 0 where
   pub premises : List Origin
   pub list : List ℕ
@@ -27,20 +30,23 @@ pub record Stand : Type 0 where
 abbrev pub no_stand : Stand
 no_stand = record { premises = []; list = []; level = 0; reasons = []; listed = []; worldview = [] }
 
--- the believed premises of the user's
+-- the believed premises that are the user's and no sides
 abbrev pub users_of : Stand → Members
 users_of s = believed_in s.premises
 
+-- the choices among the premises
 abbrev pub choices_in : Stand → List Choice
 choices_in s = choices_of s.premises
 
--- what is believed: of the first choices, so many as the level says, the sides on which they stand,
--- and of the others none
+-- what is believed: the believed premises of the user's, and of the first choices, as many as the
+-- level says, the sides on which they stand
 abbrev pub believed_with : Stand → Members
 believed_with s = worldview (users_of s) (choices_in s) (take s.level s.list)
 
--- There are as many premises as there may be at the most, one side for each choice and one reason
--- for each side that it left, and no more choices are believed than there are.
+-- What every stand keeps. There are no more premises than there may be. Each choice stands on one
+-- of its sides, and has one reason for each side before that. No more choices have a believed side
+-- than there are, and the worldview is what is believed with these sides. No noted nogood is part
+-- of another.
 pub record IsStand (s : Stand) : Type 0 where
   pub numbered : IsNumbered s.premises
   pub few : length s.premises ≤ most Premises
@@ -50,8 +56,9 @@ pub record IsStand (s : Stand) : Type 0 where
   pub believes : IsSame (set_of s.worldview) (believed_with s)
   pub minimal : AreMinimal s.listed
 
--- Why the choice at place j has left a side: a refuted set that holds the side, and beside it only
--- believed premises of the user's and sides that the list takes of earlier choices.
+-- Why the choice at place j may leave a side: a refuted set that has the side, and beside it only
+-- believed premises of the user's and sides on which earlier choices stand. It is grounded in
+-- nogoods, and covered by the noted ones.
 pub record IsKept (problem : Problem) (s : Stand) (j : ℕ) (choice : Choice) (side : ℕ)
     (reason : Members) : Type 0 where
   pub refuted : IsRefuted problem (choices_in s) reason
@@ -61,28 +68,31 @@ pub record IsKept (problem : Problem) (s : Stand) (j : ℕ) (choice : Choice) (s
   pub beside : (p : ℕ) → IsTrue (reason p) → p ≢ hypothetical choice side
       → IsTrue (users_of s p) ⊎ IsTrue (hypotheticals_of (take j (choices_in s)) (take j s.list) p)
 
--- the reasons against the sides of the choice at place j are in the order of these sides
+-- the reason that the choice at place j has against a side; its reasons are in the order of its
+-- sides
 abbrev pub reason_at : Stand → ℕ → ℕ → Option (List ℕ)
 reason_at s j side = slice_get (slice_index_or s.reasons j []) (side - 1)
 
--- a reason is kept against each side before the one on which a choice stands
+-- each reason that a choice has against one of its sides is such a one
 pub record AreKept (problem : Problem) (s : Stand) : Type 0 where
   pub kept : (j : ℕ) (choice : Choice) (side : ℕ) (reason : List ℕ)
       → slice_get (choices_in s) j ≡ Some choice → 1 ≤ side → reason_at s j side ≡ Some reason
       → IsKept problem s j choice side (set_of reason)
 
--- what a search keeps: its nogoods are nogoods of the problem, and its reasons are kept
+-- what a search keeps: its noted nogoods are nogoods of the problem, and its reasons are kept ones
 pub record IsSearch (problem : Problem) (s : Stand) : Type 0 where
   pub nogoods : All (λ line. IsNogood problem (choices_in s) (set_of line)) s.listed
   pub reasons : AreKept problem s
 
--- every choice list before the one on which the choices stand has a listed part
+-- with every choice list before the one on which the choices stand, a noted nogood would be
+-- believed
 abbrev pub AllBeforeBlocked : Stand → Type 0
 AllBeforeBlocked s = (earlier : List ℕ) → IsChoiceList (choices_in s) earlier
     → IsBefore earlier s.list → IsTrue
     (has_part s.listed (worldview (users_of s) (choices_in s) earlier))
 
--- the search ended some lists further on, after so many steps
+-- The search came from the old list to the new one, `further` lists later. It took fewer steps than
+-- it came by lists, both ends counted, times one more than the most steps of a run.
 pub record Moves (problem : Problem) (choices : List Choice) (old new : List ℕ) (steps : ℕ) : Type 0
   where
     pub further : ℕ

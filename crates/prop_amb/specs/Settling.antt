@@ -15,14 +15,15 @@ use Rattle.prop_amb.specs.Going.{Work, MayGoOn}
 use Rattle.prop_amb.specs.declared.outcome.Outcome.{Outcome}
 use Rattle.prop_amb.specs.declared.outcome.Outcome.TheVariants.{Settled, Contradiction, Unsettled}
 
--- where every list is refuted, the premises
+-- where every choice list is refuted, P holds of the premises that show it
 abbrev pub IfContradiction : Outcome → (List ℕ → Type 0) → Type 0
 IfContradiction (Contradiction n) P = P n
 IfContradiction Settled P = Unit {0}
 IfContradiction Unsettled P = Unit {0}
 
--- the premises stay, what was listed stays so, what was learned holds, and each list before the one
--- on which the choices stand now is refuted and has a listed part
+-- What settling leaves of the search. The premises stay, each set that had a noted part has one
+-- still, and what every search and every stand keeps is kept. Each choice list before the one on
+-- which the choices stand now is refuted, and a noted nogood would be believed with it.
 pub record Learns (problem : Problem) (old new : Stand) : Type 0 where
   pub premises : new.premises ≡ old.premises
   pub listed : (m : Members) → IsTrue (has_part old.listed m) → IsTrue (has_part new.listed m)
@@ -31,8 +32,8 @@ pub record Learns (problem : Problem) (old new : Stand) : Type 0 where
   pub passed : AllBeforeBlocked new
   pub earlier : AllBeforeRefuted problem (users_of new) (choices_in new) new.list
 
--- the list is the first consistent one, the side of each choice is believed, what is believed of
--- the cells is the least solution, and nothing waits
+-- The search stands on the first consistent choice list, and the side of each choice is believed.
+-- What is believed of the cells is the least solution, and no instance waits.
 pub record HasSettled (library : List Stored) (problem : Problem) (s : Stand) (d : Data)
     (line : List ℕ) : Type 0 where
   pub first : IsFirstConsistent problem (users_of s) (choices_in s) s.list
@@ -40,7 +41,8 @@ pub record HasSettled (library : List Stored) (problem : Problem) (s : Stand) (d
   pub settled : IsSettled library (set_of s.worldview) d
   pub rests : line ≡ []
 
--- the budget is used, which is less than all lists may take, and one more step may be taken
+-- The budget of steps is used up, and one more step may be taken. The budget is less than what all
+-- choice lists may take together.
 pub record HasUsed {O : Type 0} (problem : Problem) (budget steps : ℕ) (w : Work O) : Type 0 where
   pub spent : steps ≡ budget
   pub earned : budget + 1 < lists_count (choices_in w.search) * (most_steps problem + 1)

@@ -1,4 +1,5 @@
--- One step of settling, told.
+-- One step of settling, as it is told: a call, a move, that the search has settled, or a
+-- contradiction.
 use Rattle.std.specs.Prelude.{◌≡◌, ◌<◌, ◌⊎◌, ℕ, ◌+◌, List, All, length}
 use Rattle.prop_numbers.specs.Sets.{set_of}
 use Rattle.prop_premises.specs.ChoiceLists.{hypothetical}
@@ -16,9 +17,9 @@ use Rattle.prop_amb.specs.declared.stepping.Move.{Move}
 use Rattle.prop_amb.specs.declared.stepping.Step.{Step}
 use Rattle.prop_amb.specs.declared.stepping.Step.TheVariants.{Called, Moved, Settled, Contradiction}
 
--- The choice at the place went to its next side, for a noted nogood that is believed, and the later
--- ones to their first. The set that is told is the reason that is kept against the side that it
--- left, and what was believed is what is told of that.
+-- A choice went to its next side, for a noted nogood that is believed, and the later ones to their
+-- first. What is told of the move is the choice's place, the side that it left, the reason that is
+-- kept against that side, and what was believed before.
 pub record HasMoved (s later : Stand) (m : Move) : Type 0 where
   pub may : MayMove s m.place
   pub side_is : m.side ≡ hypothetical may.leaves.may.choice may.leaves.may.side
@@ -32,9 +33,9 @@ pub record HasMoved (s later : Stand) (m : Move) : Type 0 where
   }
   pub before_is : m.before ≡ s.worldview
 
--- The first choice of which no side is believed went to its next side, for the noted nogood that is
--- told, which would be believed with the one that it left. The next is believed unless it may be
--- passed over too.
+-- The first choice of which no side is believed skipped the side on which it stood. What is told is
+-- its place, that side, the noted nogood that would be believed with it, and what was believed
+-- before. The next side is believed unless it may be skipped too.
 pub record HasSkipped (s later : Stand) (m : Move) : Type 0 where
   pub may : MaySkip s m.nogood
   pub place_is : m.place ≡ s.level
@@ -47,7 +48,8 @@ pub record HasSkipped (s later : Stand) (m : Move) : Type 0 where
 abbrev pub HasPassed : Stand → Stand → Move → Type 0
 HasPassed s later m = HasMoved s later m ⊎ HasSkipped s later m
 
--- from one work to another by the step that is told; where none is left both are one
+-- The step that is told leads from the first work to the second. Where it tells that the search has
+-- settled, or of a contradiction, no step is left and both are one.
 abbrev pub IsStepTo : {O : Type 0} → (O → ℕ → ℕ → O → Type 0) → List Stored → Problem → Work O
     → Step → Work O → Type 0
 IsStepTo picks library problem w (Called i) v =
@@ -65,7 +67,7 @@ IsStepTo picks library problem w (Contradiction n) v =
     × IsRuledOut problem (users_of w.search) (choices_in w.search) w.search.listed (set_of n)
     × IsBlamed w.search (set_of n)
 
--- what takes no step is done first, and then the step that is told
+-- what takes no step is done first, such as noting a clash, and then the step that is told
 pub record Steps {O : Type 0} (picks : O → ℕ → ℕ → O → Type 0) (library : List Stored)
     (problem : Problem) (old : Work O) (step : Step) (new : Work O) : Type 0 where
   pub ready : Work O

@@ -1,4 +1,5 @@
--- What a store keeps, and what it says.
+-- What a store of nogoods keeps, and what that says of a trail. Each nogood is in a slot, by whose
+-- number it is told.
 use Rattle.std.specs.Prelude.{◌≡◌, ◌≢◌, ℕ, List, Option, Some, Contains, slice_get}
 use Rattle.prop_facts.specs.declared.fact.Literal.{Literal}
 use Rattle.prop_refuting.specs.Nogoods.{Nogood}
@@ -15,20 +16,22 @@ IsKeptIn slots g = Contains slots (Some g)
 abbrev pub IsKeptAt : List (Option Nogood) → ℕ → Nogood → Type 0
 IsKeptAt slots number g = slice_get slots number ≡ Some (Some g)
 
--- all of the literals but this one, which has a number of its own, are so
+-- The literal stands at one place among the literals, and those at all other places are so by the
+-- trail.
 pub record LeavesOne (t : Trailed) (literals : List Literal) (literal : Literal) : Type 0 where
   pub at : ℕ
   pub of : slice_get literals at ≡ Some literal
   pub rest : (k : ℕ) (x : Literal) → k ≢ at → slice_get literals k ≡ Some x → Says t x
 
--- the nogood with this number says that the literal isn't so
+-- the nogood with this number denies the literal: all of its others are so, so this one isn't
 pub record IsDenied (t : Trailed) (slots : List (Option Nogood)) (literal : Literal) (number : ℕ)
     : Type 0 where
   pub nogood : Nogood
   pub kept : IsKeptAt slots number nogood
   pub leaves : LeavesOne t nogood.literals literal
 
--- what a look says is so
+-- what comes of a look at a nogood is so: where it denies a literal, the nogood with that number
+-- does
 abbrev pub IsSeen : Trailed → List (Option Nogood) → Look → Type 0
 IsSeen t slots (Denies literal number) = IsDenied t slots literal number
 IsSeen t slots look = Unit {0}

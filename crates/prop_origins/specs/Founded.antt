@@ -1,4 +1,5 @@
--- Parts that make up a value of a cell.
+-- Parts that make up a value of a cell. Each is founded: it is a statement, or the answer of an
+-- instance to what the parts behind it say.
 use Rattle.std.specs.Prelude.{◌≡◌, ◌==◌, ℕ, IsTrue, List, [], ◌∷◌, map, Some, ⊤, slice_get, All}
 use Rattle.std.specs.List.{list_any}
 use Rattle.prop_lattice.specs.declared.info.Info.{Info}
@@ -16,7 +17,7 @@ use Rattle.prop_origins.specs.declared.part.Origin.{Origin}
 use Rattle.prop_origins.specs.declared.part.Origin.TheVariants.{Told, Called}
 use Rattle.prop_origins.specs.Parts.{Part, made, rests_on, calls_in, AreWanted}
 
--- the part is what a statement says whose premise is one of these, or which has none
+-- the part is what the statement with number n says, whose premise is in the set, or which has none
 pub record IsTold (d : Data) (s : Premises) (n : ℕ) (p : Part) : Type 0 where
   pub statement : Statement
   pub at : slice_get d.statements n ≡ Some statement
@@ -30,8 +31,8 @@ pub record IsTold (d : Data) (s : Premises) (n : ℕ) (p : Part) : Type 0 where
     support = support_of statement.premise;
   }
 
--- the part is what an instance answers on what the parts behind it say of its inputs, and rests on
--- all that they rest on there
+-- The part is what the instance with number n answers to what the parts behind it say of its
+-- inputs. It rests on all premises on which those parts rest at the inputs.
 pub record IsCalled (library : List Stored) (d : Data) (behind : List Part) (n : ℕ) (p : Part) :
     Type 0 where
   pub instance : Instance
@@ -43,12 +44,13 @@ pub record IsCalled (library : List Stored) (d : Data) (behind : List Part) (n :
   pub support : IsSame (set_of p.support)
       (λ q. list_any (λ input. rests_on behind input q) instance.inputs)
 
+-- the part comes from what its origin names: a statement or a call
 abbrev pub IsFrom : List Stored → Data → Premises → List Part → Part → Origin → Type 0
 IsFrom library d s behind p (Told n) = IsTold d s n p
 IsFrom library d s behind p (Called n) = IsCalled library d behind n p
 
--- the part comes from a statement or from the parts behind it, is of its cell's kind, and says more
--- of the cell than they do
+-- The part comes from a statement, or from a call on the parts behind it. Its value is of its
+-- cell's kind, and isn't already said by the parts behind it.
 pub record IsFounded (library : List Stored) (d : Data) (s : Premises) (behind : List Part)
     (p : Part) : Type 0 where
   pub from : IsFrom library d s behind p p.origin
@@ -60,16 +62,16 @@ abbrev pub AreFounded : List Stored → Data → Premises → List Part → Type
 AreFounded library d s [] = ⊤
 AreFounded library d s (p ∷ behind) = IsFounded library d s behind p × AreFounded library d s behind
 
--- the parts make up so much of the cell: they are founded, they say it together, and each is at the
--- cell or at one that a part before it reads
+-- The parts make up the value v of the cell. They are founded, together they say v of it, and each
+-- part is at the cell or at a cell that a part before it reads.
 pub record MakeUp (library : List Stored) (d : Data) (s : Premises) (cell : ℕ) (v : Info)
     (parts : List Part) : Type 0 where
   pub founded : AreFounded library d s parts
   pub enough : Below v (made parts cell)
   pub wanted : AreWanted (λ c. c == cell) parts
 
--- So many calls are not enough for so much of the cell: there are founded parts with as many, each
--- of which says more than those behind it, that hold all that is stated and don't say it.
+-- So many calls need not be enough for the value v of the cell. There are founded parts with that
+-- many calls that say all that is stated under the set, and yet don't say v of the cell.
 pub record FallShort (library : List Stored) (d : Data) (s : Premises) (cell : ℕ) (v : Info)
     (calls : ℕ) : Type 0 where
   pub parts : List Part

@@ -1,8 +1,8 @@
--- The parts that are wanted, of more.
+-- Those of some parts that are wanted: the others are left out.
 use Rattle.std.specs.Prelude.{ℕ, Bool, false, ◌||◌, if◌then◌else◌, List, [], ◌∷◌, slice_index_or}
 use Rattle.prop_origins.specs.Parts.{Part, reads}
 
--- the parts at cells that are wanted, or that a part before them reads which is kept
+-- the parts that are kept: each is at a wanted cell, or at one that a kept part before it reads
 abbrev pub pruned : (ℕ → Bool) → List Part → List Part
 pruned wanted [] = []
 pruned wanted (p ∷ behind) =

@@ -1,4 +1,5 @@
--- Points that satisfy a network whose procedures tell of themselves which points belong together.
+-- Points that satisfy a network, where the answers of the procedures tell which points belong
+-- together.
 use Rattle.std.specs.Prelude.{◌≡◌, ℕ, List}
 use Rattle.prop_lattice.specs.Points.{Point}
 use Rattle.prop_procedures.specs.declared.shape.Param.{Param}
@@ -10,8 +11,8 @@ use Rattle.prop_cells.specs.Points.{AreSoundBy, Attached}
 abbrev pub attached_of : Data → Attached
 attached_of d = record { kinds = d.kinds; statements = d.statements; instances = d.instances }
 
--- the procedure of this number holds these points, taken as all that belong together: wherever its
--- arguments hold theirs, its answer holds the output's
+-- The procedure with this number holds these points: whenever its arguments hold the points of the
+-- inputs, its answer holds that of the output.
 abbrev pub AreHeld : List Stored → ℕ → Param → List Point → Point → Type 0
 AreHeld library n param points point =
     AreSoundBy library (λ m q ps p. (m ≡ n) × (q ≡ param) × (ps ≡ points) × (p ≡ point))

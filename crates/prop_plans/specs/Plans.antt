@@ -58,12 +58,13 @@ pub record Checked : Type 0 where
   pub fitting : Bool
   pub met : ℕ
 
--- each of the first n instances answers on its inputs' values what its output's value implies
+-- each of the first n instances is met: what it answers on the values of its inputs is below the
+-- value of its output
 abbrev pub AreMet : List Stored → Data → List Info → ℕ → Type 0
 AreMet library d values n =
     All (λ x. Meets (value_in values) (constraint_of library x)) (take n d.instances)
 
--- what is known is so
+-- what a check knows is so
 pub record IsUnderWay (library : List Stored) (d : Data) (c : Checked) : Type 0 where
   pub fitting : IsTrue c.fitting → AreValues d.kinds c.values
   pub within : c.met ≤ length d.instances

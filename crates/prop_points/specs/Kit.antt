@@ -1,4 +1,4 @@
--- What the kit's rules tell of single points.
+-- What the answers of the kit's rules to single points tell.
 use Rattle.std.specs.Prelude.{List, ⊤}
 use Rattle.prop_lattice.specs.Points.{Point}
 use Rattle.prop_procedures.specs.declared.shape.Need.{Need}
@@ -11,14 +11,15 @@ use Rattle.prop_arith.specs.declared.kit.Kit.{Kit}
 use Rattle.prop_arith.specs.declared.kit.Kit.TheVariants.{Div, Apart}
 use Rattle.prop_points.specs.Singles.{IsExact}
 
--- that the points belong together, but of two rules nothing: `Div` says nothing by zero, and
--- `Apart` nothing where the truth is `yes`
+-- An answer to single points tells of a point that it holds that it belongs to them. There are two
+-- exceptions, of which nothing is told: `Div` answers nothing where it divides by zero, and `Apart`
+-- nothing where the truth is `yes`.
 abbrev pub KitTells : Kit → Param → List Point → Point → Type 0
 KitTells Div param points point = ⊤
 KitTells Apart param points point = ⊤
 KitTells rule param points point = Related rule param points point
 
--- each rule does, in its form
+-- each rule of the kit tells this, in its form
 abbrev pub KitIsExact : Type 0
 KitIsExact =
     (rule : Kit) (ins : List Shape) (out : Shape) (need : Need) → FormOf rule ins out need

@@ -1,4 +1,4 @@
--- Networks in which each cell leaves a single point.
+-- Networks in which each cell leaves a single point, and what these points satisfy.
 use Rattle.std.specs.Prelude.{◌≡◌, ◌<◌, ℕ, List, length, Some, All, slice_get}
 use Rattle.prop_lattice.specs.Points.{Point}
 use Rattle.prop_procedures.specs.declared.shape.Param.{Param}
@@ -8,18 +8,19 @@ use Rattle.prop_cells.specs.Problems.{Assignment, IsSolution}
 use Rattle.prop_cells.specs.inner.Problems.{Premises}
 use Rattle.prop_points.specs.Singles.{IsExact, IsSingle}
 
--- each procedure's answers to single points hold those alone that are related
+-- whatever point a procedure's answer to single points holds, it is related to them
 abbrev pub AreExactBy : List Stored → (ℕ → Param → List Point → Point → Type 0) → Type 0
 AreExactBy library related =
     (n : ℕ) (p : Stored) → slice_get library n ≡ Some p
     → IsExact p.value (related n) p.ins p.out p.need
 
--- each cell leaves its point alone, and statements are of such cells
+-- the assignment leaves each cell its point alone, and each statement is at a cell that is there
 pub record AreSettled (n : Attached) (a : Assignment) (points : ℕ → Point) : Type 0 where
   pub single : (cell : ℕ) → cell < length n.kinds → IsSingle (a cell) (points cell)
   pub within : All (λ x. x.cell < length n.kinds) n.statements
 
--- the points of a solution in points lie in all that is stated, and are related at each instance
+-- where a solution leaves each cell a single point, these points lie in all that is stated under
+-- the set, and are related at each instance
 abbrev pub SinglesSolve : List Stored → (ℕ → Param → List Point → Point → Type 0) → Type 0
 SinglesSolve library related =
     (n : Attached) (s : Premises) (a : Assignment) (points : ℕ → Point) → AreFitting library n

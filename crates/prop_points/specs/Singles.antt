@@ -17,13 +17,13 @@ IsSingle (Set s) (Element i) = (count_ones s.bits ≡ 1) × HasElement s i
 IsSingle (Sym a) (Symbol b) = a ≡ b
 IsSingle a p = ⊥
 
--- each leaves the point in its place alone
+-- each information leaves alone the point in its place
 abbrev pub AreSingle : List Info → List Point → Type 0
 AreSingle [] [] = ⊤
 AreSingle (a ∷ infos) (p ∷ points) = IsSingle a p × AreSingle infos points
 AreSingle infos points = ⊥
 
--- of single points the answer holds those alone that belong to them
+-- whatever point the answer to single points holds, it belongs to these
 abbrev pub IsExact : (Param → List Info → Info) → (Param → List Point → Point → Type 0) → List Shape
     → Shape → Need → Type 0
 IsExact value related ins out need =

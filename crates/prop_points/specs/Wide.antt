@@ -1,4 +1,5 @@
--- What the rules beside the kit's tell of single points: each, that they belong together.
+-- What the answers of the rules beside the kit's to single points tell: each point that they hold
+-- belongs to these.
 use Rattle.std.specs.Prelude.{List}
 use Rattle.prop_procedures.specs.declared.shape.Need.{Need}
 use Rattle.prop_procedures.specs.declared.shape.Shape.{Shape}
@@ -10,11 +11,13 @@ use Rattle.prop_wide.specs.Wide.{FormOf}
 use Rattle.prop_wide.specs.declared.wide.Wide.{Wide}
 use Rattle.prop_points.specs.Singles.{IsExact}
 
+-- of the wide rules
 abbrev pub WideIsExact : Type 0
 WideIsExact =
     (rule : Wide) (ins : List Shape) (out : Shape) (need : Need) → FormOf rule ins out need
     → IsExact (value_of rule) (Related rule) ins out need
 
+-- of the rules of excluding
 abbrev pub ExcludersAreExact : Type 0
 ExcludersAreExact =
     (rule : Excluder) (ins : List Shape) (out : Shape) (need : Need)

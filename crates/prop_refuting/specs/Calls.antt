@@ -23,15 +23,16 @@ abbrev pub AreArguments : List Kinded → List ℕ → List Info → Type 0
 AreArguments kinds = AllZip (λ cell a.
     IsOf (kind_at kinds cell).kind (kind_at kinds cell).size a × (a ≢ Contradiction))
 
--- the value leaves every output of the instance whose inputs lie in the arguments
+-- wherever the points of the instance's inputs lie in the arguments, the point of its output lies
+-- in the value
 pub record Answers (library : List Stored) (n : Attached) (x : Instance) (args : List Info)
     (value : Info) : Type 0 where
   pub arguments : AreArguments n.kinds x.inputs args
   pub holds : (s : Members) (points : ℕ → Point) → ArePoints (AreHeld library) n s points
       → AllZip Holds args (map points x.inputs) → Holds value (points x.output)
 
--- the output of an instance has the fact wherever its inputs lie in the arguments and the output
--- has the rest
+-- wherever the points of the instance's inputs lie in the arguments, and the point of its output
+-- has the rest, this point has the fact
 pub record Tells (library : List Stored) (n : Attached) (x : Instance) (args : List Info)
     (rest : Option Fact) (fact : Fact) : Type 0 where
   pub arguments : AreArguments n.kinds x.inputs args
@@ -39,8 +40,8 @@ pub record Tells (library : List Stored) (n : Attached) (x : Instance) (args : L
       → AllZip Holds args (map points x.inputs) → IfSome rest (λ r. IsSo r (points x.output))
       → IsSo fact (points x.output)
 
--- the output of an instance has the fact wherever its inputs but that with this number lie in the
--- arguments
+-- wherever the points of the instance's inputs, without the one at this place, lie in the
+-- arguments, the point of its output has the fact
 pub record Excepts (library : List Stored) (n : Attached) (x : Instance) (args : List Info)
     (place : ℕ) (fact : Fact) : Type 0 where
   pub within : place < length args
@@ -57,7 +58,7 @@ literals_of (cell ∷ cells) (a ∷ args) =
     said_at cell (parts_of a).first ++ said_at cell (parts_of a).second ++ literals_of cells args
 literals_of cells args = []
 
--- those of all cells but the one in this place
+-- the same for all cells but the one at this place
 abbrev pub literals_but : ℕ → List ℕ → List Info → List Literal
 literals_but place cells args = literals_of (take place cells) (take place args)
     ++ literals_of (drop (place + 1) cells) (drop (place + 1) args)

@@ -1,4 +1,5 @@
--- Places: the cells of a network, and behind them its choices; and the values that they have.
+-- Places: the cells of a network, and behind them its choices. What value points and a choice list
+-- give to each.
 use Rattle.std.specs.Prelude.{ℕ, ◌-◌, nat_lt, if◌then◌else◌, List, length, Option, Some, None}
 use Rattle.std.specs.Prelude.{slice_get, slice_index}
 use Rattle.std.specs.Option.{option_map_or}
@@ -10,13 +11,13 @@ use Rattle.prop_cells.specs.Points.{Attached}
 use Rattle.prop_facts.specs.Facts.{IsSo}
 use Rattle.prop_facts.specs.declared.fact.Literal.{Literal}
 
--- the value at a place: that of the cell, or behind all cells the side that the list takes of a
--- choice, counted from 0
+-- the value at a place: the point of the cell, or behind all cells the side that the list takes of
+-- a choice, counted from 0
 abbrev pub point_at : Attached → (ℕ → Point) → List ℕ → ℕ → Point
 point_at n points list place = if nat_lt place (length n.kinds) then points place else
     Element (slice_index list (place - length n.kinds) - 1)
 
--- the literal is so
+-- the literal is so: its fact is so of the value at its place
 abbrev pub IsSoAt : Attached → (ℕ → Point) → List ℕ → Literal → Type 0
 IsSoAt n points list literal = IsSo literal.fact (point_at n points list literal.place)
 

@@ -1,4 +1,5 @@
--- What is said in place of a number or an end of one, and of a side of a choice.
+-- What may stand in a nogood in place of a literal: holes and a weaker end for an end, two ends for
+-- a number, and what stands for a side of a choice.
 use Rattle.std.specs.Prelude.{◌≡◌, ℕ, zero, suc, ◌+◌, ◌<◌, ℤ, pos, ◌+ℤ◌, List, [], ◌∷◌, ◌++◌}
 use Rattle.std.specs.Prelude.{Option, Some, IfSome, length, slice_get, ◌⊎◌, ◌^◌}
 use Rattle.prop_lattice.specs.Points.{Point, IsPointOf}
@@ -13,13 +14,15 @@ use Rattle.prop_facts.specs.declared.fact.Literal.{Literal}
 use Rattle.prop_refuting.specs.Nogoods.{Nogood, Replaces}
 use Rattle.prop_refuting.specs.Places.{kind_at_place}
 
--- the value of the place is none of so many numbers in a row
+-- that the value at the place is none of so many numbers in a row, from the first on
 abbrev pub holes_at : ℕ → ℤ → ℕ → List Literal
 holes_at place first zero = []
 holes_at place first (suc k) =
     holes_at place first k ++ record { place = place; fact = Other (first +ℤ pos k) } ∷ []
 
--- an end, so many numbers from a first one on that lie between it and a nearer end, and that one
+-- The fact is an end, of which a weaker one is told, `nearer`, which lies at `from`. The value lies
+-- within the end if it lies within the weaker one and is none of the `count` numbers between the
+-- two, from `first` on.
 abbrev pub IsByHoles : Fact → ℤ → ℤ → ℕ → Fact → Type 0
 IsByHoles (AtLeast n) from first count nearer =
     (n ≡ from +ℤ pos count) × (first ≡ from) × (nearer ≡ AtLeast from)
@@ -27,7 +30,7 @@ IsByHoles (AtMost n) from first count nearer =
     (from ≡ n +ℤ pos count) × (first ≡ n +ℤ pos 1) × (nearer ≡ AtMost from)
 IsByHoles fact from first count nearer = ⊥
 
--- an end went, and these numbers and the nearer end came
+-- in the nogood a weaker end, and holes up to it, took the place of an end
 pub record ByHoles (old : Nogood) (at : ℕ) (x : Literal) (from : ℤ) (new : Nogood) : Type 0 where
   pub first : ℤ
   pub count : ℕ
@@ -36,7 +39,8 @@ pub record ByHoles (old : Nogood) (at : ℕ) (x : Literal) (from : ℤ) (new : N
   pub replaced : Replaces old at
       (record { place = x.place; fact = nearer } ∷ holes_at x.place first count) new
 
--- the number that a value is went, and that it is no less and no more came
+-- in the nogood the facts that a value is no less and no more than a number took the place of the
+-- fact that it is this number
 pub record ByEnds (old : Nogood) (at : ℕ) (x : Literal) (new : Nogood) : Type 0 where
   pub number : ℤ
   pub is : x.fact ≡ Is number
@@ -51,7 +55,7 @@ pub record IsSideAt (choices : List Choice) (premise choice side : ℕ) : Type 0
   pub within : side < of.sides
   pub same : premise ≡ of.first + side
 
--- the literal says that the side is taken whose premise this is
+-- the literal says of a choice that the side with this premise is taken
 pub record IsTaken (n : Attached) (choices : List Choice) (premise : Option ℕ) (taken : Literal) :
     Type 0 where
   pub number : ℕ
@@ -64,8 +68,8 @@ pub record IsTaken (n : Attached) (choices : List Choice) (premise : Option ℕ)
   pub fact : taken.fact ≡ Among elements
   pub bits : elements.bits ≡ 2 ^ side
 
--- the literal is so wherever the rest is so at its place, and the side isn't taken whose premise
--- this is
+-- The literal x is so wherever the rest is so at its place, and the side with this premise isn't
+-- taken.
 pub record SaysBarred (n : Attached) (choices : List Choice) (premise : Option ℕ) (x : Literal)
     (rest : Option Fact) : Type 0 where
   pub taken : Literal

@@ -1,4 +1,5 @@
--- What the rules tell of single points: each, that they belong together.
+-- What the answers of the rules of rows to single points tell: each point that they hold belongs to
+-- these.
 use Rattle.std.specs.Prelude.{List}
 use Rattle.prop_points.specs.Singles.{IsExact}
 use Rattle.prop_procedures.specs.declared.shape.Need.{Need}

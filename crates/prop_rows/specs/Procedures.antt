@@ -1,4 +1,4 @@
--- The procedures.
+-- The procedures of the rules of rows: their names, their inputs and their order.
 use Rattle.std.specs.Prelude.{◌≡◌, ◌≤◌, ℕ, zero, suc, ◌+◌, ◌*◌, ◌/◌, ◌%◌, min, nat_lt, List, []}
 use Rattle.std.specs.Prelude.{◌∷◌}
 use Rattle.std.specs.Prelude.{◌++◌, codes, map, length, take, All, replicate, if◌then◌else◌}
@@ -18,7 +18,7 @@ pub record Named : Type 0 where
   pub rule : Row
   pub many : ℕ
 
--- the shapes of its inputs, with 64 pairs or entries at the most
+-- the shapes of the inputs of a rule, for so many pairs, entries or others, 64 at the most
 abbrev pub ins_of : Row → ℕ → List Shape
 ins_of Sum many = replicate (2 * min many 64) Span
 ins_of Addend many = replicate (2 * min many 64) Span
@@ -36,7 +36,7 @@ ins_of LeastBack many = replicate (min many 64) Span
 abbrev pub digits : ℕ → List ℕ
 digits n = if nat_lt n 10 then (48 + n) ∷ [] else (48 + n / 10) ∷ (48 + n % 10) ∷ []
 
--- so many procedures of a rule, behind those with up to some
+-- a rule's n procedures for more than `some` pairs, entries or others, named by these numbers
 abbrev pub behind : ℕ → ℕ → List ℕ → Row → List Named
 behind some zero text rule = []
 behind some (suc n) text rule = behind some n text rule ++ record {
@@ -45,25 +45,27 @@ behind some (suc n) text rule = behind some n text rule ++ record {
   many = suc (some + n);
 } ∷ []
 
--- the procedures of a rule with 1 to so many
+-- a rule's procedures for 1 to so many
 abbrev pub up_to : ℕ → List ℕ → Row → List Named
 up_to = behind 0
 
--- the procedures in order
+-- the procedures of sums and of entries, in order
 abbrev pub in_order : List Named
 in_order = up_to 32 (codes "linear_sum") Sum ++ (up_to 32 (codes "linear_term") Addend
     ++ (up_to 64 (codes "element_value") Element ++ (up_to 64 (codes "element_number") Index
     ++ record { name = codes "element_entry"; rule = Entry; many = 0 } ∷ [])))
 
--- those of counts, of the greatest and of the least
+-- the procedures of counts, in order
 abbrev pub counts_in_order : List Named
 counts_in_order =
     behind 8 55 (codes "counter") Count ++ behind 8 55 (codes "count_back") CountBack
 
+-- those of the greatest
 abbrev pub greatest_in_order : List Named
 greatest_in_order =
     up_to 63 (codes "maximizer") Greatest ++ up_to 63 (codes "max_back") GreatestBack
 
+-- those of the least
 abbrev pub least_in_order : List Named
 least_in_order = up_to 63 (codes "minimizer") Least ++ up_to 63 (codes "min_back") LeastBack
 
@@ -84,12 +86,12 @@ abbrev pub LeastAreStated : Type 0
 LeastAreStated =
     map (λ p. record { name = p.0.now; rule = p.1; many = p.2 }) LEAST ≡ least_in_order
 
--- the inputs are some, as the rule may have
+-- the procedure has an input at the least, and inputs that its rule may have
 pub record IsFormed (p : Named) : Type 0 where
   pub some : 1 ≤ length (ins_of p.rule p.many)
   pub formed : FormOf p.rule (ins_of p.rule p.many) (out_of p.rule) needs.Nothing
 
--- each has such inputs
+-- each procedure has such inputs
 abbrev pub EachIsFormed : Type 0
 EachIsFormed = All IsFormed in_order
 

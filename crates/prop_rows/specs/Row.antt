@@ -1,4 +1,5 @@
--- The rules: their forms, what they answer, and which points belong together.
+-- The rules of rows: sums of products, entries by number, counts, the greatest and the least. Their
+-- forms, what they answer, and which points belong together.
 use Rattle.std.specs.Prelude.{◌≡◌, ◌≤◌, ℕ, Bool, true, false, nat_le, List, [], ◌∷◌, length, ◌+ℤ◌}
 use Rattle.std.specs.Prelude.{◌==◌}
 use Rattle.std.specs.Prelude.{pos, ◌*ℤ◌, if◌then◌else◌}
@@ -35,14 +36,15 @@ abbrev pub is_any : Shape → Bool
 is_any (Any n) = n == 0
 is_any s = false
 
--- each is
+-- each shape is that of numbers
 abbrev pub AreSpans : List Shape → Type 0
 AreSpans shapes = list_all is_span shapes ≡ true
 
+-- each shape is that of the values of a row
 abbrev pub AreAny : List Shape → Type 0
 AreAny shapes = list_all is_any shapes ≡ true
 
--- first this shape, and then those of a row
+-- the first shape is this one, and `Rest` holds of the others
 abbrev pub Begins : Shape → (List Shape → Type 0) → List Shape → Type 0
 Begins shape Rest [] = ⊥
 Begins shape Rest (s ∷ shapes) = (s ≡ shape) × Rest shapes
@@ -61,7 +63,7 @@ HasInputs GreatestBack ins = Begins Span AreSpans ins
 HasInputs Least ins = AreSpans ins
 HasInputs LeastBack ins = Begins Span AreSpans ins
 
--- the shape of its output
+-- the shape of a rule's output
 abbrev pub out_of : rows.Row → Shape
 out_of Element = Any 0
 out_of Entry = Any 0
@@ -73,7 +75,7 @@ abbrev pub FormOf : rows.Row → List Shape → Shape → Need → Type 0
 FormOf rule ins out need =
     HasInputs rule ins × (out ≡ out_of rule) × (need ≡ needs.Nothing) × (length ins ≤ 128)
 
--- the value where there are no more than so many
+-- what f answers to up to so many arguments, and nothing to more
 abbrev pub at_most : ℕ → (List Info → Info) → List Info → Info
 at_most most f args = if nat_le (length args) most then f args else Nothing
 
@@ -92,32 +94,33 @@ value_of Least param args = least_of args
 value_of LeastBack param (z ∷ others) = least_back_of z others
 value_of rule param args = Nothing
 
--- pairs, and what their products sum to
+-- the output is the sum of the products of the pairs
 abbrev pub RelatesSum : List Point → Point → Type 0
 RelatesSum pairs (Number z) = z ≡ sum_at pairs
 RelatesSum pairs point = ⊥
 
--- a sum, a factor and pairs, and the number that times the factor is the rest
+-- z is the sum of the products of the pairs, and of c times the output
 abbrev pub RelatesAddend : List Point → Point → Type 0
 RelatesAddend (Number z ∷ Number c ∷ pairs) (Number x) = z ≡ sum_at pairs +ℤ (c *ℤ x)
 RelatesAddend points point = ⊥
 
--- a number and a row, and the entry of that number
+-- the output is the entry of the number i in the row
 abbrev pub RelatesElement : List Point → Point → Type 0
 RelatesElement (Number i ∷ row) point = IsEntry i (pos 1) row point
 RelatesElement points point = ⊥
 
--- a value, a number and a row, and the same number, whose entry has the value
+-- the output is the number i, whose entry in the row has the value
 abbrev pub RelatesIndex : List Point → Point → Type 0
 RelatesIndex (value ∷ Number i ∷ row) (Number j) = (j ≡ i) × IsEntry i (pos 1) row value
 RelatesIndex points point = ⊥
 
--- two numbers and the entry of the first, and that of the second
+-- Where the two numbers are the same, the output is the value. So the output may be the entry of j
+-- where the value is that of i.
 abbrev pub RelatesEntry : List Point → Point → Type 0
 RelatesEntry (Number i ∷ Number j ∷ value ∷ []) point = i ≡ j → point ≡ value
 RelatesEntry points point = ⊥
 
--- the points that belong together
+-- the points that belong together: those of the inputs, and that of the output
 abbrev pub Related : rows.Row → Param → List Point → Point → Type 0
 Related Sum param points point = RelatesSum points point
 Related Addend param points point = RelatesAddend points point

@@ -1,4 +1,5 @@
--- What an order that picks one place alone determines.
+-- What the order determines. Where it can pick one place only, two networks that believe the same
+-- and wait for the same go on alike, call by call.
 use Rattle.std.specs.Prelude.{◌≡◌, ℕ, List}
 use Rattle.prop_procedures.specs.Stored.{Stored}
 use Rattle.prop_cells.specs.inner.Problems.{Premises}
@@ -6,13 +7,15 @@ use Rattle.prop_cells.specs.Data.{Data, beliefs}
 use Rattle.prop_scheduler.specs.Shifts.{Stirs}
 use Rattle.prop_scheduler.specs.Turns.{Turns}
 
--- the order picks one place alone, and goes on in one way
+-- An order tells which place of the line may be picked and in which state the order goes on. This
+-- one is determinate: from each state, and for each length of the line, it can pick one place only
+-- and go on in one state only.
 abbrev pub IsDeterminate : {O : Type 0} → (O → ℕ → ℕ → O → Type 0) → Type 0
 IsDeterminate {O} picks = (order : O) (n p q : ℕ) (x y : O) → picks order n p x → picks order n q y
     → (p ≡ q) × (x ≡ y)
 
--- two that believe the same of the same cells and instances, and in which the same wait, in one
--- order
+-- Two networks under way are alike: they have the same instances, the premises believe the same of
+-- each cell in both, and the lines and the states of the orders are the same.
 pub record AreAlike (O : Type 0) (s : Premises) (d e : Data) (line other : List ℕ) (order next : O)
     : Type 0 where
   pub instances : d.instances ≡ e.instances
@@ -20,12 +23,13 @@ pub record AreAlike (O : Type 0) (s : Premises) (d e : Data) (line other : List 
   pub lines : line ≡ other
   pub orders : order ≡ next
 
--- what waits once cells were gone through is one line
+-- going through the cells (see Shifts) leaves one line only
 abbrev pub StirsOnce : Type 0
 StirsOnce = (wakes : ℕ → List ℕ) (s t : Premises) (old new : Data) (line : List ℕ) (n : ℕ)
     (a b : List ℕ) → Stirs wakes s t old new line n a → Stirs wakes s t old new line n b → a ≡ b
 
--- by such an order two that are alike stay so, call by call, whichever entries their cells hold
+-- Where the order is determinate, two networks that are alike are alike after as many calls, even
+-- if their cells hold different entries.
 abbrev pub TurnsAlike : {O : Type 0} → (O → ℕ → ℕ → O → Type 0) → Type 0
 TurnsAlike {O} picks = IsDeterminate picks
     → (library : List Stored) (s : Premises) (d e d' e' : Data) (line other line' other' : List ℕ)

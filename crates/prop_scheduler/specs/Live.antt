@@ -1,4 +1,5 @@
--- A network under way: a network with its agenda, in a worldview.
+-- A network under way: a network with its agenda, in a worldview. A worldview is the set of the
+-- premises that are believed.
 use Rattle.std.specs.Prelude.{◌≡◌, ◌<◌, ℕ, List, All, length}
 use Rattle.prop_lattice.specs.declared.info.Info.{Info}
 use Rattle.prop_procedures.specs.declared.shape.Param.{Param}
@@ -13,7 +14,7 @@ use Rattle.prop_scheduler.specs.Turns.{IsUnderWay}
 use Rattle.prop_scheduler.specs.Watching.{IsWatched}
 use Rattle.prop_scheduler.specs.declared.live.Live.{Live}
 
--- its cells, and what they hold
+-- the network's data: its cells with what they hold, its statements and its instances
 abbrev pub cells_of : {R : Type 0} {X : Type 0} {F : X → Type 0} {g : _} → Live R X F g → Data
 cells_of live = live.network.cells
 
@@ -21,34 +22,35 @@ cells_of live = live.network.cells
 abbrev pub line_of : {R : Type 0} {X : Type 0} {F : X → Type 0} {g : _} → Live R X F g → List ℕ
 line_of live = live.agenda.line
 
--- its procedures, each with what its rule means
+-- the network's procedures, each with what its rule means
 abbrev pub library_of : {R : Type 0} {X : Type 0} {F : X → Type 0} {g : _}
     → (R → Param → List Info → Info) → Live R X F g → List Stored
 library_of value live = stored_of value live.network.library
 
--- the problem that it poses
+-- the problem that the network poses
 abbrev pub problem_in : {R : Type 0} {X : Type 0} {F : X → Type 0} {g : _}
     → (R → Param → List Info → Info) → Live R X F g → Problem
 problem_in value live = problem_of (library_of value live) (cells_of live)
 
--- the potential of a problem, by what waits and what is believed now
+-- the potential of the given problem, by what waits and what the premises believe now
 abbrev pub potential_by : {R : Type 0} {X : Type 0} {F : X → Type 0} {g : _} → Problem → Premises
     → Live R X F g → ℕ
 potential_by problem s live = potential problem (beliefs s (cells_of live).contents) (line_of live)
 
--- its potential in a worldview
+-- the potential of the network's own problem in a worldview
 abbrev pub potential_in : {R : Type 0} {X : Type 0} {F : X → Type 0} {g : _}
     → (R → Param → List Info → Info) → Premises → Live R X F g → ℕ
 potential_in value s live = potential_by (problem_in value live) s live
 
--- It is under way in the worldview: the network is, with the instances that wait, and each cell
--- that is believed to hold a contradiction is watched.
+-- The network is under way in the worldview, with the instances that wait, and each cell that is
+-- believed to hold a contradiction is watched.
 pub record IsLiveIn {R : Type 0} {X : Type 0} {F : X → Type 0} {g : _}
     (value : R → Param → List Info → Info) (s : Premises) (live : Live R X F g) : Type 0 where
   pub under_way : IsUnderWay (library_of value live) s (cells_of live) (line_of live)
   pub watched : IsWatched s (cells_of live) live.agenda.watched
 
--- it may be woken: each entry is founded, and what waits and what is watched is there
+-- The network may be woken in any worldview: its data are kept, with each entry founded, the
+-- waiting instances are instances of it, and the watched cells are cells of it.
 pub record IsReady (library : List Stored) (d : Data) (agenda : Waiting) : Type 0 where
   pub kept : IsKept library d
   pub line : All (λ j. j < length d.instances) agenda.line

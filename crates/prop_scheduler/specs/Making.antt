@@ -1,4 +1,5 @@
--- What a use stands for, made in a network.
+-- What the use of a compound stands for, made in a network: fresh cells, parameters and instances
+-- (a `Flat`).
 use Rattle.std.specs.Prelude.{◌≡◌, ◌<◌, ◌^◌, ℕ, ◌+◌, ◌-◌, List, [], ◌++◌, All, true, false, nat_lt}
 use Rattle.std.specs.Prelude.{Option, Some, length, map, is_none, slice_get, unwrap_or}
 use Rattle.std.specs.Option.{option_and_then, option_or}
@@ -19,17 +20,19 @@ use Rattle.prop_procedures.specs.Rules.{fitting_param}
 use Rattle.prop_cells.specs.Data.{Data}
 use Rattle.prop_cells.specs.Instances.{Instance}
 
--- so many cells, or instances, are more than there can be
+-- the refusal where so many cells, or so many instances, are more than there can be
 abbrev pub room_refusal : ℕ → ℕ → Option Refusal
 room_refusal cells instances =
     option_or (when (LimitReached Cells) (nat_lt (most Cells) cells))
     (when (LimitReached Instances) (nat_lt (most Instances) instances))
 
--- the numbers of an instance's cells
+-- the instance's cells by their numbers in the network: the given ones, and fresh ones from `next`
+-- on
 abbrev pub cells_made : List ℕ → ℕ → Placed → List ℕ
 cells_made cells next x = map (cell_placed cells next) (cells_of x)
 
--- the instance may be made between cells of these kinds, with one of these parameters
+-- The instance may be made between cells of these kinds, with one of these parameters: its
+-- procedure is in the library, and the cells and the parameter fit it.
 pub record MayBeMade (library : List Stored) (kinds : List Kinded) (params : List Param)
     (cells : List ℕ) (next : ℕ) (x : Placed) : Type 0 where
   pub procedure : Stored
@@ -41,7 +44,7 @@ pub record MayBeMade (library : List Stored) (kinds : List Kinded) (params : Lis
       (cells_made cells next x) ≡ true
   pub takes : is_none (fitting_param procedure.need (param_at params x.param)) ≡ false
 
--- the instance that is made
+-- the instance as it is made in the network
 abbrev pub made_of : List Stored → List Param → List ℕ → ℕ → Placed → Instance
 made_of library params cells next x = record {
   procedure = x.procedure;
@@ -58,7 +61,7 @@ with_fresh_cells d fresh = record d {
   contents = d.contents ++ map (λ k. []) fresh;
 }
 
--- the data with all that the use stands for
+-- the data with the fresh cells, the parameters and the instances that the use stands for
 abbrev pub with_flat : List Stored → Data → List ℕ → Flat → Data
 with_flat library d cells flat = record d {
   kinds = d.kinds ++ flat.fresh.items;
@@ -68,7 +71,7 @@ with_flat library d cells flat = record d {
       flat.instances.items;
 }
 
--- each of its instances may be made, once its fresh cells are
+-- each instance of the use may be made, once the fresh cells are
 abbrev pub MayMake : List Stored → Data → List ℕ → Flat → Type 0
 MayMake library d cells flat =
     All (MayBeMade library (d.kinds ++ flat.fresh.items) flat.params.items cells (length d.kinds))

@@ -1,13 +1,15 @@
--- Which instances wait where something else is believed, and in which order.
+-- Which instances wait once another set of premises is believed, and in which order. A cell shifts
+-- where something else is believed of it then.
 use Rattle.std.specs.Prelude.{◌≡◌, ◌≢◌, ◌+◌, ◌++◌, ℕ, List, drop, length}
 use Rattle.prop_cells.specs.inner.Problems.{Premises}
 use Rattle.prop_cells.specs.Instances.{Instance, readers_of, writers_of}
 use Rattle.prop_cells.specs.Data.{Data, beliefs}
 use Rattle.prop_scheduler.specs.Agendas.{all_alerted, numbers_below}
 
--- The line once the first n cells were gone through, the lowest first. Of some the second premises
--- believe something else, by what the cells hold then, than the first by what they held before: the
--- instances that such a cell wakes wait behind those that wait, once each.
+-- The line once the first n cells were gone through, the lowest first. A cell is stirred where the
+-- second premises believe something else of it, by what the cells hold then, than the first
+-- premises by what they held before. The instances that such a cell wakes are alerted: those that
+-- don't wait yet come last, in their order.
 pub data Stirs (wakes : ℕ → List ℕ) (s t : Premises) (old new : Data) (line : List ℕ) : ℕ → List ℕ
     → Type 0 where
   none : Stirs wakes s t old new line 0 line
@@ -22,15 +24,17 @@ pub data Stirs (wakes : ℕ → List ℕ) (s t : Premises) (old new : Data) (lin
 abbrev pub touching : List Instance → ℕ → List ℕ
 touching instances cell = readers_of instances cell ++ writers_of instances cell
 
--- of the first n cells, those that shift wake their readers and then their writers
+-- the line once the premises t are believed instead of s: each of the first n cells that shifts
+-- wakes its readers and then its writers
 abbrev pub AreShifted : Premises → Premises → Data → ℕ → List ℕ → List ℕ → Type 0
 AreShifted s t d n old new = Stirs (touching d.instances) s t d d old n new
 
--- the same where the second premises are those of the first and more: their readers alone
+-- The same, but each cell that shifts wakes its readers alone. This is for premises t that have all
+-- of s and more.
 abbrev pub AreGrown : Premises → Premises → Data → ℕ → List ℕ → List ℕ → Type 0
 AreGrown s t d n old new = Stirs (readers_of d.instances) s t d d old n new
 
--- the instances that are new wait behind those that waited, by number
+-- the instances that are new in the second data wait behind those that waited, by number
 abbrev pub AreMade : Data → Data → List ℕ → List ℕ → Type 0
 AreMade old new line later =
     later ≡ all_alerted line (drop (length old.instances) (numbers_below (length new.instances)))

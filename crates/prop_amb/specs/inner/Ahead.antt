@@ -5,7 +5,8 @@ use Rattle.prop_nogoods.specs.Stores.{has_part}
 use Rattle.prop_amb.specs.Search.{Stand, believed_with}
 use Rattle.prop_amb.specs.Moving.{deepened}
 
--- it is what would be believed, and no noted nogood would be
+-- w is what would be believed with the side of one choice more, and with it no noted nogood would
+-- be believed
 pub record IsAhead (s : Stand) (w : List ℕ) : Type 0 where
   pub left : s.level < length s.list
   pub more : IsPart (set_of s.worldview) (set_of w)

@@ -12,8 +12,8 @@ pub record IsJoined (choice : Choice) (reasons : ℕ → Members) (n : Members) 
   pub sources : (p : ℕ) → IsTrue (n p)
       → (side : ℕ) × IsSide choice side × IsTrue (reasons side p) × (is_side_of choice p ≡ false)
 
--- what each of these reasons has beside its own premise, where the first reason's own is this one,
--- and those of the others follow
+-- What these reasons have, each beside its own premise. The own premise of the first reason is
+-- `own`, and those of the others have the numbers that follow.
 abbrev pub others_of : ℕ → List (List ℕ) → Members
 others_of own [] p = false
 others_of own (reason ∷ reasons) p = without (set_of reason) own p || others_of (suc own) reasons p

@@ -1,4 +1,5 @@
--- What is known of a nogood that refutes a list, and of the move that follows.
+-- What is known of a nogood that refutes the choice list on which a search stands, and of the move
+-- that follows.
 use Rattle.std.specs.Prelude.{◌≡◌, ◌<◌, ◌+◌, ◌⊎◌, ℕ, List, false, Contains}
 use Rattle.prop_numbers.specs.Sets.{set_of, IsPart}
 use Rattle.prop_cells.specs.Problems.{Problem}
@@ -11,7 +12,8 @@ use Rattle.prop_amb.specs.declared.resolving.Resolved.TheVariants.{Against, Rule
 use Rattle.prop_amb.specs.Culprits.{MayMove, AreCulprits}
 use Rattle.prop_amb.specs.Going.{MaySkip, MayBelieve}
 
--- a noted nogood that would be believed with the side of one choice more, against which it speaks
+-- The noted nogood would be believed with the side of one choice more, and is a reason against this
+-- side. No noted nogood is believed now.
 pub record IsNext (s : Stand) (n : List ℕ) : Type 0 where
   pub may : MaySkip s n
   pub unblocked : has_part s.listed (set_of s.worldview) ≡ false
@@ -26,14 +28,16 @@ pub record IsHere (s : Stand) (n : List ℕ) : Type 0 where
 abbrev pub IsFound : Stand → List ℕ → Type 0
 IsFound s n = IsHere s n ⊎ IsNext s n
 
--- The choice at place j may go on for this reason: for a noted nogood that is believed, or as the
--- first of which no side is, where no noted nogood is.
+-- The choice at place j may go on for this reason. Either its side is believed, and it may move for
+-- a noted nogood that is believed, of which the reason has culprits alone. Or it is the first
+-- choice of which no side is believed, no noted nogood is believed, and it may skip its side for
+-- the reason, which is a noted nogood.
 abbrev pub MayStep : Stand → ℕ → List ℕ → Type 0
 MayStep s j reason =
     ((j < s.level) × ((may : MayMove s j) × AreCulprits s may.nogood (set_of reason)))
     ⊎ ((j ≡ s.level) × (has_part s.listed (set_of s.worldview) ≡ false) × MaySkip s reason)
 
--- it did
+-- the choice at place j went on for this reason, by a move or by a skip
 abbrev pub HasStepped : Stand → ℕ → List ℕ → Stand → Type 0
 HasStepped s j reason new =
     (((may : MayMove s j) × AreCulprits s may.nogood (set_of reason))
@@ -45,12 +49,12 @@ HasStepped s j reason new =
     }))
     ⊎ ((j ≡ s.level) × MaySkip s reason × MayBelieve (passed_over s reason) new)
 
--- where a choice leaves its side, its place and the reason
+-- where a choice is to leave its side, P holds of its place and the reason
 abbrev pub IfStep : (ℕ → List ℕ → Type 0) → Resolved → Type 0
 IfStep P (Against j n) = P j n
 IfStep P (RuledOut n) = Unit {0}
 
--- where every list is refuted, the premises
+-- where every choice list is refuted, P holds of the premises that show it
 abbrev pub IfRuledOut : (List ℕ → Type 0) → Resolved → Type 0
 IfRuledOut P (Against j n) = Unit {0}
 IfRuledOut P (RuledOut n) = P n

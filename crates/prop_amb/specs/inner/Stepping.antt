@@ -1,4 +1,4 @@
--- A step that is no call.
+-- A step of settling that is no call.
 use Rattle.std.specs.Prelude.{◌≡◌, ℕ, List, length}
 use Rattle.prop_numbers.specs.Sets.{set_of}
 use Rattle.prop_cells.specs.Problems.{Problem}
@@ -11,7 +11,8 @@ use Rattle.prop_amb.specs.Stepping.{HasPassed}
 use Rattle.prop_amb.specs.declared.stepping.Step.{Step}
 use Rattle.prop_amb.specs.declared.stepping.Step.TheVariants.{Called, Moved, Settled, Contradiction}
 
--- from one stand to another by the step that is told, a move; or none is left, by a contradiction
+-- The step that is told is a move from the old stand to the new one, or a contradiction, which
+-- leaves all as it was. It is no call, and doesn't tell that the search has settled.
 abbrev pub IsMove : Problem → Stand → Data → List ℕ → Step → Stand → List ℕ → Type 0
 IsMove problem s d line (Moved m) new line' =
     HasPassed s new m

@@ -1,4 +1,4 @@
--- What comes of a list that is tried, with the sides of one choice after the other.
+-- What comes of trying one choice list: the sides of its choices are believed one after the other.
 use Rattle.std.specs.Prelude.{◌≡◌, ℕ, ◌+◌, ◌<◌, ◌≤◌, IsTrue, List, [], length}
 use Rattle.prop_numbers.specs.Sets.{Members, set_of}
 use Rattle.prop_procedures.specs.Stored.{Stored}
@@ -12,7 +12,8 @@ use Rattle.prop_amb.specs.Search.{Stand, IsStand, IsSearch}
 use Rattle.prop_amb.specs.Going.{work, MayCall, Goes}
 use Rattle.prop_amb.specs.Settling.{IsResting}
 
--- what came of one list
+-- What came of trying the choice list on which the search stands: how that ended, after so many
+-- calls, what is kept, and where the network is then.
 pub record Attempted {O : Type 0} (picks : O → ℕ → ℕ → O → Type 0) (library : List Stored)
     (s : Stand) (d : Data) (waiting : List ℕ) (order : O) (budget : ℕ) (tried : Run) (calls : ℕ)
     (new : Stand) (cells : Data) (after : List ℕ) (next : O) : Type 0 where

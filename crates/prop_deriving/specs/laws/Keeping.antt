@@ -1,4 +1,4 @@
--- What is known of a nogood stays known from step to step.
+-- Which steps from known nogoods lead to known ones.
 use Rattle.std.specs.Prelude.{◌≡◌, ℕ, List, [], All, Contains}
 use Rattle.std.proofs.Common.{subst, sym}
 use Rattle.std.proofs.lemmas.Bool.{false≢true}
@@ -24,7 +24,7 @@ no_premises s premises none = let P : List ℕ → Type 0 = λ ps. IsPart (set_o
 
 module _ (library : List Stored) (n : Attached) (choices : List Choice) (s : Members)
     (excuses : List (List Literal)) where
-  -- a step of one nogood, whose premises may change within the set
+  -- a step from one nogood, whose premises may change within the set
   pub known_narrowed : (old new : Nogood) → Narrows library n choices old new
       → IsPart (set_of new.premises) s → IsKnown library n choices s excuses old
       → IsKnown library n choices s excuses new
@@ -34,7 +34,7 @@ module _ (library : List Stored) (n : Attached) (choices : List Choice) (s : Mem
         excludes_narrowed library n choices (IsExcused n excuses) old new h k.excluded;
   }
 
-  -- a step of two
+  -- a step from two nogoods
   pub known_resolved : (old other new : Nogood) → Resolves library n choices old other new
       → IsPart (set_of new.premises) s → IsKnown library n choices s excuses old
       → IsKnown library n choices s excuses other → IsKnown library n choices s excuses new
@@ -44,7 +44,7 @@ module _ (library : List Stored) (n : Attached) (choices : List Choice) (s : Mem
         l.excluded;
   }
 
-  -- facts whose excuse is that they are so
+  -- a nogood that is met only by what has all of some facts, where these are an excuse
   pub known_excused : (g : Nogood) (facts : List Literal) → g.premises ≡ []
       → Contains excuses facts
       → Excludes library n choices (λ points list. All (IsSoAt n points list) facts) g
@@ -55,7 +55,7 @@ module _ (library : List Stored) (n : Attached) (choices : List Choice) (s : Mem
         (IsExcused n excuses) g (λ points list so. (facts, there, so)) e;
   }
 
-  -- what is never met
+  -- a nogood that is never met
   pub known_never : (g : Nogood) → g.premises ≡ [] → IsNeverMet library n choices g
       → IsKnown library n choices s excuses g
   known_never g none never = record {
@@ -73,8 +73,8 @@ module _ (library : List Stored) (n : Attached) (choices : List Choice) (s : Mem
         (λ points list e. (e.0, grows e.0 e.1, e.2)) k.excluded;
   }
 
-  -- what is known of a nogood without facts: no points satisfy what the set says, with any side of
-  -- each choice, unless they are excused
+  -- What a known nogood without facts says: no points satisfy what the set says, with any side of
+  -- each choice, unless they are excused.
   pub known_refutes : (g : Nogood) → g.literals ≡ [] → IsKnown library n choices s excuses g
       → (list : List ℕ) → IsChoiceList choices list → (points : ℕ → Point)
       → ArePoints (AreHeld library) n (worldview s choices list) points

@@ -6,11 +6,11 @@ use Rattle.prop_learned.specs.declared.slot.Slot.{Slot}
 use Rattle.prop_learned.specs.declared.slot.Turn.{Turn}
 use Rattle.prop_learned.specs.declared.slot.Turn.TheVariants.{Denies}
 
--- what the slots hold
+-- the nogood of each slot, where it has one
 abbrev pub held_in : List Slot → List (Option Nogood)
 held_in slots = map (λ slot. slot.nogood) slots
 
--- where a literal is denied, this is so of it
+-- where a literal is denied, P holds of it
 abbrev pub IfDenies : (Literal → Type 0) → Turn → Type 0
 IfDenies P (Denies literal) = P literal
 IfDenies P turn = Unit {0}

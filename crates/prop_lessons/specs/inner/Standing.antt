@@ -10,11 +10,11 @@ use Rattle.prop_cells.specs.declared.instance.Statement.{Statement}
 use Rattle.prop_facts.specs.declared.fact.Literal.{Literal}
 use Rattle.prop_lessons.specs.Lessons.{PastOf}
 
--- each of the first stands at its place among the second
+-- each element of the first list stands at the same place in the second
 abbrev pub Begin : {X : Type 0} → List X → List X → Type 0
 Begin {X} xs ys = (i : ℕ) (x : X) → slice_get xs i ≡ Some x → slice_get ys i ≡ Some x
 
--- so does each of so many of the first
+-- the same of the first k elements of the first list
 abbrev pub BeginUpTo : {X : Type 0} → ℕ → List X → List X → Type 0
 BeginUpTo {X} k xs ys = (i : ℕ) (x : X) → i < k → slice_get xs i ≡ Some x
     → slice_get ys i ≡ Some x
@@ -24,12 +24,13 @@ abbrev pub IsThereOrGone : List Statement → Members → Statement → Type 0
 IsThereOrGone statements gone x =
     Contains statements x ⊎ ((p : ℕ) × (x.premise ≡ Some p) × IsTrue (gone p))
 
--- each of the choices' sides is out of the set
+-- no side of the choices is in the set
 abbrev pub AreSidesOut : List Choice → Members → Type 0
 AreSidesOut choices gone = (p : ℕ) → IsTrue (is_hypothetical choices p) → gone p ≡ false
 
--- the cells, the instances and the choices are there with the same numbers, and so is each
--- statement that is under no premise, under a premise of the set, or under a side of a choice
+-- What was in the past is there. The cells, the instances and the choices have the numbers that
+-- they had. Each statement is there that is under no premise, under a premise of the set, or under
+-- a side of a choice.
 pub record IsThere (past : PastOf) (n : Attached) (choices : List Choice) (s : Members)
     : Type 0 where
   pub kinds : Begin past.attached.kinds n.kinds
@@ -38,12 +39,13 @@ pub record IsThere (past : PastOf) (n : Attached) (choices : List Choice) (s : M
   pub statements : All (λ x. IsTrue (is_member (union s (is_hypothetical past.choices)) x.premise)
       → Contains n.statements x) past.attached.statements
 
--- the place is a cell, or a choice where the cells are as many as they were
+-- the place is what it was in the past: a cell, or a choice if there are as many cells as there
+-- were
 abbrev pub IsSamePlace : PastOf → ℕ → ℕ → Type 0
 IsSamePlace past cells place = (place < length past.attached.kinds)
     ⊎ ((cells ≡ length past.attached.kinds) × (place < length past.attached.kinds
     + length past.choices))
 
--- each literal is about such a place
+-- each literal is about a place that is what it was
 abbrev pub AreMeant : PastOf → ℕ → List Literal → Type 0
 AreMeant past cells = All (λ x. IsSamePlace past cells x.place)

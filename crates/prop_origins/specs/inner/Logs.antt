@@ -10,12 +10,13 @@ pub record Logged : Type 0 where
   pub cells : ℕ
   pub parts : List Part
 
--- the part's cells are below a number
+-- the part's cell and its inputs are below a number
 pub record IsPartWithin (n : ℕ) (p : Part) : Type 0 where
   pub cell : p.cell < n
   pub inputs : All (λ input. input < n) p.inputs
 
--- for each cell what the parts say of it, and on which premises
+-- for each cell what the parts say of it, and on which premises they rest there; the cells of all
+-- parts are among these
 pub record IsLogged (known : List Info) (resting : List (List ℕ)) (parts : List Part) : Type 0 where
   pub count : length resting ≡ length known
   pub says : (cell : ℕ) → slice_index_or known cell Nothing ≡ made parts cell

@@ -1,13 +1,13 @@
--- How what is known goes on.
+-- How what is known of the cells grows from call to call.
 use Rattle.std.specs.Prelude.{ℕ, ◌+◌, ◌≤◌, List}
 use Rattle.prop_lattice.specs.Order.{Below}
 use Rattle.prop_cells.specs.Problems.{Problem, Assignment, OthersMeet}
 use Rattle.prop_cells.specs.inner.Problems.{AreOfKinds}
 use Rattle.prop_scheduler.specs.Potential.{potential}
 
--- More is known after so many calls, of the cells' kinds. Each of them, and each instance that came
--- to wait, was paid for by the potential; and if those that didn't wait were met, those that don't
--- wait now are.
+-- After so many calls no less is known of any cell, and it is of the cell's kind. The potential
+-- fell by as much as there were calls, or more. If each instance that didn't wait before was met,
+-- each that doesn't wait now is: its value is below what is known of its output.
 pub record Proceeds (problem : Problem) (calls : ℕ) (line after : List ℕ) (known more : Assignment)
     : Type 0 where
   pub of_kinds : AreOfKinds problem.cells more

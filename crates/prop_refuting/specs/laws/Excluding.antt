@@ -1,4 +1,5 @@
--- What is excused of those that meet a nogood stays so from step to step.
+-- Steps from nogoods to a new one: if whatever met the old ones is excused, whatever meets the new
+-- one is.
 use Rattle.std.specs.Prelude.{◌≡◌, ℕ, List, [], All}
 use Rattle.std.proofs.Common.{inl, inr, subst, sym}
 use Rattle.std.proofs.lemmas.List.Elements.{All-nil}
@@ -14,14 +15,14 @@ use Rattle.prop_plans.specs.Held.{AreHeld}
 use Rattle.prop_refuting.specs.Places.{IsSoAt}
 
 module _ (library : List Stored) (n : Attached) (choices : List Choice) where
-  -- a step of one nogood
+  -- a step from one nogood
   pub excludes_narrowed : (Excuse : (ℕ → Point) → List ℕ → Type 0) (old new : Nogood)
       → Narrows library n choices old new → Excludes library n choices Excuse old
       → Excludes library n choices Excuse new
   excludes_narrowed Excuse old new h e =
       record { out = λ list points c m. e.out list points c (h list points c m) }
 
-  -- a step of two
+  -- a step from two
   pub excludes_resolved : (Excuse : (ℕ → Point) → List ℕ → Type 0) (old other new : Nogood)
       → Resolves library n choices old other new → Excludes library n choices Excuse old
       → Excludes library n choices Excuse other → Excludes library n choices Excuse new
@@ -30,7 +31,7 @@ module _ (library : List Stored) (n : Attached) (choices : List Choice) where
         [ inl a ↦ e.out list points c a | inr b ↦ f.out list points c b ];
   }
 
-  -- what is excused, is by any wider excuse
+  -- what is excused is excused by any wider excuse
   pub excludes_more : (Excuse Wider : (ℕ → Point) → List ℕ → Type 0) (g : Nogood)
       → ((points : ℕ → Point) (list : List ℕ) → Excuse points list → Wider points list)
       → Excludes library n choices Excuse g → Excludes library n choices Wider g

@@ -1,4 +1,4 @@
--- Which instances wait.
+-- The line of an agenda as it is stored: numbers, each with a flag.
 use Rattle.std.specs.Prelude.{◌≡◌, ℕ, ◌≤◌, ◌==◌, Bool, false, cond, List, length, count_by}
 use Rattle.std.specs.Prelude.{slice_index_or}
 

@@ -1,4 +1,4 @@
--- How many steps a run can take, by what the cells hold.
+-- The potential of a network, by what its cells hold.
 use Rattle.std.specs.Prelude.{ℕ, List}
 use Rattle.prop_procedures.specs.Stored.{Stored}
 use Rattle.prop_cells.specs.inner.Problems.{Premises}
