@@ -1,4 +1,5 @@
--- What a reduction does, try by try.
+-- What the reduction of an explanation does, try by try. A try believes some of its premises alone,
+-- to see what they entail.
 use Rattle.std.specs.Prelude.{ℕ, ◌+◌, false, ◌≡◌, IsTrue, List, [], ◌∷◌, length, All}
 use Rattle.prop_procedures.specs.Stored.{Stored}
 use Rattle.prop_numbers.specs.Sets.{Members, IsPart}
@@ -11,12 +12,11 @@ abbrev pub last_of : Members → List Members → Members
 last_of why [] = why
 last_of why (s ∷ sets) = s
 
--- The second cells, line and order are reached from the first by tries of these sets, the last
--- first, that called as many instances. Each set is of premises of the explanation, and lacks one
--- of them that every set before it holds: so no set is tried twice. For each try those wait, behind
--- what waited, that read or write a cell of which its premises believe something else than those of
--- the try before, and then some are called in the worldview of the premises that are tried, each at
--- the place that the order picks.
+-- The later cells, line and order are reached from the first by tries of these sets, the last
+-- first, with so many calls in all. Each set is of premises of the explanation, and lacks one of
+-- them that every set before it has: so no set is tried twice. For each try the worldview changes
+-- to the set: the readers and the writers of the cells that shift wait, behind what waited. Then
+-- some instances are called, each at the place that the order picks.
 pub data TriesOf {O : Type 0} (picks : O → ℕ → ℕ → O → Type 0) (library : List Stored)
     (why : Members) (start : Data) (line : List ℕ) (order : O) : List Members → ℕ → Data → List ℕ
     → O → Type 0 where
@@ -29,8 +29,9 @@ pub data TriesOf {O : Type 0} (picks : O → ℕ → ℕ → O → Type 0) (libr
       → Turns picks library s d waiting first m new after next →
       TriesOf picks library why start line order (s ∷ sets) (n + m) new after next
 
--- By tries of some sets of premises of an explanation, all of which are believed. Before the first
--- those wait that read or write a cell of which the explanation alone believes something else.
+-- Tries of sets of premises of an explanation, which are all believed. Before the first, the
+-- worldview changes from what is believed to the explanation alone: the readers and the writers of
+-- the cells that shift wait.
 pub record Tries {O : Type 0} (picks : O → ℕ → ℕ → O → Type 0) (library : List Stored)
     (believed : Members) (start : Data) (line : List ℕ) (order : O) (n : ℕ) (new : Data)
     (after : List ℕ) (next : O) : Type 0 where

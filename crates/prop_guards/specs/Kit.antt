@@ -14,17 +14,20 @@ use Rattle.prop_arith.specs.declared.kit.Kit.TheVariants.{Root, Less, Below, Abo
 use Rattle.prop_arith.specs.declared.kit.Kit.TheVariants.{Switch, And, AndBack, Or, OrBack}
 use Rattle.prop_guards.specs.Known.{is_settled, number_of}
 
--- of one of the two nothing is known, and z may be what leaves x open, whatever truth y is
+-- z or y is unknown, z may be the truth t, and y may be some truth
 abbrev pub leaves_open : Info → Info → ℕ → Bool
 leaves_open z y t = (is_nothing z || is_nothing y) && (leaves z t && (leaves y 0 || leaves y 1))
 
--- some numbers of x are less than some of y, and some are not; or too little is known
+-- some numbers of x are less than some of y, and some are not; where these are no spans, one of
+-- them is unknown
 abbrev pub are_mixed : Info → Info → Bool
 are_mixed (Span x) (Span y) = int_le y.lo x.hi && int_lt x.lo y.hi
 are_mixed x y = is_nothing x || is_nothing y
 
--- of some of two inputs too little is known: of a truth that says whether there is anything to say,
--- of what decides by itself in `and` and `or`, and else of any
+-- Too little is known of two inputs for an answer. For `Root` that is y. For `Below`, `Above` and
+-- `Switch` it is the truth that says whether there is anything to say, or the other input. For
+-- `Less`, `And`, `Or`, `AndBack` and `OrBack` both answers are left. For other rules one input is
+-- unknown.
 abbrev pub is_silent_of_two : kits.Kit → Info → Info → Bool
 is_silent_of_two Root y x = is_nothing y
 is_silent_of_two Less x y = are_mixed x y
@@ -37,12 +40,13 @@ is_silent_of_two Or x y = (is_nothing x || is_nothing y) && (leaves x 1 && leave
 is_silent_of_two OrBack z y = leaves_open z y 0
 is_silent_of_two rule x y = is_nothing x || is_nothing y
 
--- of some of three inputs: where y is another than x, x has to be a single one
+-- Too little is known of three inputs. For `Apart` the truth is not just `no`, or x is no single
+-- point, or y is unknown. For other rules one input is unknown.
 abbrev pub is_silent_of_three : kits.Kit → Info → Info → Info → Bool
 is_silent_of_three Apart t x y = (not (is_just no_bits t) || not (is_single x)) || is_nothing y
 is_silent_of_three rule x y z = (is_nothing x || is_nothing y) || is_nothing z
 
--- of some input too little is known
+-- too little is known of the inputs for an answer
 abbrev pub is_silent : kits.Kit → List Info → Bool
 is_silent rule (x ∷ y ∷ []) = is_silent_of_two rule x y
 is_silent rule (x ∷ y ∷ z ∷ []) = is_silent_of_three rule x y z
@@ -55,18 +59,18 @@ is_inside (Span x) (Span y) =
 is_inside (Sym x) (Sym y) = not (x == y)
 is_inside x y = false
 
--- y is another than x, and keeps its ends
+-- the answer is y: y is another than x, which is inside y or another symbol
 abbrev pub is_repeated : kits.Kit → List Info → Bool
 is_repeated Apart (t ∷ x ∷ y ∷ []) = is_just no_bits t && is_inside x y
 is_repeated rule args = false
 
--- the input that is the output: what is known of the root already, and y
+-- the place of the input that is the output: what is known of the root already, and y of `Apart`
 abbrev pub own_of : kits.Kit → Option ℕ
 own_of Root = Some 1
 own_of Apart = Some 2
 own_of rule = None
 
--- the number that y can't be where it is another than x, which is told of x
+-- what is told of x: y is another than x, so it can't be the number that x is alone
 abbrev pub ruled_out : kits.Kit → List Info → ℕ → Option ℤ
 ruled_out Apart (t ∷ x ∷ y ∷ []) (suc zero) = if is_just no_bits t then number_of x else None
 ruled_out rule args place = None

@@ -1,4 +1,4 @@
--- What is seen at a glance of an information.
+-- What is seen of an information at a glance.
 use Rattle.std.specs.Prelude.{ℤ, Bool, Option, None, ◌||◌}
 use Rattle.std.specs.Bool.{then_some}
 use Rattle.std.specs.Ordering.{int_eq}

@@ -14,11 +14,11 @@ abbrev pub IsJust : Info → Point → Type 0
 IsJust a (Number v) = (low_of a ≡ v) × (high_of a ≡ v)
 IsJust a p = ⊥
 
--- each leaves the number in its place alone
+-- each information leaves alone the number in its place
 abbrev pub AreJust : List Info → List Point → Type 0
 AreJust = AllZip IsJust
 
--- of single numbers each rule answers those alone that belong to them
+-- whatever number the answer of a rule to single numbers holds, it belongs to these
 abbrev pub EachIsExact : Type 0
 EachIsExact =
     (rule : Many) (param : Param) (args : List Info) (points : List Point) (point : Point)

@@ -1,4 +1,4 @@
--- What is known of the answers of the rules without a call.
+-- What is known of the answers of the rules of many numbers without a call.
 use Rattle.std.specs.Prelude.{ℕ, suc, ℤ, List, ◌∷◌, Option, Some, None, slice_get}
 use Rattle.std.specs.Option.{option_and_then}
 use Rattle.prop_guards.specs.Known.{number_of}
@@ -6,14 +6,15 @@ use Rattle.prop_lattice.specs.declared.info.Info.{Info}
 use Rattle.prop_many.specs.declared.many.Many.{Many}
 use Rattle.prop_many.specs.declared.many.Many.TheVariants.{Circuit, Cumulative, Differ, Disjoint}
 
--- the input that is the output: the own start, number or successor
+-- the place of the input that is the output: the task's own start, the own number or the node's own
+-- successor
 abbrev pub own_of : Many → Option ℕ
 own_of Cumulative = Some 1
 own_of Disjoint = Some 0
 own_of Differ = Some 0
 own_of Circuit = Some 0
 
--- each number that another has alone can't be the own
+-- the number that the other at this place has alone: the own number can't be that
 abbrev pub ruled_out_beside : List Info → ℕ → Option ℤ
 ruled_out_beside (own ∷ others) (suc place) = option_and_then number_of (slice_get others place)
 ruled_out_beside args place = None

@@ -18,7 +18,8 @@ end_of start length = low_of start +ℤ low_of length
 abbrev pub demand_of : Info → ℤ
 demand_of demand = int_max (low_of demand) (pos 0)
 
--- what a task takes at a time for sure: from its latest start up to its earliest end
+-- what a task takes at a time for sure: it runs from its latest start up to its earliest end,
+-- wherever it starts
 abbrev pub taken_of : Info → Info → Info → ℤ → ℤ
 taken_of start length demand time =
     part_at (high_of start) (end_of start length) (demand_of demand) time
@@ -29,12 +30,13 @@ load_of (start ∷ length ∷ demand ∷ tasks) time =
     taken_of start length demand time +ℤ load_of tasks time
 load_of tasks time = pos 0
 
--- the time is not between the two, or the tasks leave room at it
+-- the time is not inside the two, or the tasks leave room at it
 abbrev pub is_free : List Info → ℤ → ℤ → ℤ → ℤ → Bool
 is_free tasks room from to time =
     (int_le time from || int_le to time) || int_le (load_of tasks time) room
 
--- the tasks take no more than `room` wherever one of the second list starts between the two times
+-- the tasks take no more than `room` for sure at each latest start of one of the second list that
+-- is inside the two times
 abbrev pub keeps_room : List Info → List Info → ℤ → ℤ → ℤ → Bool
 keeps_room tasks (start ∷ length ∷ demand ∷ starting) room from to =
     is_free tasks room from to (high_of start) && keeps_room tasks starting room from to

@@ -1,4 +1,5 @@
--- The rules: their forms, what they answer, and which points belong together.
+-- The rules of many numbers: of tasks that share a resource, or that may not overlap, of numbers
+-- that differ, and of circuits. Their forms, what they answer, and which points belong together.
 use Rattle.std.specs.Prelude.{◌≡◌, ◌≤◌, ℕ, Bool, true, false, List, length}
 use Rattle.std.specs.List.{list_all}
 use Rattle.prop_lattice.specs.Points.{Point}
@@ -35,7 +36,7 @@ least_of Circuit = 2
 abbrev pub HasInputs : Many → List Shape → Type 0
 HasInputs rule ins = AreNumbers ins × (least_of rule ≤ length ins)
 
--- the forms of a rule: from so many numbers or more to one
+-- the forms of a rule: from so many numbers or more to one number
 abbrev pub FormOf : Many → List Shape → Shape → Need → Type 0
 FormOf rule ins out need = HasInputs rule ins × (out ≡ Span) × (need ≡ needs.Nothing)
 
@@ -46,7 +47,7 @@ value_of Disjoint param args = disjoint_of args
 value_of Differ param args = differ_of args
 value_of Circuit param args = circuit_of args
 
--- the points that belong together
+-- the points that belong together: those of the inputs, and that of the output
 abbrev pub Related : Many → Param → List Point → Point → Type 0
 Related Cumulative param points point = RelatesCumulative points point
 Related Disjoint param points point = RelatesDisjoint points point

@@ -1,4 +1,4 @@
--- The procedures.
+-- The procedures of the rules of many numbers: their names, their inputs and their order.
 use Rattle.std.specs.Prelude.{◌≡◌, ◌≤◌, ◌+◌, ◌*◌, ◌/◌, ◌%◌, ℕ, zero, suc, nat_lt, List, [], ◌∷◌}
 use Rattle.std.specs.Prelude.{◌++◌, codes, if◌then◌else◌, map, length, All, replicate}
 use Rattle.prop_procedures.specs.declared.shape.Shape.{Shape}
@@ -18,8 +18,8 @@ pub record Named : Type 0 where
 abbrev pub digits : ℕ → List ℕ
 digits n = if nat_lt n 10 then (48 + n) ∷ [] else (48 + n / 10) ∷ (48 + n % 10) ∷ []
 
--- a rule's procedures for one other task or number, or one node, for two, and on: so many inputs
--- beside the others', and so many for each of those
+-- A rule's procedures for 1 to n others, or nodes, named by these numbers. They have `own` inputs,
+-- and beside these `each` for each of the others.
 abbrev pub procedures_of : List ℕ → Many → ℕ → ℕ → ℕ → List Named
 procedures_of name rule own each zero = []
 procedures_of name rule own each (suc n) = procedures_of name rule own each n ++ record {
@@ -28,12 +28,13 @@ procedures_of name rule own each (suc n) = procedures_of name rule own each n ++
   ins = replicate (own + each * suc n) Span;
 } ∷ []
 
--- the procedures in order
+-- the procedures of tasks and of numbers that differ, in order
 abbrev pub in_order : List Named
 in_order = procedures_of (codes "cumulative") Cumulative 4 3 40
     ++ procedures_of (codes "disjoint") Disjoint 2 2 40
     ++ procedures_of (codes "differ") Differ 1 1 63
 
+-- those of circuits
 abbrev pub circuits_in_order : List Named
 circuits_in_order = procedures_of (codes "circuit") Circuit 2 1 40
 
@@ -46,13 +47,13 @@ abbrev pub CircuitsAreStated : Type 0
 CircuitsAreStated =
     map (λ p. record { name = p.0.now; rule = p.1; ins = p.2.now }) CIRCUITS ≡ circuits_in_order
 
--- the inputs are 1 to 128, as the rule may have
+-- the procedure has 1 to 128 inputs, as its rule may have
 pub record IsFormed (p : Named) : Type 0 where
   pub has_inputs : HasInputs p.rule p.ins
   pub some : 1 ≤ length p.ins
   pub few : length p.ins ≤ 128
 
--- each has such inputs
+-- each procedure has such inputs
 abbrev pub EachIsFormed : Type 0
 EachIsFormed = All IsFormed in_order
 

@@ -22,8 +22,8 @@ abbrev pub greatest_of : List Info → Info
 greatest_of numbers = known (top low_of numbers) (top high_of numbers)
 
 -- What is known of a number where z is the greatest of it and others. It is no greater than z, and
--- it is z where all others are less. Where one of the others is greater than z, that is a
--- contradiction.
+-- it is z where all others are sure to be less. Where one of the others is sure to be greater than
+-- z, that is a contradiction.
 abbrev pub greatest_back_of : Info → List Info → Info
 greatest_back_of z others =
     if int_lt (high_of z) (top low_of others) then Contradiction
@@ -34,7 +34,8 @@ abbrev pub least_of : List Info → Info
 least_of numbers = known (bottom low_of numbers) (bottom high_of numbers)
 
 -- What is known of a number where z is the least of it and others. It is no less than z, and it is
--- z where all others are greater. Where one of the others is less than z, that is a contradiction.
+-- z where all others are sure to be greater. Where one of the others is sure to be less than z,
+-- that is a contradiction.
 abbrev pub least_back_of : Info → List Info → Info
 least_back_of z others =
     if int_lt (bottom high_of others) (low_of z) then Contradiction

@@ -18,19 +18,20 @@ use Rattle.prop_solve.specs.Searches.{Search}
 use Rattle.prop_solve.specs.declared.solver.Answer.{Answer}
 use Rattle.prop_solve.specs.declared.solver.Answer.TheVariants.{Found, Refuted, Unsettled}
 
--- the same question
+-- both searches ask the same question: one goal, and the same named cells
 pub record AsksTheSame (old new : Search) : Type 0 where
   pub goal : new.goal ≡ old.goal
   pub named : new.named ≡ old.named
 
--- each value leaves a single point
+-- the value of each cell leaves a single point
 abbrev pub AreSingle : Data → List Info → Type 0
 AreSingle d values = (points : ℕ → Point)
     × ((cell : ℕ) → cell < length d.kinds → IsSingle (value_in values cell) (points cell))
 
--- A side of each choice, and a value of each cell that leaves a single point: these points satisfy
--- all that is believed with those sides, and each procedure. From then on points are excused that
--- have its facts.
+-- What is so of a plan that is found: a side of each choice, and a value of each cell that leaves a
+-- single point. The points satisfy all that is stated under what is believed with these sides, and
+-- each procedure holds them. From then on points are excused that have the plan's facts, as the
+-- goal has it.
 pub record IsFound (library : List Stored) (d : Data) (premises : List Origin) (old : Search)
     (values : List Info) (sides : List ℕ) (new : Search) : Type 0 where
   pub sided : IsChoiceList (choices_of premises) sides
@@ -41,7 +42,8 @@ pub record IsFound (library : List Stored) (d : Data) (premises : List Origin) (
   pub excusing : AreExcusing old.goal old.named values facts
   pub excused : new.excuses ≡ excused_then old.goal old.excuses facts
 
--- no points satisfy what these premises say, with any side of each choice, but excused ones
+-- These believed premises are refuted: with any side of each choice, whatever points satisfy what
+-- they say are excused. What is excused stays so.
 pub record IsRefuted (library : List Stored) (d : Data) (premises : List Origin) (old : Search)
     (by : List ℕ) (new : Search) : Type 0 where
   pub believed : IsPart (set_of by) (believed_in premises)
@@ -58,7 +60,7 @@ IsAnswer library d premises old (Found plan) new =
 IsAnswer library d premises old (Refuted by) new = IsRefuted library d premises old by new
 IsAnswer library d premises old Unsettled new = new.excuses ≡ old.excuses
 
--- the one where something was found, and else the other
+-- P of what was found, or Q where nothing was
 abbrev pub IfFound : {A : Type 0} → Option A → (A → Type 0) → Type 0 → Type 0
 IfFound (Some a) P Q = P a
 IfFound None P Q = Q

@@ -24,18 +24,19 @@ abbrev pub AreApart : List Literal → List Literal → Type 0
 AreApart facts more = (n : Attached) (points : ℕ → Point) (list : List ℕ)
     → All (IsSoAt n points list) facts → All (IsSoAt n points list) more → ⊥
 
--- nothing that is excused has all of these facts
+-- nothing that has all of these facts is excused
 abbrev pub IsUnexcused : List (List Literal) → List Literal → Type 0
 IsUnexcused excuses more = (n : Attached) (points : ℕ → Point) (list : List ℕ)
     → All (IsSoAt n points list) more → IsExcused n excuses points list → ⊥
 
--- whatever meets the new nogood meets the old one, of any network
+-- whatever meets the new nogood meets the old one, over any library, network and choices
 abbrev pub NarrowsAll : Nogood → Nogood → Type 0
 NarrowsAll old new = (library : List Stored) (n : Attached) (choices : List Choice)
     → Narrows library n choices old new
 
--- each nogood that is kept then was before, or is this one, as what is refuted may be; all else
--- stays
+-- The search took up the nogood g. Each nogood that it keeps now it kept before, or is g. The
+-- premises that count as refuted did before, or g is the nogood without facts that rests on them.
+-- All else stays.
 pub record Recalls (old : Search) (g : Nogood) (new : Search) : Type 0 where
   pub kept : (h : Nogood) → IsKeptIn new.spread.nogoods h
       → IsKeptIn old.spread.nogoods h ⊎ (h ≡ g)
@@ -43,7 +44,8 @@ pub record Recalls (old : Search) (g : Nogood) (new : Search) : Type 0 where
   pub refuted : IfSome new.refuted (λ by. (g ≡ bare by) ⊎ (old.refuted ≡ Some by))
   pub others : new ≡ record old { spread = new.spread; refuted = new.refuted }
 
--- what was taught stays so, and more is where the search is one of that past
+-- What lessons become once a search has taught some. The network and the choices stay. Where these
+-- are the search's own, and nothing met any of the old nogoods, nothing meets any of the new ones.
 pub record Teaches (s : Search) (old new : Taught) : Type 0 where
   pub same : (new.attached ≡ old.attached) × (new.choices ≡ old.choices)
   pub taught : (library : List Stored) (d : Data) (premises : List Origin)

@@ -1,4 +1,5 @@
--- What other points are excused for, once a plan is told.
+-- What a search is asked for, and which points are excused once a plan is told, so that none of
+-- them need be found.
 use Rattle.std.specs.Prelude.{◌≡◌, ℕ, List, [], ◌∷◌, ◌++◌, Bool, true, false, cond, Option}
 use Rattle.std.specs.Prelude.{Some, None}
 use Rattle.std.specs.Prelude.{slice_get, All, ℤ, pos, ◌+ℤ◌, ◌-ℤ◌}
@@ -18,35 +19,37 @@ use Rattle.prop_deriving.specs.Known.{IsExcused}
 use Rattle.prop_solve.specs.declared.question.Goal.{Goal}
 use Rattle.prop_solve.specs.declared.question.Goal.TheVariants.{Any, Least, Greatest, Differing}
 
--- the fact that the value is the only one which the information leaves
+-- the fact that says which single value the information leaves
 abbrev pub value_fact : Info → Option Fact
 value_fact (Span s) = cond (int_eq s.lo s.hi) (Some (Is s.lo)) None
 value_fact (Set elements) = Some (Among elements)
 value_fact (Sym symbol) = Some (Same symbol)
 value_fact a = None
 
--- the fact about the value of a cell
+-- the literal says of the cell which value it has in the plan
 pub record IsValueFact (values : List Info) (cell : ℕ) (fact : Literal) : Type 0 where
   pub place : fact.place ≡ cell
   pub info : Info
   pub at : slice_get values cell ≡ Some info
   pub same : value_fact info ≡ Some fact.fact
 
--- the only fact is an end of the cell's span
+-- the only fact is about an end of the span that the plan gives the cell
 abbrev pub IsEndOf : List Info → ℕ → (SpanOf → Fact) → List Literal → Type 0
 IsEndOf values cell end facts = (s : SpanOf) × (slice_get values cell ≡ Some (Span s))
     × (facts ≡ record { place = cell; fact = end s } ∷ [])
 
--- the facts of a plan that excuse other points where they have all of them: that the number is no
--- better, that the named cells are the same, or nothing where any points will do
+-- The facts of a plan, where other points that have all of them are excused: of an optimum, that
+-- the number is no better than in the plan, and of points that differ, that the named cells have
+-- the same values. Where any points will do there are no facts.
 abbrev pub AreExcusing : Goal → List ℕ → List Info → List Literal → Type 0
 AreExcusing Any named values facts = facts ≡ []
 AreExcusing (Least cell) named values facts = IsEndOf values cell (λ s. AtLeast s.lo) facts
 AreExcusing (Greatest cell) named values facts = IsEndOf values cell (λ s. AtMost s.hi) facts
 AreExcusing Differing named values facts = AllZip (IsValueFact values) named facts
 
--- what is excused once a plan is told: where any will do what was, of an optimum what is no better
--- than that plan, and of points that differ what was, and that plan, too
+-- What is excused once a plan is told. Where any points will do, that is what was. Of an optimum it
+-- is what is no better than this plan. Of points that differ it is what was, and what is the same
+-- as this plan.
 abbrev pub excused_then : Goal → List (List Literal) → List Literal → List (List Literal)
 excused_then Any excuses facts = excuses
 excused_then (Least cell) excuses facts = facts ∷ []
@@ -59,7 +62,7 @@ is_optimum (Least cell) = true
 is_optimum (Greatest cell) = true
 is_optimum goal = false
 
--- the fact that the number of which an end is asked for is better than this end
+-- the literal says that the number of which an end is asked for is better than this one
 abbrev pub IsBetter : Goal → ℤ → Literal → Type 0
 IsBetter (Least cell) end x = x ≡ record { place = cell; fact = AtMost (end -ℤ pos 1) }
 IsBetter (Greatest cell) end x = x ≡ record { place = cell; fact = AtLeast (end +ℤ pos 1) }
@@ -69,13 +72,13 @@ IsBetter goal end x = ⊥
 abbrev pub AreInRange : Attached → (ℕ → Point) → List ℕ → Type 0
 AreInRange n points list = (place : ℕ) → IsInRange (point_at n points list place)
 
--- points that have all of the first facts have all of the others
+-- points in range that have all of the first facts have all of the others
 abbrev pub Imply : List Literal → List Literal → Type 0
 Imply before facts = (n : Attached) (points : ℕ → Point) (list : List ℕ)
     → AreInRange n points list → All (IsSoAt n points list) before
     → All (IsSoAt n points list) facts
 
--- what was excused is excused
+-- points in range that were excused before are excused
 abbrev pub Grow : List (List Literal) → List (List Literal) → Type 0
 Grow before excuses = (n : Attached) (points : ℕ → Point) (list : List ℕ)
     → AreInRange n points list → IsExcused n before points list → IsExcused n excuses points list

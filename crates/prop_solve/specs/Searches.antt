@@ -12,18 +12,20 @@ use Rattle.prop_refuting.specs.Nogoods.{Nogood}
 use Rattle.prop_deriving.specs.Known.{IsKnown, AreKnown}
 use Rattle.prop_solve.specs.declared.question.Goal.{Goal}
 
--- a plan that is looked at: its check, the sides that it takes, and what is believed with them
+-- a plan that is looked at: its check, a side of each choice, and what is believed with these
 pub record Proposed : Type 0 where
   pub check : Checked
   pub sides : List ℕ
   pub view : List ℕ
 
--- what follows: the nogoods that are kept, and what is believed where no side is
+-- what a search draws on: the nogoods that are kept, and what is believed at the root, where no
+-- side is believed
 pub record Spread : Type 0 where
   pub nogoods : List (Option Nogood)
   pub root : List ℕ
 
--- what was asked, what is excused by now, and what the search knows
+-- A search: its goal and the cells that are named, what is excused by now, what it draws on, the
+-- nogood that it learns, the plan that it looks at, and the premises that it has refuted.
 pub record Search : Type 0 where
   pub goal : Goal
   pub named : List ℕ
@@ -33,7 +35,7 @@ pub record Search : Type 0 where
   pub proposal : Option Proposed
   pub refuted : Option (List ℕ)
 
--- a plan with a side of each choice, of which what is known is so
+-- the plan has a side of each choice, and what its check knows is so
 pub record IsProposed (library : List Stored) (d : Data) (premises : List Origin) (p : Proposed)
     : Type 0 where
   pub sides : IsChoiceList (choices_of premises) p.sides
@@ -44,7 +46,9 @@ pub record IsProposed (library : List Stored) (d : Data) (premises : List Origin
 abbrev pub bare : List ℕ → Nogood
 bare premises = record { literals = []; premises = premises }
 
--- each nogood rests on believed premises, and whatever meets it is excused
+-- What every search keeps. What is believed at the root is believed. Each nogood that is kept or
+-- learned rests on believed premises, and whatever meets it is excused; so it is with the premises
+-- that are refuted. What is known of the plan is so.
 pub record IsSearch (library : List Stored) (d : Data) (premises : List Origin) (s : Search)
     : Type 0 where
   pub root : IsPart (set_of s.spread.root) (believed_in premises)

@@ -15,22 +15,23 @@ use Rattle.prop_conflicts.specs.declared.explorer.Stage.TheVariants.{Trying, Idl
 use Rattle.prop_conflicts.specs.declared.shrinking.Shrinking.{Shrinking as ShrinkingOf}
 use Rattle.prop_conflicts.specs.declared.trial.Trial.{Trial}
 
--- refuted premises, and those without any one of which the others fit
+-- The premises are refuted. Some of them are needed: without any one of these the others fit.
 pub record IsShrinking (g : Ground) (s : ShrinkingOf) : Type 0 where
   pub refuted : IsRefuted g s.premises
   pub needed : (p : ℕ) → IsTrue (set_of s.needed p) → Fits g (without (set_of s.premises) p)
 
--- each believed premise but these is tried
+-- each believed premise that isn't given up is tried
 abbrev pub IsLeft : Ground → List ℕ → Trial → Type 0
 IsLeft g out t = (p : ℕ) → IsTrue (believed_in g.premises p) → set_of out p ≡ false
     → IsTrue (set_of t.kept p)
 
--- each of these premises but one is tried
+-- each of these premises but p is tried
 abbrev pub IsWithout : List ℕ → ℕ → Trial → Type 0
 IsWithout premises p t = IsPart (without (set_of premises) p) (set_of t.kept)
 
--- Where premises are given up, they hit all conflicts and are all needed for that, and the others
--- are tried. Where premises are made fewer, they are refuted, and maybe tried without one of them.
+-- What is so at each stage of a search. While premises are given up, these hit all conflicts, are
+-- all needed for that, and the others are tried. While refuted premises are made fewer, they are
+-- refuted, and maybe tried without one of them.
 abbrev pub Stands : Ground → List Conflict → List ℕ → ShrinkingOf → ℕ → Option Trial → Stage
     → Type 0
 Stands g conflicts out s p trial Giving =
@@ -41,8 +42,9 @@ Stands g conflicts out s p trial Trying =
 Stands g conflicts out s p trial Seeking = ⊤
 Stands g conflicts out s p trial Idle = ⊤
 
--- conflicts and repairs are such, and each set that hits all conflicts has all of a repair or is
--- still looked for; once it is over, none is
+-- What a search knows. Its conflicts and its repairs are such. Each set that hits all conflicts has
+-- all of a repair, or is still looked for; once the search is over, each has all of a repair. Its
+-- trial is one.
 pub record Knows (g : Ground) (conflicts : List Conflict) (repairs : List (List ℕ))
     (frontier : Frontier) (is_over : Bool) (trial : Option Trial) : Type 0 where
   pub conflicts_are : All (IsConflict g) conflicts
@@ -57,6 +59,7 @@ KnowsOf g e = Knows g e.conflicts.items e.repairs.items e.frontier e.is_over e.t
 abbrev pub StandsOf : Ground → Explorer → Type 0
 StandsOf g e = Stands g e.conflicts.items e.out e.shrinking e.premise e.trial e.stage
 
+-- what is known of a search, and what is so at its stage
 pub record IsExplored (g : Ground) (e : Explorer) : Type 0 where
   pub knows : KnowsOf g e
   pub stands : StandsOf g e

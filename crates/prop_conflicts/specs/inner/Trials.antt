@@ -1,4 +1,4 @@
--- What is known of a trial, and what it comes to.
+-- What is known of a trial, which finds out whether some premises fit, and what it comes to.
 use Rattle.std.specs.Prelude.{◌≡◌, ℕ, List, [], Option, Some, None, ⊤}
 use Rattle.prop_numbers.specs.Sets.{IsPart, set_of}
 use Rattle.prop_premises.specs.Origins.{believed_in, choices_of}
@@ -21,7 +21,8 @@ data_of n = record {
   instances = n.instances;
 }
 
--- a search for any points, in which the premises that are tried are believed
+-- the trial is a search for any points, in which at least the premises that are tried are believed,
+-- and nothing is excused
 pub record IsTrial (g : Ground) (t : Trial) : Type 0 where
   pub choices : choices_of t.premises ≡ choices_of g.premises
   pub has : IsPart (set_of t.kept) (believed_in t.premises)
@@ -29,14 +30,14 @@ pub record IsTrial (g : Ground) (t : Trial) : Type 0 where
   pub goal : t.solver.goal ≡ Any
   pub excuses : t.solver.excuses ≡ []
 
--- what is said of these premises is so
+-- what the outcome says of these premises is so: that they can hold, or that some are refuted
 abbrev pub IsOutcome : Ground → List ℕ → Outcome → Type 0
 IsOutcome g kept Fits = CanHold g (set_of kept)
 IsOutcome g kept (Refuted by) = IsRefuted g by
 IsOutcome g kept Open = ⊤
 IsOutcome g kept Lost = ⊤
 
--- and where there is a trial; else it stays open
+-- the same of the premises of a trial; where there is none, the outcome is `Lost`
 abbrev pub IsOutcomeIn : Ground → Option Trial → Outcome → Type 0
 IsOutcomeIn g (Some t) outcome = IsOutcome g t.kept outcome
 IsOutcomeIn g None outcome = outcome ≡ Lost

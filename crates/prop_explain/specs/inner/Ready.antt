@@ -1,4 +1,4 @@
--- What tries leave of a network that they are made in.
+-- What tries leave of the network in which they are made.
 use Rattle.std.specs.Prelude.{◌≡◌, ℕ, List, length}
 use Rattle.prop_numbers.specs.Sets.{Members}
 use Rattle.prop_procedures.specs.Stored.{Stored}
@@ -13,7 +13,8 @@ pub record StaysReady (library : List Stored) (old new : Data) (after : Waiting)
   pub rest : new ≡ record old { contents = new.contents }
   pub ready : IsReady library new after
 
--- so many calls in the second worldview, for which those wait whose cells shift from the first
+-- The worldview changes from t to s, so that the readers and the writers of the cells that shift
+-- wait, and then so many calls are made in s.
 abbrev pub Called : {O : Type 0} → (O → ℕ → ℕ → O → Type 0) → List Stored → Members → Members
     → Data → List ℕ → O → ℕ → Data → List ℕ → O → Type 0
 Called picks library t s d line order calls new after next = (waiting : List ℕ)

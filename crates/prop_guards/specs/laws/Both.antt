@@ -1,4 +1,5 @@
--- What is known of a rule made of two is known of the one that it is.
+-- A rule that is of one of two types: what is known of the rules of each without a call is known of
+-- it.
 use Rattle.std.specs.Prelude.{ℕ, ℤ, Bool, List, Option}
 use Rattle.prop_lattice.specs.Points.{Point}
 use Rattle.prop_lattice.specs.declared.info.Info.{Info}

@@ -47,7 +47,7 @@ use Rattle.prop_guards.specs.laws.KnownLaws.{IsJust, just_holds, just_is, number
 
 -- ---- others that leave more points than they are
 
--- the selection is of none, or leaves more than so many points
+-- the selection is empty, or leaves more than n points
 abbrev IsRoomy : ℕ → List Info → Type 0
 IsRoomy n s = (s ≡ []) ⊎ (n < points_in (hull_of s))
 
@@ -77,7 +77,7 @@ without_none (Set y) = refl
 without_none (Sym y) = refl
 without_none Contradiction = refl
 
--- it says no more than y
+-- a roomy selection says no more than y
 says_y : (n : ℕ) (y : Info) (s : List Info) → length s ≤ n → IsRoomy n s → told_by y s ≡ y
 says_y n y s l (inl none) =
     subst (λ t. told_by y t ≡ y) (sym none) (told_tight 0 Contradiction y refl ∙ without_none y)
@@ -98,7 +98,7 @@ roomy_says_y y others e =
     (each_both (λ s. length s ≤ length others) (IsRoomy (length others)) (selections others)
     (few_selected others) (all_roomy (length others) others e))))))
 
--- there are so many others, and what they say is y
+-- there are so many others, and all that they leave of any y is y
 record Says (many : ℕ) (others : List Info) : Type 0 where
   count : (length others == many) ≡ true
   same : (y : Info) → excluded_of y others ≡ y
@@ -164,7 +164,7 @@ excluder_silent Five param args c e = absurd (never e)
 excluder_silent Six param args c e = absurd (never e)
 excluder_silent Seven param args c e = absurd (never e)
 
--- ---- y is its own
+-- ---- y is the output
 
 another_own : (points : List Point) (point : Point) → IsAnother points point
     → slice_get points 0 ≡ Some point
@@ -183,7 +183,7 @@ excluder_own Seven param points point r = another_own points point r
 
 -- ---- numbers that are ruled out
 
--- the selection of one
+-- what holds of each selection holds of that of one alone
 single_selected : (P : List Info → Type 0) (others : List Info) (k : ℕ) (x : Info)
     → slice_get others k ≡ Some x → Each P (selections others) → P (x ∷ [])
 single_selected P [] k x e h = absurd (none-some x e)
@@ -200,7 +200,7 @@ single_selected P (a ∷ others) (suc k) x e h =
     single_selected P others k x e
     (each_split P (selections others) (map (λ s. a ∷ s) (selections others)) h).0
 
--- one number without itself
+-- a single number without itself leaves nothing
 none_left : (a : spans.Span) → a.lo ≡ a.hi → without_of (Span a) (Span a) ≡ Contradiction
 none_left a e = by (first_is a a)
   where
@@ -229,7 +229,7 @@ excluded_is a others k e at =
     (info_laws.to_top (excluded_of (Span a) others))
     (subst (λ b. Below b (excluded_of (Span a) others)) told_one above)
 
--- the number is another's
+-- the number that another has alone is the point of that other
 none_at : (others : List Info) (points : List Point) (k : ℕ) (x : Info) (v : ℤ) → IsJust x v
     → slice_get others k ≡ Some x → EachHolds others points → ¬ (IsNoneOf (Number v) points)
 none_at [] points k x v j e h n = none-some x e

@@ -200,7 +200,7 @@ comparer_silent x y n m e = absurd (never e)
 
 -- ---- truths
 
--- what two inputs tell goes by which of the truths they leave
+-- which truths are left: the first tells of `yes`, the second of `no`
 abbrev two : Bool → Bool → ℕ → Bool
 two first second zero = first
 two first second (suc n) = second
@@ -210,7 +210,7 @@ same_outputs : (related : ℕ → ℕ → ℕ → Bool) (x y : ℕ → Bool) (a 
 unfolding bits_where any_below
 same_outputs related x y a b c d p q r s = rw (p, q, r, s) refl
 
--- both truths are told where an input leaves both
+-- where the truths that the inputs leave tell both truths, both are told of the inputs
 tells_both : (related : ℕ → ℕ → ℕ → Bool) (x y : Info) (a b c d : Bool) → leaves x 0 ≡ a
     → leaves x 1 ≡ b → leaves y 0 ≡ c → leaves y 1 ≡ d
     → outputs_of related (two a b) (two c d) ≡ 3
@@ -219,7 +219,7 @@ tells_both related x y a b c d p q r s e =
     eq-eqb (outputs_of related (leaves x) (leaves y)) 3
     (same_outputs related (leaves x) (leaves y) a b c d p q r s ∙ e)
 
--- one of the inputs is unknown
+-- where one of the inputs is unknown and both truths are told, the answer is nothing
 truth_silent : (related : ℕ → ℕ → ℕ → Bool) (x y : Info) → (is_nothing x || is_nothing y) ≡ true
     → (outputs_of related (leaves x) (leaves y) == 3) ≡ true → truth_of related x y ≡ Nothing
 truth_silent related x y e f = rw (e, f) refl
@@ -262,7 +262,8 @@ unfolding bits_where any_below
 or_back_unknown true = refl
 or_back_unknown false = refl
 
--- of the one or of the other nothing is known, which then leaves both truths
+-- the answer is nothing where one of the inputs is unknown, whichever, and both truths are told
+-- then
 one_open : (related : ℕ → ℕ → ℕ → Bool) (x y : Info) → (is_nothing x || is_nothing y) ≡ true
     → outputs_of related (two true true) (two (leaves y 0) (leaves y 1)) ≡ 3
     → outputs_of related (two (leaves x 0) (leaves x 1)) (two true true) ≡ 3
@@ -424,7 +425,7 @@ kit_own rule param points point r = search rules
 itself : (b : ℤ) → int_eq b b ≡ true
 itself b = (Decides-int_eq b b).1 refl
 
--- one number without itself
+-- a single number without itself leaves nothing
 none_left : (a : spans.Span) → a.lo ≡ a.hi → numbers.without_of a a.lo ≡ Contradiction
 none_left a e = rw (itself a.lo)
     (span_from-none (a.lo +ℤ pos 1) a.hi (λ ends. absurd (omega (arith, ints, e, ends.1))))

@@ -52,7 +52,7 @@ number_is (Set s) v e = absurd (none-some v e)
 number_is (Sym a) v e = absurd (none-some v e)
 number_is Contradiction v e = absurd (none-some v e)
 
--- it leaves no other point
+-- an information that is just v holds no other point
 pub just_holds : (x : Info) (v : ℤ) → IsJust x v → (p : Point) → Holds x p → p ≡ Number v
 just_holds x v j p h = by p (subst (λ a. Holds a p) j.is h)
   where

@@ -112,7 +112,7 @@ decide_silent a b o n m k e =
     (comparer_silent b o m k (other (is_nothing a) (is_nothing b) (is_nothing o) e)) in
     rw (first, second) refl
   where
-    -- of o nothing is known, or of both
+    -- o is unknown, or both others are
     one : (p q r : Bool) → (r || (p && q)) ≡ true → (p || r) ≡ true
     one true q r f = refl
     one false q true f = refl

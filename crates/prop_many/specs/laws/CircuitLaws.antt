@@ -31,7 +31,7 @@ use Rattle.prop_many.specs.laws.NumberLaws.{AreCloser, AreKept, IsKept, both_tru
 
 -- ---- entries
 
--- both are there, and R of each other, or none is
+-- R holds of both where both are there, and else neither is
 abbrev pub AreAlike : {X : Type 0} → (Info → X → Type 0) → Option Info → Option X → Type 0
 AreAlike R None None = ⊤
 AreAlike R (Some a) (Some b) = R a b
@@ -78,9 +78,9 @@ entry_within first node (a ∷ entries) x e = by (int_eq node first) refl
     by true f within e = here f
     by false f within e = let rest = within e in later rest.0 rest.1
 
--- ---- who knows more
+-- ---- where more is known
 
--- a number that is known stays so
+-- a number that is known stays so as more is known
 stays_one : (a b : Info) → AreWithin a b → is_one a ≡ true
     → (is_one b ≡ true) × (low_of b ≡ low_of a)
 stays_one a b w e =
@@ -169,7 +169,8 @@ raised_is successors home node steps (suc many) = by (goes_wrong successors home
       wrong = λ z p q. absurd (omega (arith, ints, p, q));
     }
 
--- it is reached where all before it go wrong, and these are few
+-- the raised node is x or later, where all nodes before x go wrong and these are no more than
+-- `many`
 raised_reaches : (successors : List Info) (home node : ℤ) (steps many : ℕ) (x : ℤ)
     → ((z : ℤ) → node ≤ℤ z → z <ℤ x → goes_wrong successors home z steps ≡ true)
     → x ≤ℤ (node +ℤ pos many) → x ≤ℤ raised successors home node steps many
@@ -207,7 +208,7 @@ raised_grows olds news p home node node' steps many q =
     further : (a b r m : ℤ) → a ≤ℤ b → r ≤ℤ (a +ℤ m) → r ≤ℤ (b +ℤ m)
     further a b r m p q = omega (arith, ints)
 
--- ---- the last node from which they don't
+-- ---- the last node from which they don't go wrong
 
 record IsLowered (successors : List Info) (home node : ℤ) (steps many : ℕ) (r : ℤ) : Type 0 where
   pub to : r ≤ℤ node
@@ -302,7 +303,7 @@ as_long R (a ∷ olds) (b ∷ news) p = ap suc (as_long R olds news p.1)
 as_long R [] (b ∷ news) p = absurd p
 as_long R (a ∷ olds) [] p = absurd p
 
--- from the first to the last, where there is such a node
+-- from the first to the last successor that doesn't go wrong, where `home` is a node
 between_of : List Info → ℤ → Info → ℕ → Info
 between_of successors home own many =
     if int_lt home (pos 1) || int_lt (pos many) home then Contradiction
@@ -424,7 +425,7 @@ home_right successors points k home node (suc steps) h =
     by a None b right g = absurd g
     by None (Some p) b right g = absurd b
 
--- and it begins at a node
+-- what leads home begins at a node
 leads_from : (points : List Point) (home node : ℤ) (steps : ℕ) → pos 1 ≤ℤ home
     → home ≤ℤ pos (length points) → LeadsHome points home node steps
     → (pos 1 ≤ℤ node) × (node ≤ℤ pos (length points))
@@ -567,7 +568,7 @@ right_home successors points k home node (suc steps) e = (
     by None o b leads g = absurd (never (sym g))
     by (Some a) None b leads g = absurd b
 
--- where it isn't raised, it doesn't go wrong
+-- a node that is not raised doesn't go wrong
 not_raised : (successors : List Info) (home node : ℤ) (steps many : ℕ)
     → raised successors home node steps (suc many) ≤ℤ node
     → goes_wrong successors home node steps ≡ false

@@ -62,7 +62,7 @@ by_taken : (P : ℤ → Type 0) (t : Bool) (a b : ℤ) → (t ≡ true → P a) 
 by_taken P true a b h k = h refl
 by_taken P false a b h k = k refl
 
--- the three that a start has to pass
+-- a start that is taken passes all three tests
 ahead : (a b c d : ℤ) (f : Bool) → ((int_le a b && int_lt c d) && f) ≡ true
     → (a ≤ℤ b) × (c <ℤ d) × (f ≡ true)
 ahead a b c d f = by (int_le a b) refl (int_lt c d) refl f
@@ -74,7 +74,7 @@ ahead a b c d f = by (int_le a b) refl (int_lt c d) refl f
     by true e false k f g = absurd (never g)
     by false e u k f g = absurd (never g)
 
--- not all three hold: so where two do, the number is no less
+-- where a start is not taken, but passes the first test and the last, it fails the second
 behind : (a b c d : ℤ) (f : Bool) → ((int_le a b && int_lt c d) && f) ≡ false
     → a ≤ℤ b → f ≡ true → d ≤ℤ c
 behind a b c d f = by (int_le a b) refl (int_lt c d) refl f
@@ -86,7 +86,7 @@ behind a b c d f = by (int_le a b) refl (int_lt c d) refl f
     by true e false k f g p q = omega (arith, ints)
     by false e u k f g p q = absurd (omega (arith, ints))
 
--- it is in range and fits, or there is none
+-- the first start is no earlier than `low`, and it fits, or it is one past the range
 pub record IsFirst (tasks : List Info) (room length low first : ℤ) : Type 0 where
   pub from : low ≤ℤ first
   pub fits_then : first ≤ℤ B → fits tasks room length first ≡ true
@@ -120,7 +120,7 @@ first_is tasks ending room length low p =
       within = omega (arith, ints);
     })
 
--- the last end of a task up to a time, and not before another
+-- the last end of a task from `low` up to a time, and `low` where there is none
 abbrev last_end : List Info → ℤ → ℤ → ℤ
 last_end (start ∷ length ∷ demand ∷ tasks) low time =
     let last = last_end tasks low time in
@@ -128,7 +128,7 @@ last_end (start ∷ length ∷ demand ∷ tasks) low time =
     if int_lt last end && int_le end time then end else last
 last_end tasks low time = low
 
--- it lies between the two times, and no end lies between it and the second
+-- this end lies from `low` up to the time, and no task ends between it and the time
 record IsLastEnd (tasks : List Info) (low time last : ℤ) : Type 0 where
   above : low ≤ℤ last
   below : last ≤ℤ time
@@ -183,7 +183,7 @@ le_before a b c p q = omega (arith, ints)
 le_behind : (a b c : ℤ) → a ≤ℤ b → b <ℤ c → a ≤ℤ c
 le_behind a b c p q = omega (arith, ints)
 
--- where it fits at that end, the first start is no later
+-- where the task fits at the last end, the first start is no later than that
 first_at_last : (tasks ending : List Info) (room length low time : ℤ) → low ≤ℤ time
     → fits tasks room length (last_end ending low time) ≡ true
     → first_of tasks ending room length low ≤ℤ last_end ending low time
@@ -204,7 +204,7 @@ first_at_last tasks ending room length low time p = λ f.
     by_taken (λ w. w ≤ℤ low) (fits tasks room length low) low (B +ℤ pos 1) (λ t. le_same low)
     (λ t. absurd (never (sym t ∙ f)))
 
--- so the first start is no later than any from `low` on with room all the while
+-- so the first start is no later than any from `low` on at which there is room all the while
 pub first_least : (tasks : List Info) (room length low start : ℤ) → low ≤ℤ start
     → IsOpen tasks room start (start +ℤ length)
     → first_of tasks tasks room length low ≤ℤ start
@@ -241,7 +241,7 @@ first_least tasks room length low start p h =
 
 -- ---- the last start
 
--- it is in range and fits, or there is none
+-- the last start is no later than `high`, and it fits, or it is one before the range
 pub record IsLast (tasks : List Info) (room length high last : ℤ) : Type 0 where
   pub to : last ≤ℤ high
   pub fits_then : neg_ℤ B ≤ℤ last → fits tasks room length last ≡ true
@@ -273,7 +273,8 @@ last_is tasks starting room length high p =
       within = omega (arith, ints);
     })
 
--- the first of the starts that end where a task starts, from a time on, and not behind another
+-- the first of the starts from a time up to `high` from which the task ends where another starts,
+-- and `high` where there is none
 abbrev next_start : List Info → ℤ → ℤ → ℤ → ℤ
 next_start (start ∷ long ∷ demand ∷ tasks) length time high =
     let next = next_start tasks length time high in
@@ -292,7 +293,7 @@ by_next P b next time h k = by (int_le time b) refl (int_lt b next) refl
     by true e false f = k (λ q. omega (arith, ints))
     by false e c f = k (λ q. absurd (omega (arith, ints)))
 
--- it lies between the two times, and no such start lies between it and the first
+-- this start lies from the time up to `high`, and no such start lies between the time and it
 record IsNext (tasks : List Info) (length time high next : ℤ) : Type 0 where
   above : time ≤ℤ next
   below : next ≤ℤ high
@@ -325,7 +326,7 @@ next_is tasks length time high p = record {
   none_between = tt;
 }
 
--- where it fits at that start, the last start is no earlier
+-- where the task fits at that next start, the last start is no earlier
 last_at_next : (tasks starting : List Info) (room length high time : ℤ) → time ≤ℤ high
     → fits tasks room length (next_start starting length time high) ≡ true
     → next_start starting length time high ≤ℤ last_of tasks starting room length high
@@ -346,7 +347,7 @@ last_at_next tasks starting room length high time p = λ f.
     by_taken (λ w. high ≤ℤ w) (fits tasks room length high) high (neg_ℤ B -ℤ pos 1)
     (λ t. le_same high) (λ t. absurd (never (sym t ∙ f)))
 
--- so the last start is no earlier than any up to `high` with room all the while
+-- so the last start is no earlier than any up to `high` at which there is room all the while
 pub last_most : (tasks : List Info) (room length high start : ℤ) → start ≤ℤ high
     → IsOpen tasks room start (start +ℤ length)
     → start ≤ℤ last_of tasks tasks room length high
@@ -360,7 +361,7 @@ last_most tasks room length high start p h =
     is : IsNext tasks length start high next
     is = next_is tasks length start high p
 
-    -- the last time of the start's own stretch
+    -- the last time at which the task runs from this start
     edge : ℤ
     edge = (start +ℤ length) -ℤ pos 1
 

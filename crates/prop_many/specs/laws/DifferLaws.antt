@@ -130,7 +130,7 @@ lying_none (o ∷ others) a = by (lies_in o a 0) refl (lying_none others a)
         absurd (not_both (low_of o) (high_of o) p.0 (ends_ordered o).ordered p.1)
     by false e h = omega (arith, h)
 
--- one of the list begins with the number
+-- the low end of one of the list is the number
 abbrev pub Begins : List Info → ℤ → Type 0
 Begins [] a = ⊥
 Begins (o ∷ others) a = (low_of o ≡ a) ⊎ Begins others a
@@ -162,11 +162,11 @@ same_or : (l a : ℤ) → (l ≡ a) ⊎ (l ≡ a → ⊥)
 same_or l a = by_lt_z l a (λ p. inr (λ e. omega (arith, ints)))
     (λ p. by_lt_z a l (λ q. inr (λ e. omega (arith, ints))) (λ q. inl (omega (arith, ints))))
 
--- all that lie in an interval from the number on lie behind it
+-- who lies in an interval from a on lies in it without a
 abbrev AreBehind : List Info → ℤ → Type 0
 AreBehind others a = (w : ℕ) → lying_in others a (suc w) ≡ lying_in others (a +ℤ pos 1) w
 
--- so it is where none begins with it
+-- the low end of one of the others is a, or all who lie in an interval from a on lie behind a
 begins_or : (others : List Info) (a : ℤ) → Begins others a ⊎ AreBehind others a
 begins_or [] a = inr (λ w. refl)
 begins_or (o ∷ others) a = by (same_or (low_of o) a) (begins_or others a)
@@ -188,7 +188,7 @@ width_le others a (suc n) =
     by true w h = omega arith
     by false w h = omega arith
 
--- as many lie in it as it has numbers
+-- in the widest Hall interval lie as many of the others as it has numbers, or more
 pub width_is_hall : (others : List Info) (a : ℤ) (n : ℕ)
     → width_of others a n ≤ lying_in others a (width_of others a n)
 width_is_hall others a zero = omega arith
@@ -202,7 +202,7 @@ width_is_hall others a (suc n) =
     by true e h = omega (arith, less_from n (lying_in others a (suc n)) e)
     by false e h = h
 
--- and no other is wider
+-- and no Hall interval from a on is wider
 hall_width : (others : List Info) (a : ℤ) (w n : ℕ) → w ≤ n → w ≤ lying_in others a w
     → w ≤ width_of others a n
 hall_width others a w zero p h = p
@@ -258,7 +258,7 @@ crowd_in others a (suc n) e = by (is_crowded others a n) refl (crowd_in others a
       more = less_from (suc n) (lying_in others a (suc n)) g;
     }
 
--- an interval is crowded that begins with a number
+-- some interval is crowded: its first number
 record SomeCrowd (others : List Info) : Type 0 where
   first : ℤ
   crowd : IsCrowd others first (widest others)
@@ -285,7 +285,8 @@ crowded_known others (o ∷ starting) a (inr b) e =
     or_right (is_crowded others (low_of o) (widest others)) _
     (crowded_known others starting a b e)
 
--- so each crowded interval is seen, since one is that begins as one of the others does
+-- So each crowded interval is seen: where one is crowded, one is that begins with the low end of
+-- one of the others.
 pub crowd_seen : (others : List Info) (w : ℕ) (a : ℤ) → 1 ≤ w → w ≤ widest others
     → w < lying_in others a w → any_crowded others others ≡ true
 crowd_seen others zero a some p h = absurd (omega (arith, some))
@@ -308,7 +309,7 @@ crowd_seen others (suc w) a some p h = by w refl (begins_or others a)
         let same = s w in
         f (omega (arith, e)) (omega (arith, p)) (omega (arith, same, h))
 
--- and each Hall interval begins as one of the others does, where none is crowded
+-- where no interval is crowded, each Hall interval begins with the low end of one of the others
 pub hall_begins : (others : List Info) (w : ℕ) (a : ℤ) → 1 ≤ w → w ≤ widest others
     → w ≤ lying_in others a w → any_crowded others others ≡ false → Begins others a
 hall_begins others zero a some p h n = absurd (omega (arith, some))
@@ -373,7 +374,7 @@ before_over a b v e c p h = by (int_le a v && int_lt v b) refl
         let r = h q.0 q.1 in omega (arith, ints, clamps)
     by false f = p
 
--- the least number past all of them
+-- the least number past all these intervals
 
 pub past_all_above : (others starting : List Info) (v e : ℤ) → e ≤ℤ past_all others starting v e
 past_all_above others [] v e = reflexive e
@@ -451,7 +452,7 @@ behind_of others a w p h =
     by : (v : ℕ) → w ≤ v → (a +ℤ pos w) ≤ℤ (a +ℤ pos v)
     by v r = omega (arith, ints)
 
--- ---- who knows more
+-- ---- where more is known
 
 lt_le : (a b c : ℤ) → a <ℤ b → b ≤ℤ c → a <ℤ c
 lt_le a b c p q = omega (arith, ints)
@@ -474,7 +475,8 @@ crowds olds news c e =
     (omega (arith, s.crowd.fits, widest_same olds news c))
     (omega (arith, s.crowd.more, lying_grows olds news s.first w c))
 
--- a Hall interval of who knows less is one of who knows more
+-- where more is known, one of the others begins with a, and their Hall interval from a on has w
+-- numbers or more
 record IsHallOf (news : List Info) (a : ℤ) (w : ℕ) : Type 0 where
   begins : Begins news a
   reaches : (a +ℤ pos w) ≤ℤ behind news a
@@ -619,7 +621,7 @@ stands_or (Number v) a w e =
 stands_or (Element i) a w e = absurd (never e)
 stands_or (Symbol n) a w e = absurd (never e)
 
--- in one number more stand those that did, and those that are that number
+-- in an interval with one number more stand those that stood in it, and those that are that number
 standing_next : (points : List Point) (a : ℤ) (w : ℕ)
     → standing_in points a (suc w) ≤ standing_in points a w + standing_in points (a +ℤ pos w) 1
 standing_next [] a w = omega arith
@@ -679,7 +681,7 @@ none_nowhere (p ∷ points) a = by (stands_in p a 0) (nowhere p) (none_nowhere p
     by true n h = absurd (n refl)
     by false n h = omega (arith, h)
 
--- of different numbers no more stand in an interval than it has
+-- of different numbers no more stand in an interval than it has numbers
 room : (points : List Point) (a : ℤ) (w : ℕ) → AreDifferent points → standing_in points a w ≤ w
 room points a zero d = none_nowhere points a
 room points a (suc w) d =
@@ -708,7 +710,7 @@ no_crowd others points k d = by (any_crowded others others) refl
           room points s.first w d,
         ))
 
--- no number of those that are all different stands in a Hall interval of the others
+-- a number that differs from all others stands in no Hall interval of these
 hall_is_full : (others : List Info) (points : List Point) (a v : ℤ) → AreKept others points
     → AreDifferent (Number v ∷ points) → a ≤ℤ v → v <ℤ behind others a → ⊥
 hall_is_full others points a v k d p q =
@@ -788,7 +790,7 @@ pub shown_later : (o : Info) (others : List Info) (v : ℤ) → IsShown others v
     → IsShown (o ∷ others) v
 shown_later o others v s = record { begins = inr s.begins; lies = omega (arith, s.lies) }
 
--- so the first number past the Hall intervals is behind it
+-- so the number to which `past_all` leads from this one lies behind it
 pub shown_past : (others : List Info) (l v : ℤ) → IsShown others v → l ≡ v
     → v <ℤ past_all others others l l
 shown_past others l v s e =
@@ -801,7 +803,7 @@ shown_past others l v s e =
     over : (b : ℤ) → (v +ℤ pos 1) ≤ℤ b → v <ℤ b
     over b p = omega (arith, ints)
 
--- where none is crowded, no two of the others are one number
+-- where no interval is crowded, no two of the others are just one and the same number
 pub no_two : (others : List Info) (a : ℤ) → any_crowded others others ≡ false
     → lying_in others a 1 ≤ 1
 no_two others a n = by (nat_lt 1 (lying_in others a 1)) refl

@@ -1,4 +1,4 @@
--- The laws of starts that others may not overlap.
+-- The laws of starts of tasks that may not overlap others.
 use Rattle.std.specs.Prelude.{◌≡◌, ℤ, pos, neg_ℤ, ◌+ℤ◌, ◌-ℤ◌, ◌≤ℤ◌, ◌<ℤ◌, Bool, true, false}
 use Rattle.std.specs.Prelude.{int_lt, ◌&&◌, if◌then◌else◌, List, [], ◌∷◌}
 use Rattle.std.specs.Int.{int_max, int_min}
@@ -57,7 +57,8 @@ behind_more s l o m s' l' o' m' a b c d e =
         → h' <ℤ (s' +ℤ l')
     wider h' h s s' l l' p q r t = omega (arith, ints)
 
--- what comes behind and is apart starts no earlier than the end of the other
+-- a task that ends behind the start of another, which it doesn't overlap, starts no earlier than
+-- the end of that
 pub comes_behind : (v l u w : ℤ) → pos 0 <ℤ l → pos 0 <ℤ w → u <ℤ (v +ℤ l) → AreApart v l u w
     → (u +ℤ w) ≤ℤ v
 comes_behind v l u w p q r apart = by_lt_z v (u +ℤ w)
@@ -66,7 +67,7 @@ comes_behind v l u w p q r apart = by_lt_z v (u +ℤ w)
     (λ g. absurd (apart v (omega (arith, ints)) (omega (arith, ints)) g lt)))
     (λ g. g)
 
--- ---- who knows more
+-- ---- where more is known
 
 later_of_two : (t t' : Bool) (e e' x x' : ℤ) → (t ≡ true → t' ≡ true) → e ≤ℤ e' → x ≤ℤ x'
     → (if t then int_max e x else e) ≤ℤ (if t' then int_max e' x' else e')

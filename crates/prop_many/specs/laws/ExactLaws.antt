@@ -60,7 +60,7 @@ known_held lo hi v r = by (int_le lo (neg_ℤ B)) refl (int_le B hi) refl
 
 -- ---- tasks beside others
 
--- what is known of single numbers is all that there is
+-- where all numbers are known, what the tasks take for sure is what they take
 load_just : (tasks : List Info) (points : List Point) → AreJust tasks points → (time : ℤ)
     → load_of tasks time ≡ load_at points time
 load_just (s ∷ l ∷ d ∷ tasks) (Number u ∷ Number v ∷ Number w ∷ points) e time =
@@ -75,7 +75,7 @@ load_just [] (p ∷ points) e time = absurd e
 load_just (s ∷ []) points e time = search rules
 load_just (s ∷ l ∷ []) points e time = search rules
 
--- what lies between the first and the last, of one number, is that number
+-- where the ends are one number, whatever lies between the first and the last is that number
 between : (a b v first z last : ℤ) → a ≡ v → b ≡ v → a ≤ℤ first → first ≤ℤ z → z ≤ℤ last
     → last ≤ℤ b → (z ≡ v) × (first ≡ v)
 between a b v first z last p q i j k m = (omega (arith, ints), omega (arith, ints))

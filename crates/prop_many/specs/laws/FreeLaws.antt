@@ -33,7 +33,9 @@ four_sums : (a b c d x y z u : ℕ) → a + b ≤ c + d → x + y ≤ z + u
     → (a + x) + (b + y) ≤ (c + z) + (d + u)
 four_sums a b c d x y z u p q = omega arith
 
--- an interval of j + k numbers, and one of v behind its first j, where k are no more than v
+-- Two intervals: of j + k numbers from a on, and of v numbers from a + j on, where k is no more
+-- than v. Who lies in them lies as often in the interval of both together, and in the k numbers
+-- that they share.
 lies_both : (o : Info) (a : ℤ) (j k v : ℕ) → k ≤ v
     → ones (lies_in o a (j + k)) + ones (lies_in o (a +ℤ pos j) v)
     ≤ ones (lies_in o a (j + v)) + ones (lies_in o (a +ℤ pos j) k)
@@ -83,7 +85,7 @@ hall_fits : (others : List Info) (a : ℤ) (w : ℕ) → length others ≤ 64
     → w ≤ lying_in others a w → w ≤ widest others
 hall_fits others a w few h = omega (arith, few, h, lying_few others a w)
 
--- together they are one
+-- two Hall intervals that share numbers or touch are one together
 union : (others : List Info) (a : ℤ) (j k v : ℕ) → length others ≤ 64
     → any_crowded others others ≡ false → k ≤ v → j + k ≤ lying_in others a (j + k)
     → v ≤ lying_in others (a +ℤ pos j) v → j + v ≤ lying_in others a (j + v)
@@ -92,7 +94,8 @@ union others a j k v few n m h h' =
     let inner = not_crowded others (a +ℤ pos j) k (omega (arith, fits, m)) n in
     omega (arith, h, h', inner, lying_both others a j k v m)
 
--- a Hall interval whose first number is told, and how far behind one before it lies
+-- two Hall intervals, of w numbers from a on and of v numbers from b on: the second begins in the
+-- first or just behind it, and ends no earlier
 record IsMet (others : List Info) (a : ℤ) (w : ℕ) (b : ℤ) (v : ℕ) : Type 0 where
   from : a ≤ℤ b
   meets : b ≤ℤ (a +ℤ pos w)
@@ -100,7 +103,7 @@ record IsMet (others : List Info) (a : ℤ) (w : ℕ) (b : ℤ) (v : ℕ) : Type
   first_hall : w ≤ lying_in others a w
   second_hall : v ≤ lying_in others b v
 
--- it reaches from the first number of the one to the last of the other
+-- the widest Hall interval from a on reaches as far as the second of the two
 reaches : (others : List Info) (a : ℤ) (w : ℕ) (b : ℤ) (v : ℕ) → length others ≤ 64
     → any_crowded others others ≡ false → IsMet others a w b v
     → (b +ℤ pos v) ≤ℤ behind others a
@@ -118,7 +121,7 @@ reaches others a w b v few n met =
 
 -- ---- the first number past the Hall intervals
 
--- one of them in which the number lies, and which leads there
+-- a Hall interval in which the number v lies, and behind which the number `to` is the first
 record IsLed (others starting : List Info) (v to : ℤ) : Type 0 where
   first : ℤ
   begins : Begins starting first
@@ -182,7 +185,7 @@ past_is_free others v few n a w hall p q = by (past_all_is others others v v)
     begins : Begins others a
     begins = hall_begins others w a hall.0 fits hall.1 n
 
-    -- where it holds the number itself, it leads further
+    -- a Hall interval that has the number itself leads further
     further : a ≤ℤ v → v <ℤ (a +ℤ pos w) → ⊥
     further r s =
         let there = behind_of others a w fits hall.1 in
@@ -246,6 +249,7 @@ past_is_free others v few n a w hall p q = by (past_all_is others others v v)
 
 -- ---- the last number before them
 
+-- a Hall interval in which the number v lies, and before which the number `to` is the last
 record IsLedBack (others starting : List Info) (v to : ℤ) : Type 0 where
   first : ℤ
   begins : Begins starting first
@@ -312,7 +316,7 @@ before_is_free others v few n a w hall p q = by (before_all_is others others v v
     begins : Begins others a
     begins = hall_begins others w a hall.0 fits hall.1 n
 
-    -- what begins with its first number and holds the number itself leads before it
+    -- a Hall interval that begins with a and has the number itself leads before a
     further : a ≤ℤ v → v <ℤ behind others a → ⊥
     further r s = lt_le_not to a (before_all_first others others a v v begins r s) p
 

@@ -24,7 +24,7 @@ use Rattle.prop_many.specs.laws.DifferLaws.{IsShown, lt_le_not, shown_here, show
 use Rattle.prop_many.specs.laws.ExactLaws.{known_held}
 use Rattle.prop_many.specs.laws.NumberLaws.{never}
 
--- the output is the own start, number or successor
+-- the output is the task's own start, the own number or the node's own successor
 pub many_own : (rule : Many) → IsOwn (Related rule) (own_of rule)
 many_own Cumulative param (Number c ∷ Number s ∷ Number l ∷ Number d ∷ points) point r =
     ap Some (sym r.0)
@@ -52,7 +52,7 @@ shown_at (a ∷ others) zero x v j e =
     shown_here a others v (ap low_of is ∙ j.lo) (ap high_of is ∙ j.hi)
 shown_at (a ∷ others) (suc k) x v j e = shown_later a others v (shown_at others k x v j e)
 
--- the number is another's
+-- the number that another has alone is the point of that other
 none_at : (others : List Info) (points : List Point) (k : ℕ) (x : Info) (v : ℤ) → IsJust x v
     → slice_get others k ≡ Some x → EachHolds others points → ¬ (IsNoneOf (Number v) points)
 none_at [] points k x v j e h n = none-some x e

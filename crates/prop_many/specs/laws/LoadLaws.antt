@@ -30,7 +30,7 @@ part_least from to demand time p = by (int_le from time && int_lt time to)
     by true = p
     by false = omega (arith, ints)
 
--- where it runs, it runs there too
+-- if the first stretch has its time, the second has its own
 abbrev pub RunsToo : ℤ → ℤ → ℤ → ℤ → ℤ → ℤ → Type 0
 RunsToo from to time from' to' time' =
     from ≤ℤ time → time <ℤ to → (from' ≤ℤ time') × (time' <ℤ to')
@@ -86,7 +86,7 @@ load_at_least (Number start ∷ Number length ∷ Number demand ∷ tasks) time 
     least d = omega (arith, ints, clamps)
 load_at_least tasks time = none_least
 
--- ---- who knows more knows of no less load
+-- ---- where more is known, no less load is
 
 pub load_more : (olds news : List Info) → AreCloser olds news → (time : ℤ)
     → load_of olds time ≤ℤ load_of news time
@@ -104,7 +104,7 @@ load_more (s ∷ l ∷ d ∷ olds) (s' ∷ []) p time = absurd p.1
 load_more (s ∷ l ∷ d ∷ olds) (s' ∷ l' ∷ []) p time = absurd p.1.1
 load_more olds news p time = load_least news time
 
--- what is known of is no more than what there is
+-- what is taken for sure is no more than what is taken
 pub load_kept : (tasks : List Info) (points : List Point) → AreKept tasks points → (time : ℤ)
     → load_of tasks time ≤ℤ load_at points time
 load_kept (s ∷ l ∷ d ∷ tasks) (Number u ∷ Number v ∷ Number w ∷ points) p time =
@@ -124,12 +124,12 @@ load_kept tasks points p time = load_at_least points time
 
 -- ---- ends and starts
 
--- so it is with each end of a task
+-- P holds of the earliest end of each task
 abbrev pub AreEndings : (ℤ → Type 0) → List Info → Type 0
 AreEndings P (start ∷ length ∷ demand ∷ tasks) = P (end_of start length) × AreEndings P tasks
 AreEndings P tasks = ⊤
 
--- so it is with each latest start of a task
+-- P holds of the latest start of each task
 abbrev pub AreStarts : (ℤ → Type 0) → List Info → Type 0
 AreStarts P (start ∷ length ∷ demand ∷ tasks) = P (high_of start) × AreStarts P tasks
 AreStarts P tasks = ⊤
@@ -153,7 +153,7 @@ load_until (s ∷ l ∷ d ∷ tasks) time later p h =
     same a = omega (arith, ints)
 load_until tasks time later p h = none_least
 
--- while no task starts, it doesn't rise
+-- while no task starts, the load doesn't rise
 pub load_since : (tasks : List Info) (time before : ℤ) → before ≤ℤ time
     → AreStarts (λ b. b ≤ℤ time → b ≤ℤ before) tasks
     → load_of tasks time ≤ℤ load_of tasks before
@@ -215,14 +215,14 @@ open_keeps tasks (s ∷ l ∷ d ∷ starting) room from to h =
     weaker b p = omega (arith, ints)
 open_keeps tasks starting room from to h = refl
 
--- the last start of a task up to a time, and not before another
+-- the last start of a task from `from` up to a time, and `from` where there is none
 abbrev pub last_start : List Info → ℤ → ℤ → ℤ
 last_start (start ∷ length ∷ demand ∷ tasks) from time =
     let last = last_start tasks from time in
     if int_lt last (high_of start) && int_le (high_of start) time then high_of start else last
 last_start tasks from time = from
 
--- what holds where it is this start, and where it is not
+-- what holds where the start b is taken, and where it is not
 pub by_start : (P : ℤ → Type 0) (b last time : ℤ) → (last <ℤ b → b ≤ℤ time → P b)
     → ((b ≤ℤ time → b ≤ℤ last) → P last)
     → P (if int_lt last b && int_le b time then b else last)
@@ -234,7 +234,7 @@ by_start P b last time h k = by (int_lt last b) refl (int_le b time) refl
     by true e false f = k (λ q. absurd (omega (arith, ints)))
     by false e c f = k (λ q. omega (arith, ints))
 
--- it lies between the two times, and is no less than it was with fewer tasks
+-- this start lies from `from` up to the time, and no task starts between it and the time
 record IsLastStart (tasks : List Info) (from time last : ℤ) : Type 0 where
   above : from ≤ℤ last
   below : last ≤ℤ time
@@ -277,7 +277,8 @@ last_start_is tasks from time p = record {
   none_between = tt;
 }
 
--- where there is room at `from` and at each start behind it, there is at the last start
+-- where there is room at `from` and at each start behind it, there is room at the last start up to
+-- a time
 room_at_last : (tasks starting : List Info) (room from to time : ℤ) → time <ℤ to
     → from ≤ℤ time → keeps_room tasks starting room from to ≡ true
     → load_of tasks from ≤ℤ room → load_of tasks (last_start starting from time) ≤ℤ room

@@ -38,7 +38,7 @@ use Rattle.prop_wide.specs.laws.TruthLaws.{never}
 at_most : (k m n : ℤ) → k ≤ℤ m → m ≤ℤ n → k ≤ℤ n
 at_most k m n h i = omega (arith, ints)
 
--- what knows more leaves fewer numbers
+-- where more is known of the number, fewer numbers are left
 pub may_be_less : (n n' : Info) (v : ℤ) → AreWithin n n' → may_be n' v ≡ true → may_be n v ≡ true
 may_be_less n n' v w e =
     let t = both_to (low_of n') v v (high_of n') e in
@@ -58,7 +58,7 @@ merge_below a b a' b' p q =
     (info_laws.transitive a a' (merge_of a' b') p above.above_first)
     (info_laws.transitive b b' (merge_of a' b') q above.above_second)
 
--- a contradiction stays one
+-- a contradiction stays one where more is known
 contradiction_stays : (a b : Info) → Below a b → is_contradiction a ≡ true
     → is_contradiction b ≡ true
 contradiction_stays Contradiction b p e =
@@ -116,11 +116,11 @@ held_meet a b p h k = no_clash (merge_of a b) p (merge_holds a b p h k)
 
 -- ---- the entry
 
--- each is of the kind
+-- each entry is of the kind
 abbrev pub AreOfKind : Kind → ℕ → List Info → Type 0
 AreOfKind kind size row = AllByRecursion (IsOf kind size) row
 
--- a part that is left where it may be
+-- an entry counts where it may be picked: it grows where more is known, and where fewer are picked
 part_below : (s s' : Bool) (a a' : Info) → (s' ≡ true → s ≡ true) → Below a a'
     → Below (if s then a else Contradiction) (if s' then a' else Contradiction)
 part_below true true a a' h p = p

@@ -30,7 +30,7 @@ use Rattle.prop_wide.specs.laws.EndLaws.{held_between, known_below, known_holds,
 max_grows : (a b c d : ℤ) → a ≤ℤ c → b ≤ℤ d → int_max a b ≤ℤ int_max c d
 max_grows a b c d p q = omega (arith, ints, clamps)
 
--- who knows more knows closer ends
+-- where more is known of the numbers, the ends of the greatest are closer
 tops_within : (olds news : List Info) → EachBelow olds news → AreClear news
     → (top low_of olds ≤ℤ top low_of news) × (top high_of news ≤ℤ top high_of olds)
 tops_within [] [] p n = (omega (arith, ints), omega (arith, ints))
@@ -49,7 +49,7 @@ greatest_below olds news p n =
 pub greatest_kind : (args : List Info) → IsOf kinds.Span 0 (greatest_of args)
 greatest_kind args = known_kind 0 _ _
 
--- the greatest of points that are left lies between
+-- the greatest of points that are left lies between the two ends
 pub tops_hold : (any : Shape → Kinded) (ins : List Shape) (args : List Info) (points : List Point)
     → AreSpans ins → ArePointsOf any ins points → EachHolds args points
     → (top low_of args ≤ℤ greatest_at points) × (greatest_at points ≤ℤ top high_of args)
@@ -145,7 +145,7 @@ greatest_back_sound any ins z others points w u f ps i k h e r =
 min_grows : (a b c d : ℤ) → a ≤ℤ c → b ≤ℤ d → int_min a b ≤ℤ int_min c d
 min_grows a b c d p q = omega (arith, ints, clamps)
 
--- who knows more knows closer ends
+-- where more is known of the numbers, the ends of the least are closer
 bottoms_within : (olds news : List Info) → EachBelow olds news → AreClear news
     → (bottom low_of olds ≤ℤ bottom low_of news) × (bottom high_of news ≤ℤ bottom high_of olds)
 bottoms_within [] [] p n = (omega (arith, ints), omega (arith, ints))
@@ -164,7 +164,7 @@ least_below olds news p n =
 pub least_kind : (args : List Info) → IsOf kinds.Span 0 (least_of args)
 least_kind args = known_kind 0 _ _
 
--- the least of points that are left lies between
+-- the least of points that are left lies between the two ends
 pub bottoms_hold : (any : Shape → Kinded) (ins : List Shape) (args : List Info)
     (points : List Point) → AreSpans ins → ArePointsOf any ins points → EachHolds args points
     → (bottom low_of args ≤ℤ least_at points) × (least_at points ≤ℤ bottom high_of args)

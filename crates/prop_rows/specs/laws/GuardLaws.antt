@@ -1,4 +1,4 @@
--- The laws of what is known of the rules' answers without a call.
+-- The laws of what is known of the answers of the rules of rows without a call.
 use Rattle.std.specs.Prelude.{◌∷◌, false, None, Some}
 use Rattle.std.proofs.Common.{rules, ap, sym}
 use Rattle.prop_lattice.specs.Points.{Number}

@@ -1,4 +1,4 @@
--- The laws of the rules.
+-- The laws of the rules of rows.
 use Rattle.std.specs.Prelude.{◌≡◌, ℕ, pos, Bool, true, false, nat_le, List, [], ◌∷◌, length}
 use Rattle.std.specs.Prelude.{if◌then◌else◌}
 use Rattle.std.specs.List.{list_all}
@@ -75,7 +75,7 @@ at_most_holds most f args p h = by (nat_le (length args) most)
     by true = h
     by false = tt
 
--- ---- where who knows more is answered more
+-- ---- where more is known, more is answered
 
 addend_monotone : (param : Param) (olds news : List Info) → EachBelow olds news → AreClear news
     → Below (value_of Addend param olds) (value_of Addend param news)
@@ -154,7 +154,7 @@ first_is_any s shapes f = by s (and_parts (is_any s) (list_all is_any shapes) f)
 others_are_any : (s : Shape) (shapes : List Shape) → AreAny (s ∷ shapes) → AreAny shapes
 others_are_any s shapes f = (and_parts (is_any s) (list_all is_any shapes) f).1
 
--- a row is of the kind of its values
+-- informations of the shape of a row's values are of the kind of these values
 of_row : (any : Shape → Kinded) (ins : List Shape) (row : List Info) → AreAny ins
     → AreOf any ins row → AreOfKind (any (Any 0)).kind (any (Any 0)).size row
 of_row any [] [] f h = tt

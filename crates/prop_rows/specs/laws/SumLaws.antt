@@ -79,7 +79,7 @@ corners_within c x c' x' p q =
 both_add : (a b c d : ℤ) → a ≤ℤ b → c ≤ℤ d → (a +ℤ c) ≤ℤ (b +ℤ d)
 both_add a b c d h k = omega (arith, ints)
 
--- who knows more knows a closer sum
+-- where more is known of the numbers, the sum is known more closely
 pub totals_within : (olds news : List Info) → EachBelow olds news → AreClear news
     → (total int_min olds ≤ℤ total int_min news) × (total int_max news ≤ℤ total int_max olds)
 totals_within [] [] p n = (omega (arith, ints), omega (arith, ints))
@@ -112,7 +112,7 @@ first_is_span s shapes f = by s (and_parts (is_span s) (list_all is_span shapes)
 pub others_are_spans : (s : Shape) (shapes : List Shape) → AreSpans (s ∷ shapes) → AreSpans shapes
 others_are_spans s shapes f = (and_parts (is_span s) (list_all is_span shapes) f).1
 
--- points that are left sum up between the least and the greatest
+-- points that are left sum up to a number between the least and the greatest sum
 pub total_holds : (any : Shape → Kinded) (ins : List Shape) (args : List Info) (points : List Point)
     → AreSpans ins → ArePointsOf any ins points → EachHolds args points
     → (total int_min args ≤ℤ sum_at points) × (sum_at points ≤ℤ total int_max args)
@@ -220,7 +220,7 @@ parts_kind a b c = by (int_lt (pos 0) c) (int_lt c (pos 0)) (at_zero_kind a b)
     by false true z = known_kind 0 _ _
     by false false z = z
 
--- a number whose product with the factor lies between
+-- a number whose product with the factor lies between a and b is held
 pub parts_hold : (a b c x : ℤ) → IsInRange x → a ≤ℤ (c *ℤ x) → (c *ℤ x) ≤ℤ b
     → Holds (parts_of a b c) (Number x)
 unfolding at_zero
@@ -251,7 +251,7 @@ parts_hold a b c x r h k = by (int_lt (pos 0) c) refl (int_lt c (pos 0)) refl
         by_zero : (x : ℤ) → (pos 0 *ℤ x) ≡ pos 0
         by_zero x = omega (arith, ints)
 
--- a factor that is known stays so
+-- a factor that is known stays so as more is known
 stays_known : (c c' : Info) → AreWithin c c' → int_eq (low_of c) (high_of c) ≡ true
     → (low_of c' ≡ low_of c) × (int_eq (low_of c') (high_of c') ≡ true)
 stays_known c c' w e =
