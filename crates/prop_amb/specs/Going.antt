@@ -15,7 +15,8 @@ use Rattle.prop_amb.specs.Moving.{advanced, reasons_advanced, deepened, passed_o
 use Rattle.prop_amb.specs.Resolving.{MayAdvance}
 use Rattle.prop_amb.specs.Culprits.{MayMove, AreCulprits}
 
--- the search, the cells, the instances that wait, and the order in which they are called
+-- a search, the cells with what they hold, the instances that wait, and the state of the order that
+-- picks the next one
 pub record Work (O : Type 0) : Type 0 where
   pub search : Stand
   pub cells : Data

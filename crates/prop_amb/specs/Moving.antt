@@ -54,7 +54,7 @@ pub record IsLastChoice (origins : List Origin) (choice : Choice) : Type 0 where
   pub last : choices_of origins ≡ earlier ++ choice ∷ []
   pub end : choice.first + choice.sides ≡ length origins
 
--- no side of the choice reaches a cell yet
+-- no side of the choice reaches a cell of the problem yet
 abbrev pub IsFresh : Problem → Choice → Type 0
 IsFresh problem choice = (p cell : ℕ) → Reaches problem p cell → is_side_of choice p ≡ false
 

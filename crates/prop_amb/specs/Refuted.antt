@@ -1,6 +1,6 @@
--- Sets of premises that are refuted with every choice list, and the first choice list that is
--- consistent. A choice list takes one side of each choice, and lists stand in the order of a
--- dictionary.
+-- Sets of premises that are refuted: contradictory with every choice list that takes the sides in
+-- them. And the first choice list that is consistent. A choice list takes one side of each choice,
+-- and lists stand in the order of a dictionary.
 use Rattle.std.specs.Prelude.{◌≡◌, ℕ, IsTrue, List, false}
 use Rattle.prop_numbers.specs.Sets.{Members, IsPart, union}
 use Rattle.prop_premises.specs.declared.choice.Choice.{Choice}
@@ -41,7 +41,7 @@ IsGrounded problem choices n = (p : ℕ) → IsTrue (n p) → is_hypothetical ch
     → (m : Members) × IsTrue (m p) × IsNogood problem choices m
     × ((q : ℕ) → IsTrue (m q) → is_hypothetical choices q ≡ false → IsTrue (n q))
 
--- whichever choice list is taken, some listed set is part of the set with the sides of the list
+-- whichever choice list is taken, some listed nogood is part of the set with the sides of the list
 abbrev pub IsCovered : List Choice → List (List ℕ) → Members → Type 0
 IsCovered choices listed m = (list : List ℕ) → IsChoiceList choices list
     → IsTrue (has_part listed (union m (hypotheticals_of choices list)))

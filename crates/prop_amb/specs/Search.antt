@@ -1,6 +1,5 @@
 -- Where the search for the first consistent choice list stands, what it keeps, and how long it may
--- take. A choice list takes one side of each choice; a side that is believed is a hypothetical
--- premise.
+-- take. A choice list takes one side of each choice; the premise of a side is called hypothetical.
 use Rattle.std.specs.Prelude.{◌≡◌, ◌≢◌, ◌≤◌, ◌<◌, ◌⊎◌, ℕ, ◌+◌, ◌-◌, ◌*◌, IsTrue, List, [], length}
 use Rattle.std.specs.Prelude.{Option, Some, slice_get, slice_index_or, take, All}
 use Rattle.std.specs.List.{AllZip}
@@ -73,13 +72,13 @@ pub record IsKept (problem : Problem) (s : Stand) (j : ℕ) (choice : Choice) (s
 abbrev pub reason_at : Stand → ℕ → ℕ → Option (List ℕ)
 reason_at s j side = slice_get (slice_index_or s.reasons j []) (side - 1)
 
--- each reason that a choice has against one of its sides is such a one
+-- each reason that a choice has against one of its sides is one, as `IsKept` says
 pub record AreKept (problem : Problem) (s : Stand) : Type 0 where
   pub kept : (j : ℕ) (choice : Choice) (side : ℕ) (reason : List ℕ)
       → slice_get (choices_in s) j ≡ Some choice → 1 ≤ side → reason_at s j side ≡ Some reason
       → IsKept problem s j choice side (set_of reason)
 
--- what a search keeps: its noted nogoods are nogoods of the problem, and its reasons are kept ones
+-- what a search keeps: its noted nogoods are nogoods of the problem, and its reasons are reasons
 pub record IsSearch (problem : Problem) (s : Stand) : Type 0 where
   pub nogoods : All (λ line. IsNogood problem (choices_in s) (set_of line)) s.listed
   pub reasons : AreKept problem s
@@ -91,8 +90,9 @@ AllBeforeBlocked s = (earlier : List ℕ) → IsChoiceList (choices_in s) earlie
     → IsBefore earlier s.list → IsTrue
     (has_part s.listed (worldview (users_of s) (choices_in s) earlier))
 
--- The search came from the old list to the new one, `further` lists later. It took fewer steps than
--- it came by lists, both ends counted, times one more than the most steps of a run.
+-- The search came from the old list to the new one, `further` lists later. Its steps are fewer than
+-- `further + 1` times `most_steps + 1`: for each list that it came by as many as a run may take,
+-- and one more.
 pub record Moves (problem : Problem) (choices : List Choice) (old new : List ℕ) (steps : ℕ) : Type 0
   where
     pub further : ℕ

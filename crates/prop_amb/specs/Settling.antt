@@ -48,8 +48,8 @@ pub record HasUsed {O : Type 0} (problem : Problem) (budget steps : ℕ) (w : Wo
   pub earned : budget + 1 < lists_count (choices_in w.search) * (most_steps problem + 1)
   pub left : MayGoOn w
 
--- nothing waits, no cell is believed to hold a contradiction, no noted nogood is believed, and the
--- side of each choice is
+-- nothing waits, no cell is believed to hold a contradiction, no noted nogood is believed, and a
+-- side of each choice is believed
 pub record IsResting (old : Stand) (start : Data) (line : List ℕ) : Type 0 where
   pub full : old.level ≡ length old.list
   pub idle : line ≡ []

@@ -15,7 +15,7 @@ pub record AreCheapestIn (g : Ground) (weights : List ℕ) (found : List (List �
       → cost weights out < cost weights r
       → (q : List ℕ) × Contains found q × IsPart (set_of q) (set_of out)
 
--- Whatever premises can hold together, they have nothing of one of these.
+-- any premises that fit leave out all of one of these sets
 abbrev pub HaveOne : Ground → List (List ℕ) → Type 0
 HaveOne g found = (kept : Members) → Fits g kept
     → (r : List ℕ) × Contains found r × ((p : ℕ) → IsTrue (set_of r p) → kept p ≡ false)

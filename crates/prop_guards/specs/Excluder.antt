@@ -40,6 +40,7 @@ ruled_out_beside many (y ∷ others) (suc place) =
     if length others == many then option_and_then number_of (slice_get others place) else None
 ruled_out_beside many args place = None
 
+-- the number that y can't be, as the input at this place tells
 abbrev pub ruled_out : Excluder → List Info → ℕ → Option ℤ
 ruled_out Eight args place = None
 ruled_out rule args place = ruled_out_beside (others_of rule) args place

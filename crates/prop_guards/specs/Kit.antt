@@ -59,7 +59,7 @@ is_inside (Span x) (Span y) =
 is_inside (Sym x) (Sym y) = not (x == y)
 is_inside x y = false
 
--- the answer is y: y is another than x, which is inside y or another symbol
+-- the answer is y: y is another than x, and to leave x out of y changes nothing
 abbrev pub is_repeated : kits.Kit → List Info → Bool
 is_repeated Apart (t ∷ x ∷ y ∷ []) = is_just no_bits t && is_inside x y
 is_repeated rule args = false
@@ -70,7 +70,7 @@ own_of Root = Some 1
 own_of Apart = Some 2
 own_of rule = None
 
--- what is told of x: y is another than x, so it can't be the number that x is alone
+-- told of x, where the truth is just `no`: y can't be the number that x is alone
 abbrev pub ruled_out : kits.Kit → List Info → ℕ → Option ℤ
 ruled_out Apart (t ∷ x ∷ y ∷ []) (suc zero) = if is_just no_bits t then number_of x else None
 ruled_out rule args place = None

@@ -3,7 +3,7 @@
 use Rattle.std.specs.Prelude.{ℕ, ◌+◌, ◌-◌, ◌/◌, ◌^◌, ◌≤◌, List, All, map, length, min, nat_lt}
 use Rattle.std.specs.Prelude.{if◌then◌else◌, slice_index_or, slice_set}
 
--- a weight for each place, and what is added to one
+-- a weight for each place, and the bump: what a place weighs more when it is counted
 pub record Weighed : Type 0 where
   pub each : List ℕ
   pub bump : ℕ
@@ -20,7 +20,7 @@ weight_of w place = slice_index_or w.each place 1
 abbrev pub lowered : ℕ → ℕ
 lowered weight = weight / 2 ^ 30 + 1
 
--- all weights are lowered
+-- all weights and the bump are lowered
 abbrev pub all_lowered : Weighed → Weighed
 all_lowered w = record { each = map lowered w.each; bump = lowered w.bump }
 

@@ -34,28 +34,29 @@ goes_wrong successors home node (suc steps) =
     int_eq node home || goes_on (λ next. goes_wrong successors home next steps)
     (entry_at (pos 1) successors node)
 
--- the first node from this one on from which they don't go wrong, of so many; the one behind these
--- where there is none
+-- of so many nodes, from this one on, the first from which the successors don't go wrong; the one
+-- behind these where there is none
 abbrev pub raised : List Info → ℤ → ℤ → ℕ → ℕ → ℤ
 raised successors home node steps zero = node
 raised successors home node steps (suc many) =
     if goes_wrong successors home node steps
     then raised successors home (node +ℤ pos 1) steps many else node
 
--- the last node from this one back from which they don't go wrong, of so many; the one before these
--- where there is none
+-- of so many nodes, from this one back, the last from which the successors don't go wrong; the one
+-- before these where there is none
 abbrev pub lowered : List Info → ℤ → ℤ → ℕ → ℕ → ℤ
 lowered successors home node steps zero = node
 lowered successors home node steps (suc many) =
     if goes_wrong successors home node steps
     then lowered successors home (node -ℤ pos 1) steps many else node
 
--- the earliest successor of a node from which the others don't go wrong
+-- the first node to which `home` may go on, by what is known of its successor, and from which the
+-- successors don't go wrong
 abbrev pub earliest : List Info → ℤ → Info → ℤ
 earliest successors home own = raised successors home (int_max (low_of own) (pos 1))
     (length successors - 1) (length successors)
 
--- the latest such successor
+-- the last such node
 abbrev pub latest : List Info → ℤ → Info → ℤ
 latest successors home own = lowered successors home
     (int_min (high_of own) (pos (length successors))) (length successors - 1) (length successors)
@@ -86,8 +87,8 @@ LeadsHome successors home node (suc steps) =
     (entry_at (pos 1) successors node)
 
 -- The output is the first input, the successor of a node. The other inputs are the node's number
--- and the successors of all nodes. These lead from the node's successor through all other nodes to
--- the node, and no sooner: in one step less than there are nodes.
+-- and the successors of all nodes. These lead from the node's successor to the node in one step
+-- less than there are nodes, and no sooner: so they lead through all nodes.
 abbrev pub RelatesCircuit : List Point → Point → Type 0
 RelatesCircuit (Number own ∷ Number node ∷ successors) point =
     (point ≡ Number own) × (pos 1 ≤ℤ node) × (node ≤ℤ pos (length successors))

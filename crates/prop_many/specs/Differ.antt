@@ -43,14 +43,14 @@ widest others = min (length others) 64
 abbrev pub behind : List Info → ℤ → ℤ
 behind others first = first +ℤ pos (width_of others first (widest others))
 
--- the earliest number that is left: behind an interval, from `first` up to `behind`, in which the
--- number lies
+-- The earliest number that is left: if the number lies in the interval from `first` up to `behind`,
+-- it is `behind` or later.
 abbrev pub past : ℤ → ℤ → ℤ → ℤ → ℤ
 past first behind number earliest =
     if int_le first number && int_lt number behind then int_max earliest behind else earliest
 
--- the latest number that is left: before an interval, from `first` up to `behind`, in which the
--- number lies
+-- The latest number that is left: if the number lies in the interval from `first` up to `behind`,
+-- it is before `first`.
 abbrev pub before : ℤ → ℤ → ℤ → ℤ → ℤ
 before first behind number latest =
     if int_le first number && int_lt number behind then int_min latest (first -ℤ pos 1) else latest
@@ -77,7 +77,7 @@ any_crowded others [] = false
 any_crowded others (start ∷ starting) =
     is_crowded others (low_of start) (widest others) || any_crowded others starting
 
--- what is left beside the others: a contradiction where these alone find no room
+-- what is left of a number beside the others: a contradiction where these alone find no room
 abbrev pub left_beside : Info → List Info → Info
 left_beside own others =
     if any_crowded others others then Contradiction

@@ -33,7 +33,7 @@ latest_of start length (other ∷ long ∷ others) =
     else latest
 latest_of start length others = high_of start
 
--- from the earliest to the latest start
+-- the task's start: from the earliest to the latest
 abbrev pub apart_of : Info → Info → List Info → Info
 apart_of start length others =
     known (earliest_of start length others) (latest_of start length others)

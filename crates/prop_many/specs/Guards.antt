@@ -19,6 +19,7 @@ abbrev pub ruled_out_beside : List Info → ℕ → Option ℤ
 ruled_out_beside (own ∷ others) (suc place) = option_and_then number_of (slice_get others place)
 ruled_out_beside args place = None
 
+-- the number that the own can't be, as the input at this place tells
 abbrev pub ruled_out : Many → List Info → ℕ → Option ℤ
 ruled_out Differ args place = ruled_out_beside args place
 ruled_out rule args place = None

@@ -6,7 +6,7 @@ use Rattle.prop_lattice.specs.Points.{Point, Number}
 use Rattle.prop_lattice.specs.declared.info.Info.{Info}
 use Rattle.prop_wide.specs.Ends.{low_of, high_of}
 
--- what is taken at a time of a demand that lasts from one time up to another
+-- what a demand takes at a time, where it lasts from one time up to another
 abbrev pub part_at : ℤ → ℤ → ℤ → ℤ → ℤ
 part_at from to demand time = if int_le from time && int_lt time to then demand else pos 0
 
@@ -14,7 +14,7 @@ part_at from to demand time = if int_le from time && int_lt time to then demand 
 abbrev pub end_of : Info → Info → ℤ
 end_of start length = low_of start +ℤ low_of length
 
--- the least that it demands, never below zero
+-- the least that a task demands, never below zero
 abbrev pub demand_of : Info → ℤ
 demand_of demand = int_max (low_of demand) (pos 0)
 

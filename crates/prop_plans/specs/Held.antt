@@ -7,7 +7,7 @@ use Rattle.prop_procedures.specs.Stored.{Stored}
 use Rattle.prop_cells.specs.Data.{Data}
 use Rattle.prop_cells.specs.Points.{AreSoundBy, Attached}
 
--- the cells, what is stated of them and what is attached to them
+-- the data's cells, what is stated of them, and the instances between them
 abbrev pub attached_of : Data → Attached
 attached_of d = record { kinds = d.kinds; statements = d.statements; instances = d.instances }
 

@@ -27,7 +27,7 @@ pub record IsValueOf (k : Kinded) (a : Info) : Type 0 where
   pub of_kind : IsOf k.kind k.size a
   pub single : (p : Point) × IsSingle a p
 
--- there is a value of its kind for each cell, and no other
+-- there are as many values as cells, and each is of its cell's kind and leaves a single point
 pub record AreValues (kinds : List Kinded) (values : List Info) : Type 0 where
   pub count : length values ≡ length kinds
   pub each : (cell : ℕ) → cell < length kinds
@@ -51,8 +51,8 @@ Satisfy library d s values = (points : ℕ → Point)
 
 -- ---- how far a check has come
 
--- the values of a plan, whether they are known to fit the cells, and how many instances are known
--- to be met
+-- how far a check is: the values of a plan, whether they are known to fit the cells, and how many
+-- instances are known to be met
 pub record Checked : Type 0 where
   pub values : List Info
   pub fitting : Bool

@@ -1,5 +1,5 @@
 -- What may stand in a nogood in place of a literal: holes and a weaker end for an end, two ends for
--- a number, and what stands for a side of a choice.
+-- a number, and for a choice what was so of it before a side was barred.
 use Rattle.std.specs.Prelude.{◌≡◌, ℕ, zero, suc, ◌+◌, ◌<◌, ℤ, pos, ◌+ℤ◌, List, [], ◌∷◌, ◌++◌}
 use Rattle.std.specs.Prelude.{Option, Some, IfSome, length, slice_get, ◌⊎◌, ◌^◌}
 use Rattle.prop_lattice.specs.Points.{Point, IsPointOf}

@@ -14,7 +14,8 @@ use Rattle.prop_scheduler.specs.Turns.{IsUnderWay}
 use Rattle.prop_scheduler.specs.Watching.{IsWatched}
 use Rattle.prop_scheduler.specs.declared.live.Live.{Live}
 
--- the network's data: its cells with what they hold, its statements and its instances
+-- the network's data: its cells with what they hold, its parameters, its statements and its
+-- instances
 abbrev pub cells_of : {R : Type 0} {X : Type 0} {F : X → Type 0} {g : _} → Live R X F g → Data
 cells_of live = live.network.cells
 

@@ -53,7 +53,7 @@ pub record IsRefuted (library : List Stored) (d : Data) (premises : List Origin)
       → IsExcused (attached_of d) old.excuses points list
   pub same : new.excuses ≡ old.excuses
 
--- what is answered is so
+-- what the answer says is so; where it says nothing, what is excused stays so
 abbrev pub IsAnswer : List Stored → Data → List Origin → Search → Answer → Search → Type 0
 IsAnswer library d premises old (Found plan) new =
     IsFound library d premises old plan.values.items plan.sides.items new

@@ -47,9 +47,9 @@ AreExcusing (Least cell) named values facts = IsEndOf values cell (λ s. AtLeast
 AreExcusing (Greatest cell) named values facts = IsEndOf values cell (λ s. AtMost s.hi) facts
 AreExcusing Differing named values facts = AllZip (IsValueFact values) named facts
 
--- What is excused once a plan is told. Where any points will do, that is what was. Of an optimum it
--- is what is no better than this plan. Of points that differ it is what was, and what is the same
--- as this plan.
+-- What is excused once a plan is told. Where any points will do, nothing more is. For an optimum,
+-- all that is no better than this plan is, in place of what was. Where points are to differ, what
+-- is the same as this plan is excused too.
 abbrev pub excused_then : Goal → List (List Literal) → List Literal → List (List Literal)
 excused_then Any excuses facts = excuses
 excused_then (Least cell) excuses facts = facts ∷ []
@@ -62,7 +62,7 @@ is_optimum (Least cell) = true
 is_optimum (Greatest cell) = true
 is_optimum goal = false
 
--- the literal says that the number of which an end is asked for is better than this one
+-- the literal says that the number of which an end is asked for is better than this end
 abbrev pub IsBetter : Goal → ℤ → Literal → Type 0
 IsBetter (Least cell) end x = x ≡ record { place = cell; fact = AtMost (end -ℤ pos 1) }
 IsBetter (Greatest cell) end x = x ≡ record { place = cell; fact = AtLeast (end +ℤ pos 1) }

@@ -5,7 +5,8 @@ use Rattle.prop_premises.specs.declared.choice.Choice.{Choice}
 use Rattle.prop_premises.specs.ChoiceLists.{IsSide}
 use Rattle.prop_premises.specs.inner.ChoiceLists.{is_side_of}
 
--- the set has just what the reasons have beside the sides of the choice
+-- the set has what the reasons against all sides of the choice have, without these sides, and
+-- nothing else
 pub record IsJoined (choice : Choice) (reasons : ℕ → Members) (n : Members) : Type 0 where
   pub has : (side p : ℕ) → IsSide choice side → IsTrue (reasons side p)
       → is_side_of choice p ≡ false → IsTrue (n p)

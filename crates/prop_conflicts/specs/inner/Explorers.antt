@@ -44,7 +44,7 @@ Stands g conflicts out s p trial Idle = ⊤
 
 -- What a search knows. Its conflicts and its repairs are such. Each set that hits all conflicts has
 -- all of a repair, or is still looked for; once the search is over, each has all of a repair. Its
--- trial is one.
+-- trial, where it has one, is such.
 pub record Knows (g : Ground) (conflicts : List Conflict) (repairs : List (List ℕ))
     (frontier : Frontier) (is_over : Bool) (trial : Option Trial) : Type 0 where
   pub conflicts_are : All (IsConflict g) conflicts

@@ -1,4 +1,4 @@
--- What slots hold.
+-- What the slots of a store hold, and what comes of a look at one.
 use Rattle.std.specs.Prelude.{List, Option, map}
 use Rattle.prop_facts.specs.declared.fact.Literal.{Literal}
 use Rattle.prop_refuting.specs.Nogoods.{Nogood}

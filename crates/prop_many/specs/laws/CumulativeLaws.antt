@@ -1,4 +1,4 @@
--- The laws of starts beside other tasks.
+-- The laws of when a task may start beside others.
 use Rattle.std.specs.Prelude.{◌≡◌, ℤ, pos, neg_ℤ, ◌+ℤ◌, ◌-ℤ◌, ◌≤ℤ◌, ◌<ℤ◌, Bool, true, false}
 use Rattle.std.specs.Prelude.{int_le, int_lt, ◌&&◌, ◌||◌, if◌then◌else◌, List, [], ◌∷◌}
 use Rattle.std.specs.Int.{int_max}

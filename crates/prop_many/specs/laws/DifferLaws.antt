@@ -162,11 +162,11 @@ same_or : (l a : ℤ) → (l ≡ a) ⊎ (l ≡ a → ⊥)
 same_or l a = by_lt_z l a (λ p. inr (λ e. omega (arith, ints)))
     (λ p. by_lt_z a l (λ q. inr (λ e. omega (arith, ints))) (λ q. inl (omega (arith, ints))))
 
--- who lies in an interval from a on lies in it without a
+-- as many of the others lie in an interval from a on as in this interval without a
 abbrev AreBehind : List Info → ℤ → Type 0
 AreBehind others a = (w : ℕ) → lying_in others a (suc w) ≡ lying_in others (a +ℤ pos 1) w
 
--- the low end of one of the others is a, or all who lie in an interval from a on lie behind a
+-- the low end of one of the others is a, or else the interval without a has as many
 begins_or : (others : List Info) (a : ℤ) → Begins others a ⊎ AreBehind others a
 begins_or [] a = inr (λ w. refl)
 begins_or (o ∷ others) a = by (same_or (low_of o) a) (begins_or others a)
@@ -258,7 +258,7 @@ crowd_in others a (suc n) e = by (is_crowded others a n) refl (crowd_in others a
       more = less_from (suc n) (lying_in others a (suc n)) g;
     }
 
--- some interval is crowded: its first number
+-- the first number of some interval that is crowded
 record SomeCrowd (others : List Info) : Type 0 where
   first : ℤ
   crowd : IsCrowd others first (widest others)

@@ -20,7 +20,7 @@ use Rattle.prop_many.specs.laws.NumberLaws.{AreCloser, AreKept, both_true, never
 
 -- ---- to come behind
 
--- three orders hold
+-- what the three tests say
 three : (a b c d : ℤ) → ((int_lt (pos 0) a && int_lt (pos 0) b) && int_lt c d) ≡ true
     → (pos 0 <ℤ a) × (pos 0 <ℤ b) × (c <ℤ d)
 three a b c d = by (int_lt (pos 0) a) refl (int_lt (pos 0) b) refl (int_lt c d) refl
@@ -144,7 +144,8 @@ at_most : (t : Bool) (e x v : ℤ) → v ≤ℤ e → (t ≡ true → v ≤ℤ x
 at_most true e x v p h = let q = h refl in omega (arith, ints, clamps)
 at_most false e x v p h = p
 
--- numbers that lie in the four, of which the first task is sure to come behind
+-- where the first task is sure to come behind the other, and they don't overlap, it starts no
+-- earlier than the other ends
 behind_then : (s l o m : Info) (v w u x : ℤ) → IsBetween s v → IsBetween l w → IsBetween o u
     → IsBetween m x → AreApart v w u x → is_behind s l o m ≡ true → (u +ℤ x) ≤ℤ v
 behind_then s l o m v w u x a b c d apart e =

@@ -34,8 +34,8 @@ four_sums : (a b c d x y z u : ℕ) → a + b ≤ c + d → x + y ≤ z + u
 four_sums a b c d x y z u p q = omega arith
 
 -- Two intervals: of j + k numbers from a on, and of v numbers from a + j on, where k is no more
--- than v. Who lies in them lies as often in the interval of both together, and in the k numbers
--- that they share.
+-- than v. Who lies in them lies at least as often in the interval of both together, and in the k
+-- numbers that they share.
 lies_both : (o : Info) (a : ℤ) (j k v : ℕ) → k ≤ v
     → ones (lies_in o a (j + k)) + ones (lies_in o (a +ℤ pos j) v)
     ≤ ones (lies_in o a (j + v)) + ones (lies_in o (a +ℤ pos j) k)

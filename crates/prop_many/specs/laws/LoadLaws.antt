@@ -174,7 +174,7 @@ load_since tasks time before p h = none_least
 
 -- ---- stretches with room
 
--- at each time from the one to before the other the tasks leave room
+-- the tasks leave room at each time from the first up to the second, which is left out
 abbrev pub IsOpen : List Info → ℤ → ℤ → ℤ → Type 0
 IsOpen tasks room from to = (time : ℤ) → from ≤ℤ time → time <ℤ to → load_of tasks time ≤ℤ room
 

@@ -3,7 +3,7 @@
 use Rattle.std.specs.Prelude.{◌<◌, ◌≤◌, ℕ, List, All}
 use Rattle.prop_scheduler.specs.Agendas.{Waiting}
 
--- instances below a number, in the order in which they are called
+-- the instances that are still to be called, in order, of those below a number
 pub record Lined : Type 0 where
   pub count : ℕ
   pub line : List ℕ

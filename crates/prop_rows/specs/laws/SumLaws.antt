@@ -156,7 +156,7 @@ sum_sound any ins args points point f ps k e r = search rules
 below_zero : (a b : ℤ) → a ≤ℤ b → neg_ℤ b ≤ℤ neg_ℤ a
 below_zero a b h = omega (arith, ints)
 
--- a factor of zero
+-- the numbers whose product with zero lies from a to b: each, or none
 at_zero : ℤ → ℤ → Info
 at_zero a b = if int_le a (pos 0) && int_le (pos 0) b then Nothing else Contradiction
 

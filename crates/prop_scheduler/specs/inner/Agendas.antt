@@ -7,8 +7,8 @@ pub record Queued : Type 0 where
   pub line : List ℕ
   pub room : ℕ
 
--- Each number has a flag that says how often it stands in the line, once or not at all, and the
--- line has room for all.
+-- The flag of a number says whether it stands in the line, and no number stands there twice. The
+-- line has room for as many numbers as there are flags.
 pub record IsFlagged (line : List ℕ) (flags : List Bool) (capacity : ℕ) : Type 0 where
   pub flagged : (j : ℕ) → count_by (λ k. k == j) line ≡ cond (slice_index_or flags j false) 1 0
   pub counted : length line ≡ count_by (λ flag. flag) flags
