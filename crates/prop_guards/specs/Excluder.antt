@@ -34,7 +34,7 @@ abbrev pub own_of : Excluder → Option ℕ
 own_of Eight = None
 own_of rule = Some 0
 
--- the number that the other at this place has alone: y can't be that
+-- the only number that the other at this place leaves: y can't be that
 abbrev pub ruled_out_beside : ℕ → List Info → ℕ → Option ℤ
 ruled_out_beside many (y ∷ others) (suc place) =
     if length others == many then option_and_then number_of (slice_get others place) else None

@@ -30,7 +30,7 @@ IsOwn related own = (param : Param) (points : List Point) (point : Point)
     → related param points point → IfSome own (λ place. slice_get points place ≡ Some point)
 
 -- The output can't be the number v. It belongs to no points of the arguments; and if the argument
--- at the rule's own place is just v, the answer leaves v out.
+-- at the rule's own place leaves only v, the answer leaves v out.
 pub record IsRuledOut (value : Param → List Info → Info)
     (related : Param → List Point → Point → Type 0) (own : Option ℕ) (param : Param)
     (args : List Info) (v : ℤ) : Type 0 where

@@ -52,7 +52,7 @@ is_silent rule (x ∷ y ∷ []) = is_silent_of_two rule x y
 is_silent rule (x ∷ y ∷ z ∷ []) = is_silent_of_three rule x y z
 is_silent rule args = list_any is_nothing args
 
--- x is one number alone, and no end of y; or they are different symbols
+-- x is a single number, and no end of y; or they are different symbols
 abbrev pub is_inside : Info → Info → Bool
 is_inside (Span x) (Span y) =
     int_eq x.lo x.hi && (not (int_eq y.lo x.lo) && not (int_eq y.hi x.lo))
@@ -70,7 +70,7 @@ own_of Root = Some 1
 own_of Apart = Some 2
 own_of rule = None
 
--- told of x, where the truth is just `no`: y can't be the number that x is alone
+-- told of x, where the truth is just `no`: y can't be the single number that x leaves
 abbrev pub ruled_out : kits.Kit → List Info → ℕ → Option ℤ
 ruled_out Apart (t ∷ x ∷ y ∷ []) (suc zero) = if is_just no_bits t then number_of x else None
 ruled_out rule args place = None

@@ -12,11 +12,11 @@ use Rattle.prop_arith.specs.inner.Compared.{is_just}
 abbrev pub is_settled : Info → Bool
 is_settled t = is_just yes_bits t || is_just no_bits t
 
--- the number that an information leaves alone
+-- the number that is the only one an information leaves
 abbrev pub number_of : Info → Option ℤ
 number_of (Span a) = then_some (int_eq a.lo a.hi) a.lo
 number_of a = None
 
--- the information that leaves this number alone
+-- the information that leaves only this number
 abbrev pub just : ℤ → Info
 just v = span_from v v

@@ -1,5 +1,5 @@
--- What a store of nogoods keeps, and what that says of a trail. Each nogood is in a slot, by whose
--- number it is told.
+-- What a store of nogoods keeps, and what that says of a trail. Each nogood is in a slot, and is
+-- named by the slot's number.
 use Rattle.std.specs.Prelude.{◌≡◌, ◌≢◌, ℕ, List, Option, Some, Contains, slice_get}
 use Rattle.prop_facts.specs.declared.fact.Literal.{Literal}
 use Rattle.prop_refuting.specs.Nogoods.{Nogood}

@@ -1,4 +1,4 @@
--- Lessons: nogoods that nothing meets, and the network of which that was found.
+-- Lessons: nogoods that nothing meets, with the network and the choices for which that was found.
 use Rattle.std.specs.Prelude.{List, All}
 use Rattle.prop_numbers.specs.Sets.{Members, IsPart, set_of}
 use Rattle.prop_premises.specs.declared.choice.Choice.{Choice}

@@ -9,12 +9,12 @@ use Rattle.prop_wide.specs.Ends.{low_of, high_of}
 use Rattle.prop_many.specs.Many.{Related, least_of, value_of}
 use Rattle.prop_many.specs.declared.many.Many.{Many}
 
--- the information leaves this number alone
+-- the information leaves only this number
 abbrev pub IsJust : Info → Point → Type 0
 IsJust a (Number v) = (low_of a ≡ v) × (high_of a ≡ v)
 IsJust a p = ⊥
 
--- each information leaves alone the number in its place
+-- each information leaves only the number in its place
 abbrev pub AreJust : List Info → List Point → Type 0
 AreJust = AllZip IsJust
 

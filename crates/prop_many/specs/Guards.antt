@@ -14,7 +14,7 @@ own_of Disjoint = Some 0
 own_of Differ = Some 0
 own_of Circuit = Some 0
 
--- the number that the other at this place has alone: the own number can't be that
+-- the only number that the other at this place leaves: the own number can't be that
 abbrev pub ruled_out_beside : List Info → ℕ → Option ℤ
 ruled_out_beside (own ∷ others) (suc place) = option_and_then number_of (slice_get others place)
 ruled_out_beside args place = None

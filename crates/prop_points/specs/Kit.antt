@@ -11,15 +11,15 @@ use Rattle.prop_arith.specs.declared.kit.Kit.{Kit}
 use Rattle.prop_arith.specs.declared.kit.Kit.TheVariants.{Div, Apart}
 use Rattle.prop_points.specs.Singles.{IsExact}
 
--- An answer to single points tells of a point that it holds that it belongs to them. There are two
--- exceptions, of which nothing is told: `Div` answers nothing where it divides by zero, and `Apart`
--- nothing where the truth is `yes`.
+-- What is told of a point that the answer to single points holds: it belongs to them. Of two rules
+-- nothing is told, since `Div` answers nothing where it divides by zero, and `Apart` nothing where
+-- the truth is `yes`.
 abbrev pub KitTells : Kit → Param → List Point → Point → Type 0
 KitTells Div param points point = ⊤
 KitTells Apart param points point = ⊤
 KitTells rule param points point = Related rule param points point
 
--- each rule of the kit tells this, in its form
+-- each rule of the kit tells so much, in its form
 abbrev pub KitIsExact : Type 0
 KitIsExact =
     (rule : Kit) (ins : List Shape) (out : Shape) (need : Need) → FormOf rule ins out need

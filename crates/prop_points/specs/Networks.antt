@@ -14,7 +14,7 @@ AreExactBy library related =
     (n : ℕ) (p : Stored) → slice_get library n ≡ Some p
     → IsExact p.value (related n) p.ins p.out p.need
 
--- the assignment leaves each cell its point alone, and each statement is at a cell that is there
+-- the assignment leaves each cell only its point, and each statement is at a cell that is there
 pub record AreSettled (n : Attached) (a : Assignment) (points : ℕ → Point) : Type 0 where
   pub single : (cell : ℕ) → cell < length n.kinds → IsSingle (a cell) (points cell)
   pub within : All (λ x. x.cell < length n.kinds) n.statements

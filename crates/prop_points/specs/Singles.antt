@@ -10,14 +10,14 @@ use Rattle.prop_procedures.specs.declared.shape.Need.{Need}
 use Rattle.prop_procedures.specs.declared.shape.Param.{Param}
 use Rattle.prop_procedures.specs.declared.shape.Shape.{Shape}
 
--- the information leaves this point alone
+-- the information leaves only this point
 abbrev pub IsSingle : Info → Point → Type 0
 IsSingle (Span s) (Number v) = (s.lo ≡ v) × (s.hi ≡ v)
 IsSingle (Set s) (Element i) = (count_ones s.bits ≡ 1) × HasElement s i
 IsSingle (Sym a) (Symbol b) = a ≡ b
 IsSingle a p = ⊥
 
--- each information leaves alone the point in its place
+-- each information leaves only the point in its place
 abbrev pub AreSingle : List Info → List Point → Type 0
 AreSingle [] [] = ⊤
 AreSingle (a ∷ infos) (p ∷ points) = IsSingle a p × AreSingle infos points

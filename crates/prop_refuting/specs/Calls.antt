@@ -23,16 +23,16 @@ abbrev pub AreArguments : List Kinded → List ℕ → List Info → Type 0
 AreArguments kinds = AllZip (λ cell a.
     IsOf (kind_at kinds cell).kind (kind_at kinds cell).size a × (a ≢ Contradiction))
 
--- wherever the points of the instance's inputs lie in the arguments, the point of its output lies
--- in the value
+-- in any points that satisfy the network: where those of the instance's inputs lie in the
+-- arguments, that of its output lies in the value
 pub record Answers (library : List Stored) (n : Attached) (x : Instance) (args : List Info)
     (value : Info) : Type 0 where
   pub arguments : AreArguments n.kinds x.inputs args
   pub holds : (s : Members) (points : ℕ → Point) → ArePoints (AreHeld library) n s points
       → AllZip Holds args (map points x.inputs) → Holds value (points x.output)
 
--- wherever the points of the instance's inputs lie in the arguments, and the point of its output
--- has the rest, this point has the fact
+-- in any points that satisfy the network: where those of the instance's inputs lie in the
+-- arguments, and the rest is so of that of its output, the fact is so of this too
 pub record Tells (library : List Stored) (n : Attached) (x : Instance) (args : List Info)
     (rest : Option Fact) (fact : Fact) : Type 0 where
   pub arguments : AreArguments n.kinds x.inputs args
@@ -40,8 +40,8 @@ pub record Tells (library : List Stored) (n : Attached) (x : Instance) (args : L
       → AllZip Holds args (map points x.inputs) → IfSome rest (λ r. IsSo r (points x.output))
       → IsSo fact (points x.output)
 
--- wherever the points of the instance's inputs, without the one at this place, lie in the
--- arguments, the point of its output has the fact
+-- in any points that satisfy the network: where those of the instance's inputs, without the one at
+-- this place, lie in the arguments, the fact is so of that of its output
 pub record Excepts (library : List Stored) (n : Attached) (x : Instance) (args : List Info)
     (place : ℕ) (fact : Fact) : Type 0 where
   pub within : place < length args

@@ -67,7 +67,7 @@ pub record ReplacesUnder (old : Nogood) (at : ℕ) (more : List Literal) (came :
   pub literals : IsReplaced old.literals at more new.literals
   pub premises : IsSame (set_of new.premises) (union (set_of old.premises) (set_of came))
 
--- the literal that the fact is so of the place, where there is a fact
+-- the literal that says the fact of the place, where there is a fact
 abbrev pub said_at : ℕ → Option Fact → List Literal
 said_at place None = []
 said_at place (Some fact) = record { place = place; fact = fact } ∷ []

@@ -14,7 +14,8 @@ use Rattle.prop_facts.specs.declared.fact.Literal.{Literal}
 use Rattle.prop_refuting.specs.Nogoods.{Nogood, Replaces}
 use Rattle.prop_refuting.specs.Places.{kind_at_place}
 
--- that the value at the place is none of so many numbers in a row, from the first on
+-- literals that say that the value at the place is none of so many numbers in a row, from the first
+-- on
 abbrev pub holes_at : ℕ → ℤ → ℕ → List Literal
 holes_at place first zero = []
 holes_at place first (suc k) =

@@ -86,7 +86,7 @@ abbrev pub LeastAreStated : Type 0
 LeastAreStated =
     map (λ p. record { name = p.0.now; rule = p.1; many = p.2 }) LEAST ≡ least_in_order
 
--- the procedure has an input at the least, and inputs that its rule may have
+-- the procedure has at least one input, and inputs that its rule may have
 pub record IsFormed (p : Named) : Type 0 where
   pub some : 1 ≤ length (ins_of p.rule p.many)
   pub formed : FormOf p.rule (ins_of p.rule p.many) (out_of p.rule) needs.Nothing

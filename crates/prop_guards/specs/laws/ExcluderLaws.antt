@@ -229,7 +229,7 @@ excluded_is a others k e at =
     (info_laws.to_top (excluded_of (Span a) others))
     (subst (λ b. Below b (excluded_of (Span a) others)) told_one above)
 
--- the number that another has alone is the point of that other
+-- the only number that another leaves is the point of that other
 none_at : (others : List Info) (points : List Point) (k : ℕ) (x : Info) (v : ℤ) → IsJust x v
     → slice_get others k ≡ Some x → EachHolds others points → ¬ (IsNoneOf (Number v) points)
 none_at [] points k x v j e h n = none-some x e

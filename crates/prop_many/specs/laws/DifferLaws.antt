@@ -766,7 +766,7 @@ differ_holds [] [] point k r = absurd r
 
 -- ---- single numbers among the others
 
--- one of the others is this number alone
+-- one of the others leaves only this number
 pub record IsShown (others : List Info) (v : ℤ) : Type 0 where
   pub begins : Begins others v
   pub lies : 1 ≤ lying_in others v 1

@@ -52,7 +52,7 @@ shown_at (a ∷ others) zero x v j e =
     shown_here a others v (ap low_of is ∙ j.lo) (ap high_of is ∙ j.hi)
 shown_at (a ∷ others) (suc k) x v j e = shown_later a others v (shown_at others k x v j e)
 
--- the number that another has alone is the point of that other
+-- the only number that another leaves is the point of that other
 none_at : (others : List Info) (points : List Point) (k : ℕ) (x : Info) (v : ℤ) → IsJust x v
     → slice_get others k ≡ Some x → EachHolds others points → ¬ (IsNoneOf (Number v) points)
 none_at [] points k x v j e h n = none-some x e
