@@ -42,8 +42,8 @@ InOrder Fifo seed holds = holds _ picks_first (record {})
 InOrder Lifo seed holds = holds _ picks_last (record {})
 InOrder Mixed seed holds = holds _ picks_mixed (record { number = seed })
 
--- A session with these procedures served, in the order that was chosen. Each text counts the steps
--- that were taken.
+-- A session with these procedures served, in the order that was chosen. Behind each text is a run
+-- of just so many steps as were taken.
 abbrev pub IsWorked : {D : Type 0} → Pick → ℕ → List Stored → List (List ℕ) → ℕ
     → (D → Call → D → Type 0) → D → D → Result Counts Fault → Type 0
 IsWorked order seed library prelude limit may from to result =

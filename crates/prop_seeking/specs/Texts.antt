@@ -1,4 +1,4 @@
--- The texts of replies to questions for points.
+-- The texts of replies to questions for plans.
 use Rattle.std.specs.Prelude.{ℕ, List, [], ◌∷◌, ◌++◌, Option, Some, None, codes, decimal, flat_map}
 use Rattle.std.specs.Prelude.{length, map, nat_eq, ◌-◌, ◌^◌, if◌then◌else◌}
 use Rattle.std.specs.List.{join_by, range_with_len, zip}

@@ -75,7 +75,7 @@ pub record WorkFits {O : Type 0} (library : List Stored) (at : Standing O) : Typ
 
 -- A line takes a session from where it stood to where it stands then, by a step of the machine. The
 -- work fits what the session shows, if it did before. An explanation uses no entry that isn't
--- needed. A text counts the steps that the run took, and each call was at the place that the order
+-- needed. Behind a text is a run of just so many steps, with each call at the place that the order
 -- picks. A line that runs nothing wakes no more instances than it has to.
 pub record Works {O : Type 0} (picks : Picks O) (library : List Stored) (old : Standing O)
     (line : List ℕ) (answer : Answer) (new : Standing O) : Type 0 where

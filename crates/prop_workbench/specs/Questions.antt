@@ -33,8 +33,9 @@ outcome_of list (Contradiction premises) = running.Contradiction premises
 abbrev pub Picks : Type 0 → Type 1
 Picks O = O → ℕ → ℕ → O → Type 0
 
--- The text gives what is believed of the cell with the name, and then the mark. Believed are the
--- user's premises and the sides on which the choices stand, over what the cells of this work hold.
+-- The text gives what is believed of the cell with the name, and then the mark. That is what the
+-- cell's entries in this work say, where one believes the user's believed premises and the sides on
+-- which the choices stand.
 abbrev pub SaysBelief : {O : Type 0} → State → Work O → List ℕ → List ℕ → List ℕ → Type 0
 SaysBelief s work name mark text =
     (cell : ℕ) × (cell_named s.names name ≡ Some cell)

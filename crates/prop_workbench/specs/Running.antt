@@ -49,11 +49,12 @@ IsRest library s list a = IsLeastSolution (problem_in library s) (worldview_at s
 abbrev pub steps_in_all : List Stored → State → ℕ
 steps_in_all library s = lists_count (choices_in s) * (most_steps (problem_in library s) + 1)
 
--- How a run may end. It settles on the first consistent choice list, and there is a least solution
--- over that list's worldview. Or it stops unsettled on a list: every list before that one is
--- refuted, and the limit is less than what all lists may take. Or it ends in a contradiction: with
--- these premises, which the user believes, every choice list is refuted, each of them belongs to a
--- nogood whose premises of the user's are all among them, and no points satisfy them.
+-- How a run may end. It settles on the first consistent choice list, over whose worldview there is
+-- a least solution without a contradiction. Or it stops unsettled on a list: every list before that
+-- one is refuted, and the limit is less than what all lists may take. Or it ends in a
+-- contradiction: with these premises, which the user believes, every choice list is refuted, each
+-- of them belongs to a nogood whose premises of the user's are all among them, and no points
+-- satisfy them.
 abbrev pub MayEnd : List Stored → State → Outcome → Type 0
 MayEnd library s (Settled list) =
     IsFirstConsistent (problem_in library s) (believed_in s.premises) (choices_in s) list
@@ -84,8 +85,8 @@ IsValue library s (Unsettled list) cell v =
     → Below x.info v) s.statements
 IsValue library s (Contradiction ps) cell v = ⊥
 
--- The text gives a value of the cell with the name, and then what stands behind it. Of all points
--- that satisfy the worldview, the cell's lies in the value.
+-- The text gives a value of the cell with the name, and then what stands behind it. Whichever
+-- points satisfy the worldview, the cell's lies in the value.
 pub record IsValueReply (library : List Stored) (s : State) (outcome : Outcome)
     (name behind text : List ℕ) : Type 0 where
   pub cell : ℕ

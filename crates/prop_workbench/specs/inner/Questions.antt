@@ -77,8 +77,8 @@ abbrev pub SaysSoFar : {O : Type 0} → State → Work O → Command → Answer 
 SaysSoFar s work command answer = (text : List ℕ) → answer ≡ Text text
     → SaysUnsettled s work command text
 
--- what an answer rests on: `why` uses no entry that isn't needed, a text counts the steps that were
--- taken, and a line that runs nothing wakes no more than it has to
+-- what an answer rests on: `why` uses no entry that isn't needed, behind a text is a run of just so
+-- many steps, and a line that runs nothing wakes no more instances than it has to
 pub record RestsOn {O : Type 0} (picks : Picks O) (library : List Stored) (s t : State)
     (old new : Work O) (read : Result (Option Command) Refusal) (answer : Answer) (steps : ℕ) : Type
     0 where

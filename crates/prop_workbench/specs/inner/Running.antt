@@ -16,7 +16,7 @@ use Rattle.prop_workbench.specs.Running.{steps_in_all}
 use Rattle.prop_workbench.specs.inner.Machine.{text_at}
 use Rattle.prop_texts.specs.Texts.{equation, because}
 
--- the value may be given for the cell, and of all points that satisfy the worldview the cell's lies
+-- the value may be given for the cell, and whichever points satisfy the worldview, the cell's lies
 -- in it
 abbrev pub IsHeldValue : List Stored → State → Outcome → ℕ → Info → Type 0
 IsHeldValue library s outcome cell v = IsValue library s outcome cell v

@@ -24,7 +24,7 @@ lean_refused believed d s (Ok None) refusal = tt
 lean_refused believed d s (Ok (Some (commands.Command.Why name))) refusal = tt
 lean_refused believed d s (Ok (Some command)) refusal = tt
 
--- a refusal is no text, of which it is asked that it count the steps of a run
+-- a refusal is no text, of which it is asked that a run of just so many steps be behind it
 pub earns_refused : {O : Type 0} (picks : Picks O) (library : List Stored) (s : State)
     (old new : Work O) (read : Result (Option Command) Refusal) (refusal : Refusal) (steps : ℕ)
     → Earns picks library s old new read (Refused refusal) steps
