@@ -1,4 +1,4 @@
--- What a session of a program with a blamer around it does, by its procedures and its prelude.
+-- What a session of a program with a blamer around it does, with its procedures and its prelude.
 use Rattle.std.specs.Prelude.{ℕ, List, Result}
 use Rattle.prop_procedures.specs.Stored.{Stored}
 use Rattle.prop_engine.specs.declared.outcome.Counts.{Counts}
@@ -9,8 +9,8 @@ use Rattle.prop_program.specs.declared.fault.Fault.{Fault}
 use Rattle.prop_seeking.specs.Seeking.{new_sought}
 use Rattle.prop_blaming.specs.Blaming.{blaming}
 
--- a session of these procedures with a blamer around it, which begins with these lines, served, by
--- the order that was chosen, which a seed may begin
+-- A session of these procedures with a blamer around it served, in the order that was chosen. These
+-- lines are its prelude, and the order that mixes begins with the seed.
 abbrev pub IsBlamed : {D : Type 0} → List Stored → List (List ℕ) → Pick → ℕ → ℕ
     → (D → Call → D → Type 0) → D → D → Result Counts Fault → Type 0
 IsBlamed library lines order seed limit may from to result = InOrder order seed (λ O picks begun.

@@ -1,4 +1,4 @@
--- Which lines ask what can't all hold, and what they ask.
+-- Which lines ask for conflicts or repairs, and what they ask.
 use Rattle.std.specs.Prelude.{ℕ, pos, List, [], ◌∷◌, Bool, ◌||◌, ◌&&◌, codes, bytes_eq}
 use Rattle.std.specs.Prelude.{if◌then◌else◌}
 use Rattle.std.specs.Prelude.{Option, Some, None, Result, Ok, Err, unsigned_abs}
@@ -15,12 +15,12 @@ use Rattle.prop_blaming.specs.Weighing.{evenly, weighed}
 abbrev pub is_blame : List ℕ → Bool
 is_blame line = begins (codes "conflicts") line || begins (codes "repairs") line
 
--- what is asked for, and how many at the most; of the cheapest repairs also what premises cost
+-- what is asked for, and how many at most; for the cheapest repairs also what each premise costs
 pub data Wish : Type 0 where
   Conflicts Repairs : ℕ → Wish
   Cheapest : ℕ → List ℕ → Wish
 
--- how many at the most
+-- how many are asked for at most, as the word writes it
 abbrev pub most : List ℕ → Result ℕ Refusal
 most number = option_map_or (λ n. Ok (unsigned_abs n))
     (number_in (pos 1) (pos 1_000_000_000) number) (Err NotANumber)
@@ -35,7 +35,7 @@ abbrev pub cheapest_asked : ℕ → Result (List ℕ) Refusal → Result Wish Re
 cheapest_asked n (Ok weights) = Ok (Cheapest n weights)
 cheapest_asked n (Err refusal) = Err refusal
 
--- what is asked by a word and those behind it, of these premises
+-- what a first word asks with the words behind it, where these are the premises
 abbrev pub asked_by : List Origin → List (List ℕ) → Result Wish Refusal
 asked_by premises (w ∷ number ∷ []) =
     elim (most number) [ Ok n ↦ Ok (evenly_asked w n) | Err refusal ↦ Err refusal ]
@@ -46,7 +46,7 @@ asked_by premises (w ∷ number ∷ by ∷ name ∷ prices) = if is_by_cost w by
     ] else Err WrongForm
 asked_by premises words = Err WrongForm
 
--- what a line asks that was read so
+-- what a line asks, by how it was read
 abbrev pub asked : List Origin → Result (Option Command) Refusal → Result Wish Refusal
 asked premises (Ok (Some (Command.Fix cell (Value.Braces words)))) = asked_by premises words
 asked premises (Ok read) = Err WrongForm

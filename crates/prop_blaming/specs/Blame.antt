@@ -1,4 +1,5 @@
--- Which believed premises can't all hold, what has to be given up of them, and what is replied.
+-- Conflicts, which are believed premises that can't all hold; repairs, which are what has to be
+-- given up so that the others can; and what is replied with them.
 use Rattle.std.specs.Prelude.{◌≡◌, ◌≤◌, ◌<◌, ℕ, List, Bool, true, false, not, ◌&&◌, All, Contains}
 use Rattle.std.specs.Prelude.{IsTrue}
 use Rattle.std.specs.Prelude.{length}
@@ -17,48 +18,51 @@ use Rattle.prop_blaming.specs.Asking.{Wish}
 use Rattle.prop_blaming.specs.Asking.Wish.{Conflicts, Repairs, Cheapest}
 use Rattle.prop_blaming.specs.Texts.{cheapest_text, conflicts_text, repairs_text}
 
--- some points satisfy what these premises say, with a side of each choice
+-- some points satisfy what these premises say with some choice list
 abbrev pub CanHold : List Stored → State → Members → Type 0
 CanHold library s ps = (list : List ℕ) × (points : ℕ → Point) × IsChoiceList (choices_in s) list
     × Satisfy library s (worldview ps (choices_in s) list) points
 
--- these believed premises can't all hold
+-- these premises are believed and can't all hold
 abbrev pub CannotHold : List Stored → State → List ℕ → Type 0
 CannotHold library s by = Refutes library s (λ points. ⊥) by
 
--- they can't, and where they are known to be minimal, without any one of them the others can
+-- A conflict: its premises can't all hold. Where it is known to be minimal, they can without any
+-- one of them.
 abbrev pub IsConflict : List Stored → State → Conflict → Type 0
 IsConflict library s c = CannotHold library s c.premises × (IsTrue c.is_least → (p : ℕ)
     → IsTrue (set_of c.premises p) → CanHold library s (without (set_of c.premises) p))
 
--- the believed premises but these
+-- the believed premises without these
 abbrev pub kept_without : State → Members → Members
 kept_without s out p = believed_in s.premises p && not (out p)
 
--- without these believed premises the others can hold, and without all but one of them they can't
+-- A repair: these premises are believed, the other believed ones can hold without them, and can't
+-- with any one of them.
 abbrev pub IsRepair : List Stored → State → List ℕ → Type 0
 IsRepair library s out = IsPart (set_of out) (believed_in s.premises)
     × CanHold library s (kept_without s (set_of out)) × ((p : ℕ) → IsTrue (set_of out p)
     → CanHold library s (kept_without s (without (set_of out) p)) → ⊥)
 
--- conflicts, no more than were asked for; where there are no others, whatever can't hold has all of
--- one of them
+-- The text tells conflicts, no more than were asked for. If it says that there are no others, then
+-- any believed premises that can't all hold have all premises of one of these conflicts.
 abbrev pub SaysConflicts : List Stored → State → ℕ → List ℕ → Type 0
 SaysConflicts library s most text = (found : List Conflict) × (all : Bool) × (length found ≤ most)
     × All (IsConflict library s) found × (IsTrue all → (by : List ℕ) → CannotHold library s by
     → (c : Conflict) × Contains found c × IsPart (set_of c.premises) (set_of by))
     × (text ≡ conflicts_text s.premises found all)
 
--- repairs, no more than were asked for; where there are no others, whatever can hold has nothing of
--- one of them
+-- The text tells repairs, no more than were asked for. If it says that there are no others, then
+-- any premises that can hold have no premise of one of these repairs.
 abbrev pub SaysRepairs : List Stored → State → ℕ → List ℕ → Type 0
 SaysRepairs library s most text = (found : List (List ℕ)) × (all : Bool) × (length found ≤ most)
     × All (IsRepair library s) found × (IsTrue all → (kept : Members) → CanHold library s kept
     → (out : List ℕ) × Contains found out × ((p : ℕ) → IsTrue (set_of out p) → kept p ≡ false))
     × (text ≡ repairs_text s.premises found all)
 
--- repairs, no more than were asked for; what can be given up for less than one of them has all of
--- one of them; where there are no others, whatever can hold has nothing of one of them
+-- The text tells repairs and what they cost, no more than were asked for. What could be given up
+-- instead for less than one of them has all premises of one of them. If it says that there are no
+-- others, then any premises that can hold have no premise of one of these repairs.
 abbrev pub SaysCheapest : List Stored → State → List ℕ → ℕ → List ℕ → Type 0
 SaysCheapest library s weights most text = (found : List (List ℕ)) × (all : Bool)
     × (length found ≤ most) × All (IsRepair library s) found
@@ -70,7 +74,7 @@ SaysCheapest library s weights most text = (found : List (List ℕ)) × (all : B
     → (out : List ℕ) × Contains found out × ((p : ℕ) → IsTrue (set_of out p) → kept p ≡ false))
     × (text ≡ cheapest_text s.premises weights found all)
 
--- what is replied is so
+-- what the text replies is so
 abbrev pub Says : List Stored → State → Wish → List ℕ → Type 0
 Says library s (Conflicts most) text = SaysConflicts library s most text
 Says library s (Repairs most) text = SaysRepairs library s most text

@@ -1,4 +1,5 @@
--- What a layer that answers what can't all hold does, as a machine.
+-- The blamer as a machine: a layer around a seeker, that answers questions for conflicts and
+-- repairs.
 use Rattle.std.specs.Prelude.{◌≡◌, ◌⊎◌, ℕ, List, Bool, Result, Ok, Err}
 use Rattle.prop_refusals.specs.declared.refusal.Refusal.{Refusal}
 use Rattle.prop_refusals.specs.declared.refusal.Refusal.TheVariants.{Memory}
@@ -14,18 +15,19 @@ use Rattle.prop_seeking.specs.Seeking.{Sought, seeking}
 use Rattle.prop_blaming.specs.Asking.{Wish, asked, is_blame}
 use Rattle.prop_blaming.specs.Blame.{Says}
 
--- a reply that is so is told, or the question was refused
+-- the answer is a reply that is so, or the reason why the question is refused
 abbrev pub Replies : List Stored → State → Result Wish Refusal → Answer → Type 0
 Replies library s (Ok wish) answer =
     (text : List ℕ) × Says library s wish text × (answer ≡ Text text)
 Replies library s (Err reason) answer = answer ≡ Refused reason
 
--- a question is answered as it is read, or memory was refused
+-- a question is answered by what is read in its line, or memory was refused
 abbrev pub Blames : List Stored → State → List ℕ → Answer → Type 0
 Blames library s line answer = (answer ≡ Refused Memory)
     ⊎ AsRead (as_value line) (λ read. Replies library s (asked s.premises read) answer)
 
--- a line asks what can't all hold, and all stays; or the seeker carries it out
+-- If a line asks for conflicts or repairs, the blamer answers, and all stays. Any other line is for
+-- the seeker.
 abbrev pub blaming : {O : Type 0} → Picks O → List Stored → Machine (Sought O)
 blaming picks library old line answer new = Own (is_blame line)
     ((new ≡ old) × Blames library old.told.standing.shown.state line answer)

@@ -1,4 +1,4 @@
--- The texts of replies to questions what can't all hold.
+-- The texts of replies with conflicts and repairs.
 use Rattle.std.specs.Prelude.{ℕ, List, ◌++◌, Bool, codes, decimal, flat_map, length}
 use Rattle.std.specs.Prelude.{if◌then◌else◌}
 use Rattle.prop_texts.specs.Texts.{support_text}
@@ -6,11 +6,12 @@ use Rattle.prop_premises.specs.Origins.{Origin}
 use Rattle.prop_hitting.specs.Costs.{cost}
 use Rattle.prop_hitting.specs.declared.conflict.Conflict.{Conflict}
 
--- whether there are others
+-- what is known of others: that there are none, or nothing
 abbrev pub others_text : Bool → List ℕ
 others_text all = if all then codes "\nothers none" else codes "\nothers unknown"
 
--- how the line of a conflict begins: it may not be known to be minimal
+-- how the line of a conflict begins: with `conflict` where it is known to be minimal, else with
+-- `unsettled`
 abbrev pub heading_text : Bool → List ℕ
 heading_text is_least = if is_least then codes "\nconflict:" else codes "\nunsettled:"
 
@@ -30,7 +31,7 @@ abbrev pub repairs_text : List Origin → List (List ℕ) → Bool → List ℕ
 repairs_text premises found all = codes "repairs " ++ (decimal (length found)
     ++ (flat_map (repair_text premises) found ++ others_text all))
 
--- a repair with what it costs
+-- a repair with what it costs, on a line of its own
 abbrev pub costed_text : List Origin → List ℕ → List ℕ → List ℕ
 costed_text premises weights out = codes "\nrepair " ++ (decimal (cost weights out)
     ++ (codes ":" ++ support_text premises out))

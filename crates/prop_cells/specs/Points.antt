@@ -1,4 +1,5 @@
--- Single values of the cells that satisfy statements and instances, and what holds them.
+-- Points: a single value for each cell. When they satisfy statements and instances, and which
+-- informations hold them then.
 use Rattle.std.specs.Prelude.{◌≡◌, ℕ, IsTrue, List, map, length, Some, All, slice_get}
 use Rattle.prop_lattice.specs.Points.{Point, Holds, IsPointOf}
 use Rattle.prop_lattice.specs.declared.info.Info.{Info}
@@ -11,7 +12,8 @@ use Rattle.prop_cells.specs.Problems.{Problem, Entails, IsConsistent, is_member}
 use Rattle.prop_cells.specs.Instances.{Instance, IsFitting, IsWithin, constraint_of}
 use Rattle.prop_cells.specs.declared.instance.Statement.{Statement}
 
--- the answers of each procedure hold the points that belong to points of its arguments
+-- No procedure loses points that belong together: wherever its arguments hold the points of the
+-- inputs, its answer holds the point of the output.
 abbrev pub AreSoundBy : List Stored → (ℕ → Param → List Point → Point → Type 0) → Type 0
 AreSoundBy library related = (n : ℕ) (p : Stored) → slice_get library n ≡ Some p
     → IsSound p.value (related n) p.ins p.out p.need
@@ -29,13 +31,13 @@ problem_of library n = record {
   constraints = map (constraint_of library) n.instances;
 }
 
--- each instance is one of the library's procedures, on cells that are there and fit it
+-- each instance is of one of the library's procedures, on cells that are there and fit it
 pub record AreFitting (library : List Stored) (n : Attached) : Type 0 where
   pub fitting : All (IsFitting library n.kinds) n.instances
   pub within : All (IsWithin (length n.kinds)) n.instances
 
--- a point for each cell, of its kind, that lies in each statement of the set; the points of each
--- instance belong together
+-- A point for each cell, of its kind, that lies in each statement under a premise of the set or
+-- under none. The points at each instance belong together.
 pub record ArePoints (related : ℕ → Param → List Point → Point → Type 0) (n : Attached)
     (s : Members) (points : ℕ → Point) : Type 0 where
   pub of_kind : (cell : ℕ) (k : Kinded) → slice_get n.kinds cell ≡ Some k
@@ -44,14 +46,14 @@ pub record ArePoints (related : ℕ → Param → List Point → Point → Type 
   pub together : All (λ x. related x.procedure x.param (map points x.inputs) (points x.output))
       n.instances
 
--- what a set entails holds such points
+-- what a set of premises entails of a cell holds the cell's point, whichever such points there are
 abbrev pub EntailedHoldsPoints : List Stored → (ℕ → Param → List Point → Point → Type 0) → Type 0
 EntailedHoldsPoints library related =
     (n : Attached) (s : Members) (points : ℕ → Point) → AreFitting library n
     → ArePoints related n s points → (cell : ℕ) (v : Info)
     → Entails (problem_of library n) s cell v → Holds v (points cell)
 
--- a set that has such points is consistent
+-- a set of premises that has such points is consistent
 abbrev pub PointsAreConsistent : List Stored → (ℕ → Param → List Point → Point → Type 0) → Type 0
 PointsAreConsistent library related =
     (n : Attached) (s : Members) (points : ℕ → Point) → AreFitting library n

@@ -1,5 +1,4 @@
--- Why a network refuses a cell, a statement or an instance: the first condition of a list that
--- holds.
+-- Why a network refuses a cell, a statement or an instance: the first reason that there is.
 use Rattle.std.specs.Prelude.{ℕ, ◌+◌, ◌^◌, ◌/◌, ◌==◌, nat_le, nat_lt, Bool, true, false, not, List}
 use Rattle.std.specs.Prelude.{[], ◌∷◌, ◌++◌, Option, None, is_none, length, slice_get}
 use Rattle.std.specs.Option.{option_map_or, option_or}
@@ -23,7 +22,8 @@ use Rattle.prop_cells.specs.Data.{Data}
 abbrev pub cell_refusal : Data → Option Refusal
 cell_refusal d = when (LimitReached Cells) (nat_le (most Cells) (length d.kinds))
 
--- the information is of the kind, whose domain has this size, and no contradiction
+-- the information may be stated at a cell: it is of the cell's kind, whose domain has this size,
+-- and no contradiction
 abbrev pub may_be_stated : Kind → ℕ → Info → Bool
 may_be_stated kind size Nothing = true
 may_be_stated kinds.Span size (Span s) = true
@@ -31,7 +31,7 @@ may_be_stated (kinds.Set domain) size (Set s) = s.bits / 2 ^ size == 0
 may_be_stated kinds.Symbol size (Sym s) = true
 may_be_stated kind size a = false
 
--- why an information is not stated at a cell
+-- why an information may not be stated at a cell
 abbrev pub state_refusal : Data → ℕ → Info → Option Refusal
 state_refusal d cell info =
     option_or (when NoSuchCell (nat_le (length d.kinds) cell))
@@ -39,12 +39,12 @@ state_refusal d cell info =
     (may_be_stated (kind_at d.kinds cell).kind (kind_at d.kinds cell).size info)))
     (when (LimitReached Statements) (nat_le (most Statements) (length d.statements))))
 
--- why so many statements more are not made
+-- why so many statements more may not be made
 abbrev pub sides_refusal : Data → ℕ → Option Refusal
 sides_refusal d count = when (LimitReached Statements)
     (nat_lt (most Statements) (length d.statements + count))
 
--- why a procedure is not attached to cells, with the parameter of a number or without one
+-- why a procedure may not be attached to cells, with the parameter of a number or without one
 abbrev pub refusal_at : Stored → Data → Option ℕ → List ℕ → ℕ → Option Refusal
 refusal_at p d param ins out =
     option_or (when NoSuchCell (list_any (λ cell. nat_le (length d.kinds) cell) (ins ++ out ∷ [])))

@@ -1,5 +1,4 @@
--- What a use is refused for at once, before any memory is taken, so that want of memory never
--- stands in its place.
+-- Why a use is refused at once, before any memory is taken, so that want of memory never hides it.
 use Rattle.std.specs.Prelude.{ℕ, ◌-◌, List, [], ◌∷◌, Option, length, is_none}
 use Rattle.prop_refusals.specs.declared.refusal.Refusal.{Refusal}
 use Rattle.prop_refusals.specs.declared.refusal.Refusal.TheVariants.{NoSuchProcedure, WrongCount}
@@ -12,8 +11,8 @@ use Rattle.prop_compound.specs.Definitions.{Definitions, used_named, is_miscount
 use Rattle.prop_compound.specs.Expansion.{expanded}
 use Rattle.prop_compound.specs.Expanding.{size_refusal}
 
--- the name stands for nothing, or for something that wants another number of cells or is over its
--- size
+-- the name stands for nothing, or for something that wants another number of cells, or there would
+-- be too many fresh cells or instances
 abbrev pub refused_at_once : List Stored → Vocabulary → Definitions → List ℕ → List Kinded
     → Option Param → Option Refusal
 refused_at_once library words definitions name kinds given =

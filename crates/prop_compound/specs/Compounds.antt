@@ -1,4 +1,5 @@
--- What a name stands for in a use, and what a definition is refused for: all by name.
+-- Compounds by name: what a name stands for in a use, what a use of it adds, and why a definition
+-- is refused.
 use Rattle.std.specs.Prelude.{ℕ, ◌+◌, List, [], ◌∷◌, ◌++◌, Bool, true, false, not, ◌||◌, ◌&&◌, ◌==◌}
 use Rattle.std.specs.Prelude.{Option, None, length, map, is_none, is_some, unwrap_or, bytes_eq, zip}
 use Rattle.std.specs.Prelude.{fold}
@@ -23,14 +24,14 @@ use Rattle.prop_compound.specs.Expansion.{Walk}
 use Rattle.prop_compound.specs.Defining.{locals_of}
 use Rattle.prop_compound.specs.Kinds.{kind_named}
 
--- what can be used by its name: how many cells a use of it names, and what a use adds on cells,
--- given something or nothing
+-- What can be used by its name, a procedure or a definition: how many cells a use of it names, and
+-- what a use on these cells, with a parameter or without one, adds to what was expanded before.
 pub record Compound : Type 0 where
   pub name : List ℕ
   pub wants : ℕ
   pub adds : List ℕ → Option Param → Walk → Walk
 
--- a use of the procedure with the number is an instance of it
+-- the procedure with this number: a use of it adds one instance
 abbrev pub procedure_as : ℕ × Stored → Compound
 procedure_as (n, p) = record {
   name = p.name;
@@ -45,31 +46,33 @@ abbrev pub compound_named : List Stored → List Compound → List ℕ → Optio
 compound_named library compounds name = find (λ c. bytes_eq c.name name)
     (map procedure_as (zip (range_with_len 0 (length library)) library) ++ compounds)
 
--- a use of the name adds what that adds
+-- what a use of the name adds to what was expanded before; nothing where the name stands for
+-- nothing
 abbrev pub use_added : List Stored → List Compound → List ℕ → List ℕ → Option Param → Walk → Walk
 use_added library compounds name cells given e =
     option_map_or (λ c. c.adds cells given e) (compound_named library compounds name) e
 
--- what is to be used wants another number of cells
+-- there is something to be used, and it wants another number of cells than this
 abbrev pub is_miscounted : Option Compound → ℕ → Bool
 is_miscounted compound count = option_map_or (λ c. not (count == c.wants)) compound false
 
 -- ---- what a definition adds
 
--- what stands behind `by`
+-- the parameter that stands behind `by`, if one does
 abbrev pub given_by : Vocabulary → By → Option Param
 given_by words By.Nothing = None
 given_by words (By.Number k) = option_map params.Scale k
 given_by words (By.Relation name) = option_map params.Rows (relation_named words name)
 
--- a local more, behind cells with these names and what was added so far: a fresh cell of the kind
+-- one local more: its name joins those of the cells, and a fresh cell of the kind joins what was
+-- expanded
 abbrev pub with_local : CellNames × Walk → List ℕ → Kinded → CellNames × Walk
 with_local (names, e) name kind =
     (with_cell_name names name (length e.kinds), record e { kinds = e.kinds ++ kind ∷ [] })
 
--- What a step adds to these in a definition that is itself given something: a local of its kind, or
--- of that of the cell that it is like, or what a use adds, which is given what stands behind its
--- `by`, or the same as the definition.
+-- What a step of a definition adds, where a use of the definition is given `given`. A local adds a
+-- fresh cell, of its own kind or of that of the cell that it is like. A use adds what its name
+-- stands for; it is given what stands behind its own `by`, or the same as the definition.
 abbrev pub step_added : List Stored → Vocabulary → List Compound → Option Param
     → CellNames × Walk → Step → CellNames × Walk
 step_added library words compounds given (names, e) (Step.Local name kind) =
@@ -80,8 +83,8 @@ step_added library words compounds given (names, e) (Step.Use name cells passed)
     let own : Option Param = elim passed [ Said by ↦ given_by words by | Own ↦ given ] in
     (names, use_added library compounds name (cells_named names cells) own e)
 
--- the definition of the name: what its steps add in order, and what a use is given is spare where
--- none of them hands it on
+-- The compound that a definition makes. A use of it adds what its steps add, in order. If a use is
+-- given a parameter and none of the steps hands it on, the parameter is spare.
 abbrev pub compound_of : List Stored → Vocabulary → List Compound → List ℕ → List (List ℕ)
     → List Step → Compound
 compound_of library words compounds name params steps = record {
@@ -97,12 +100,13 @@ compound_of library words compounds name params steps = record {
 -- ---- for what a definition is refused
 
 -- each step with the names of the cells that are there for it: the parameters, and the locals of
--- those before it
+-- the steps before it
 abbrev pub scoped : List (List ℕ) → List Step → List (List (List ℕ) × Step)
 scoped names [] = []
 scoped names (step ∷ steps) = (names, step) ∷ scoped (names ++ locals_of step) steps
 
--- the step may not stand among these cells for this reason, where names in a use stand for these
+-- The step may not stand for this reason. It comes with the names of the cells that are there for
+-- it, and `named` says what a name in a use stands for.
 abbrev pub is_wrong : Vocabulary → (List ℕ → Option Compound) → Refusal → List (List ℕ) × Step
     → Bool
 is_wrong words named NoSuchDomain (names, Step.Local name kind) = is_none (kind_named words kind)

@@ -1,5 +1,5 @@
--- What a definition in words means, and for what it is refused: each condition by itself, and which
--- of them comes first.
+-- What a definition in words means, as one by numbers, and why it is refused: each reason by
+-- itself, and which of them comes first.
 use Rattle.std.specs.Prelude.{ℕ, List, [], ◌∷◌, ◌++◌, Bool, false, ◌||◌, nat_le, Option, length}
 use Rattle.std.specs.Prelude.{map, is_none, is_some, unwrap_or}
 use Rattle.std.specs.List.{list_any, flat_map}
@@ -42,11 +42,12 @@ locals_of (Step.Local name kind) = name ∷ []
 locals_of (Step.Like name like) = name ∷ []
 locals_of (Step.Use name cells passed) = []
 
--- the parameters and after them the locals, in order: a cell's place is its place here
+-- the names of a definition's cells, in order: the parameters, and behind them the locals; the
+-- place of a cell is its place here
 abbrev pub scope_of : List (List ℕ) → List Step → List (List ℕ)
 scope_of params steps = params ++ flat_map locals_of steps
 
--- the step by numbers
+-- the step with numbers and places for its names
 abbrev pub step_numbered : List Stored → Vocabulary → Definitions → List (List ℕ) → Step
     → NumberedStep
 step_numbered library words definitions scope (Step.Local name kind) =
@@ -65,7 +66,7 @@ definition_of library words definitions params steps =
       steps = map (step_numbered library words definitions (scope_of params steps)) steps;
     }
 
--- one definition more
+-- the definitions with one more
 abbrev pub with_definition : List Stored → Vocabulary → Definitions → List ℕ → List (List ℕ)
     → List Step → Definitions
 with_definition library words definitions name params steps = record {
@@ -76,18 +77,19 @@ with_definition library words definitions name params steps = record {
 
 -- ---- for what it is refused
 
--- a procedure or a definition has the name, or a parameter or local stands twice among them all
+-- a procedure or a definition has the name already, or one name stands twice among the parameters
+-- and locals
 abbrev pub is_name_taken : List Stored → Definitions → List ℕ → List (List ℕ) → List Step → Bool
 is_name_taken library definitions name params steps =
     is_some (procedure_number library name) || (is_some
     (number_in definitions.names name) || has_repeat (scope_of params steps))
 
--- the step makes a local of a kind that is no domain's
+-- the step makes a local of a domain that isn't there
 abbrev pub is_domain_missing : Vocabulary → Step → Bool
 is_domain_missing words (Step.Local name kind) = is_none (kind_named words kind)
 is_domain_missing words step = false
 
--- the step passes a relation that there is not
+-- the step passes a relation that isn't there
 abbrev pub is_relation_missing : Vocabulary → Step → Bool
 is_relation_missing words (Step.Use name cells (Passed.Said (By.Relation relation))) =
     is_none (number_in words.relation_names relation)
@@ -99,7 +101,7 @@ cells_in (Step.Local name kind) = []
 cells_in (Step.Like name like) = like ∷ []
 cells_in (Step.Use name cells passed) = cells
 
--- a step names a cell that is neither of these nor a local of an earlier step
+-- some step names a cell that is neither one of these nor a local of an earlier step
 abbrev pub is_cell_missing : List (List ℕ) → List Step → Bool
 is_cell_missing cells [] = false
 is_cell_missing cells (step ∷ steps) =
@@ -117,7 +119,8 @@ is_count_wrong library definitions (Step.Use name cells passed) =
     is_miscounted library definitions name (length cells)
 is_count_wrong library definitions step = false
 
--- why the steps may not stand for their words' sake, where these are the parameters
+-- each reason, in order of rank, for which the steps are refused by their words alone, where these
+-- are the parameters
 abbrev pub words_refusals : Vocabulary → List (List ℕ) → List Step → List (Option Refusal)
 words_refusals words params steps =
     when NoSuchDomain (list_any (is_domain_missing words) steps)
@@ -125,7 +128,8 @@ words_refusals words params steps =
     ∷ when NoSuchCell (is_cell_missing params steps)
     ∷ []
 
--- why they may not be defined for what they use, or for the count of definitions
+-- each reason, in order of rank, for which they are refused by what they use; and that there are as
+-- many definitions as there may be
 abbrev pub uses_refusals : List Stored → Definitions → List Step → List (Option Refusal)
 uses_refusals library definitions steps =
     when NoSuchProcedure (list_any (is_unknown library definitions) steps)
@@ -133,7 +137,7 @@ uses_refusals library definitions steps =
     ∷ when (LimitReached TooMany) (nat_le (most TooMany) (length definitions.definitions))
     ∷ []
 
--- why the definition may not be made
+-- why the definition may not be made: the first of all these reasons
 abbrev pub define_refusal : List Stored → Vocabulary → Definitions → List ℕ → List (List ℕ)
     → List Step → Option Refusal
 define_refusal library words definitions name params steps =

@@ -1,4 +1,4 @@
--- Definitions of compounds, their words resolved to numbers.
+-- Definitions of compounds, with numbers for their words.
 use Rattle.std.specs.Prelude.{ℕ, ◌+◌, List, [], Bool, true, false, not, ◌==◌, Option, length}
 use Rattle.std.specs.Prelude.{slice_get}
 use Rattle.std.specs.List.{list_any}
@@ -11,7 +11,7 @@ use Rattle.prop_compound.specs.declared.definition.Used.TheVariants as uses
 use Rattle.prop_compound.specs.declared.definition.NumberedStep.{NumberedStep}
 use Rattle.prop_compound.specs.declared.definition.NumberedStep.TheVariants.{Use}
 
--- how many cells a use of it names, and its steps in order
+-- a definition: how many cells a use of it names, and its steps in order
 pub record Definition : Type 0 where
   pub params : ℕ
   pub steps : List NumberedStep
@@ -24,12 +24,12 @@ pub record Definitions : Type 0 where
 abbrev pub no_definitions : Definitions
 no_definitions = record { names = []; definitions = [] }
 
--- the step hands on what the definition itself is given
+-- the step hands on the parameter that a use of its definition is given
 abbrev pub is_passing_on : NumberedStep → Bool
 is_passing_on (Use used cells passings.Own) = true
 is_passing_on step = false
 
--- a definition takes a parameter where one of its steps hands it on
+-- a definition takes a parameter if one of its steps hands it on
 abbrev pub is_taking : Definition → Bool
 is_taking d = list_any is_passing_on d.steps
 
@@ -39,14 +39,14 @@ used_named library definitions name =
     option_or (option_map uses.Procedure (procedure_number library name))
     (option_map uses.Definition (number_in definitions.names name))
 
--- how many cells a use names
+-- how many cells a use of this has to name
 abbrev pub cells_wanted : List Stored → Definitions → Used → ℕ
 cells_wanted library definitions (uses.Procedure n) =
     option_map_or (λ p. length p.ins + 1) (slice_get library n) 0
 cells_wanted library definitions (uses.Definition n) =
     option_map_or (λ d. d.params) (slice_get definitions.definitions n) 0
 
--- the name stands for something that wants another number of cells
+-- the name stands for something that wants another number of cells than this
 abbrev pub is_miscounted : List Stored → Definitions → List ℕ → ℕ → Bool
 is_miscounted library definitions name count =
     option_map_or (λ used. not (count == cells_wanted library definitions used))

@@ -1,5 +1,4 @@
--- For what a use is refused when it is expanded: each condition by itself, and which of them comes
--- first.
+-- Why a use is refused when it is expanded: each reason by itself, and which of them comes first.
 use Rattle.std.specs.Prelude.{ℕ, ◌-◌, List, [], ◌∷◌, Bool, false, not, ◌||◌, nat_lt, Option, length}
 use Rattle.std.specs.Prelude.{is_none, slice_get}
 use Rattle.std.specs.List.{list_any}
@@ -26,17 +25,16 @@ is_kind_wrong library kinds x =
     option_map_or (λ p. not (kinds_fit p kinds (option_and_then sides_of x.given) x.cells))
     (slice_get library x.procedure) false
 
--- the instance's procedure does not take what the instance is given
+-- the instance's procedure does not take the parameter that the instance is given, or lacks one
 abbrev pub is_param_wrong : List Stored → Placed (Option Param) → Bool
 is_param_wrong library x = option_map_or (λ p. is_none (fitting_param p.need x.given))
     (slice_get library x.procedure) false
 
--- an instance is given what its procedure does not take, or a definition is given something and
--- takes nothing
+-- the parameter of some instance is wrong, or some definition is given a parameter and takes none
 abbrev pub are_params_wrong : List Stored → Expansion (Option Param) → Bool
 are_params_wrong library e = e.spare || list_any (is_param_wrong library) e.placed
 
--- there are too many fresh cells or instances
+-- so many fresh cells, or so many instances, are more than there may be
 abbrev pub size_refusal : ℕ → ℕ → Option Refusal
 size_refusal fresh instances =
     first_of (
@@ -45,7 +43,7 @@ size_refusal fresh instances =
     ∷ []
     )
 
--- the kinds of some instance's cells do not fit, or a parameter does not
+-- the kinds of some instance's cells do not fit its procedure, or some parameter is wrong
 abbrev pub fit_refusal : List Stored → Expansion (Option Param) → Option Refusal
 fit_refusal library e =
     first_of (
@@ -54,7 +52,8 @@ fit_refusal library e =
     ∷ []
     )
 
--- why a use of the name, on cells of these kinds and given this, is refused
+-- why a use of the name is refused, on cells of these kinds and with this parameter or none: the
+-- first reason that there is
 abbrev pub expand_refusal : List Stored → Vocabulary → Definitions → List ℕ → List Kinded
     → Option Param → Option Refusal
 expand_refusal library words definitions name kinds given =

@@ -1,4 +1,4 @@
--- The instances and fresh cells that a use of a procedure or of a definition stands for.
+-- What a use of a procedure or of a definition expands to: instances and fresh cells.
 use Rattle.std.specs.Prelude.{ℕ, List, [], ◌∷◌, ◌++◌, Bool, true, false, cond, not, ◌||◌, ◌&&◌}
 use Rattle.std.specs.Prelude.{◌==◌, Option, Some, None, length, map, reverse, is_some, slice_get}
 use Rattle.std.specs.Prelude.{slice_index_or}
@@ -31,11 +31,11 @@ pub record Expansion (G : Type 0) : Type 0 where
   pub placed : List (Placed G)
   pub spare : Bool
 
--- what was expanded so far
+-- what was expanded so far, where instances are given parameters
 abbrev pub Walk : Type 0
 Walk = Expansion (Option Param)
 
--- on cells of these kinds, before anything is expanded
+-- cells of these kinds, on which nothing is expanded yet
 abbrev pub start : {G : Type 0} → List Kinded → Bool → Expansion G
 start kinds spare = record { kinds = kinds; placed = []; spare = spare }
 
@@ -45,7 +45,7 @@ cell_at cells place = slice_index_or cells place 0
 abbrev pub cells_at : List ℕ → List ℕ → List ℕ
 cells_at cells places = map (cell_at cells) places
 
--- a fresh cell more, whose number is the next one
+-- one fresh cell more, whose number is the next one
 abbrev pub with_fresh : {G : Type 0} → Expansion G → Kinded → Expansion G
 with_fresh e kind = record e { kinds = e.kinds ++ kind ∷ [] }
 
@@ -54,7 +54,7 @@ with_placed e p = record e { placed = e.placed ++ p ∷ [] }
 
 -- ---- cells and instances
 
--- the parameter that a step passes in a definition that is itself given this one
+-- the parameter that a step passes to what it uses, where its definition is given `given`
 abbrev pub param_passed : Vocabulary → Option Param → Passing → Option Param
 param_passed words given passings.Nothing = None
 param_passed words given (passings.Scale k) = Some (params.Scale k)
@@ -62,16 +62,17 @@ param_passed words given (passings.Relation n) =
     option_map params.Rows (slice_get words.relations n)
 param_passed words given passings.Own = given
 
--- what a use adds: one instance for a procedure, and for a definition what `definition` says
+-- what a use adds: one instance if it is of a procedure, and else what `definition` says
 abbrev pub use_expanded : {G : Type 0} → (ℕ → List ℕ → G → Expansion G → Expansion G) → Used
     → List ℕ → G → Expansion G → Expansion G
 use_expanded definition (uses.Procedure n) cells given e =
     with_placed e (record { procedure = n; given = given; cells = cells })
 use_expanded definition (uses.Definition n) cells given e = definition n cells given e
 
--- What steps add, in order: a local is a fresh cell, of its kind or of that of the cell that it is
--- like, and has the next place. What a use passes in a definition that is itself given something is
--- as `pass` says.
+-- What the steps of a definition add, in order, where `cells` has the cells at the places so far. A
+-- local adds a fresh cell, of its own kind or of that of the cell that it is like, and has the next
+-- place. A use is given what `pass` makes of what the definition is given and of what the step
+-- passes.
 abbrev pub steps_expanded : {G : Type 0} → (G → Passing → G)
     → (ℕ → List ℕ → G → Expansion G → Expansion G) → G → List ℕ → List NumberedStep → Expansion G
     → Expansion G
@@ -85,8 +86,8 @@ steps_expanded pass definition given cells (Use used places passing ∷ steps) e
     steps_expanded pass definition given cells steps
     (use_expanded definition used (cells_at cells places) (pass given passing) e)
 
--- What a use of the definition with the number adds, the definitions being listed from the latest
--- on: what its steps add, which use earlier definitions alone.
+-- What a use of the definition with the number adds: what its steps add. The definitions are listed
+-- from the latest to the earliest, and steps use earlier ones alone.
 abbrev pub definition_expanded : {G : Type 0} → (G → Passing → G) → List Definition → ℕ → List ℕ → G
     → Expansion G → Expansion G
 definition_expanded pass [] n cells given e = e
@@ -94,7 +95,7 @@ definition_expanded pass (d ∷ earlier) n cells given e =
     cond (n == length earlier) (steps_expanded pass (definition_expanded pass earlier) given cells
     d.steps e) (definition_expanded pass earlier n cells given e)
 
--- what a use adds among these definitions
+-- what a use adds, where these are the definitions, in order
 abbrev pub expanded_in : {G : Type 0} → (G → Passing → G) → List Definition → Used → List ℕ → G
     → Expansion G → Expansion G
 expanded_in pass definitions used cells given e =
@@ -102,49 +103,51 @@ expanded_in pass definitions used cells given e =
 
 -- ---- what is spare
 
--- a step passes something in a definition that is itself given something, or is not
+-- the step passes a parameter; `given` says whether its definition is given one
 abbrev pub passes_something : Bool → Passing → Bool
 passes_something given passings.Own = given
 passes_something given passings.Nothing = false
 passes_something given passing = true
 
--- the use gives some definition a parameter that it does not take, where a use of a definition does
--- so as `spare` says
+-- The use gives some definition a parameter that it does not take: the one that it is of, or one
+-- within. For a definition `spare` says so; `given` says whether the use is given a parameter.
 abbrev pub spare_used : (ℕ → Bool → Bool) → Used → Bool → Bool
 spare_used spare (uses.Procedure n) given = false
 spare_used spare (uses.Definition n) given = spare n given
 
--- the step does, in a definition that is itself given something, or is not
+-- the same of a step; here `given` says whether its definition is given a parameter
 abbrev pub spare_of : (ℕ → Bool → Bool) → Bool → NumberedStep → Bool
 spare_of spare given (Use used places passing) =
     spare_used spare used (passes_something given passing)
 spare_of spare given step = false
 
--- a use of the definition with the number does, the definitions being listed from the latest on
+-- the same of a use of the definition with the number, where definitions are listed from the latest
+-- to the earliest
 abbrev pub spare_in : List Definition → ℕ → Bool → Bool
 spare_in [] n given = false
 spare_in (d ∷ earlier) n given =
     cond (n == length earlier) ((given && not (is_taking d)) || list_any
     (spare_of (spare_in earlier) given) d.steps) (spare_in earlier n given)
 
--- the same, listed in order
+-- the same, where definitions are listed in order
 abbrev pub is_spare : List Definition → ℕ → Bool → Bool
 is_spare definitions n given = spare_in (reverse definitions) n given
 
 -- ---- a whole use
 
--- before a use that is given this is expanded, on cells of these kinds
+-- what there is before a use is expanded: cells of these kinds, and whether some definition will be
+-- given a parameter that it does not take
 abbrev pub before : List Definition → Used → List Kinded → Option Param → Walk
 before definitions used kinds given =
     start kinds (spare_used (is_spare definitions) used (is_some given))
 
--- what a use stands for, on cells of these kinds, which have the numbers from 0 on
+-- what a use expands to, on cells of these kinds, which have the numbers from 0 on
 abbrev pub stands_for : Vocabulary → List Definition → Used → List Kinded → Option Param → Walk
 stands_for words definitions used kinds given =
     expanded_in (param_passed words) definitions used (range_with_len 0 (length kinds)) given
     (before definitions used kinds given)
 
--- what a use of the name stands for, nothing where it is nobody's
+-- what a use of the name expands to; nothing where the name stands for nothing
 abbrev pub expanded : List Stored → Vocabulary → Definitions → List ℕ → List Kinded → Option Param
     → Walk
 expanded library words definitions name kinds given =

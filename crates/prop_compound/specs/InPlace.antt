@@ -1,4 +1,4 @@
--- A use equals its flat list put in place.
+-- A use adds just its flat list, put in place on the cells of the use.
 use Rattle.std.specs.Prelude.{◌≡◌, ◌<◌, ℕ, List, ◌++◌, All, false, Option, drop, length, map}
 use Rattle.std.specs.List.{range_with_len}
 use Rattle.prop_procedures.specs.declared.shape.Kinded.{Kinded}
@@ -14,15 +14,15 @@ use Rattle.prop_compound.specs.Expansion.{Placed, Expansion, Walk, start, param_
 use Rattle.prop_compound.specs.Shortcuts.{passed}
 use Rattle.prop_compound.specs.Kept.{IsUseThere}
 
--- The flat list of a procedure or a definition over its own parameters, which are of these kinds:
--- they are the first cells, the fresh ones are numbered on behind them, and what a use is given
--- stands as steps say it, as what the definition itself is given.
+-- The flat list of a procedure or a definition, over its own parameters. They are of these kinds
+-- and are the first cells; the fresh ones are numbered on behind them. What an instance is given
+-- stands as a step would pass it, where `Own` is what the use itself will be given.
 abbrev pub flat_list : List Definition → Used → List Kinded → Expansion Passing
 flat_list definitions used kinds =
     expanded_in passed definitions used (range_with_len 0 (length kinds)) Own (start kinds false)
 
--- an instance of a flat list on these cells, where fresh ones are numbered from next on, in a use
--- that is given this
+-- an instance of a flat list, put in place for a use that is on these cells and is given `given`,
+-- where fresh cells are numbered from `next` on
 abbrev pub placed_at : Vocabulary → Option Param → List ℕ → ℕ → Placed Passing
     → Placed (Option Param)
 placed_at words given cells next x = record {
@@ -31,8 +31,8 @@ placed_at words given cells next x = record {
   cells = map (cell_placed cells next) x.cells;
 }
 
--- behind what was expanded so far, the flat list put in place on these cells: its fresh cells are
--- the next ones
+-- what was expanded before, and behind it the flat list put in place on these cells: its fresh
+-- cells are the next ones
 abbrev pub put_in_place : Vocabulary → Option Param → List ℕ → Expansion Passing → Walk → Walk
 put_in_place words given cells flat e = record {
   kinds = e.kinds ++ drop (length cells) flat.kinds;
@@ -40,7 +40,7 @@ put_in_place words given cells flat e = record {
   spare = e.spare;
 }
 
--- whatever was expanded so far, a use on cells that are there adds just its flat list put in place
+-- whatever was expanded before, a use on cells that are there adds just its flat list put in place
 abbrev pub UsesArePutInPlace : List Definition → Type 0
 UsesArePutInPlace definitions =
     (words : Vocabulary) (used : Used) (cells : List ℕ) (given : Option Param) (e : Walk)

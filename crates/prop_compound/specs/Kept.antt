@@ -9,7 +9,7 @@ use Rattle.prop_compound.specs.declared.definition.NumberedStep.{NumberedStep}
 use Rattle.prop_compound.specs.declared.definition.NumberedStep.TheVariants.{Use}
 use Rattle.prop_compound.specs.Definitions.{Definition, Definitions}
 
--- the definition alone
+-- the definition without what is kept beside it
 abbrev pub bare : KeptDefinition → Definition
 bare k = record { params = k.params; steps = k.steps.items }
 
@@ -18,8 +18,8 @@ all_bare definitions = map bare definitions
 
 -- ---- what is kept
 
--- the use is of a procedure on one cell at least, or of a definition that there is on as many cells
--- as it wants
+-- the use is of a procedure on one cell at least, or of a definition that is there on as many cells
+-- as that wants
 abbrev pub IsUseThere : List Definition → Used → ℕ → Type 0
 IsUseThere definitions (uses.Procedure n) count = 0 < count
 IsUseThere definitions (uses.Definition n) count =

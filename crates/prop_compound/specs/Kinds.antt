@@ -29,15 +29,15 @@ abbrev pub IsKnown : Vocabulary → Kind → Type 0
 IsKnown words (kinds.Set domain) = domain < length words.domains
 IsKnown words kind = ⊤
 
--- and its size is how many elements the domain has
+-- the domain of a set's kind is there, and the size of the kind is how many elements the domain has
 abbrev pub IsSized : Vocabulary → Kinded → Type 0
 IsSized words k = IsKnown words k.kind × (k.size ≡ length (elements_of_kind words k.kind))
 
--- the kind of the local that the step makes, where it makes one of a kind of its own
+-- this holds of the kind of the step's local, if the step makes one of a kind of its own
 abbrev pub IsLocalOf : (Kinded → Type 0) → NumberedStep → Type 0
 IsLocalOf P (Local kind) = P kind
 IsLocalOf P step = ⊤
 
--- the same of all steps of all definitions
+-- this holds of the kinds of all such locals, in all definitions
 abbrev pub AreLocalsOf : (Kinded → Type 0) → Definitions → Type 0
 AreLocalsOf P definitions = All (λ d. All (IsLocalOf P) d.steps) definitions.definitions

@@ -1,4 +1,4 @@
--- What definitions by number add, as what can be used by name.
+-- Definitions by numbers as compounds, which can be used by name.
 use Rattle.std.specs.Prelude.{ℕ, List, [], ◌∷◌, Bool, ◌||◌, Option, Some, None, is_some, length}
 use Rattle.std.specs.Prelude.{slice_get}
 use Rattle.std.specs.Option.{option_map}
@@ -11,24 +11,27 @@ use Rattle.prop_compound.specs.Definitions.{Definition, Definitions}
 use Rattle.prop_compound.specs.Expansion.{Walk, definition_expanded, spare_in}
 use Rattle.prop_compound.specs.Compounds.{Compound}
 
--- what a step passes among these relations
+-- the parameter that a step passes to what it uses, where these are the relations and its
+-- definition is given `given`
 abbrev pub passed_among : List Relation → Option Param → Passing → Option Param
 passed_among relations given passings.Nothing = None
 passed_among relations given (passings.Scale k) = Some (params.Scale k)
 passed_among relations given (passings.Relation n) = option_map params.Rows (slice_get relations n)
 passed_among relations given passings.Own = given
 
--- what is given is spare too
+-- what was expanded before, marked as having a spare parameter if it has or if b says so
 abbrev pub with_spare : Walk → Bool → Walk
 with_spare e b = record e { spare = e.spare || b }
 
--- a use of the definition with the number, the definitions being listed from the latest on
+-- what a use of the definition with the number adds; the definitions are listed from the latest to
+-- the earliest
 abbrev pub added_in : (Option Param → Passing → Option Param) → List Definition → ℕ → List ℕ
     → Option Param → Walk → Walk
 added_in pass latest n cells given e =
     definition_expanded pass latest n cells given (with_spare e (spare_in latest n (is_some given)))
 
--- each definition with its name, behind earlier ones that are listed from the latest on
+-- the compounds of these definitions and their names; those before them are listed from the latest
+-- to the earliest
 abbrev pub compounds_from : (Option Param → Passing → Option Param) → List Definition
     → List (List ℕ) → List Definition → List Compound
 compounds_from pass earlier (name ∷ names) (d ∷ ds) =
@@ -39,6 +42,6 @@ compounds_from pass earlier (name ∷ names) (d ∷ ds) =
     } ∷ compounds_from pass (d ∷ earlier) names ds
 compounds_from pass earlier names ds = []
 
--- all of them, among these relations
+-- the compounds of all definitions, where these are the relations
 abbrev pub compounds_of : List Relation → Definitions → List Compound
 compounds_of relations d = compounds_from (passed_among relations) [] d.names d.definitions

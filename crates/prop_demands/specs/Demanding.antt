@@ -1,4 +1,5 @@
--- What is demanded of points.
+-- What an expression that is required demands: the points that satisfy a state are then those that
+-- satisfied it before and at which the expression holds.
 use Rattle.std.specs.Prelude.{◌≡◌, ◌<◌, ℕ, List, Bool, IsTrue, Option, Result, Ok, Err, ⊤, length}
 use Rattle.std.specs.Option.{option_map}
 use Rattle.prop_lattice.specs.Points.{Point}
@@ -13,8 +14,9 @@ use Rattle.prop_workbench.specs.Machine.{State}
 use Rattle.prop_workbench.specs.Points.{Satisfy}
 use Rattle.prop_demands.specs.Naming.{names_in}
 
--- Points of the cells that were there satisfy what is there now, with some points of the others,
--- just where they satisfied what was there and meet the demand.
+-- The new state demands just this more than the old one. Points that satisfy it satisfy the old
+-- state and meet the demand. Points that satisfy the old state and meet the demand satisfy the new
+-- one, with some points for the cells that are new.
 pub record Demands (library : List Stored) (old new : State)
     (Meet : Members → (ℕ → Point) → Type 0) : Type 0 where
   pub kept : (believed : Members) (points : ℕ → Point) → Satisfy library new believed points
@@ -24,13 +26,14 @@ pub record Demands (library : List Stored) (old new : State)
       × ((cell : ℕ) → cell < length old.kinds → all cell ≡ points cell)
       × Satisfy library new believed all
 
--- where the premise with a name is believed, or there is none, the term holds
+-- the term holds at these points, if the premise with the name is believed, or none is given
 abbrev pub HoldsUnder : State → Term → Option (List ℕ) → Members → (ℕ → Point) → Type 0
 HoldsUnder s t premise believed points =
     IsTrue (is_member believed (option_map (number_given s.premises) premise))
     → (related : List ℕ → List Value → Bool) → IsTrue (holds (worth (names_in s related points) t))
 
--- what is demanded, where it was carried out, or refused
+-- what is demanded: that the term holds under its premise, where that was carried out, and nothing
+-- where it was refused
 abbrev pub demanded : State → Term → Option (List ℕ) → Result ⊤ Refusal → Members → (ℕ → Point)
     → Type 0
 demanded s t premise (Ok done) believed points = HoldsUnder s t premise believed points

@@ -1,4 +1,4 @@
--- What the names of an expression stand for.
+-- What the names of an expression stand for, at points of the cells.
 use Rattle.std.specs.Prelude.{ℕ, ◌+◌, ◌==◌, List, [], ◌∷◌, Bool, false, cond, Option, None, length}
 use Rattle.std.specs.Prelude.{replicate, slice_index_or}
 use Rattle.std.specs.Option.{option_map_or}
@@ -12,21 +12,22 @@ use Rattle.prop_vocabulary.specs.Names.{number_in}
 use Rattle.prop_vocabulary.specs.Vocabulary.{elements_of}
 use Rattle.prop_workbench.specs.Machine.{State}
 
--- how long names are together
+-- how many letters all these names have together
 abbrev pub letters : List (List ℕ) → ℕ
 letters [] = 0
 letters (name ∷ names) = length name + letters names
 
--- the number is that of a symbol, the first of its name
+-- a symbol has this number, and none before it has the same name
 abbrev pub is_symbol : List (List ℕ) → ℕ → Bool
 is_symbol symbols n =
     option_map_or (λ m. m == n) (number_in symbols (slice_index_or symbols n [])) false
 
--- so many spaces as no name has
+-- a word for the number that is no symbol's name: so many spaces as no name has
 abbrev pub spare_word : List (List ℕ) → ℕ → List ℕ
 spare_word symbols n = replicate (n + 1 + letters symbols) 32
 
--- what the number of a symbol is called: by its name, and where it is of none, by a spare word
+-- what the symbol of a number is called: by its name, or by a spare word where the number has none
+-- of its own
 abbrev pub symbol_word : List (List ℕ) → ℕ → List ℕ
 symbol_word symbols n =
     cond (is_symbol symbols n) (slice_index_or symbols n []) (spare_word symbols n)
@@ -41,7 +42,8 @@ value_at s points cell = value_of
     (λ i. slice_index_or (elements_of s.words (domain_of (kind_at s.kinds cell).kind)) i [])
     (symbol_word s.words.symbols) (points cell)
 
--- a cell's name stands for its value, and any other word for itself; whatever belongs to relations
+-- The name of a cell stands for the cell's value at these points, and any other word for itself.
+-- Which values belong to a relation is left to `related`.
 abbrev pub names_in : State → (List ℕ → List Value → Bool) → (ℕ → Point) → Names
 names_in s related points = record {
   value = λ w. option_map_or (value_at s points) (cell_called s w) (Text w);

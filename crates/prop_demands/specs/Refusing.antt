@@ -1,4 +1,4 @@
--- Why a text is refused.
+-- Why the text of an expression is refused.
 use Rattle.std.specs.Prelude.{◌≡◌, ◌<◌, ◌⊎◌, List, ℕ, Bool, true, false, length}
 use Rattle.prop_refusals.specs.declared.refusal.Refusal.{Refusal}
 use Rattle.prop_refusals.specs.declared.refusal.Refusal.TheVariants as refusals
@@ -6,8 +6,9 @@ use Rattle.prop_terms.specs.Terms.{Term}
 use Rattle.prop_terms.specs.Writing.{IsWritten}
 use Rattle.prop_terms.specs.declared.forming.Sort.TheVariants.{Truth}
 
--- a term may be refused so: it can't be posted yet or a word in it has two readings, a part may lie
--- out of range, a word is no cell, a part is of a wrong kind, a word is no element there
+-- A term may be refused for this. It is of a form that can't be posted yet, or a word in it has two
+-- readings; a part may lie out of range; a word is no cell; a part is of a wrong kind; a word is no
+-- element of its domain.
 abbrev pub is_of_term : Refusal → Bool
 is_of_term refusals.WrongForm = true
 is_of_term refusals.NotANumber = true
@@ -16,8 +17,8 @@ is_of_term refusals.WrongKind = true
 is_of_term refusals.NotInTheDomain = true
 is_of_term refusal = false
 
--- memory was refused, or the text is too long, or writes no term that may hold, or one that is
--- refused
+-- Why a text may be refused: memory was refused, the text is too long, it writes no term that is
+-- true or false, or it writes one and this is a reason to refuse terms.
 abbrev pub IsRefused : List ℕ → Refusal → Type 0
 IsRefused text e = (e ≡ refusals.Memory) ⊎ ((e ≡ refusals.LineTooLong) × (4_096 < length text))
     ⊎ ((e ≡ refusals.WrongForm) × ((t : Term) → IsWritten Truth text t → ⊥))

@@ -1,4 +1,4 @@
--- Of which kind a term is, as far as that shows.
+-- The kind of a term, as far as its words show it.
 use Rattle.std.specs.Prelude.{Option, Some, None}
 use Rattle.std.specs.Option.{option_map, option_or}
 use Rattle.prop_lattice.specs.declared.info.Kind.TheVariants as kinds
@@ -40,8 +40,8 @@ made_kind AtLeast = a_truth
 made_kind In = a_truth
 made_kind op = None
 
--- a name shows the kind of the given cell that it names, a choice that of a way which shows one;
--- nothing shows of another word, nor of what is looked up
+-- A name shows the kind of the given cell that it names. A choice shows the kind of a branch, of
+-- the first that shows one. Nothing shows of another word, nor of what is looked up.
 abbrev pub kind_shown : Lexicon → Term → Option Kinded
 kind_shown lexicon (Number n) = a_number
 kind_shown lexicon (Name w) = option_map (λ i. (lexicon.known i).kinded) (lexicon.cell w)

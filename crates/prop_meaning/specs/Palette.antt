@@ -1,4 +1,4 @@
--- Instances of a program's procedures.
+-- Acts as instances of procedures, which a program knows by their numbers.
 use Rattle.std.specs.Prelude.{◌≡◌, ℕ, pos, List, [], ◌∷◌, map, Option, Some, None}
 use Rattle.prop_procedures.specs.declared.flat.Flat.{Flat}
 use Rattle.prop_procedures.specs.declared.flat.Placed.{Placed}
@@ -10,7 +10,7 @@ use Rattle.prop_meaning.specs.declared.acts.Rule.{Rule}
 use Rattle.prop_meaning.specs.declared.acts.Rule.TheVariants.{OfKit}
 use Rattle.prop_meaning.specs.declared.posting.Posted.{Posted}
 
--- an instance without where its inputs lie in memory
+-- an instance, without where in memory its inputs lie
 pub record Instance : Type 0 where
   pub procedure : ℕ
   pub param : Option ℕ
@@ -25,13 +25,13 @@ instance_of x = record {
   output = x.output;
 }
 
--- where the rule takes a scale, the place of the one parameter
+-- where the rule takes a scale, the number of that parameter, which is the only one
 abbrev pub param_place : Rule → Option ℕ
 param_place (OfKit Mul) = Some 0
 param_place (OfKit Div) = Some 0
 param_place rule = None
 
--- the instance of the procedure that has the rule
+-- the act as an instance, of the procedure that has the rule
 abbrev pub numbered : (Rule → ℕ) → Act → Instance
 numbered number act = record {
   procedure = number act.rule;
@@ -40,7 +40,8 @@ numbered number act = record {
   output = act.output;
 }
 
--- the same fresh cells and instances, of procedures by their numbers
+-- The flat form has the same fresh cells, and the acts as instances, of procedures by their
+-- numbers. Its one parameter is the scale 1.
 pub record IsFlatOf (number : Rule → ℕ) (posted : Posted) (flat : Flat) : Type 0 where
   pub fresh : flat.fresh.items ≡ posted.fresh.items
   pub params : flat.params.items ≡ Scale (pos 1) ∷ []

@@ -1,4 +1,5 @@
--- What a term becomes, and that this says the same.
+-- What a term becomes, which is called posted: fresh cells, acts and constants. And what it means
+-- that this says the same as the term.
 use Rattle.std.specs.Prelude.{◌≡◌, ◌↔◌, ℕ, ◌+◌, ◌<◌, List, Bool, IsTrue, Some, slice_get}
 use Rattle.std.specs.List.{AllByRecursion}
 use Rattle.prop_lattice.specs.Points.{Point, Element, Holds, IsPointOf}
@@ -11,8 +12,9 @@ use Rattle.prop_meaning.specs.Words.{Lexicon, IsLexicon, Fits, names_at, value_a
 use Rattle.prop_meaning.specs.declared.acts.Rule.{Rule}
 use Rattle.prop_meaning.specs.declared.posting.Posted.{Posted}
 
--- behind so many given cells the points of the fresh ones are of their kinds, each constant holds
--- its cell's, and all instances hold
+-- The points solve what was posted, behind so many given cells. Those of the fresh cells are of
+-- their kinds, each constant holds the point of its cell, and the points at each act belong
+-- together.
 pub record Solves (related : Rule → Param → List Point → Point → Type 0) (count : ℕ)
     (posted : Posted) (points : ℕ → Point) : Type 0 where
   pub kinds : (k : ℕ) (kinded : Kinded) → slice_get posted.fresh.items k ≡ Some kinded
@@ -20,14 +22,15 @@ pub record Solves (related : Rule → Param → List Point → Point → Type 0)
   pub constants : AllByRecursion (λ c. Holds c.1 (points c.0)) posted.constants.items
   pub acts : AllByRecursion (HoldsAt related points) posted.acts.items
 
--- whatever fitting points the given cells have, there are points of the fresh ones with which it is
--- solved
+-- whichever fitting points the given cells have, the fresh cells have some with which what was
+-- posted is solved
 abbrev pub LosesNone : Lexicon → Posted → Type 0
 LosesNone lexicon posted = (points : ℕ → Point) → Fits lexicon points
     → (all : ℕ → Point) × ((i : ℕ) → i < lexicon.count → all i ≡ points i)
     × Solves RelatedBy lexicon.count posted all
 
--- the cell of the result shows what the term is worth, wherever it is solved
+-- Wherever what was posted is solved, the point of the result is of the kind, and is what the term
+-- is worth. No points of the given cells are lost.
 pub record IsValue (lexicon : Lexicon) (posted : Posted) (kinded : Kinded) (t : Term) : Type 0 where
   pub none_lost : IsLexicon lexicon → LosesNone lexicon posted
   pub of_kind : IsLexicon lexicon → (points : ℕ → Point) → Fits lexicon points
@@ -38,7 +41,8 @@ pub record IsValue (lexicon : Lexicon) (posted : Posted) (kinded : Kinded) (t : 
       → worth (names_at lexicon related points) t
       ≡ Some (value_as lexicon kinded (points posted.result))
 
--- the cell of the result is `yes` just where the term holds, wherever it is solved
+-- Wherever what was posted is solved, the point of the result is `yes` just where the term holds.
+-- No points of the given cells are lost.
 pub record SaysSame (lexicon : Lexicon) (posted : Posted) (t : Term) : Type 0 where
   pub none_lost : IsLexicon lexicon → LosesNone lexicon posted
   pub none_wrong : IsLexicon lexicon → (related : List ℕ → List Value → Bool) (points : ℕ → Point)

@@ -1,4 +1,4 @@
--- What the words of a term are, and what names stand for at points of the given cells.
+-- What the words of a term are, and what they stand for at points of the given cells.
 use Rattle.std.specs.Prelude.{◌≡◌, ℕ, ◌<◌, ℤ, ◌≤ℤ◌, List, Bool, Option, Some, codes, ⊤}
 use Rattle.std.specs.Option.{option_map_or}
 use Rattle.prop_lattice.specs.Points.{Point, Number, IsPointOf}
@@ -9,9 +9,9 @@ use Rattle.prop_procedures.specs.declared.shape.Kinded.{Kinded}
 use Rattle.prop_terms.specs.Meaning.{Value, Text, Names, value_of}
 use Rattle.prop_meaning.specs.declared.known.Known.{Known}
 
--- How many cells are given, and what is surely known of each; of a word, which of them it names,
--- which element of a domain it is, and which symbol; how many elements a domain has, and what an
--- element and a symbol is called.
+-- What is known of cells and words: how many cells are given, and what is surely known of each;
+-- which cell a word names, which element of a domain it is, and which symbol; how many elements a
+-- domain has; and what an element and a symbol are called.
 pub record Lexicon : Type 0 where
   pub count : ℕ
   pub known : ℕ → Known
@@ -22,8 +22,9 @@ pub record Lexicon : Type 0 where
   pub element_word : ℕ → ℕ → List ℕ
   pub symbol_word : ℕ → List ℕ
 
--- an element is found by what it is called, no two of a domain are called the same, and so are
--- symbols; `yes` and `no` are the two of the domain 0
+-- The lexicon is right. A cell's kind has as many elements as its domain. An element that is found
+-- for a word is called so, and no two of a domain are called the same. So are symbols. The domain 0
+-- has two elements, `yes` and `no`.
 pub record IsLexicon (lexicon : Lexicon) : Type 0 where
   pub sizes : (i domain : ℕ) → i < lexicon.count → (lexicon.known i).kinded.kind ≡ Set domain
       → (lexicon.known i).kinded.size ≡ lexicon.size domain
@@ -42,16 +43,16 @@ pub record IsLexicon (lexicon : Lexicon) : Type 0 where
 abbrev pub Lies : spans.Span → ℤ → Type 0
 Lies s z = (s.lo ≤ℤ z) × (z ≤ℤ s.hi)
 
--- so does a point that is a number
+-- the point, if it is a number, lies in the span
 abbrev pub LiesIn : spans.Span → Point → Type 0
 LiesIn s (Number z) = Lies s z
 LiesIn s p = ⊤
 
--- the point is what is known
+-- the point is of the kind that is known, and lies in the span that is known if it is a number
 abbrev pub IsWithin : Known → Point → Type 0
 IsWithin known p = IsPointOf known.kinded.kind known.kinded.size p × LiesIn known.span p
 
--- each given cell's point is what is known of it
+-- the point of each given cell is as is known of the cell
 abbrev pub Fits : Lexicon → (ℕ → Point) → Type 0
 Fits lexicon points = (i : ℕ) → i < lexicon.count → IsWithin (lexicon.known i) (points i)
 
@@ -59,13 +60,13 @@ abbrev pub domain_of : Kind → ℕ
 domain_of (Set domain) = domain
 domain_of kind = 0
 
--- what a point of a kind is
+-- the value of a point, which is of this kind: elements and symbols by what they are called
 abbrev pub value_as : Lexicon → Kinded → Point → Value
 value_as lexicon kinded p =
     value_of (lexicon.element_word (domain_of kinded.kind)) lexicon.symbol_word p
 
--- a given cell's name stands for its point, and another word for itself; whatever belongs to
--- relations
+-- The name of a given cell stands for the cell's value at these points, and another word for
+-- itself. Which values belong to a relation is left to `related`.
 abbrev pub names_at : Lexicon → (List ℕ → List Value → Bool) → (ℕ → Point) → Names
 names_at lexicon related points = record {
   value = λ w. option_map_or (λ i. value_as lexicon (lexicon.known i).kinded (points i))

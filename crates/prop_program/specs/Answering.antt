@@ -1,4 +1,4 @@
--- What a session of a program does, by its procedures and its prelude.
+-- What a session of a program does, with its procedures and its prelude.
 use Rattle.std.specs.Prelude.{◌≡◌, ℕ, ◌^◌, List, false, Result, Ok, Err}
 use Rattle.std.specs.List.{list_any}
 use Rattle.prop_procedures.specs.Stored.{Stored}
@@ -16,15 +16,17 @@ use Rattle.prop_program.specs.declared.chosen.Pick.TheVariants.{Fifo, Lifo, Mixe
 use Rattle.prop_program.specs.declared.fault.Fault.{Fault}
 use Rattle.prop_program.specs.declared.fault.Fault.TheVariants.{Engine, Memory}
 
--- from where it begins the machine carried out the lines of the prelude, none of them refused, and
--- then a session over it led the devices from one state to another, by at most 2^32 reads
+-- First the machine, from where it begins, carries out the lines of the prelude and refuses none.
+-- Then a session over it leads the devices from one state to another, by at most 2^32 reads, and
+-- ends so.
 abbrev pub LoadsAndSpeaks : {D S : Type 0} → (D → Call → D → Type 0) → D → D → Machine S → S
     → List (List ℕ) → Result Counts EngineFault → Type 0
 LoadsAndSpeaks {S = S} may from to machine begun prelude end =
     (loaded : List Answer) × (first last : S) × Run machine begun prelude loaded first
     × (list_any is_refusal loaded ≡ false) × Speaks may from to machine (2 ^ 32) first end last
 
--- so a session came to its end; or memory was refused before it, and the devices were not called
+-- How the program served. It loaded its prelude, and a session came to this end, which may be a
+-- fault. Or memory was refused before the session, and no device was called.
 abbrev pub Serves : {D S : Type 0} → (D → Call → D → Type 0) → D → D → Machine S → S
     → List (List ℕ) → Result Counts Fault → Type 0
 Serves may from to machine begun prelude (Ok counts) =
@@ -33,13 +35,15 @@ Serves may from to machine begun prelude (Err (Engine fault)) =
     LoadsAndSpeaks may from to machine begun prelude (Err fault)
 Serves may from to machine begun prelude (Err (Memory e)) = to ≡ from
 
--- something holds of the order that was chosen, from where a seed may have it begin
+-- This holds of the order that was chosen and of where it begins; the order that mixes begins with
+-- the seed.
 abbrev pub InOrder : Pick → ℕ → ((O : Type 0) → Picks O → O → Type 0) → Type 0
 InOrder Fifo seed holds = holds _ picks_first (record {})
 InOrder Lifo seed holds = holds _ picks_last (record {})
 InOrder Mixed seed holds = holds _ picks_mixed (record { number = seed })
 
--- a session with these procedures served, and each text is earned by the steps that were taken
+-- A session with these procedures served, in the order that was chosen. Behind each text is a run
+-- of just so many steps as were taken.
 abbrev pub IsWorked : {D : Type 0} → Pick → ℕ → List Stored → List (List ℕ) → ℕ
     → (D → Call → D → Type 0) → D → D → Result Counts Fault → Type 0
 IsWorked order seed library prelude limit may from to result =

@@ -1,4 +1,4 @@
--- How a program ends before its input does.
+-- How a program ends before its input does, and with which status.
 use Rattle.std.specs.Prelude.{ℕ}
 use Rattle.prop_engine.specs.declared.outcome.EngineFault.TheVariants.{Read, Write, Reads}
 use Rattle.prop_program.specs.declared.fault.Fault.{Fault}

@@ -1,4 +1,4 @@
--- What a program does by its words, and the status that it ends with.
+-- What a program does by the words of its command line, and the status with which it ends.
 use Rattle.std.specs.Prelude.{◌≡◌, ◌⊎◌, ℕ, List, Option, Some, None, Result, Ok, Err, map}
 use Rattle.std.specs.Prelude.{string_bytes}
 use Rattle.std.specs.Vec.Iter.{into_iter_items}
@@ -15,34 +15,36 @@ use Rattle.prop_program.specs.declared.fault.Fault.{Fault}
 use Rattle.prop_program.specs.Faults.{status_of}
 use Rattle.prop_program.specs.Program.{program, AreGiven, AreOutOfRange}
 
--- the words of a command line, where they are text and memory is there for them
+-- the words of a command line; none where they are no text, or memory is refused for them
 abbrev pub given_words : {Y Z E : Type 0} → Result (IntoIter (String Z) Y) E
     → Option (List (List ℕ))
 given_words (Ok words) = Some (map string_bytes (into_iter_items words))
 given_words (Err e) = None
 
--- the status behind a session that ended so
+-- the status of a program whose session ended so
 abbrev pub status_after : Result Counts Fault → ℕ
 status_after (Ok counts) = 0
 status_after (Err fault) = status_of fault
 
--- this kind of the option reader's errors is no fault: the words ask for help, or for the version
+-- An error of this kind of the option reader is no fault: the words ask for help or for the
+-- version.
 abbrev pub IsForText : ErrorKind → Type 0
 IsForText kind = (kind ≡ DisplayHelp) ⊎ (kind ≡ DisplayVersion)
 
--- the words ask a program of this name for a text
+-- the words ask a program of this name for one of these texts
 abbrev pub AskForText : List ℕ → List (List ℕ) → Type 0
 AskForText name words = (kind : ErrorKind) × IsForText kind
     × IsAmong kind (fault_of (program name) words)
 
--- they are no options of it
+-- the words are no options of the program
 abbrev pub AreNoOptions : List ℕ → List (List ℕ) → Type 0
 AreNoOptions name words = ((kind : ErrorKind) × (IsForText kind → ⊥)
     × IsAmong kind (fault_of (program name) words)) ⊎ AreOutOfRange name words
 
--- What a program of this name does by its words, where they are text: it serves with the options
--- that they give, and ends with the status of that; or it sends the text that they ask for; where
--- they are no options, or memory is refused, it calls nothing.
+-- What a program of this name does by its words. It serves with the options that they give, and
+-- ends with the status of that. Or it sends the text that they ask for, with status 0, or 2 where
+-- the text is cut. Where the words are no text or no options it calls no device and ends with
+-- status 1, and where memory is refused with 4.
 pub data Does {D : Type 0} (name : List ℕ) (words : Option (List (List ℕ)))
     (may : D → Call → D → Type 0) (serves : Options → Result Counts Fault → Type 0) (from to : D)
     (status : ℕ) : Type 0 where
@@ -60,7 +62,7 @@ pub data Does {D : Type 0} (name : List ℕ) (words : Option (List (List ℕ)))
   no_text : words ≡ None → to ≡ from → status ≡ 1 → Does name words may serves from to status
   no_memory : to ≡ from → status ≡ 4 → Does name words may serves from to status
 
--- the same of a program that serves with no options, since there are none
+-- what a program does that never serves: it sends a text, or it calls no device
 abbrev pub Declines : {D : Type 0} → List ℕ → Option (List (List ℕ)) → (D → Call → D → Type 0) → D
     → D → ℕ → Type 0
 Declines name words may from to status =

@@ -1,4 +1,4 @@
--- What a layer that takes expressions does, as a machine.
+-- The requirer as a machine: a layer around a blamer, that takes constraints as one writes them.
 use Rattle.std.specs.Prelude.{◌≡◌, ◌⊎◌, ℕ, List, Option, None, Result, ⊤, cond, length}
 use Rattle.std.specs.List.{range_with_len}
 use Rattle.prop_refusals.specs.declared.refusal.Refusal.{Refusal}
@@ -30,8 +30,8 @@ abbrev pub Refuses : List ℕ → Refusal → Type 0
 Refuses line e = IsMisread line e
     ⊎ ((text : List ℕ) × (premise : Option (List ℕ)) × IsAsked line text premise × IsRefused text e)
 
--- What the line says is demanded by what is posted, of which the names of all cells stay; and a
--- question ends, unless nothing has changed.
+-- What the line says is posted between all the cells that are there, and is demanded where that was
+-- done. Then no question can be gone on with, unless the posting left no trace.
 pub record Posts {O : Type 0} (library : List Stored) (old : Sought O) (line : List ℕ)
     (answer : Answer) (new : Sought O) : Type 0 where
   pub term : Term
@@ -48,13 +48,13 @@ pub record Posts {O : Type 0} (library : List Stored) (old : Sought O) (line : L
       let s = old.told.standing.shown.state in
       Demands library s new.told.standing.shown.state (demanded s term premise result)
 
--- the line is refused for a reason, and nothing has changed; or what it says is posted
+-- the line is refused for a reason and all stays, or what it says is posted
 abbrev pub Requires : {O : Type 0} → List Stored → Sought O → List ℕ → Answer → Sought O → Type 0
 Requires library old line answer new =
     ((e : Refusal) × Refuses line e × (answer ≡ Refused e) × (new ≡ old))
     ⊎ Posts library old line answer new
 
--- a line requires something, or the blamer carries it out
+-- If a line requires something, the requirer takes it. Any other line is for the blamer.
 abbrev pub requiring : {O : Type 0} → Picks O → List Stored → Machine (Sought O)
 requiring picks library old line answer new = Own (is_requirement line)
     (Requires library old line answer new) (blaming picks library old line answer new)

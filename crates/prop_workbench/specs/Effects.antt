@@ -36,8 +36,8 @@ use Rattle.prop_vocabulary.specs.Cells.{cell_named, cells_named, with_cell_name}
 
 -- ---- stating
 
--- what the value says at a cell of the kind: a symbol is told by its number, the next one where its
--- name is new
+-- what the value says at a cell of the kind, or why it is refused there; a symbol is told by its
+-- number, the next one where its name is new
 abbrev pub said : Vocabulary → Kind → Value → Result Info Refusal
 said words Span (Bare word) = span_value (halves word)
 said words (Set d) (Bare word) = set_value (elements_of words d) (word ∷ [])
@@ -51,12 +51,13 @@ abbrev pub symbols_in : Kind → Value → List (List ℕ)
 symbols_in Symbol (Bare word) = word ∷ []
 symbols_in kind value = []
 
--- the number of the premise with the name: the next one where the name is new
+-- the number of the premise with the name, or the next number where the name is new
 abbrev pub number_given : List Origin → List ℕ → ℕ
 number_given premises name = unwrap_or (premise_number premises name) (length premises)
 
--- each of the values is stated of the cell with the name, under one of these or under none, among
--- these premises; the symbols that they name are there
+-- The state with these premises and one statement for each value, of the cell with the name. Each
+-- value is stated under the premise at its place in the list `under`, or under none. The symbols
+-- that the values name join the vocabulary.
 abbrev pub with_said : State → List Origin → List (Option ℕ) → List ℕ → List Value → State
 with_said s premises under name values =
     let cell = unwrap_or (cell_named s.names name) 0 in
@@ -69,7 +70,9 @@ with_said s premises under name values =
 
 -- ---- attaching
 
--- the instance that stands at places: it writes the cell at the last, and reads those before it
+-- The instance for what an expansion placed. It writes the cell at its last place and reads those
+-- at the places before. The given cells have the first places, and the fresh ones, numbered from
+-- `next` on, those behind.
 abbrev pub instance_placed : List Stored → List ℕ → ℕ → Placed (Option Param) → Instance
 instance_placed library cells next x =
     let at = map (cell_placed cells next) x.cells in
@@ -79,8 +82,8 @@ instance_placed library cells next x =
     let inputs = take n at in
     record { procedure = x.procedure; param = p; inputs = inputs; output = slice_index_or at n 0 }
 
--- what the use of the name on these cells stands for, the cells being counted from 0 and followed
--- by the fresh ones
+-- what a use of the name on these cells expands to: the places of the given cells count from 0, and
+-- those of the fresh cells follow
 abbrev pub used : List Stored → State → List ℕ → List ℕ → By → Walk
 used library s name cells by =
     use_added library s.definitions name (range_with_len 0 (length cells)) (given_by s.words by)
@@ -88,7 +91,8 @@ used library s name cells by =
 
 -- ---- commands
 
--- the state after the command; a command that runs the network changes nothing here
+-- The state after the command, where it isn't refused. A command that runs the network or lists
+-- nogoods changes nothing here.
 abbrev pub effect : List Stored → State → Command → State
 effect library s (Command.Domain name elements) =
     record s { words = with_domain s.words name elements }

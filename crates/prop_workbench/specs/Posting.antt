@@ -1,5 +1,5 @@
--- What a session takes beside its lines: cells and instances between given cells, and what is
--- stated of them.
+-- Postings: what a session takes otherwise than as lines. A posting has fresh cells, instances
+-- between them and given cells, and statements of either.
 use Rattle.std.specs.Prelude.{◌≡◌, ◌<◌, ◌≤◌, ◌+◌, ◌++◌, ◌∷◌, [], ◌&&◌, ◌⊎◌, ℕ, List, All, IsTrue}
 use Rattle.std.specs.Prelude.{Bool, false, Option, Some, None, Result, Ok, Err, ⊤, length, map}
 use Rattle.std.specs.Prelude.{take}
@@ -27,12 +27,13 @@ use Rattle.prop_workbench.specs.Machine.{State}
 
 -- ---- what is made
 
--- the statement of what is stated at a place, the fresh cells being numbered from next on
+-- The statement for what is stated at a place. The given cells have the first places, and the fresh
+-- ones, numbered from `next` on, those behind.
 abbrev pub statement_at : Option ℕ → List ℕ → ℕ → Stated → Statement
 statement_at premise cells next x =
     record { premise = premise; cell = cell_placed cells next x.place; info = x.info }
 
--- the fresh cells and the instances between these cells
+-- the state with the fresh cells of a posting and its instances
 abbrev pub with_placed : List Stored → State → List ℕ → Flat → State
 with_placed library s cells flat = record s {
   kinds = s.kinds ++ flat.fresh.items;
@@ -40,12 +41,13 @@ with_placed library s cells flat = record s {
       flat.instances.items;
 }
 
--- what is stated under no premise
+-- the state with each of these stated under no premise
 abbrev pub with_fixed : State → List ℕ → ℕ → List Stated → State
 with_fixed s cells next fixed =
     record s { statements = s.statements ++ map (statement_at None cells next) fixed }
 
--- what is told under the premise with a name, as `tell` makes it, or under none
+-- the state with one statement more: under the premise with the name, as `tell` makes it, or under
+-- none
 abbrev pub with_told : State → List ℕ → ℕ → Stated → Option (List ℕ) → State
 with_told s cells next told premise = record s {
   premises = option_map_or (with_name s.premises) premise s.premises;
@@ -53,7 +55,7 @@ with_told s cells next told premise = record s {
       ++ statement_at (option_map (number_given s.premises) premise) cells next told ∷ [];
 }
 
--- all of it
+-- the state with all that the posting has
 abbrev pub posted : List Stored → State → List ℕ → Posting → Option (List ℕ) → State
 posted library s cells p premise =
     let next = length s.kinds in
@@ -62,16 +64,16 @@ posted library s cells p premise =
 
 -- ---- why it is refused
 
--- a choice has the name, where one is given
+-- a name is given, and a choice has it
 abbrev pub is_choice_given : List Origin → Option (List ℕ) → Bool
 is_choice_given premises name = option_map_or (is_choice premises) name false
 
--- the name is of no premise, where one is given
+-- a name is given, and no premise has it
 abbrev pub is_new_given : List Origin → Option (List ℕ) → Bool
 is_new_given premises name = option_map_or (λ n. is_none (premise_number premises n)) name false
 
--- the first reason: a choice has the name, or there is no room for a premise, for the statements,
--- for the cells or for the instances
+-- Why the posting is refused, where it is: the first of these reasons. A choice has the name; or
+-- there is no room for a new premise, for the statements, for the cells, or for the instances.
 abbrev pub posting_refusal : State → Posting → Option (List ℕ) → Option Refusal
 posting_refusal s p premise =
     first_of (when IsAChoice (is_choice_given s.premises premise)
@@ -82,8 +84,9 @@ posting_refusal s p premise =
     ∷ room_refusal (length s.kinds + length p.flat.fresh.items)
     (length s.instances + length p.flat.instances.items) ∷ [])
 
--- It was done, or refused. Where memory was refused, nothing was made, or what was made by then
--- stays: all cells and instances, and the first of what is stated under no premise.
+-- How a posting ends. It was done in whole. Or it is refused for its first reason, and the state
+-- stays. Or memory was refused: then the state stays too, or it has all cells and instances and the
+-- first few of the statements under no premise.
 abbrev pub IsPosted : List Stored → State → List ℕ → Posting → Option (List ℕ) → Result ⊤ Refusal
     → State → Type 0
 IsPosted library s cells p premise (Ok done) t = (posting_refusal s p premise ≡ None)
@@ -94,15 +97,15 @@ IsPosted library s cells p premise (Err e) t = ((posting_refusal s p premise ≡
 
 -- ---- what may be asked
 
--- what is stated at a place may be stated there: it is of the cell's kind
+-- there is a cell at the place, and what is stated is of its kind and no contradiction
 pub record MayBeAt (kinds fresh : List Kinded) (cells : List ℕ) (x : Stated) : Type 0 where
   pub place : x.place < length cells + length fresh
   pub may :
       let k = kind_at (kinds ++ fresh) (cell_placed cells (length kinds) x.place) in
       IsTrue (may_be_stated k.kind k.size x.info)
 
--- The cells are there, and the fresh ones of kinds that are. Each instance fits its cells, where
--- there is room for them, and each statement its cell.
+-- The given cells are there, and the fresh ones are of kinds whose domains are there. Where there
+-- is room for the cells, each instance fits its cells. Each statement fits its cell.
 pub record MayBePosted (library : List Stored) (s : State) (cells : List ℕ) (p : Posting) : Type 0
   where
     pub there : All (λ cell. cell < length s.kinds) cells

@@ -1,4 +1,5 @@
--- What a command that runs the network asks, and what may be said to it.
+-- What a command that runs the network may be answered, by what the run did: its calls, its moves
+-- from side to side, and what it believed at its end.
 use Rattle.std.specs.Prelude.{◌≡◌, ◌≢◌, ℕ, ◌+◌, List, length, codes, Option, Some, Result, Ok, ⊤}
 use Rattle.prop_refusals.specs.declared.refusal.Refusal.{Refusal}
 use Rattle.prop_procedures.specs.Stored.{Stored}
@@ -21,26 +22,29 @@ use Rattle.prop_workbench.specs.inner.Machine.{text_at}
 use Rattle.prop_workbench.specs.Running as running
 use Rattle.prop_workbench.specs.Running.{Outcome, Replies}
 
--- how a run ended, as the machine sees it, where the choices stand on the sides of the list
+-- how a run ended, as the machine tells it, where the choices stand on the sides of this list
 abbrev pub outcome_of : List ℕ → ends.Outcome → Outcome
 outcome_of list Settled = running.Settled list
 outcome_of list Unsettled = running.Unsettled list
 outcome_of list (Contradiction premises) = running.Contradiction premises
 
--- which place an order may pick among how many that wait, and how it goes on
+-- Which of the waiting instances an order picks. From the order as it is, and how many wait, it
+-- tells the place of the one that is picked, and the order as it is then.
 abbrev pub Picks : Type 0 → Type 1
 Picks O = O → ℕ → ℕ → O → Type 0
 
--- the text says what is believed of the cell with the name, where the choices and the cells stand
--- so, and then the mark
+-- The text gives what is believed of the cell with the name, and then the mark. That is what the
+-- cell's entries in this work say, where one believes the user's believed premises and the sides on
+-- which the choices stand.
 abbrev pub SaysBelief : {O : Type 0} → State → Work O → List ℕ → List ℕ → List ℕ → Type 0
 SaysBelief s work name mark text =
     (cell : ℕ) × (cell_named s.names name ≡ Some cell)
     × (text ≡ equation name (text_at s cell
     (beliefs (worldview_at s work.search.list) work.cells.contents cell)) mark)
 
--- an unsettled answer to a question for a cell says what is believed of it, and, where it explains
--- that, premises
+-- What a reply that is unsettled says. To `ask`, `why` and `core` it gives what is believed of the
+-- cell where the run stopped, and to the last two also premises. Of other commands nothing is
+-- asked.
 abbrev pub SaysUnsettled : {O : Type 0} → State → Work O → Command → List ℕ → Type 0
 SaysUnsettled s work (commands.Command.Ask x) text = SaysBelief s work x (codes " unsettled") text
 SaysUnsettled s work (commands.Command.Why x) text = (premises : List ℕ)
@@ -49,9 +53,10 @@ SaysUnsettled s work (commands.Command.Core x) text = (premises : List ℕ)
     × SaysBelief s work x (because s.premises (codes " unsettled") premises) text
 SaysUnsettled s work command text = ⊤
 
--- The text replies to the command as a run ended that went from the one to the other in exactly so
--- many steps. Where they were used up, one more could be taken, and the text says what is believed
--- there. What is named as contradictory is to blame for a noted nogood that is believed.
+-- The text replies to the command as a run ended, which led from the old work to the new in exactly
+-- so many steps. If it ended unsettled, one more step could be taken, and the text says what is
+-- believed there. If it ended in a contradiction, each premise that is named is a culprit of one
+-- noted nogood that is believed.
 pub record IsEarned {O : Type 0} (picks : Picks O) (library : List Stored) (s : State)
     (old new : Work O) (command : Command) (text : List ℕ) (steps : ℕ) : Type 0 where
   pub end : ends.Outcome
@@ -61,8 +66,8 @@ pub record IsEarned {O : Type 0} (picks : Picks O) (library : List Stored) (s : 
   pub blamed : IfContradiction end (λ ps. IsBlamed new.search (set_of ps))
   pub replies : Replies library s command (outcome_of new.search.list end) steps text
 
--- from the one to the other believed premises were tried in exactly so many steps; then the
--- instances that don't wait yet wait too, by number
+-- Sets of believed premises were tried, from the old work to the new, in exactly so many steps.
+-- After that all instances wait: those that didn't yet stand behind the others, by number.
 pub record HasTried {O : Type 0} (picks : Picks O) (library : List Stored) (s : State)
     (old new : Work O) (steps : ℕ) : Type 0 where
   pub search : new.search ≡ old.search
@@ -71,8 +76,9 @@ pub record HasTried {O : Type 0} (picks : Picks O) (library : List Stored) (s : 
       steps new.cells line new.order
   pub woken : new.line ≡ all_alerted line (numbers_below (length new.cells.instances))
 
--- The text replies with a core as a run ended that went from the one to a middle in so many steps,
--- and, where it settled, as premises were tried from there to the other, in so many more.
+-- The text replies to `core`. First a run led from the old work to a middle one in so many steps
+-- (`calls`), and the text replies as it ended. Only if it settled, premises were tried from there
+-- to the new work, in so many steps more (`tries`).
 pub record IsEarnedCore {O : Type 0} (picks : Picks O) (library : List Stored) (s : State)
     (old new : Work O) (name text : List ℕ) (steps : ℕ) : Type 0 where
   pub end : ends.Outcome
@@ -89,8 +95,9 @@ pub record IsEarnedCore {O : Type 0} (picks : Picks O) (library : List Stored) (
   pub replies : Replies library s (commands.Command.Core name) (outcome_of run.search.list end)
       steps text
 
--- what a line that was read so is answered: a text to what runs the network is earned by the calls
--- that it counts
+-- What is asked of the answer to a line, by what was read in it. A text in answer to a command that
+-- runs the network is the reply after a run, and tries, of exactly so many steps. Of other answers
+-- nothing is asked.
 abbrev pub Earns : {O : Type 0} → Picks O → List Stored → State → Work O → Work O
     → Result (Option Command) Refusal → Answer → ℕ → Type 0
 Earns picks library s old new (Ok (Some commands.Command.Settle)) (Text text) steps =

@@ -1,4 +1,4 @@
--- For what a command is refused in a state: each reason by itself, and which of them comes first.
+-- Why a command is refused in a state: each reason by itself, and which of them comes first.
 use Rattle.std.specs.Prelude.{ℕ, List, [], ◌∷◌, false, ◌==◌, ◌&&◌, ◌||◌, nat_lt, ◌++◌}
 use Rattle.std.specs.Prelude.{Option, Some, length, is_some, is_none, map, ◌-◌, unwrap_or}
 use Rattle.std.specs.List.{list_any}
@@ -37,12 +37,12 @@ use Rattle.prop_workbench.specs.Effects.{said, used, effect}
 
 -- ---- what there would be too much of
 
--- there would be more of something than before, and than there can be
+-- this limit is passed: there would be more than before, and more than there may be
 abbrev pub grown : {X : Type 0} → Limit → List X → List X → Option Refusal
 grown limit was is =
     when (LimitReached limit) (nat_lt (length was) (length is) && nat_lt (most limit) (length is))
 
--- what there would be too much of after a change
+-- each limit that a change from the old state to the new would pass, in order
 abbrev pub passed : State → State → List (Option Refusal)
 passed old new =
     grown Cells old.kinds new.kinds ∷ grown Instances old.instances new.instances
@@ -56,13 +56,13 @@ passed old new =
 
 -- ---- values
 
--- why the value may not be said of the cell with the name
+-- why the value may not be stated of the cell with the name, where it may not
 abbrev pub refused_at : State → List ℕ → Value → Option Refusal
 refused_at s name value =
     option_map_or (λ n. result_err (said s.words (kind_at s.kinds n).kind value))
     (cell_named s.names name) (Some NoSuchCell)
 
--- this refusal, where one of the values may not be said for this reason
+-- this refusal, where it is why one of the values may not be stated
 abbrev pub when_refused : State → List ℕ → List Value → Refusal → Option Refusal
 when_refused s cell values refusal =
     when refusal (list_any (λ value. option_map_or (λ why. number_of why == number_of refusal)
@@ -70,13 +70,14 @@ when_refused s cell values refusal =
 
 -- ---- commands
 
--- why the belief in the premise with the name may not change: a choice has the name, or nobody
+-- why the premise with the name may not be kicked out, brought back or forgotten: it is a choice
+-- that has the name, or nothing has it
 abbrev pub belief_reasons : State → List ℕ → List (Option Refusal)
 belief_reasons s premise =
     when IsAChoice (is_choice s.premises premise)
     ∷ when NoSuchPremise (is_none (premise_number s.premises premise)) ∷ []
 
--- why the command is refused as the state stands, in order
+-- each reason, in order of rank, for which the command itself is refused in the state
 abbrev pub reasons : List Stored → State → Command → List (Option Refusal)
 reasons library s (Command.Domain name elements) =
     when NameTaken (is_some (number_in s.words.domain_names name) || has_repeat elements) ∷ []
@@ -117,8 +118,8 @@ reasons library s (Command.Why cell) = when NoSuchCell (is_none (cell_named s.na
 reasons library s (Command.Core cell) = when NoSuchCell (is_none (cell_named s.names cell)) ∷ []
 reasons library s command = []
 
--- why the command is refused in the state, where it is: the first reason, and then what there would
--- be too much of
+-- why the command is refused in the state, where it is: the first of its reasons, and if it has
+-- none, the first limit that its effect would pass
 abbrev pub refusal_of : List Stored → State → Command → Option Refusal
 refusal_of library s command =
     first_of (reasons library s command ++ passed s (effect library s command))

@@ -26,31 +26,35 @@ use Rattle.prop_vocabulary.specs.Cells.{cell_named}
 use Rattle.prop_vocabulary.specs.Texts.{value_text}
 use Rattle.prop_explain.specs.Irreducible.{IsIrreducible}
 
--- a run settles on a choice list, ends on one unsettled, or ends in a contradiction of premises
+-- how a run ends: settled on a choice list, unsettled on one, or in a contradiction of premises
 pub data Outcome : Type 0 where
   Settled : (list : List ℕ) → Outcome
   Unsettled : (list : List ℕ) → Outcome
   Contradiction : (premises : List ℕ) → Outcome
 
--- the worldview of the list on which a run ended
+-- the worldview of the list on which a run ended; where it ended in a contradiction, the user's
+-- believed premises
 abbrev pub worldview_of : State → Outcome → Members
 worldview_of s (Settled list) = worldview_at s list
 worldview_of s (Unsettled list) = worldview_at s list
 worldview_of s (Contradiction ps) = believed_in s.premises
 
--- a least solution over the worldview of the list, without a contradiction
+-- the assignment is the least solution over the worldview of the list, and has no contradiction
 abbrev pub IsRest : List Stored → State → List ℕ → Assignment → Type 0
 IsRest library s list a = IsLeastSolution (problem_in library s) (worldview_at s list) a
     × ((cell : ℕ) → a cell ≢ infos.Contradiction)
 
--- more than all choice lists take together with the most steps that the procedures can take
+-- more steps than a run may take: for each choice list one more than the most calls that it can
+-- need
 abbrev pub steps_in_all : List Stored → State → ℕ
 steps_in_all library s = lists_count (choices_in s) * (most_steps (problem_in library s) + 1)
 
 -- How a run may end. It settles on the first consistent choice list, over whose worldview there is
--- a least solution. It stops on a list before which every list is refuted, where the limit is too
--- small for all lists. It ends in a contradiction of believed premises of the user's that are
--- refuted, each for a reason that lies among them, and that no points satisfy.
+-- a least solution without a contradiction. Or it stops unsettled on a list: every list before that
+-- one is refuted, and the limit is less than what all lists may take. Or it ends in a
+-- contradiction: with these premises, which the user believes, every choice list is refuted, each
+-- of them belongs to a nogood whose premises of the user's are all among them, and no points
+-- satisfy them.
 abbrev pub MayEnd : List Stored → State → Outcome → Type 0
 MayEnd library s (Settled list) =
     IsFirstConsistent (problem_in library s) (believed_in s.premises) (choices_in s) list
@@ -62,14 +66,15 @@ MayEnd library s (Contradiction ps) = IsPart (set_of ps) (believed_in s.premises
     × IsRefuted (problem_in library s) (choices_in s) (set_of ps)
     × IsGrounded (problem_in library s) (choices_in s) (set_of ps) × NoneSatisfy library s ps
 
--- the contradictions named when a run has ended
+-- the contradictions that are named after a run: that in which it ended joins those named before
 abbrev pub named_by : Outcome → List (List ℕ) → List (List ℕ)
 named_by (Contradiction ps) named = named ++ ps ∷ []
 named_by outcome named = named
 
--- What may be said of the cell. Settled, it is the information at the cell in the least solution
--- over the worldview of the list. Unsettled, it is one of the cell's kind that the worldview
--- entails, and that has all that its statements say of the cell.
+-- The value may be given for the cell. After a run that settled it is the cell's information in the
+-- least solution over the worldview of the list. After one that didn't, it is of the cell's kind,
+-- the worldview entails it, and it says at least what the believed statements say of the cell.
+-- After a contradiction there is none.
 abbrev pub IsValue : List Stored → State → Outcome → ℕ → Info → Type 0
 IsValue library s (Settled list) cell v =
     (solution : Assignment) × IsRest library s list solution × (v ≡ solution cell)
@@ -80,8 +85,8 @@ IsValue library s (Unsettled list) cell v =
     → Below x.info v) s.statements
 IsValue library s (Contradiction ps) cell v = ⊥
 
--- the text says a value of the cell with the name, in which points lie that satisfy the worldview,
--- and then what stands behind it
+-- The text gives a value of the cell with the name, and then what stands behind it. Whichever
+-- points satisfy the worldview, the cell's lies in the value.
 pub record IsValueReply (library : List Stored) (s : State) (outcome : Outcome)
     (name behind text : List ℕ) : Type 0 where
   pub cell : ℕ
@@ -91,8 +96,8 @@ pub record IsValueReply (library : List Stored) (s : State) (outcome : Outcome)
   pub points : (p : ℕ → Point) → Satisfy library s (worldview_of s outcome) p → Holds v (p cell)
   pub text_is : text ≡ equation name (value_text s.words (kind_at s.kinds cell).kind v) behind
 
--- the text says a value, the mark, and believed premises that entail the value by themselves, each
--- of which bears on the cell
+-- the text gives a value, the mark, and believed premises that entail the value by themselves, each
+-- of which reaches the cell
 pub record IsExplainedReply (library : List Stored) (s : State) (outcome : Outcome)
     (name mark text : List ℕ) : Type 0 where
   pub premises : List ℕ
@@ -101,10 +106,10 @@ pub record IsExplainedReply (library : List Stored) (s : State) (outcome : Outco
   pub explains : Explains (problem_in library s) (worldview_of s outcome) says.cell says.v
       (set_of premises)
 
--- What a command that runs may answer when it ends so, having taken these steps. An end that isn't
--- settled, and premises that aren't reduced, come only with every step of the limit taken. Of the
--- premises of a core none can be left out; they aren't reduced only where the limit is too small
--- for all lists, and a try of each premise beside.
+-- The text may reply to the command after a run that ended so and took these steps. An unsettled
+-- reply, or premises of a core that aren't reduced, come only where each step of the limit was
+-- taken. Otherwise none of the premises of a core can be left out. They may stay unreduced only
+-- where the limit is less than what all lists, and a try of each premise, may take.
 abbrev pub Replies : List Stored → State → Command → Outcome → ℕ → List ℕ → Type 0
 Replies library s command (Contradiction ps) steps text =
     IsStrictlyIncreasing ps × (text ≡ contradiction_text s.premises ps)
@@ -132,8 +137,9 @@ Replies library s command outcome steps text = ⊥
 
 -- ---- nogoods
 
--- nogoods in order of number, none of which is part of another, that cover each contradiction that
--- was named: with every choice list, one of them is part of it and the list's hypothetical premises
+-- Nogoods, each with its premises in order of number, none of which is part of another. They cover
+-- each contradiction that was named: with every choice list, one of them is part of the
+-- contradiction together with the list's hypothetical premises (the sides that it takes).
 pub record AreNogoods (library : List Stored) (s : State) (lines : List (List ℕ)) : Type 0 where
   pub in_order : All IsStrictlyIncreasing lines
   pub refuted : All (λ n. IsNogood (problem_in library s) (choices_in s) (set_of n)) lines

@@ -1,4 +1,5 @@
--- What a line leaves of the work: of the choices, of what is held, and of the instances that wait.
+-- What a line makes of the work behind a session: of the search, of the entries that cells hold,
+-- and of the instances that wait.
 use Rattle.std.specs.Prelude.{◌≡◌, List, ◌++◌, ◌∷◌, [], ℕ, Option, Some, Result, Ok, if◌then◌else◌}
 use Rattle.std.specs.Prelude.{length, take, ⊤}
 use Rattle.prop_refusals.specs.declared.refusal.Refusal.{Refusal}
@@ -21,28 +22,30 @@ use Rattle.prop_workbench.specs.Machine.{State, worldview_at}
 use Rattle.prop_workbench.specs.inner.Machine.{users_in}
 use Rattle.prop_workbench.specs.Effects.{number_given}
 
--- what is believed where the choices stand so: of the first of them, as many as the level says,
--- their sides
+-- what is believed where the search stands so: the user's believed premises, and of the first
+-- choices, as many as the level says, the sides on which they stand
 abbrev pub believed_at : State → Stand → Members
 believed_at s search = worldview_at s (take search.level search.list)
 
--- the instances that wait, before and behind a line that wakes these at each cell of which
--- something else is believed behind it
+-- Which instances wait after a line, and in which order. They are those that waited, and behind
+-- them those that the cells wake (`wakes`) of which something else is believed than before the
+-- line.
 abbrev pub Wake : {O : Type 0} → (List Instance → ℕ → List ℕ) → State → State → Work O → Work O
     → Type 0
 Wake wakes s t old new = Stirs (wakes new.cells.instances) (believed_at s old.search)
     (believed_at t new.search) old.cells new.cells old.line (length new.cells.kinds) new.line
 
--- each cell holds the entries that it held
+-- each cell holds the entries that it held before
 abbrev pub HoldsSame : Data → Data → Type 0
 HoldsSame old new = (cell : ℕ) → content_of new.contents cell ≡ content_of old.contents cell
 
--- the same, but for what statements added
+-- each cell holds the entries that it held before, but for what some statements added
 abbrev pub HoldsStated : Data → Data → Type 0
 HoldsStated old new = (xs : List Statement) × StatesAll old new xs
 
--- The choices stand as in the stand, with its reasons and its nogoods, whatever is believed; the
--- order is as it was. What the cells hold and what waits is so.
+-- What a line leaves. The search is the stand that is given, but for its premises and its
+-- worldview. The order is as it was. What is said of the entries (`Holds`) and of the waiting
+-- instances (`Waits`) holds.
 pub record IsLeft {O : Type 0} (stand : Stand) (Holds Waits : Type 0) (old new : Work O) : Type 0
   where
     pub search : new.search
@@ -51,40 +54,44 @@ pub record IsLeft {O : Type 0} (stand : Stand) (Holds Waits : Type 0) (old new :
     pub holds : Holds
     pub line : Waits
 
--- what was stated wakes the readers of its cell, where it says more
+-- A statement was made. The search stays, and where something else is believed of a cell than
+-- before, the instances that read the cell wait.
 abbrev pub IsTold : {O : Type 0} → State → State → Work O → Work O → Type 0
 IsTold s t old new = IsLeft old.search (HoldsStated old.cells new.cells)
     (Wake readers_of s t old new) old new
 
--- one choice more stands on its first side, and no reason is kept against it
+-- one more choice, which stands on its first side; no reasons are kept for it yet
 abbrev pub one_more : Stand → Stand
 one_more s = record s { list = s.list ++ 1 ∷ []; reasons = s.reasons ++ [] ∷ [] }
 
--- a new choice stands on its first side
+-- A choice was made, and stands on its first side. Where something else is believed of a cell than
+-- before, the instances that read or write the cell wait.
 abbrev pub IsChosen : {O : Type 0} → State → State → Work O → Work O → Type 0
 IsChosen s t old new = IsLeft (one_more old.search) (HoldsStated old.cells new.cells)
     (Wake touching s t old new) old new
 
--- the worldview is another one
+-- A premise was kicked out or brought back, and the search is this stand. The entries stay. Where
+-- something else is believed of a cell than before, the instances that read or write the cell wait.
 abbrev pub IsShifted : {O : Type 0} → State → State → Stand → Work O → Work O → Type 0
 IsShifted s t stand old new = IsLeft stand (HoldsSame old.cells new.cells)
     (Wake touching s t old new) old new
 
--- a premise is forgotten: the entries that rest on it and the nogoods that hold it go, and each
--- instance waits
+-- A premise was forgotten. The entries that rest on it go, and so do the nogoods that hold it. Each
+-- choice stands on its first side, and each instance waits.
 abbrev pub IsForgotten : {O : Type 0} → ℕ → Work O → Work O → Type 0
 IsForgotten p old new = IsLeft
     (record (restarted old.search) { listed = lacking old.search.listed p })
     (new.cells ≡ forgotten p old.cells)
     (new.line ≡ all_alerted old.line (numbers_below (length new.cells.instances))) old new
 
--- nothing but cells and instances is new, and those instances wait
+-- Only cells and instances are new. The search and the entries stay, and the new instances wait
+-- behind those that waited.
 abbrev pub IsAdded : {O : Type 0} → Work O → Work O → Type 0
 IsAdded old new = IsLeft old.search (HoldsSame old.cells new.cells)
     (AreMade old.cells new.cells old.line new.line) old new
 
--- what a command that runs nothing leaves where it was done; where a believed premise is kicked
--- out, each choice stands on its first side
+-- What a command that runs nothing leaves, where it is done. If it kicks out a premise that was
+-- believed, each choice goes back to its first side.
 abbrev pub Leaves : {O : Type 0} → State → State → Command → Work O → Work O → Type 0
 Leaves s t (Command.Tell premise cell value) old new = IsTold s t old new
 Leaves s t (Command.Fix cell value) old new = IsTold s t old new
@@ -96,14 +103,15 @@ Leaves s t (Command.Bring name) old new = IsShifted s t old.search old new
 Leaves s t (Command.Forget name) old new = IsForgotten (number_given s.premises name) old new
 Leaves s t command old new = IsAdded old new
 
--- a line that runs the network is refused in the run for memory alone, and else before it
+-- A command that runs the network is refused for want of memory, maybe in the midst of the run, or
+-- for another reason before the run: then the work stays. Of other answers nothing is asked.
 abbrev pub StaysUnlessRun : {O : Type 0} → Work O → Work O → Answer → Type 0
 StaysUnlessRun old new (Refused Memory) = ⊤
 StaysUnlessRun old new (Refused refusal) = new ≡ old
 StaysUnlessRun old new answer = ⊤
 
--- what a line leaves that was read so and answered so: all as it was, but where it was done, or ran
--- the network
+-- What a line makes of the work, by what was read in it and how it was answered. All stays as it
+-- was unless a command was done or ran the network.
 abbrev pub Wakes : {O : Type 0} → State → State → Work O → Work O → Result (Option Command) Refusal
     → Answer → Type 0
 Wakes s t old new (Ok (Some Command.Settle)) answer = StaysUnlessRun old new answer

@@ -1,4 +1,4 @@
--- What the program comes with.
+-- The procedures that the program propbench comes with.
 use Rattle.std.specs.Prelude.{List}
 use Rattle.prop_procedures.specs.Stored.{Stored}
 use Rattle.prop_procedures.specs.Forms.{library_of}

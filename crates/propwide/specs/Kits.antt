@@ -1,5 +1,5 @@
--- What the program comes with: the kit, the wider procedures, the excluders, those of many cells
--- and of rows, and their preludes.
+-- What the program propwide comes with: the procedures of the kit, the wider ones, the excluders,
+-- those of many cells and those of rows, and their preludes.
 use Rattle.std.specs.Prelude.{ℕ, List, ◌++◌, map}
 use Rattle.prop_lattice.specs.Points.{Point}
 use Rattle.prop_lattice.specs.declared.info.Info.{Info}
@@ -53,7 +53,7 @@ Mixed = Both Kit (Both Wide Larger)
 abbrev pub larger_of : Larger → Param → List Info → Info
 larger_of = either_of excluder_value (either_of many_value row_value)
 
--- what a rule beside the kit's answers
+-- what a rule answers that isn't the kit's
 abbrev pub wider_of : Both Wide Larger → Param → List Info → Info
 wider_of = either_of wide_value larger_of
 
@@ -61,14 +61,14 @@ wider_of = either_of wide_value larger_of
 abbrev pub LargerRelated : Larger → Param → List Point → Point → Type 0
 LargerRelated = either_of ExcluderRelated (either_of ManyRelated RowRelated)
 
--- what a rule answers, and the points that it relates
+-- what a rule answers, and then the points that belong together at it
 abbrev pub answer_of : Mixed → Param → List Info → Info
 answer_of = either_of kit_value wider_of
 
 abbrev pub RelatedBy : Mixed → Param → List Point → Point → Type 0
 RelatedBy = either_of KitRelated (either_of WideRelated LargerRelated)
 
--- those that are sure to belong together where all are single
+-- what is known of the points at a rule where a solution leaves each cell a single one
 abbrev pub TellsBy : Mixed → Param → List Point → Point → Type 0
 TellsBy = either_of KitTells (either_of WideRelated LargerRelated)
 
@@ -77,8 +77,8 @@ pub record Made : Type 0 where
   pub form : Form
   pub rule : Mixed
 
--- the procedures of a rule of the kit, of a name and inputs of a wider rule, of an excluder, of a
--- name and inputs of a rule of many cells, and of a name and a count of a rule of rows
+-- The procedures: of a rule of the kit; of a wider rule, with a name and inputs; of an excluder; of
+-- a rule of many cells, with a name and inputs; and of a rule of rows, with a name and a count.
 abbrev pub of_kit : Kit → Made
 of_kit rule = record { form = form_of rule; rule = One rule }
 
@@ -103,7 +103,7 @@ of_rows p = record {
   rule = Two (Two (Two (Two p.rule)));
 }
 
--- all of them, in order
+-- all procedures of the program, in order
 abbrev pub in_order : List Made
 in_order =
     map of_kit kits
@@ -112,12 +112,12 @@ in_order =
     ++ (map of_rows row_named ++ (map of_rows counts_named ++ (map of_rows greatest_named
     ++ map of_rows least_named)))))))
 
--- the lines of the preludes, in order
+-- the lines of all preludes, in order
 abbrev pub lines_in_order : List (List ℕ)
 lines_in_order = kit_lines ++ (wide_lines ++ (different_lines ++ (many_lines
     ++ (row_lines ++ more_lines))))
 
--- their library
+-- the library of all procedures
 abbrev pub wide : List Stored
 wide = library_of (λ p. p.form) (λ p. answer_of p.rule) in_order
 
@@ -128,6 +128,6 @@ wide_related = related_in (λ p. RelatedBy p.rule) in_order
 abbrev pub wide_tells : ℕ → Param → List Point → Point → Type 0
 wide_tells = related_in (λ p. TellsBy p.rule) in_order
 
--- what a procedure is made of in the program
+-- the form and the rule of an entry, from which the program makes a procedure
 abbrev pub shown : entries.Entry → Made
 shown e = record { form = form e.name.now e.ins.now e.out e.need; rule = e.rule }

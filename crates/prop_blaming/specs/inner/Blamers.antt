@@ -15,7 +15,7 @@ use Rattle.prop_blaming.specs.declared.asking.Asked.{Asked}
 use Rattle.prop_blaming.specs.declared.asking.Asked.TheVariants.{Conflicts, Repairs, Cheapest}
 use Rattle.prop_blaming.specs.declared.blamer.Blamer.{Blamer}
 
--- what was asked, as it is stated
+-- the wish that the program's own form of it stands for
 abbrev pub asked_of : Asked → Wish
 asked_of (Conflicts most) = Wish.Conflicts most
 asked_of (Repairs most) = Wish.Repairs most
@@ -25,14 +25,15 @@ asked_of (Cheapest most weights) = Wish.Cheapest most weights.items
 abbrev pub AreBelieved : List Origin → List ℕ → Type 0
 AreBelieved premises by = IsPart (set_of by) (believed_in premises)
 
--- conflicts, no more than so many, with all that a search has found, where these are no more
+-- Conflicts that a search has found, no more than `most`. They are all that it has found, if these
+-- are no more.
 pub record AreListed (e : Explorer) (most : ℕ) (found : List Conflict) : Type 0 where
   pub few : length found ≤ most
   pub so : (g : Ground) → IsExplored g e → All (IsConflict g) found
   pub all : length e.conflicts.items ≤ most → (c : Conflict) → Contains e.conflicts.items c
       → Contains found c
 
--- what is known of a blamer between lines
+-- what holds of a blamer between lines
 pub record IsReady {R O : Type 0} {X : Type 0} {F : X → Type 0} {g : _}
     (value : R → Param → List Info → Info) (b : Blamer R O X F g) : Type 0 where
   pub seeker : IsSeekerReady value b.seeker

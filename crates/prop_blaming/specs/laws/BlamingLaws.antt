@@ -1,4 +1,5 @@
--- A blamer has what the engine asks of a machine.
+-- A blamer has what the engine asks of a machine: it answers a line by its first 4097 bytes, and
+-- some answer to each line leaves all as it is.
 use Rattle.std.proofs.Common.{◌≡◌, ◌⊎◌, ℕ, Bool, true, false, List, [], ◌∷◌, refl, inl, inr}
 use Rattle.prop_procedures.specs.Stored.{Stored}
 use Rattle.prop_engine.specs.Lines.{kept_of}

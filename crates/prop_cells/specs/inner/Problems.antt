@@ -11,7 +11,7 @@ use Rattle.prop_cells.specs.declared.instance.Statement.{Statement}
 use Rattle.prop_cells.specs.Problems.{Problem, Constraint, Assignment, IsConsistent, is_member}
 use Rattle.prop_cells.specs.Problems.{value_at}
 
--- a set of premises, as the test of who is in it
+-- a set of premises, as the test of which are in it
 abbrev pub Premises : Type 0
 Premises = Members
 
@@ -32,6 +32,6 @@ Meets a c = Below (value_at c a) (a c.output)
 abbrev pub Satisfies : Premises → Assignment → Statement → Type 0
 Satisfies s a x = IsTrue (is_member s x.premise) → Below x.info (a x.cell)
 
--- no solution is without a contradiction
+-- the set is contradictory: no solution is without a contradiction
 abbrev pub IsContradictory : Problem → Premises → Type 0
 IsContradictory problem s = ¬ (IsConsistent problem s)

@@ -1,4 +1,4 @@
--- Rows of numbers with room for more.
+-- Rows of numbers, one for each cell, with room for more.
 use Rattle.std.specs.Prelude.{◌≡◌, ℕ, ◌<◌, ◌-◌, ◌==◌, cond, List, [], ◌∷◌, ◌++◌, length, map, take}
 use Rattle.std.specs.Prelude.{Some, slice_get, slice_index_or, vec_capacity}
 use Rattle.std.specs.List.{list_any}
@@ -20,10 +20,10 @@ pub record ChangesAt (change : List ℕ → List ℕ) (old new : List (List ℕ)
     pub each : (cell : ℕ) → slice_index_or new cell [] ≡ cond (list_any (λ c. c == cell) cells)
         (change (slice_index_or old cell [])) (slice_index_or old cell [])
 
--- the number stands last in the rows of these cells
+-- the number was put at the end of the rows of these cells
 abbrev pub Noted : List (List ℕ) → List (List ℕ) → List ℕ → ℕ → Type 0
 Noted old new cells number = ChangesAt (λ row. row ++ number ∷ []) old new cells
 
--- the last number is gone from the rows of these cells
+-- the last number was taken from the rows of these cells
 abbrev pub TakenBack : List (List ℕ) → List (List ℕ) → List ℕ → Type 0
 TakenBack old new cells = ChangesAt (λ row. take (length row - 1) row) old new cells

@@ -1,4 +1,4 @@
--- What can be used by its name, in the forms of the numbers.
+-- Compounds that are used by name, in the form that definitions by numbers have.
 use Rattle.std.specs.Prelude.{ℕ, ◌+◌, List, [], ◌∷◌, Bool, true, false, length, nat_le, Option}
 use Rattle.std.specs.Prelude.{slice_get, fold}
 use Rattle.std.specs.List.{list_any}
@@ -16,7 +16,7 @@ use Rattle.prop_compound.specs.Compounds.{Compound, compound_named, compound_ref
 use Rattle.prop_compound.specs.Compounds.{is_wrong, step_added, scoped}
 use Rattle.prop_compound.specs.Expansion.{Walk, with_placed}
 
--- a use of the procedure with the number is an instance of it
+-- the procedure with this number: a use of it adds one instance
 abbrev pub procedure_at : List Stored → ℕ → Compound
 procedure_at library n = record {
   name = option_map_or (λ p. p.name) (slice_get library n) [];
@@ -24,18 +24,18 @@ procedure_at library n = record {
   adds = λ cells given e. with_placed e (record { procedure = n; given = given; cells = cells });
 }
 
--- what a step's use is given in a definition that is itself given this
+-- what the use in a step is given, where its definition is given `given`
 abbrev pub passed_by : Vocabulary → Option Param → Passed → Option Param
 passed_by words given (Passed.Said by) = given_by words by
 passed_by words given Passed.Own = given
 
--- what steps add, in order, where cells have these names
+-- what steps add, in order, where the cells that are there have these names
 abbrev pub steps_added : List Stored → Vocabulary → List Compound → Option Param → CellNames
     → List Step → Walk → Walk
 steps_added library words compounds given names steps e =
     (fold (step_added library words compounds given) (names, e) steps).1
 
--- the step hands on what its definition is given
+-- the step hands on the parameter that a use of its definition is given
 abbrev pub hands_on : Step → Bool
 hands_on (Step.Use name cells Passed.Own) = true
 hands_on step = false
@@ -46,7 +46,8 @@ abbrev pub is_some_wrong : List Stored → Vocabulary → List Compound → List
 is_some_wrong library words compounds names steps reason =
     list_any (is_wrong words (compound_named library compounds) reason) (scoped names steps)
 
--- why the definition may not be made, for its own sake or for the count of definitions
+-- why the definition may not be made: for a reason of its own, or since there are as many
+-- definitions as there may be
 abbrev pub compound_refused : List Stored → Vocabulary → List Compound → List ℕ → List (List ℕ)
     → List Step → Option Refusal
 compound_refused library words compounds name params steps =

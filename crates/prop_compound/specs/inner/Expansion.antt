@@ -1,4 +1,4 @@
--- The instances and fresh cells that a use of a procedure or of a definition stands for.
+-- What steps expand to among definitions in order.
 use Rattle.std.specs.Prelude.{ℕ, List, reverse}
 use Rattle.prop_compound.specs.declared.definition.Passing.{Passing}
 use Rattle.prop_compound.specs.declared.definition.NumberedStep.{NumberedStep}
@@ -7,7 +7,7 @@ use Rattle.prop_compound.specs.Expansion.{Expansion, definition_expanded, steps_
 
 -- ---- cells and instances
 
--- what steps add among these definitions
+-- what steps add, where these are the definitions, in order
 abbrev pub steps_in : {G : Type 0} → (G → Passing → G) → List Definition → G → List ℕ
     → List NumberedStep → Expansion G → Expansion G
 steps_in pass definitions = steps_expanded pass (definition_expanded pass (reverse definitions))

@@ -1,5 +1,5 @@
--- Definitions that are under way while a use is expanded, of which all but one wait for what their
--- last step uses.
+-- Frames: definitions that are under way while a use is expanded. All but one of them wait for the
+-- definition that their last step uses.
 use Rattle.std.specs.Prelude.{◌≡◌, ◌<◌, ℕ, List, [], ◌∷◌, Option, Some, None, drop, length, ⊤}
 use Rattle.prop_procedures.specs.declared.shape.Param.{Param}
 use Rattle.prop_procedures.specs.Flats.{param_at}
@@ -19,7 +19,7 @@ use Rattle.prop_compound.specs.inner.Flattened.{walk_of, IsPlaceIn}
 use Rattle.prop_compound.specs.inner.Kept.{AreInScope}
 use Rattle.prop_compound.specs.inner.Shortcuts.{plan_of}
 
--- what is used is expanded, where something is
+-- what was expanded before, and behind it the definition of the frame `used`, where there is one
 abbrev pub used_expanded : Vocabulary → List Definition → List Param → Option Frame → Walk → Walk
 used_expanded words definitions params None e = e
 used_expanded words definitions params (Some used) e =
@@ -31,8 +31,9 @@ abbrev pub IsOnCells : NumberedStep → Type 0
 IsOnCells (Use (uses.Procedure n) cells passing) = 0 < length cells
 IsOnCells step = ⊤
 
--- Among whatever definitions, further steps behind the step add what they add behind the definition
--- that it uses, where it uses one.
+-- The step was taken. Whatever definitions there are and whatever steps follow, the old frame adds
+-- by this step and those what comes of two things: the definition that the step uses, where it uses
+-- one, is expanded, and then the new frame goes on with those steps.
 abbrev pub IsStepTaken : Vocabulary → NumberedStep → Frame → walks.Walk → Frame → walks.Walk
     → Option Frame → Type 0
 IsStepTaken words step old walk new walk' used =
@@ -42,7 +43,7 @@ IsStepTaken words step old walk new walk' used =
     steps_in (param_passed words) definitions (param_at walk.params.items old.given) new.cells.items
     steps (used_expanded words definitions walk'.params.items used (walk_of walk'))
 
--- it is the definition that the step uses, before its first step
+-- the frame is that of the definition that the step uses, before its first step
 pub record IsBegun (step : NumberedStep) (walk : walks.Walk) (used : Frame) : Type 0 where
   pub places : List ℕ
   pub passing : Passing
@@ -51,8 +52,8 @@ pub record IsBegun (step : NumberedStep) (walk : walks.Walk) (used : Frame) : Ty
   pub next : used.next ≡ 0
   pub given : IsPlaceIn walk.params.items used.given
 
--- the definition is there, its further steps name places that are there, and what it is given is
--- one of the parameters
+-- The frame's definition is there. Its further steps name places that are there, and the parameter
+-- that it is given, if any, is one of these.
 pub record IsUnderWay (definitions : List KeptDefinition) (params : List Param) (frame : Frame) :
     Type 0 where
   pub number : frame.number < length definitions
@@ -60,13 +61,13 @@ pub record IsUnderWay (definitions : List KeptDefinition) (params : List Param) 
       (drop frame.next (plan_of definitions frame.number))
   pub given : IsPlaceIn params frame.given
 
--- what the further steps of a definition under way add
+-- what the further steps of a frame add
 abbrev pub rest_added : Vocabulary → List KeptDefinition → List Param → Frame → Walk → Walk
 rest_added words definitions params frame e =
     steps_in (param_passed words) (all_bare definitions) (param_at params frame.given)
     frame.cells.items (drop frame.next (plan_of definitions frame.number)) e
 
--- what those of all that wait add, the last first
+-- what the further steps of all frames add; those of the last frame come first
 abbrev pub all_added : Vocabulary → List KeptDefinition → List Param → List Frame → Walk → Walk
 all_added words definitions params [] e = e
 all_added words definitions params (frame ∷ frames) e =

@@ -1,4 +1,4 @@
--- What is known beforehand of a use of a definition: shorter steps that make the same.
+-- Shortcuts: what is known beforehand of a use of a definition, as shorter steps that add the same.
 use Rattle.std.specs.Prelude.{ℕ, List, [], ◌∷◌, slice_get}
 use Rattle.std.specs.Option.{option_map_or}
 use Rattle.prop_compound.specs.declared.definition.KeptDefinition.{KeptDefinition}
@@ -10,8 +10,9 @@ use Rattle.prop_compound.specs.declared.definition.NumberedStep.TheVariants.{Use
 use Rattle.prop_compound.specs.Expansion.{cells_at}
 use Rattle.prop_compound.specs.Shortcuts.{passed}
 
--- What is short for a use of what has the plan: nothing where the plan makes nothing, and what a
--- single use in the plan is of.
+-- Shorter steps for a use of something that has this plan. If the plan has no step, there is none.
+-- If it has a single use, it is that use, on the cells that this chooses among the places. Else it
+-- is the use itself.
 abbrev pub through : List NumberedStep → Used → List ℕ → Passing → List NumberedStep
 through [] used places passing = []
 through (Use inner chosen own ∷ []) used places passing =
@@ -21,7 +22,7 @@ through plan used places passing = Use used places passing ∷ []
 abbrev pub plan_of : List KeptDefinition → ℕ → List NumberedStep
 plan_of definitions n = option_map_or (λ k. k.plan.items) (slice_get definitions n) []
 
--- what is short for a step
+-- shorter steps for a step
 abbrev pub shortened : List KeptDefinition → NumberedStep → List NumberedStep
 shortened definitions (Use (uses.Definition n) places passing) =
     through (plan_of definitions n) (uses.Definition n) places passing

@@ -16,7 +16,8 @@ use Rattle.prop_meaning.specs.declared.acts.Act.{Act}
 use Rattle.prop_meaning.specs.declared.posting.Posted.{Posted}
 use Rattle.prop_demands.specs.inner.Palettes.{ins_of, is_taken, need_of, out_of}
 
--- a procedure of this form may stand between these cells, where there are cells of these kinds
+-- A procedure of this form may stand between these cells. There are as many as it takes, all of
+-- them are there, and their kinds suit.
 pub record IsRight (kinds : List Kinded) (ins : List Shape) (out : Shape) (need : Need)
     (inputs : List ℕ) (output : ℕ) : Type 0 where
   pub count : length inputs ≡ length ins
@@ -24,7 +25,7 @@ pub record IsRight (kinds : List Kinded) (ins : List Shape) (out : Shape) (need 
   pub right : are_right need None (zip (ins ++ out ∷ []) (map (kind_at kinds)
       (inputs ++ output ∷ []))) ≡ true
 
--- the instance may be made between cells of these kinds
+-- the act's instance may be made between cells of these kinds
 pub record Fits (kinds : List Kinded) (act : Act) : Type 0 where
   pub taken : is_taken act.rule ≡ true
   pub right : IsRight kinds (ins_of act.rule) (out_of act.rule) (need_of act.rule)
@@ -35,7 +36,8 @@ pub record Admits (kinds : List Kinded) (place : ℕ) (info : Info) : Type 0 whe
   pub there : place < length kinds
   pub may : may_be_stated (kind_at kinds place).kind (kind_at kinds place).size info ≡ true
 
--- all that was posted fits the cells of these kinds and the fresh ones
+-- All that was posted fits the cells of these kinds and the fresh ones: the instances, the
+-- constants, and that the result is `yes`. The fresh cells are of kinds whose domains are there.
 pub record AllFits (words : Vocabulary) (kinds : List Kinded) (posted : Posted) : Type 0 where
   pub sized : All (IsSized words) posted.fresh.items
   pub acts : All (Fits (kinds ++ posted.fresh.items)) posted.acts.items

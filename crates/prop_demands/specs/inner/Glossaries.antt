@@ -1,4 +1,4 @@
--- What words of expressions are in a session.
+-- What the words of an expression mean in a session.
 use Rattle.std.specs.Prelude.{ℕ, List, [], ◌≡◌, cond, nat_lt, neg_ℤ, None, length, slice_index_or}
 use Rattle.std.specs.Str.{is_utf8}
 use Rattle.prop_lattice.specs.declared.info.Info.{Info}
@@ -15,17 +15,18 @@ use Rattle.prop_meaning.specs.Words.{Lexicon}
 use Rattle.prop_demands.specs.Naming.{symbol_word}
 use Rattle.prop_demands.specs.declared.reading.Glossary.{Glossary}
 
--- the numbers that an information leaves, where all are these
+-- the numbers that an information leaves, or the whole span where it is none of a number
 abbrev pub span_in : Span → Info → Span
 span_in whole (infos.Span s) = s
 span_in whole info = whole
 
--- all numbers
+-- the span has all numbers
 pub record IsWhole (s : Span) : Type 0 where
   pub least : s.lo ≡ neg_ℤ B
   pub greatest : s.hi ≡ B
 
--- what there is, as one sees it who believes these premises, with the first so many domains
+-- What words are looked up in: the names, the vocabulary with the first so many domains, and the
+-- cells, of which is known what one believes of them who believes just these premises.
 pub record Seen : Type 0 where
   pub names : CellNames
   pub words : Vocabulary
@@ -60,7 +61,7 @@ seen_of g = record {
   domains = g.domains;
 }
 
--- what there is before anything is believed
+-- the same for one who believes no premise
 abbrev pub seen : CellNames → Vocabulary → Data → Span → ℕ → Seen
 seen names words cells whole domains = record {
   names = names;

@@ -1,4 +1,4 @@
--- What is understood may be posted, and is then demanded.
+-- Two laws: what is understood of a term may be posted, and the term is demanded then.
 use Rattle.std.specs.Prelude.{ℕ, ◌<◌, ◌≤◌, List, All, Option, Result, ⊤, length}
 use Rattle.std.specs.List.{range_with_len}
 use Rattle.prop_refusals.specs.declared.refusal.Refusal.{Refusal}
@@ -24,12 +24,13 @@ use Rattle.prop_demands.specs.inner.Glossaries.{IsWhole, lexicon_in, seen}
 use Rattle.prop_demands.specs.inner.Palettes.{IsPalette}
 use Rattle.prop_demands.specs.inner.Postings.{IsUnderstood}
 
--- what is attached fits, and statements are of cells that are there
+-- each instance fits its cells, and each statement is of a cell that is there
 pub record IsSolid (library : List Stored) (n : Attached) : Type 0 where
   pub fit : AreFitting library n
   pub within : All (λ (x : Statement). x.cell < length n.kinds) n.statements
 
--- what is known of a session's parts
+-- What is known of the parts of a session: the vocabulary is whole, kinds are of domains that are
+-- there, names are of cells that are there, and each entry follows from its premises.
 pub record IsGround (library : List Stored) (names : CellNames) (words : Vocabulary) (d : Data) :
     Type 0 where
   pub law : vocabularies.IsWhole words
@@ -46,7 +47,8 @@ MayAllBePosted library = (names : CellNames) (words : Vocabulary) (definitions :
     → MayBePosted library (state_from names words definitions premises d limit)
     (range_with_len 0 (length d.kinds)) p
 
--- where it was, the term is demanded
+-- However the posting of what was understood ends, the new state demands what it should: the term
+-- where it was done, and nothing more where it was refused.
 abbrev pub PostingDemands : List Stored → Type 0
 PostingDemands library = (names : CellNames) (words : Vocabulary) (definitions : Definitions)
     (premises : List Origin) (d : Data) (limit : ℕ) (whole : Span) (domains : ℕ) (t : Term)

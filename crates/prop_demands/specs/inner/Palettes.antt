@@ -1,4 +1,5 @@
--- The procedures of a library that have the rules of which expressions are made.
+-- The procedures of which expressions are made: the number that each of their rules has in a
+-- library, and its form.
 use Rattle.std.specs.Prelude.{◌≡◌, ℕ, List, [], ◌∷◌, Bool, true, false, Some, slice_get}
 use Rattle.prop_lattice.specs.Points.{Point}
 use Rattle.prop_procedures.specs.Stored.{Stored}
@@ -42,7 +43,8 @@ kit_number kits.OrBack = 17
 kit_number kits.Image = 18
 kit_number kits.Coimage = 19
 
--- behind the kit's; of those that count, of one truth
+-- The numbers of these rules follow those of the kit. A rule that counts has a procedure for each
+-- number of truths; this is the one for a single truth.
 abbrev pub wide_number : Wide → ℕ
 wide_number wides.Max = 20
 wide_number wides.MaxBack = 21
@@ -91,7 +93,7 @@ abbrev pub need_of : Rule → Need
 need_of (OfKit rule) = (form_of rule).need
 need_of (OfWide rule) = wide.need_of rule
 
--- the procedure takes the parameter that instances of the rule have
+-- the procedure of the rule takes the parameter that instances in expressions have
 abbrev pub is_taken : Rule → Bool
 is_taken (OfKit kits.Image) = false
 is_taken (OfKit kits.Coimage) = false
@@ -107,18 +109,20 @@ pub record HasForm (rule : Rule) (p : Stored) : Type 0 where
 
 -- ---- a library
 
--- the points that belong together at the procedure of this number, where a rule has the number
+-- the points that belong together at the procedure of this number; none do where no rule has it
 abbrev pub related_by : ℕ → Param → List Point → Point → Type 0
 related_by n param points point =
     (rule : Rule) × (rule_number rule ≡ n) × RelatedBy rule param points point
 
--- what single points tell at it
+-- what is known of the points at the procedure of this number where a solution leaves each cell a
+-- single one; nothing where no rule has the number
 abbrev pub tells_by : ℕ → Param → List Point → Point → Type 0
 tells_by n param points point =
     (rule : Rule) → rule_number rule ≡ n → TellsBy rule param points point
 
--- at its number each rule has a procedure of its form, which holds the points that it relates, and
--- tells of single ones
+-- At its number each rule has a procedure of its form. The procedures lose no points that their
+-- rules relate. Where a solution leaves each cell a single point, those at each instance are as
+-- `tells_by` says.
 pub record IsPalette (library : List Stored) : Type 0 where
   pub forms : (rule : Rule) → (p : Stored) × (slice_get library (rule_number rule) ≡ Some p)
       × HasForm rule p

@@ -1,4 +1,4 @@
--- What a term becomes, as the session takes it.
+-- The posting that a term becomes.
 use Rattle.std.specs.Prelude.{◌≡◌, ℕ, List, map}
 use Rattle.prop_lattice.specs.Ends.{elements_from}
 use Rattle.prop_lattice.specs.declared.info.Info.{Info}
@@ -20,17 +20,18 @@ use Rattle.prop_demands.specs.inner.Fitting.{AllFits}
 use Rattle.prop_demands.specs.inner.Glossaries.{IsWhole, lexicon_in, seen}
 use Rattle.prop_demands.specs.inner.Palettes.{rule_number}
 
--- what is stated, with its place
+-- what is stated, as a pair with its place
 abbrev pub constant_of : Stated → ℕ × Info
 constant_of x = (x.place, x.info)
 
--- the instances are those of procedures, the constants are stated, and the result is told to be yes
+-- the posting has the fresh cells and the instances of what was posted, states the constants, and
+-- tells that the result is `yes`
 pub record IsPostingOf (posted : Posted) (p : Posting) : Type 0 where
   pub flat : IsFlatOf rule_number posted p.flat
   pub fixed : map constant_of p.fixed.items ≡ posted.constants.items
   pub told : constant_of p.told ≡ (posted.result, elements_from 1)
 
--- it says the same as the term, and fits cells of these kinds
+-- the posting says the same as the term, and fits cells of these kinds
 pub record IsUnderstood (lexicon : Lexicon) (words : Vocabulary) (kinds : List Kinded) (t : Term)
     (p : Posting) : Type 0 where
   pub posted : Posted
@@ -38,7 +39,7 @@ pub record IsUnderstood (lexicon : Lexicon) (words : Vocabulary) (kinds : List K
   pub fits : AllFits words kinds posted
   pub posting : IsPostingOf posted p
 
--- by what is there before anything is believed, a text says some term, which was understood
+-- the text writes some term, which this posting says, by what is there before anything is believed
 abbrev pub IsUnderstoodIn : CellNames → Vocabulary → Data → List ℕ → Posting → Type 0
 IsUnderstoodIn names words cells text p = (t : Term) × IsWritten Truth text t × (whole : Span)
     × (domains : ℕ) × IsWhole whole

@@ -1,4 +1,5 @@
--- Fresh cells, each made of given ones and those before it.
+-- Drafts: fresh cells in a row behind the given ones. Each is made by a step, of given cells and of
+-- fresh cells before it.
 use Rattle.std.specs.Prelude.{◌≡◌, ℕ, ◌+◌, ◌-◌, ◌<◌, List, cond, nat_lt, Option, Some, ⊤, Bool}
 use Rattle.std.specs.Prelude.{pos}
 use Rattle.std.specs.Prelude.{slice_get}
@@ -27,12 +28,12 @@ number_kind = record { kind = kinds.Span; size = 0 }
 abbrev pub truth_kind : Kinded
 truth_kind = record { kind = kinds.Set 0; size = 2 }
 
--- the kind of the points of a function, and of its value
+-- the kind of the point that a function takes, and of the one that it gives
 abbrev pub kind_before : singles.Single → Kinded
 kind_before Abs = number_kind
 kind_before Not = truth_kind
 
--- the kind that two points may both be of
+-- the function takes two points of this kind
 abbrev pub TakesTwo : pairs.Pair → Kinded → Type 0
 TakesTwo Same kinded = ⊤
 TakesTwo And kinded = kinded ≡ truth_kind
@@ -48,7 +49,7 @@ kind_between op = number_kind
 
 -- ---- cells
 
--- what is known of the cell at a place
+-- what is known of the cell at a place: of a given one, or of a fresh one behind these
 abbrev pub known_at : Lexicon → List Made → ℕ → Option Known
 known_at lexicon made place = cond (nat_lt place lexicon.count) (Some (lexicon.known place))
     (option_map (λ m. m.known) (slice_get made (place - lexicon.count)))
@@ -58,7 +59,7 @@ abbrev pub Has : Lexicon → List Made → ℕ → Kinded → Type 0
 Has lexicon made place kinded =
     option_map (λ k. k.kinded) (known_at lexicon made place) ≡ Some kinded
 
--- both cells are of a kind that two points may be of
+-- both cells are of one kind, which the function takes
 abbrev pub AreTaken : Lexicon → List Made → pairs.Pair → ℕ → ℕ → Type 0
 AreTaken lexicon made op x y =
     (both : Kinded) × TakesTwo op both × Has lexicon made x both × Has lexicon made y both
@@ -68,7 +69,8 @@ abbrev pub AreAlike : Lexicon → List Made → ℕ → ℕ → Type 0
 AreAlike lexicon made x y =
     (both : Kinded) × Has lexicon made x both × Has lexicon made y both
 
--- the cells of which a step is made are of the kinds that it takes, and it is of this one
+-- the cells of which the step is made are of kinds that it takes, and the cell that it makes is of
+-- this kind
 abbrev pub Suits : Lexicon → List Made → Kinded → Step → Type 0
 Suits lexicon made kinded (steps.Number z) = kinded ≡ number_kind
 Suits lexicon made kinded (steps.Element i) = i < 64
@@ -84,30 +86,30 @@ Suits lexicon made kinded (steps.Left x p y) = Has lexicon made x number_kind
     × Has lexicon made p number_kind × Has lexicon made y number_kind × (kinded ≡ number_kind)
 Suits lexicon made kinded s = ⊤
 
--- each fresh cell's point is what its step makes
+-- the point of each fresh cell is what its step makes of the others
 abbrev pub Follows : ℕ → List Made → (ℕ → Point) → Type 0
 Follows count made a = (k : ℕ) (m : Made) → slice_get made k ≡ Some m
     → a (count + k) ≡ made_by m.step a
 
--- fitting points of given cells, and those that are made of them
+-- points that fit the given cells, and of the fresh ones those that their steps make
 pub record Runs (lexicon : Lexicon) (made : List Made) (a : ℕ → Point) : Type 0 where
   pub words : IsLexicon lexicon
   pub given : Fits lexicon a
   pub fresh : Follows lexicon.count made a
 
--- the cell's number is never zero
+-- the number of the cell at this place is never zero
 abbrev pub NeverZero : Lexicon → List Made → ℕ → Type 0
 NeverZero lexicon made y = (a : ℕ → Point) → Runs lexicon made a → a y ≡ Number (pos 0) → ⊥
 
--- and, where it is one, lies in the span
+-- the point of the cell, where it is a number, always lies in the span
 abbrev pub LiesAt : Lexicon → List Made → ℕ → spans.Span → Type 0
 LiesAt lexicon made x s = (a : ℕ → Point) → Runs lexicon made a → LiesIn s (a x)
 
--- what stood stands
+-- each fresh cell that there was is still at its place
 abbrev pub Grows : List Made → List Made → Type 0
 Grows olds news = (k : ℕ) (m : Made) → slice_get olds k ≡ Some m → slice_get news k ≡ Some m
 
--- an element is one of those that have names
+-- where the point is an element, it is one of those that have names
 abbrev pub IsNamed : Lexicon → Kinded → Point → Type 0
 IsNamed lexicon kinded (Element i) = i < lexicon.size (domain_of kinded.kind)
 IsNamed lexicon kinded p = ⊤
@@ -117,39 +119,42 @@ pub record IsProper (lexicon : Lexicon) (kinded : Kinded) (p : Point) : Type 0 w
   pub of_kind : IsPointOf kinded.kind kinded.size p
   pub named : IsNamed lexicon kinded p
 
--- the point is what is known, and has a name
+-- the point is as is known, and has a name
 pub record IsPoint (lexicon : Lexicon) (known : Known) (p : Point) : Type 0 where
   pub within : IsWithin known p
   pub named : IsNamed lexicon known.kinded p
 
--- a fresh cell at this place is made of cells before it, of kinds that suit, and is what is known
+-- The fresh cell at this place is well made. It is made of cells before it, of kinds that suit, and
+-- its point is always as is known, and has a name.
 pub record IsGood (lexicon : Lexicon) (made : List Made) (place : ℕ) (m : Made) : Type 0 where
   pub behind : IsBehind place m.step
   pub suits : Suits lexicon made m.known.kinded m.step
   pub within : (a : ℕ → Point) → Runs lexicon made a → IsPoint lexicon m.known (made_by m.step a)
 
+-- each fresh cell is well made
 abbrev pub IsSound : Lexicon → List Made → Type 0
 IsSound lexicon made = (k : ℕ) (m : Made) → slice_get made k ≡ Some m
     → IsGood lexicon made (lexicon.count + k) m
 
--- what was sound and has grown is sound
+-- each fresh cell is well made, and each that there was is still at its place
 pub record Grown (lexicon : Lexicon) (olds news : List Made) : Type 0 where
   pub sound : IsSound lexicon news
   pub grows : Grows olds news
 
--- the cell at the place is of the kind, and its point is this one
+-- the cell at the place is of the kind, and its point is always what the function makes of all
+-- points
 pub record Makes (lexicon : Lexicon) (made : List Made) (kinded : Kinded)
     (f : (ℕ → Point) → Point) (place : ℕ) : Type 0 where
   pub has : Has lexicon made place kinded
   pub is : (a : ℕ → Point) → Runs lexicon made a → a place ≡ f a
 
--- the cell at the place is of the kind, and is called so
+-- the cell at the place is of the kind, and its value is always this word
 pub record Names (lexicon : Lexicon) (made : List Made) (kinded : Kinded) (word : List ℕ)
     (place : ℕ) : Type 0 where
   pub has : Has lexicon made place kinded
   pub is : (a : ℕ → Point) → Runs lexicon made a → Text word ≡ value_as lexicon kinded (a place)
 
--- the cell at the place is of the kind, and what the term is worth
+-- the cell at the place is of the kind, and its value is always what the term is worth
 pub record Shows (lexicon : Lexicon) (made : List Made) (kinded : Kinded) (t : Term)
     (place : ℕ) : Type 0 where
   pub has : Has lexicon made place kinded

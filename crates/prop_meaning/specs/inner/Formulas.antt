@@ -1,4 +1,5 @@
--- What operators are made of.
+-- How operators are made of the functions of steps: which kinds they take, and what they make of
+-- points.
 use Rattle.std.specs.Prelude.{◌≡◌, ℕ, List, Bool, true, false, ⊤}
 use Rattle.prop_lattice.specs.Points.{Point}
 use Rattle.prop_lattice.specs.Points as points
@@ -21,7 +22,7 @@ use Rattle.prop_meaning.specs.Words.{Lexicon}
 use Rattle.prop_meaning.specs.declared.draft.Made.{Made}
 use Rattle.prop_meaning.specs.inner.Drafts.{Has, number_kind, truth_kind}
 
--- which kind both sides of an operator may be of
+-- both sides of the operator may be of this kind
 abbrev pub Takes : Infix → Kinded → Type 0
 Takes Equal kinded = ⊤
 Takes Unequal kinded = ⊤
@@ -97,12 +98,12 @@ formula_before op p = p
 
 -- ---- ranges
 
--- several between commas
+-- several terms between commas
 abbrev pub is_list : Term → Bool
 is_list (Two Comma t u) = true
 is_list t = false
 
--- whether the first point lies between the two
+-- whether the first point lies between the two others, or is one of them
 abbrev pub within : Point → Point → Point → Point
 within p low high =
     of_two pairs.And (of_one Not (of_two pairs.Less p low)) (of_one Not (of_two pairs.Less high p))

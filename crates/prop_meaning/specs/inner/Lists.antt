@@ -17,7 +17,7 @@ use Rattle.prop_meaning.specs.inner.Steps.{of_two, chosen}
 
 -- ---- lists
 
--- which go through a list, one term after another
+-- operators that go through a list, one term after another
 abbrev pub is_gathering : Prefix → Bool
 is_gathering Max = true
 is_gathering Min = true
@@ -34,26 +34,26 @@ pair_of Max = two.Max
 pair_of Min = two.Min
 pair_of op = two.Sum
 
--- one for a truth that is `yes`
+-- 1 for `yes`, and 0 for another truth
 abbrev pub counted : Point → Point
 counted p = chosen p (Number (pos 1)) (Number (pos 0))
 
--- what an operator makes of a list of one
+-- what an operator makes of a list that has this one point
 abbrev pub alone : Prefix → Point → Point
 alone Count p = counted p
 alone op p = p
 
--- of those before, of which it made p, and of one more
+-- what an operator makes of a list: p is what it made of all terms but the last, and q is the last
 abbrev pub gathered : Prefix → Point → Point → Point
 gathered op p q = of_two (pair_of op) p (alone op q)
 
 -- ---- words in braces
 
--- the point of a kind is one of the labels
+-- the value of the point, which is of this kind, is one of the labels
 abbrev pub is_among : Lexicon → Kinded → Point → List (Option Value) → Bool
 is_among lexicon kinded p ls = list_any (comparison Equal (Some (value_as lexicon kinded p))) ls
 
--- the cell at the place is of the kind, and is what the label says
+-- the cell at the place is of the kind, and its value is always that of the label
 pub record Labels (lexicon : Lexicon) (made : List Made) (kinded : Kinded) (t : Term)
     (place : ℕ) : Type 0 where
   pub has : Has lexicon made place kinded

@@ -1,4 +1,4 @@
--- What a step makes of points.
+-- What a step of a draft makes of points.
 use Rattle.std.specs.Prelude.{ℕ, ℤ, pos, neg_ℤ, ◌+ℤ◌, ◌-ℤ◌, ◌*ℤ◌, int_le, int_lt}
 use Rattle.std.specs.Prelude.{Bool, false, cond, not, ◌&&◌, ◌||◌, ◌==◌, ◌<◌, ⊤, IsTrue}
 use Rattle.std.specs.Prelude.{Option, Some, None}
@@ -51,7 +51,7 @@ negative p = of_two Difference (points.Number (pos 0)) p
 
 -- ---- divisions
 
--- the number, or a point that is none
+-- the number; or, where there is none, a point that is no number
 abbrev pub number_or : Option ℤ → Point
 number_or None = Symbol 0
 number_or (Some z) = points.Number z
@@ -64,11 +64,11 @@ abbrev pub remainder_point : Point → Point → Point
 remainder_point (points.Number x) (points.Number y) = number_or (computed Remainder x y)
 remainder_point p q = p
 
--- r lies from zero to y, and is not y
+-- a division by y may leave r: r lies from zero to y, and is not y
 abbrev pub may_leave : ℤ → ℤ → Bool
 may_leave y r = (int_le (pos 0) r && int_lt r y) || (int_lt y r && int_le r (pos 0))
 
--- what is left of x where p is taken away, if a division by y may leave it
+-- what is left of x where p is taken away, if a division by y may leave that; or else no number
 abbrev pub left_point : Point → Point → Point → Point
 left_point (points.Number x) (points.Number p) (points.Number y) =
     number_or (cond (may_leave y (x -ℤ p)) (Some (x -ℤ p)) None)
@@ -80,7 +80,7 @@ IsLeft p q r = ⊤
 
 -- ---- steps
 
--- the point of a step's cell, by those of the cells before it
+-- the point of the cell that the step makes, by the points of the cells before it
 abbrev pub made_by : Step → (ℕ → Point) → Point
 made_by (steps.Number z) a = points.Number z
 made_by (steps.Element i) a = Element i
@@ -91,7 +91,7 @@ made_by (steps.Choice t x y) a = chosen (a t) (a x) (a y)
 made_by (steps.Quotient x y) a = quotient_point (a x) (a y)
 made_by (steps.Left x p y) a = left_point (a x) (a p) (a y)
 
--- the cells of which it is made stand before this place
+-- the cells of which the step is made stand before this place
 abbrev pub IsBehind : ℕ → Step → Type 0
 IsBehind place (steps.One op x) = x < place
 IsBehind place (steps.Two op x y) = (x < place) × (y < place)

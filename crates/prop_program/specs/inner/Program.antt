@@ -1,4 +1,4 @@
--- The options of the program, and what their words say.
+-- The word that is given to an option.
 use Rattle.std.specs.Prelude.{ℕ, List, Option}
 use Rattle.std.specs.Borrow.{Bor}
 use Rattle.std.specs.Option.{option_map}

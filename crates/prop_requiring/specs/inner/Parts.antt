@@ -4,18 +4,18 @@ use Rattle.std.specs.List.{list_all}
 use Rattle.std.specs.Option.{option_map, option_map_or}
 use Rattle.prop_requiring.specs.Asking.{is_space}
 
--- without the spaces at the end
+-- the bytes without the spaces at their end
 abbrev pub trimmed : List ℕ → List ℕ
 trimmed [] = []
 trimmed (b ∷ bytes) = cond (list_all is_space (b ∷ bytes)) [] (b ∷ trimmed bytes)
 
--- what stands before the last space, and what behind
+-- what stands before the last space, and what behind it; nothing where there is no space
 abbrev pub cut : List ℕ → Option (List ℕ × List ℕ)
 cut [] = None
 cut (b ∷ bytes) = option_map_or (λ parts. Some (b ∷ parts.0, parts.1))
     (cut bytes) (cond (is_space b) (Some ([], bytes)) None)
 
--- what stands before the last word, where that is `under`
+-- what stands before the space before the last word, where that word is `under`
 abbrev pub before_under : List ℕ → Option (List ℕ)
 before_under bytes = option_map_or
     (λ parts. cond (bytes_eq parts.1 (codes "under")) (Some parts.0) None)

@@ -7,7 +7,7 @@ use Rattle.prop_blaming.specs.inner.Blamers.{IsReady as IsBlamerReady}
 use Rattle.prop_requiring.specs.declared.requirer.Requirer.{Requirer}
 use Rattle.prop_demands.specs.inner.Palettes.{IsPalette}
 
--- what is known of a requirer between lines
+-- what holds of a requirer between lines
 pub record IsReady {R O : Type 0} {X : Type 0} {F : X → Type 0} {g : _}
     (value : R → Param → List Info → Info) (r : Requirer R O X F g) : Type 0 where
   pub blamer : IsBlamerReady value r.blamer

@@ -1,4 +1,4 @@
--- A requirer has what the engine asks of a machine.
+-- A requirer answers a line by its first 4097 bytes, as the engine asks of a machine.
 use Rattle.std.proofs.Common.{◌≡◌, ◌≤◌, ◌<◌, ℕ, List, [], ◌∷◌, length, refl, inl, inr, subst, arith}
 use Rattle.std.specs.Prelude.{take}
 use Rattle.std.proofs.lemmas.List.{length-take, take_all}
@@ -26,7 +26,7 @@ kept_is (a ∷ b ∷ c ∷ d ∷ e ∷ f ∷ []) = refl
 kept_is (a ∷ b ∷ c ∷ d ∷ e ∷ f ∷ g ∷ []) = refl
 kept_is (a ∷ b ∷ c ∷ d ∷ e ∷ f ∷ g ∷ h ∷ line) = refl
 
--- a line of which so little is kept is kept whole
+-- where no more than 4096 bytes are kept of a line, they are the whole line
 kept_whole : (line : List ℕ) → length (kept_of line) ≤ 4_096 → kept_of line ≡ line
 unfolding kept_of
 kept_whole line few = take_all 4_097 line (short line few)
@@ -34,7 +34,7 @@ kept_whole line few = take_all 4_097 line (short line few)
     short : (line : List ℕ) → length (take 4_097 line) ≤ 4_096 → length line ≤ 4_097
     short line few = omega (arith, length-take 4_097 line)
 
--- a line of which so much is kept is as long
+-- where more than 4096 bytes are kept of a line, the line has more, too
 kept_long : (line : List ℕ) → 4_096 < length (kept_of line) → 4_096 < length line
 unfolding kept_of
 kept_long line long = omega (arith, length-take 4_097 line)

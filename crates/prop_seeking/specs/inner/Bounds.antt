@@ -1,4 +1,4 @@
--- How good an answer can still be.
+-- Bounds: how good an answer can still be.
 use Rattle.std.specs.Prelude.{◌≡◌, ◌<◌, ◌≤ℤ◌, ℕ, ℤ, List, [], ◌∷◌, Some, length, slice_get}
 use Rattle.prop_lattice.specs.declared.info.Info.{Info}
 use Rattle.prop_lattice.specs.declared.info.Info.TheVariants.{Span}
@@ -16,14 +16,15 @@ use Rattle.prop_solve.specs.declared.question.Goal.{Goal}
 use Rattle.prop_solve.specs.declared.question.Goal.TheVariants.{Least, Greatest}
 use Rattle.prop_seeking.specs.inner.Seekers.{Ground}
 
--- the number of the value is no better than the end of this cell that is asked for
+-- the goal asks for a least or a greatest number of this cell, and the number of the value is no
+-- better than `end`
 abbrev pub IsWithin : Goal → ℕ → SpanOf → ℤ → Type 0
 IsWithin (Least x) cell found end = (x ≡ cell) × (end ≤ℤ found.lo)
 IsWithin (Greatest x) cell found end = (x ≡ cell) × (found.hi ≤ℤ end)
 IsWithin goal cell found end = ⊥
 
--- The information is the number alone. The cell is for numbers, and its value among these is no
--- better.
+-- The information has the number `end` alone. The cell is one for numbers, and its number among the
+-- values is no better than `end`.
 pub record Bounds (kinds : List Kinded) (goal : Goal) (values : List Info) (end : ℤ) (cell : ℕ)
     (a : Info) : Type 0 where
   pub there : cell < length kinds
@@ -35,8 +36,8 @@ pub record Bounds (kinds : List Kinded) (goal : Goal) (values : List Info) (end 
   pub same : (alone.lo ≡ end) × (alone.hi ≡ end)
   pub is : a ≡ Span alone
 
--- of points that satisfy what these believed premises say, with any sides, none are better than
--- this end but excused ones
+-- It is known that no points are better than this end, but excused ones, of those that satisfy what
+-- these believed premises say with any choice list.
 abbrev pub IsBarred : Ground → Search → ℤ → List ℕ → Type 0
 IsBarred g s end by = (x : Literal) × IsBetter s.goal end x
     × IsKnown g.library (attached_of g.cells) (choices_of g.premises) (believed_in g.premises)

@@ -1,4 +1,4 @@
--- The texts of replies and what lines ask, piece by piece.
+-- The texts of a seeker's replies, and what lines ask, piece by piece.
 use Rattle.std.specs.Prelude.{ℕ, List, [], ◌++◌, ◌-◌, ◌^◌, Option, Some, None, codes, decimal}
 use Rattle.std.specs.Prelude.{flat_map, length, nat_eq, if◌then◌else◌, ◌∷◌}
 use Rattle.std.specs.Option.{option_map_or}
@@ -17,7 +17,7 @@ use Rattle.prop_solve.specs.declared.question.Goal.{Goal}
 use Rattle.prop_solve.specs.declared.question.Goal.TheVariants.{Least, Greatest}
 use Rattle.prop_seeking.specs.Texts.{Plan, plan_text, value_text}
 
--- a symbol that nobody named stands for any, so nothing is said of it
+-- an information as it is told; the symbol that stands for any that nobody named tells nothing
 abbrev pub seen : Info → Info
 seen (Sym n) = if nat_eq n (2 ^ 32 - 1) then Nothing else Sym n
 seen a = a
@@ -26,41 +26,42 @@ seen a = a
 abbrev pub lines_text : List (List ℕ) → List ℕ
 lines_text lines = flat_map (λ line. 10 ∷ line) lines
 
--- lines behind a first one that says how many follow, and what else the mark does
+-- lines of a plan behind a first one, which says how many follow and what the mark says
 abbrev pub counted_text : List ℕ → List (List ℕ) → List ℕ
 counted_text mark lines =
     codes "plan " ++ (decimal (length lines) ++ (mark ++ lines_text lines))
 
--- lines that tell a step behind a first one that says how many follow
+-- lines that tell a step behind a first one, which says how many follow
 abbrev pub step_text : List (List ℕ) → List ℕ
 step_text lines = codes "step " ++ (decimal (length lines) ++ lines_text lines)
 
--- how good others can still be
+-- the bound than which no other plan is better
 abbrev pub bound_text : State → ℕ → Info → List ℕ
 bound_text s cell a = codes "bound " ++ text_at s cell a
 
--- the word and the number of an end
+-- the word for a least or a greatest number, and the plan's number
 abbrev pub end_text : State → Goal → Plan → List ℕ
 end_text s (Least cell) p = codes "least " ++ value_text s p cell
 end_text s (Greatest cell) p = codes "greatest " ++ value_text s p cell
 end_text s goal p = []
 
--- the best points, and on which premises it rests that none are better
+-- the best plan, behind its number and the premises by which none is better
 abbrev pub best_text : State → Goal → Plan → List ℕ → List ℕ
 best_text s goal p by = end_text s goal p ++ (codes "\nbecause"
     ++ (support_text s.premises by ++ (codes "\n" ++ plan_text s [] p)))
 
--- the best points so far, a number than which none is better, and on which premises that rests
+-- the best plan so far, behind a bound than which none is better and the premises by which that is
+-- so
 abbrev pub bounded_text : State → ℕ → Info → Plan → List ℕ → List ℕ
 bounded_text s cell a p by = bound_text s cell a ++ (codes "\nbecause"
     ++ (support_text s.premises by ++ (codes "\n" ++ plan_text s (codes " unsettled") p)))
 
--- what is known of others
+-- what is known of other plans: that these premises refute them, or nothing
 abbrev pub others_text : State → Option (List ℕ) → List ℕ
 others_text s by = option_map_or (λ others. codes "others none:"
     ++ support_text s.premises others) by (codes "others unknown")
 
--- why an end of a cell of this kind can't be asked for, where it can't
+-- why no least or greatest number can be asked for of a cell of this kind, where none can
 abbrev pub no_number : Kind → Option Refusal
 no_number Span = None
 no_number kind = Some WrongKind

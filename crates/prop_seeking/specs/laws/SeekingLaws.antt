@@ -1,4 +1,5 @@
--- A seeker has what the engine asks of a machine.
+-- A seeker has what the engine asks of a machine: it answers a line by its first 4097 bytes, and
+-- some answer to each line leaves all as it is.
 use Rattle.std.proofs.Common.{◌≡◌, ◌∙◌, ◌⊎◌, ℕ, ◌≤◌, ◌<◌, ◌+◌, ◌-◌, List, [], ◌∷◌, ◌++◌}
 use Rattle.std.proofs.Common.{Bool, true, false, refl, sym, ap, subst, inl, inr}
 use Rattle.std.proofs.Common.{length, take, arith, length-append}
@@ -69,7 +70,7 @@ stripped_by : (b : Bool) (line : List ℕ)
 stripped_by true line = omega (arith, length-take (length line - 1) line)
 stripped_by false line = omega arith
 
--- a value has more bytes than its line
+-- the command as which a line is read is longer than the line
 value_longer : (line : List ℕ) → length line < length (as_value line)
 value_longer line =
     let text = strip_carriage_return line in
@@ -82,7 +83,7 @@ value_longer line =
       length-append text (codes "}"),
     )
 
--- what is kept of a line asks what the line asks
+-- what is read in the kept part of a line may be read in the line
 pub kept_reading : (line : List ℕ) (read : Result (Option Command) Refusal)
     → IsReading (as_value (kept_of line)) read → IsReading (as_value line) read
 unfolding kept_of
@@ -107,7 +108,7 @@ kept_seeks library old line answer inquiry (inl memory) = inl memory
 kept_seeks library old line answer inquiry (inr (read, is, replies)) =
     inr (read, kept_reading line read is, replies)
 
--- the one or the other, each from what is another's own
+-- what holds in one of two cases goes over to the same case of others
 pub own_from : {A B C D : Type 0} (b c : Bool) → b ≡ c → (A → C) → (B → D) → Own b A B → Own c C D
 own_from true true e f g x = f x
 own_from false false e f g x = g x
@@ -157,7 +158,7 @@ unnoted old line answer read is same true = (
 )
 unnoted old line answer read is same false = refl
 
--- a line is answered so that all stays, and nothing is said to be done
+-- some answer leaves all as it is, and doesn't say that something was done
 abbrev Rests : (Answer → Type 0) → Type 0
 Rests Answered = (answer : Answer) × (is_done answer ≡ false) × Answered answer
 

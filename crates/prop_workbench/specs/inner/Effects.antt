@@ -1,4 +1,4 @@
--- What a command that isn't refused does to the state.
+-- What a command that isn't refused does to the state, as the methods of a session do it.
 use Rattle.std.specs.Prelude.{◌≡◌, ℕ, suc, false, IsTrue, List, [], ◌∷◌, ◌++◌, length, Option, Some}
 use Rattle.std.specs.Prelude.{None, ⊤, map, drop}
 use Rattle.std.specs.Borrow.{Bor}
@@ -23,14 +23,14 @@ use Rattle.prop_compound.specs.Expansion.{Walk}
 use Rattle.prop_procedures.specs.Stored.{Stored}
 use Rattle.prop_workbench.specs.inner.Refusing.{with_meant}
 
--- the fresh cells and the instances that a use on these cells stands for
+-- the state with the fresh cells and the instances to which a use on these cells expands
 abbrev pub with_use : List Stored → State → List ℕ → Walk → State
 with_use library s cells e = record s {
   kinds = s.kinds ++ drop (length cells) e.kinds;
   instances = s.instances ++ map (instance_placed library cells (length s.kinds)) e.placed;
 }
 
--- what is meant may be stated at a cell of the kind
+-- what a value means may be stated at a cell of the kind
 abbrev pub MayMean : Kinded → Meant → Type 0
 MayMean k (Known info) = IsTrue (may_be_stated k.kind k.size info)
 MayMean k (Name symbol) = k.kind ≡ kinds.Symbol
@@ -39,20 +39,21 @@ MayMean k (Name symbol) = k.kind ≡ kinds.Symbol
 abbrev pub name_of : Option (Bor (List ℕ)) → Option (List ℕ)
 name_of premise = option_map (λ (name : Bor (List ℕ)). name.now) premise
 
--- the same, where it was looked up
+-- the same name, after it was looked up
 abbrev pub name_under : Under → Option (List ℕ)
 name_under Nothing = None
 name_under (Found name premise) = Some name.now
 name_under (New name) = Some name.now
 
--- so the name was looked up among these premises and choices
+-- the name was looked up rightly: the premise of that number has it, or neither a premise nor a
+-- choice has it
 abbrev pub IsUnder : List Origin → Under → Type 0
 IsUnder premises Nothing = ⊤
 IsUnder premises (Found name premise) = premise_number premises name.now ≡ Some premise
 IsUnder premises (New name) = (premise_number premises name.now ≡ None)
     × (is_choice premises name.now ≡ false)
 
--- the command that states so
+-- the command that states the value of the cell: `tell` under a premise, or `fix` without one
 abbrev pub stating : Option (List ℕ) → List ℕ → Value → Command
 stating None cell value = Command.Fix cell value
 stating (Some premise) cell value = Command.Tell premise cell value
@@ -62,21 +63,22 @@ abbrev pub forgotten_in : State → Command → Option ℕ
 forgotten_in s (Command.Forget premise) = Some (number_given s.premises premise)
 forgotten_in s command = None
 
--- the named contradictions, without those that hold a premise where one is forgotten
+-- the named contradictions, without those that hold the premise p where one is given
 abbrev pub without_named : Option ℕ → List (List ℕ) → List (List ℕ)
 without_named None named = named
 without_named (Some p) named = lacking named p
 
--- the contradictions that were named, as far as they are known after the command
+-- what is left of the named contradictions after the command, which may forget a premise
 abbrev pub named_after : State → Command → List (List ℕ) → List (List ℕ)
 named_after s command named = without_named (forgotten_in s command) named
 
--- a symbol is told by its number: the next one where its name is new
+-- the information that a meaning stands for; a symbol is told by its number, the next one where its
+-- name is new
 abbrev pub info_meant : Vocabulary → Meant → Info
 info_meant words (Known info) = info
 info_meant words (Name symbol) = Sym (symbol_number words symbol)
 
--- one statement more, in a vocabulary that may have one symbol more
+-- the state with one statement more, and with this vocabulary, which may have one symbol more
 abbrev pub stated : State → Option (List ℕ) → ℕ → Vocabulary → Info → State
 stated s premise cell words info = record s {
   words = words;
@@ -88,20 +90,21 @@ stated s premise cell words info = record s {
   } ∷ [];
 }
 
--- the statements of what each side says at a cell, where the first side has this number, and the
--- words as far as they are known then
+-- A statement for each side of a choice at a cell. The first side is the premise of this number,
+-- and each new symbol joins the vocabulary when its turn comes.
 abbrev pub sides_stated : Vocabulary → ℕ → ℕ → List Meant → List Statement
 sides_stated words side cell [] = []
 sides_stated words side cell (meant ∷ more) =
     record { premise = Some side; cell = cell; info = info_meant words meant } ∷ sides_stated
     (with_meant words meant) (suc side) cell more
 
--- the vocabulary with the symbols that are named
+-- the vocabulary with the symbols that the meanings name
 abbrev pub with_meants : Vocabulary → List Meant → Vocabulary
 with_meants words [] = words
 with_meants words (meant ∷ more) = with_meants (with_meant words meant) more
 
--- a choice more, between what is meant at a cell: each is stated under a side
+-- the state with one choice more, between these meanings at a cell: each is stated under its own
+-- side
 abbrev pub chosen : State → List ℕ → ℕ → List Meant → State
 chosen s name cell meants = record s {
   words = with_meants s.words meants;
@@ -109,6 +112,6 @@ chosen s name cell meants = record s {
   statements = s.statements ++ sides_stated s.words (length s.premises) cell meants;
 }
 
--- no statement under p, and no contradiction that was named with it
+-- the state without the statements under p, and without the named contradictions that hold p
 abbrev pub forgetting : State → ℕ → State
 forgetting s p = record s { statements = not_under p s.statements; named = lacking s.named p }

@@ -1,4 +1,4 @@
--- What is read from a state, and changed in it, by name.
+-- Short names for what is read from a state, or changed in it.
 use Rattle.std.specs.Prelude.{ℕ, List}
 use Rattle.prop_lattice.specs.declared.info.Info.{Info}
 use Rattle.prop_numbers.specs.Sets.{Members}
@@ -7,7 +7,7 @@ use Rattle.prop_procedures.specs.Fitting.{kind_at}
 use Rattle.prop_vocabulary.specs.Texts.{value_text}
 use Rattle.prop_workbench.specs.Machine.{State}
 
--- the text of an information of the cell of this number
+-- the text of an information, by the kind of the cell of this number
 abbrev pub text_at : State → ℕ → Info → List ℕ
 text_at s cell v = value_text s.words (kind_at s.kinds cell).kind v
 

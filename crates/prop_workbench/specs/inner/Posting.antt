@@ -1,4 +1,4 @@
--- How what is posted is made: the cell of what is stated at a place, and its limits.
+-- How a posting is made: whether a statement fits the cell at its place, and which limits it meets.
 use Rattle.std.specs.Prelude.{◌<◌, ◌+◌, ◌-◌, ◌^◌, ◌&&◌, ◌∷◌, [], ℕ, List, IsTrue, Option, length}
 use Rattle.std.specs.Prelude.{nat_le}
 use Rattle.prop_refusals.specs.Refusals.{first_of, most, when}
@@ -13,7 +13,7 @@ use Rattle.prop_workbench.specs.declared.posting.Stated.{Stated}
 use Rattle.prop_workbench.specs.Machine.{State}
 use Rattle.prop_workbench.specs.Posting.{is_new_given}
 
--- there is a cell at the place, of which it may be stated
+-- there is a cell at the place, whose number fits in 64 bits, and this may be stated of it
 pub record FitsAt (kinds : List Kinded) (cells : List ℕ) (next : ℕ) (x : Stated) : Type 0 where
   pub small : next + (x.place - length cells) < 2 ^ 64
   pub there : cell_placed cells next x.place < length kinds
@@ -21,8 +21,8 @@ pub record FitsAt (kinds : List Kinded) (cells : List ℕ) (next : ℕ) (x : Sta
       let k = kind_at kinds (cell_placed cells next x.place) in
       IsTrue (may_be_stated k.kind k.size x.info)
 
--- there is no room for a premise with the name, where it is new, or for one statement more than so
--- many
+-- no room is left for a premise with the name, where that is new, or for one statement more than
+-- `count`
 abbrev pub posting_limit : State → Option (List ℕ) → ℕ → Option Refusal
 posting_limit s premise count =
     first_of (when (LimitReached Premises) (is_new_given s.premises premise && nat_le

@@ -1,4 +1,5 @@
--- What a command that runs the network asks, and what may be said to it.
+-- How a run may end that a question starts, what may be answered then, and what the answer rests
+-- on.
 use Rattle.std.specs.Prelude.{◌≡◌, ℕ, ◌+◌, ◌*◌, ◌≤◌, ◌<◌, List, length, Option, Some, Result, ⊤}
 use Rattle.std.specs.Prelude.{◌⊎◌}
 use Rattle.prop_lattice.specs.declared.info.Info.{Info}
@@ -32,21 +33,24 @@ use Rattle.prop_workbench.specs.inner.Steps.{IsFollowed}
 use Rattle.prop_workbench.specs.Waking.{Wakes}
 use Rattle.prop_workbench.specs.Questions.{Earns, Picks, SaysUnsettled, outcome_of}
 
--- the command that asks so
+-- the command that asks the question
 abbrev pub command_of : Question → Command
 command_of Settle = commands.Command.Settle
 command_of Worldview = commands.Command.Worldview
 command_of (Ask cell name) = commands.Command.Ask name.now
 command_of (Why cell name) = commands.Command.Why name.now
 
--- the cell that is asked for is the one of that name
+-- the cell in the question is the one with the name in it
 abbrev pub IsNamed : State → Question → Type 0
 IsNamed s Settle = ⊤
 IsNamed s Worldview = ⊤
 IsNamed s (Ask cell name) = cell_named s.names name.now ≡ Some cell
 IsNamed s (Why cell name) = cell_named s.names name.now ≡ Some cell
 
--- a run of so many steps ended so, and left the session
+-- A run of so many steps ended so and left this session, as the machine allows. A contradiction is
+-- covered by the nogoods. If the run settled, the side of each choice is believed and the network
+-- has settled. It took no more steps than the limit, and fewer than all lists may take; if it is
+-- unsettled, just as many as the limit.
 pub record HasRun {R O : Type 0} {X : Type 0} {F : X → Type 0} {g : _}
     (value : R → Param → List Info → Info) (s : Session R O X F g) (end : ends.Outcome) (steps : ℕ)
     : Type 0 where
@@ -61,19 +65,20 @@ pub record HasRun {R O : Type 0} {X : Type 0} {F : X → Type 0} {g : _}
       * (most_steps (problem_in (library_of value s) (state_of s)) + 1)
   pub spent : end ≡ Unsettled → steps ≡ (state_of s).limit
 
--- the answer is a text that the machine may reply where a run ended so, or memory was refused
+-- the answer is a text that may reply to the command after a run that ended so, or that memory was
+-- refused
 abbrev pub MaySay : List Stored → State → Command → Outcome → ℕ → Answer → Type 0
 MaySay library s command outcome steps answer =
     ((text : List ℕ) × Replies library s command outcome steps text × (answer ≡ Text text))
     ⊎ (answer ≡ Refused Memory)
 
--- where a run was cut short, a text says what is believed
+-- where the answer is a text, it is an unsettled one that says what is believed so far
 abbrev pub SaysSoFar : {O : Type 0} → State → Work O → Command → Answer → Type 0
 SaysSoFar s work command answer = (text : List ℕ) → answer ≡ Text text
     → SaysUnsettled s work command text
 
--- what an answer rests on: an explanation is lean, a text is earned, and where nothing is run no
--- more wakes than has to
+-- what an answer rests on: `why` uses no entry that isn't needed, behind a text is a run of just so
+-- many steps, and a line that runs nothing wakes no more instances than it has to
 pub record RestsOn {O : Type 0} (picks : Picks O) (library : List Stored) (s t : State)
     (old new : Work O) (read : Result (Option Command) Refusal) (answer : Answer) (steps : ℕ) : Type
     0 where
@@ -81,7 +86,8 @@ pub record RestsOn {O : Type 0} (picks : Picks O) (library : List Stored) (s t :
   pub earned : Earns picks library s old new read answer steps
   pub wakes : Wakes s t old new read answer
 
--- what a line is answered that was read so: a step, and what its answer rests on
+-- a line that was read so is answered by a step of the machine, and the answer rests on what it has
+-- to
 pub record Heeds {O : Type 0} (picks : Picks O) (library : List Stored) (old new : Shown)
     (from to : Work O) (answer : Answer) (steps : ℕ) (read : Result (Option Command) Refusal) : Type
     0 where

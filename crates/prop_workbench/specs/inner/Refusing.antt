@@ -1,5 +1,5 @@
--- How it is found why values may not be stated: what a value means at a cell, and which limits are
--- met.
+-- Why uses, statements and choices are refused, as the methods of a session find it: what a value
+-- means at a cell, and which limits are met.
 use Rattle.std.specs.Prelude.{ℕ, List, [], ◌∷◌, Bool, false, ◌+◌, ◌-◌, ◌&&◌, ◌||◌, nat_le, nat_lt}
 use Rattle.std.specs.Prelude.{Option}
 use Rattle.std.specs.List.{list_any}
@@ -27,18 +27,18 @@ use Rattle.prop_vocabulary.specs.Refusing.{symbol_refusal}
 use Rattle.prop_workbench.specs.Machine.{State}
 use Rattle.prop_workbench.specs.Effects.{used}
 
--- there would be more of something than before, and than there can be
+-- this limit is passed: there would be more than before, and more than there may be
 abbrev pub grows : Limit → ℕ → ℕ → Option Refusal
 grows limit before after =
     when (LimitReached limit) (nat_lt before after && nat_lt (most limit) after)
 
--- what is given is a relation, of which there is none
+-- a relation is given that isn't there
 abbrev pub is_unknown : Vocabulary → By → Bool
 is_unknown words By.Nothing = false
 is_unknown words (By.Number k) = false
 is_unknown words (By.Relation name) = is_none (relation_named words name)
 
--- why a use of the name on the cells of these numbers is refused as it stands, in order
+-- each reason, in order of rank, for which a use of the name on these cells is refused by itself
 abbrev pub use_reasons : List Stored → State → List ℕ → List ℕ → By → List (Option Refusal)
 use_reasons library s name cells by =
     let e = used library s name cells by in
@@ -50,14 +50,15 @@ use_reasons library s name cells by =
     ∷ when WrongParameter (e.spare || list_any (is_param_wrong library) e.placed)
     ∷ []
 
--- the first of them, or that there would be too many cells or instances
+-- why the use is refused: the first of these reasons, or that there would be too many cells or
+-- instances
 abbrev pub use_refusal : List Stored → State → List ℕ → List ℕ → By → Option Refusal
 use_refusal library s name cells by =
     let e = used library s name cells by in
     first_of (use_reasons library s name cells by ++ room_refusal
     (length s.kinds + (length e.kinds - length cells)) (length s.instances + length e.placed) ∷ [])
 
--- what the value means at a cell of the kind
+-- what the value means at a cell of the kind, or why it is refused there
 abbrev pub meaning_at : Vocabulary → Kind → Value → Result Meant Refusal
 meaning_at words kind value = value_said kind (elements_of_kind words kind) value
 
@@ -65,12 +66,12 @@ abbrev pub is_error : Refusal → Result Meant Refusal → Bool
 is_error refusal (Ok meant) = false
 is_error refusal (Err other) = number_of other == number_of refusal
 
--- the vocabulary with the symbol that is named
+-- the vocabulary with the symbol that the meaning names, if it names one
 abbrev pub with_meant : Vocabulary → Meant → Vocabulary
 with_meant words (Known info) = words
 with_meant words (Name symbol) = with_symbol words symbol
 
--- there are as many premises as there can be and the name is of a new one, or as many statements
+-- no room is left for a premise with the name, where that is new, or for one statement more
 abbrev pub telling_limit : State → List ℕ → Option Refusal
 telling_limit s premise =
     first_of (
@@ -80,24 +81,23 @@ telling_limit s premise =
     ∷ []
     )
 
--- the same, and under no premise only the statements count
+-- the same of a statement that may be under no premise: then only statements need room
 abbrev pub statement_limit : State → Option (List ℕ) → Option Refusal
 statement_limit s None = when (LimitReached Statements)
     (nat_le (most Statements) (length s.statements))
 statement_limit s (Some premise) = telling_limit s premise
 
--- a value that names a new symbol is refused where there are as many as there can be
+-- no room is left for the symbol that the meaning names, where that is new
 abbrev pub naming_limit : Vocabulary → Meant → Option Refusal
 naming_limit words (Name symbol) = symbol_refusal words symbol
 naming_limit words (Known info) = None
 
--- why what is meant is not stated
+-- no room is left for a statement of this meaning: its premise, itself, or its symbol
 abbrev pub stating_limit : State → Option (List ℕ) → Meant → Option Refusal
 stating_limit s premise meant =
     first_of (statement_limit s premise ∷ naming_limit s.words meant ∷ [])
 
--- there are too many premises for so many sides, as many choices as there can be, or too many
--- statements for one a side
+-- no room is left for so many premises, for one choice more, or for so many statements
 abbrev pub choosing_limit : State → ℕ → Option Refusal
 choosing_limit s sides =
     first_of (
@@ -107,19 +107,19 @@ choosing_limit s sides =
     ∷ []
     )
 
--- the values that are meant are refused, one after another, where one names a new symbol and there
--- are as many as there can be
+-- no room is left for the symbols that the meanings name, which join the vocabulary one after
+-- another
 abbrev pub all_naming_limit : Vocabulary → List Meant → Option Refusal
 all_naming_limit words [] = None
 all_naming_limit words (meant ∷ more) =
     option_or (naming_limit words meant) (all_naming_limit (with_meant words meant) more)
 
--- why a choice between what is meant is refused
+-- no room is left for a choice between these meanings
 abbrev pub choosing_limit_of : State → List Meant → Option Refusal
 choosing_limit_of s meants =
     first_of (choosing_limit s (length meants) ∷ all_naming_limit s.words meants ∷ [])
 
--- a choice has the name, where one is given
+-- a name is given, and a choice has it
 abbrev pub is_choice_told : State → Option (List ℕ) → Bool
 is_choice_told s None = false
 is_choice_told s (Some name) = is_choice s.premises name

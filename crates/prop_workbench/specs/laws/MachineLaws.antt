@@ -1,4 +1,5 @@
--- The workbench has what the engine asks of a machine.
+-- The workbench has what the engine asks of a machine: it answers a line by its first 4097 bytes,
+-- and some answer to each line leaves the state.
 use Rattle.std.proofs.Common.{◌≡◌, ℕ, ◌≤◌, ◌<◌, List, length, take, refl, ◌∙◌, subst, inl, inr}
 use Rattle.std.proofs.Common.{arith}
 use Rattle.std.specs.Prelude.{Option, Some, None, Result, Ok, Err}
@@ -18,19 +19,19 @@ use Rattle.prop_workbench.specs.Engine.{workbench, working}
 use Rattle.prop_workbench.specs.Questions.{Picks}
 use Rattle.prop_engine.specs.Machines.{AsksByPrefix, IsTotal}
 
--- a prefix of limit bytes is the line, or as long as the limit
+-- the first `limit` bytes of a line are the whole line, or as many as the limit
 prefix_of_line : (limit : ℕ) (line : List ℕ)
     → (length line ≤ limit → take limit line ≡ line)
     × (limit < length line → length (take limit line) ≡ limit)
 prefix_of_line limit line = (λ h. take_all limit line h, λ h. length-take limit line ∙ omega arith)
 
--- a line that is too long asks for nothing else
+-- a line that is too long can be read in one way only: that it is too long
 too_long : (line : List ℕ) (read : Result (Option Command) Refusal) → 4096 < length line
     → IsReading line read → read ≡ Err LineTooLong
 too_long line read h (inl (l, e)) = e
 too_long line read h (inr (l, r)) = absurd (omega arith)
 
--- what is kept of a line asks for what the line asks for
+-- what is read in the kept part of a line may be read in the line
 kept_is_read : (line : List ℕ) (read : Result (Option Command) Refusal)
     → IsReading (kept_of line) read → IsReading line read
 unfolding kept_of
@@ -45,7 +46,7 @@ kept_steps : (library : List Stored) (old new : State) (line : List ℕ) (answer
 kept_steps library old new line answer steps (read, is, follows) =
     (read, kept_is_read line read is, follows)
 
--- and what is said of how a line was read
+-- what holds of what is read in the kept part of a line holds of what is read in the line
 kept_as_read : (line : List ℕ) (Holds : Result (Option Command) Refusal → Type 0)
     → AsRead (kept_of line) Holds → AsRead line Holds
 kept_as_read line Holds (read, is, holds) = (read, kept_is_read line read is, holds)
@@ -66,7 +67,7 @@ working_asks_by_prefix picks library old line answer new s = record {
   wakes = kept_as_read line _ s.wakes;
 }
 
--- silence, or want of memory, leaves the state
+-- some answer leaves each state: silence, or that memory was refused
 follows_somehow : (library : List Stored) (read : Result (Option Command) Refusal)
     → (answer : Answer) × ((s : State) → Follows library s read answer s 0)
 follows_somehow library (Ok None) =

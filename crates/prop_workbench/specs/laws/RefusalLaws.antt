@@ -1,4 +1,4 @@
--- A refusal says nothing of the work behind it, and leaves it.
+-- What is asked of an answer is met by each refusal, where the work stays.
 use Rattle.std.proofs.Common.{refl}
 use Rattle.std.specs.Prelude.{ℕ, List, Option, Some, None, Result, Ok, Err}
 use Rattle.prop_refusals.specs.declared.refusal.Refusal.{Refusal}
@@ -15,7 +15,7 @@ use Rattle.prop_workbench.specs.Questions.{Picks, Earns}
 use Rattle.prop_workbench.specs.Reasons.{IsLeanAnswer}
 use Rattle.prop_workbench.specs.Waking.{StaysUnlessRun, Wakes}
 
--- it explains nothing
+-- a refusal is no explanation, of which it is asked that it be lean
 pub lean_refused : (believed : Members) (d : Data) (s : State)
     (read : Result (Option Command) Refusal) (refusal : Refusal)
     → IsLeanAnswer believed d s read (Refused refusal)
@@ -24,7 +24,7 @@ lean_refused believed d s (Ok None) refusal = tt
 lean_refused believed d s (Ok (Some (commands.Command.Why name))) refusal = tt
 lean_refused believed d s (Ok (Some command)) refusal = tt
 
--- it is no text
+-- a refusal is no text, of which it is asked that a run of just so many steps be behind it
 pub earns_refused : {O : Type 0} (picks : Picks O) (library : List Stored) (s : State)
     (old new : Work O) (read : Result (Option Command) Refusal) (refusal : Refusal) (steps : ℕ)
     → Earns picks library s old new read (Refused refusal) steps
@@ -37,7 +37,7 @@ earns_refused picks library s old new (Ok (Some (commands.Command.Core x))) refu
 earns_refused picks library s old new (Ok (Some commands.Command.Worldview)) refusal steps = tt
 earns_refused picks library s old new (Ok (Some command)) refusal steps = tt
 
--- it leaves all as it was
+-- a refusal may leave the work as it was, whichever refusal it is
 stays_refused : {O : Type 0} (work : Work O) (refusal : Refusal)
     → StaysUnlessRun work work (Refused refusal)
 stays_refused work Memory = tt
