@@ -137,9 +137,8 @@ impl Definitions {
         if let Some(refusal) = self.uses_refusal(library, said.steps) {
             return Err(refusal);
         }
-        let mut numbered = Vec::new(alloc);
-        match self.push_numbered(alloc, library, words, scope, said.steps, &mut numbered) {
-            Ok(()) => counted(alloc, &self.definitions, said.params.len(), numbered),
+        match self.all_numbered(alloc, library, words, scope, said.steps) {
+            Ok(numbered) => counted(alloc, &self.definitions, said.params.len(), numbered),
             Err(AllocError) => Err(Refusal::Memory),
         }
     }

@@ -1,5 +1,5 @@
 //! What the words of a definition stand for.
-ghost use Rattle.std.specs.Prelude.{◌≡◌, [], All, map, IfOk, OnOk};
+ghost use Rattle.std.specs.Prelude.{◌≡◌, All, map, IfOk};
 ghost use Rattle.std.specs.List.{list_any};
 ghost use Rattle.prop_procedures.specs.Kept.{stored_of};
 ghost use Rattle.prop_language.specs.Said.{passed_of, step_of};
@@ -156,25 +156,24 @@ impl Definitions {
         }
     }
 
-    /// Puts the steps by numbers into a list that is still empty.
-    pub(crate) fn push_numbered<R: Rule + Drop>(
+    /// The steps by numbers.
+    pub(crate) fn all_numbered<R: Rule + Drop>(
         &self,
         alloc: Global,
         library: &Library<R>,
         words: &Vocabulary,
         scope: &Names,
         steps: &[Step],
-        all: &mut Vec<NumberedStep>,
-    ) -> Result<(), AllocError>
-        requires { all.old.items ≡ [] }
-        ensures steps { OnOk result (all.new.items ≡ map
+    ) -> Result<Vec<NumberedStep>, AllocError>
+        ensures steps { IfOk result (λ all. all.items ≡ map
             (step_numbered (stored_of R.value_of library.now) words.now self.now scope.now)
             (map step_of steps.now)) }
-        ensures locals { OnOk result (All (IsLocalOf (IsSized words.now)) all.new.items) }
+        ensures locals { IfOk result (λ all. All (IsLocalOf (IsSized words.now)) all.items) }
     {
+        let mut all = Vec::new(alloc);
         for step in steps {
             all.push(self.numbered(alloc, library, words, scope, step)?)?;
         }
-        Ok(())
+        Ok(all)
     }
 }

@@ -25,6 +25,14 @@ use prop_procedures::{Flat, Kinded, Library, Param, Rule};
 use prop_vocabulary::Vocabulary;
 use std::alloc::{AllocError, Global};
 
+/// A use to be expanded: of what, on which cells, and the place of the parameter that it is given.
+#[derive(Drop)]
+struct Use {
+    used: Used,
+    cells: Vec<usize>,
+    given: Option<usize>,
+}
+
 /// Whether one number is one more than the other.
 fn is_one_more(count: usize, than: usize) -> bool
     ensures { result ≡ (count == than + 1) }
@@ -111,22 +119,21 @@ impl Definitions {
         None
     }
 
-    /// Adds what the use stands for, given the parameter at this place.
+    /// Adds what the use stands for.
     fn add_use(
         &self,
         alloc: Global,
         words: &Vocabulary,
-        used: Used,
-        cells: Vec<usize>,
-        given: Option<usize>,
+        this: Use,
         walk: &mut Walk,
     ) -> Result<(), AllocError>
-        requires there { IsUseThere self.now.definitions used (length cells.items) }
-        requires given { IsPlaceIn walk.old.params.items given }
+        requires there { IsUseThere self.now.definitions this.used (length this.cells.items) }
+        requires given { IsPlaceIn walk.old.params.items this.given }
         requires empty { walk.old.instances.items ≡ [] }
-        ensures { OnOk result (IsAdded words.now self.now.definitions used cells.items given
-            walk.old walk.new) }
+        ensures { OnOk result (IsAdded words.now self.now.definitions this.used this.cells.items
+            this.given walk.old walk.new) }
     {
+        let Use { used, cells, given } = this;
         match used {
             Used::Procedure(number) => {
                 walk.instances.push(placed(number, given, cells))?;
@@ -170,7 +177,12 @@ impl Definitions {
             instances: Vec::new(alloc),
             spare,
         };
-        match self.add_use(alloc, words, used, numbers, own, &mut walk) {
+        let this = Use {
+            used,
+            cells: numbers,
+            given: own,
+        };
+        match self.add_use(alloc, words, this, &mut walk) {
             Ok(()) => Ok(walk),
             Err(AllocError) => {
                 drop(walk);

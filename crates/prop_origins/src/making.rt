@@ -88,13 +88,12 @@ fn told(alloc: Global, number: usize, statement: &Statement) -> Result<Part, All
     })
 }
 
-/// Logs what a statement says, where its premise is one of these or it has none, and where it says
-/// more than those before it. Then the readers of its cell wait.
+/// Logs what a statement says, where it says more than those before it. Then the readers of its
+/// cell wait.
 fn note(
     alloc: Global,
     held: &Cells,
     number: usize,
-    premises: &PremiseSet,
     line: &mut Line,
     log: &mut Log,
 ) -> Result<(), AllocError>
@@ -105,19 +104,20 @@ fn note(
     requires of_kinds { AreOfKinds held.now.kinds (made log.old.parts) }
     ensures cells { log.new.cells ≡ log.old.cells }
     ensures line { line.new.count ≡ line.old.count }
-    ensures founded { (library : List Stored)
-        → AreFounded library held.now (set_of premises.now) log.old.parts
-        → AreFounded library held.now (set_of premises.now) log.new.parts }
+    ensures founded { (x : Statement) → slice_get held.now.statements number ≡ Some x
+        → (library : List Stored) (s : Premises) → IsTrue (is_member s x.premise)
+        → AreFounded library held.now s log.old.parts
+        → AreFounded library held.now s log.new.parts }
     ensures proceeds { OnOk result ((library : List Stored)
         → Proceeds (problem_of library held.now) 0 line.old.line line.new.line
         (made log.old.parts) (made log.new.parts)) }
     ensures heard { OnOk result ((x : Statement) → slice_get held.now.statements number ≡ Some x
-        → Satisfies (set_of premises.now) (made log.new.parts) x) }
+        → Below x.info (made log.new.parts x.cell)) }
     ensures calls { OnOk result (calls_in log.new.parts ≡ calls_in log.old.parts) }
 {
     let statement = held.statements()[number];
     let cell = statement.cell;
-    if !is_among(premises, &statement) || log.made(cell).implies(statement.info) {
+    if log.made(cell).implies(statement.info) {
         return Ok(());
     }
     let part = told(alloc, number, &statement)?;
@@ -151,7 +151,10 @@ fn tell(
     ensures calls { OnOk result (calls_in log.new.parts ≡ calls_in log.old.parts) }
 {
     for number in 0..held.statements().len() {
-        note(alloc, held, number, premises, line, log)?;
+        let statement = held.statements()[number];
+        if is_among(premises, &statement) {
+            note(alloc, held, number, line, log)?;
+        }
     }
     Ok(())
 }

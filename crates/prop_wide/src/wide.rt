@@ -127,64 +127,23 @@ impl Wide {
     pub fn run(self, param: &Param, args: &[Info]) -> Info
         ensures { result ≡ value_of self param.now args.now }
     {
-        match self {
-            Wide::Max => match args {
-                [x, y] => maximizer(*x, *y),
-                _ => Info::Nothing,
-            },
-            Wide::MaxBack => match args {
-                [z, y] => max_back(*z, *y),
-                _ => Info::Nothing,
-            },
-            Wide::Min => match args {
-                [x, y] => minimizer(*x, *y),
-                _ => Info::Nothing,
-            },
-            Wide::MinBack => match args {
-                [z, y] => min_back(*z, *y),
-                _ => Info::Nothing,
-            },
-            Wide::Abs => match args {
-                [x] => absoluter(*x),
-                _ => Info::Nothing,
-            },
-            Wide::AbsBack => match args {
-                [y, x] => abs_back(*y, *x),
-                _ => Info::Nothing,
-            },
-            Wide::Choose => match args {
-                [t, a, b] => chooser(*t, *a, *b),
-                _ => Info::Nothing,
-            },
-            Wide::Decide => match args {
-                [a, b, o] => decider(*a, *b, *o),
-                _ => Info::Nothing,
-            },
-            Wide::Count => counter(args),
-            Wide::CountBack => match args {
-                [n, others @ ..] => count_back(*n, others),
-                [] => Info::Nothing,
-            },
-            Wide::Square => match (param, args) {
-                (Param::Scale(k), [x]) if is_scale(*k) => squarer(*x, *k),
-                _ => Info::Nothing,
-            },
-            Wide::Root => match (param, args) {
-                (Param::Scale(k), [y, x]) if is_scale(*k) => rooter(*y, *x, *k),
-                _ => Info::Nothing,
-            },
-            Wide::Quotient => match args {
-                [x, y] => quotienter(*x, *y),
-                _ => Info::Nothing,
-            },
-            Wide::Remainder => match args {
-                [y] => remainderer(*y),
-                _ => Info::Nothing,
-            },
-            Wide::Divisor => match args {
-                [r, y] => divisor_back(*r, *y),
-                _ => Info::Nothing,
-            },
+        match (self, param, args) {
+            (Wide::Max, _, [x, y]) => maximizer(*x, *y),
+            (Wide::MaxBack, _, [z, y]) => max_back(*z, *y),
+            (Wide::Min, _, [x, y]) => minimizer(*x, *y),
+            (Wide::MinBack, _, [z, y]) => min_back(*z, *y),
+            (Wide::Abs, _, [x]) => absoluter(*x),
+            (Wide::AbsBack, _, [y, x]) => abs_back(*y, *x),
+            (Wide::Choose, _, [t, a, b]) => chooser(*t, *a, *b),
+            (Wide::Decide, _, [a, b, o]) => decider(*a, *b, *o),
+            (Wide::Count, _, _) => counter(args),
+            (Wide::CountBack, _, [n, others @ ..]) => count_back(*n, others),
+            (Wide::Square, Param::Scale(k), [x]) if is_scale(*k) => squarer(*x, *k),
+            (Wide::Root, Param::Scale(k), [y, x]) if is_scale(*k) => rooter(*y, *x, *k),
+            (Wide::Quotient, _, [x, y]) => quotienter(*x, *y),
+            (Wide::Remainder, _, [y]) => remainderer(*y),
+            (Wide::Divisor, _, [r, y]) => divisor_back(*r, *y),
+            _ => Info::Nothing,
         }
     }
 }

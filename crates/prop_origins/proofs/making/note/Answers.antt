@@ -1,7 +1,6 @@
 use Rattle.std.proofs.Common.{◌≡◌, ◌∙◌, ◌∷◌, length, slice_get, Some, IsTrue, refl, ap, subst, sym, arith}
 use Rattle.std.proofs.lemmas.Option.{slice_get_read}
 use Rattle.prop_lattice.specs.Order.{Below}
-use Rattle.prop_numbers.specs.Sets.{set_of}
 use Rattle.prop_cells.specs.Problems.{is_member}
 use Rattle.prop_cells.specs.declared.instance.Statement.{Statement}
 use Rattle.prop_cells.specs.Data.{IsStated, problem_of}
@@ -23,14 +22,14 @@ alert-requires c =
     ((readers_are c.args.held.now.instances c.index-statements-number.result.cell).below)
 
 pub returns-clause-founded : goal.returns-clause-founded
-returns-clause-founded c = λ library f.
+returns-clause-founded c = λ y at_y library s y_member f.
     let d = c.args.held.now in
-    let s = set_of c.args.premises.now in
     let x = c.index-statements-number.result in
     let at : slice_get d.statements c.args.number ≡ Some x =
     slice_get_read d.statements (length d.statements) c.args.number x refl c.requires.number
     (rw c.statements.ensures at c.index-statements-number.is) in
-    let member : IsTrue (is_member s x.premise) = sym c.is_among.ensures ∙ c.if-not-is_among.false in
+    let same : x ≡ y = cc in
+    let member = subst (λ (z : Statement). IsTrue (is_member s z.premise)) (sym same) y_member in
     let stated = All-at (IsStated d.kinds d.contents) d.statements c.args.number x c.requires.made.stated at in
     let of_kind = stated.of_kind in
     let more : ¬ (Below x.info (made c.args.log.now.parts x.cell)) =
@@ -62,7 +61,7 @@ returns-clause-proceeds c = λ library.
     c.requires.of_kinds of_kind more alerted)
 
 pub returns-clause-heard : goal.returns-clause-heard
-returns-clause-heard c = λ y at_y member.
+returns-clause-heard c = λ y at_y.
     let d = c.args.held.now in
     let x = c.index-statements-number.result in
     let p = c.in_ok-part.part in

@@ -40,9 +40,6 @@ returns-in-Some-uses_refusal-clause-err g c =
     c.words_refusal.ensures c.in_default.is c.uses_refusal.result c.uses_refusal.ensures
     c.in-Some-uses_refusal.refusal c.in-Some-uses_refusal.is)
 
-pub push_numbered-requires : goal.push_numbered-requires
-push_numbered-requires g c = c.new-numbered.ensures.items
-
 pub counted-requires-clause-kept : goal.counted-requires-clause-kept
 counted-requires-clause-kept g c = rw c.deref.ensures.value c.self.invariant.1
 
@@ -61,11 +58,11 @@ counted-requires-clause-used g c =
     c.words_refusal.ensures c.in_default.is c.uses_refusal.result c.uses_refusal.ensures
     c.in_default-uses_refusal.is in
     let items = numbered_so library c.args.words.now definitions params steps same right c.args.scope.now
-    c.push_numbered.new.all.items c.requires c.in-Ok.ensures.steps in
+    c.in-Ok.numbered.items c.requires c.in-Ok.ensures.steps in
     let seen : definitions.definitions ≡ all_bare c.deref.result.now =
     ap (λ (d : Definitions). d.definitions) (sym c.self.view_is) ∙ ap all_bare (sym c.deref.ensures.value) in
     used_seen library c.args.words.now definitions params steps same right c.deref.result.now
-    c.push_numbered.new.all.items seen items
+    c.in-Ok.numbered.items seen items
 
 pub returns-in-Ok-clause-definition : goal.returns-in-Ok-clause-definition
 returns-in-Ok-clause-definition g c =
@@ -82,10 +79,10 @@ returns-in-Ok-clause-definition g c =
     c.words_refusal.ensures c.in_default.is c.uses_refusal.result c.uses_refusal.ensures
     c.in_default-uses_refusal.is in
     let items = numbered_so library c.args.words.now definitions params steps same right c.args.scope.now
-    c.push_numbered.new.all.items c.requires c.in-Ok.ensures.steps in
+    c.in-Ok.numbered.items c.requires c.in-Ok.ensures.steps in
     let count : length c.args.said.now.params.now ≡ length params =
     sym (length-map c.args.said.now.params.now (λ (w : Bor (List ℕ)). w.now)) in
-    let numbered = c.push_numbered.new.all.items in
+    let numbered = c.in-Ok.numbered.items in
     let Counted = IsCounted c.deref.result.now (length c.args.said.now.params.now) numbered in
     if_ok Counted (λ (k : KeptDefinition). bare k ≡ definition_of library c.args.words.now definitions params steps)
     (λ k h. definition_so library c.args.words.now definitions params steps same right k numbered items
@@ -106,10 +103,10 @@ returns-in-Ok-clause-kept g c =
     c.words_refusal.ensures c.in_default.is c.uses_refusal.result c.uses_refusal.ensures
     c.in_default-uses_refusal.is in
     let items = numbered_so library c.args.words.now definitions params steps same right c.args.scope.now
-    c.push_numbered.new.all.items c.requires c.in-Ok.ensures.steps in
+    c.in-Ok.numbered.items c.requires c.in-Ok.ensures.steps in
     let count : length c.args.said.now.params.now ≡ length params =
     sym (length-map c.args.said.now.params.now (λ (w : Bor (List ℕ)). w.now)) in
-    let numbered = c.push_numbered.new.all.items in
+    let numbered = c.in-Ok.numbered.items in
     let Counted = IsCounted c.deref.result.now (length c.args.said.now.params.now) numbered in
     let ks = c.deref.result.now in
     let seen : definitions.definitions ≡ all_bare ks = ap (λ (d : Definitions). d.definitions) (sym c.self.view_is)
@@ -135,10 +132,10 @@ returns-in-Ok-clause-over g c =
     c.words_refusal.ensures c.in_default.is c.uses_refusal.result c.uses_refusal.ensures
     c.in_default-uses_refusal.is in
     let items = numbered_so library c.args.words.now definitions params steps same right c.args.scope.now
-    c.push_numbered.new.all.items c.requires c.in-Ok.ensures.steps in
+    c.in-Ok.numbered.items c.requires c.in-Ok.ensures.steps in
     let count : length c.args.said.now.params.now ≡ length params =
     sym (length-map c.args.said.now.params.now (λ (w : Bor (List ℕ)). w.now)) in
-    let numbered = c.push_numbered.new.all.items in
+    let numbered = c.in-Ok.numbered.items in
     let Counted = IsCounted c.deref.result.now (length c.args.said.now.params.now) numbered in
     if_ok Counted (λ (k : KeptDefinition). All (IsUseOver library) k.steps.items)
     (λ k h. steps_over library c.args.words.now definitions params steps same right k numbered items h.steps)
@@ -147,7 +144,7 @@ returns-in-Ok-clause-over g c =
 pub returns-in-Ok-clause-locals : goal.returns-in-Ok-clause-locals
 returns-in-Ok-clause-locals g c =
     let locals = All (IsLocalOf (IsSized c.args.words.now)) in
-    if_ok (IsCounted c.deref.result.now (length c.args.said.now.params.now) c.push_numbered.new.all.items)
+    if_ok (IsCounted c.deref.result.now (length c.args.said.now.params.now) c.in-Ok.numbered.items)
     (λ (k : KeptDefinition). locals k.steps.items) (λ k h. subst locals (sym h.steps) c.in-Ok.ensures.locals)
     c.counted.result c.counted.ensures.counted
 

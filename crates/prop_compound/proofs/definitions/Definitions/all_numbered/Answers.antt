@@ -6,12 +6,12 @@ use Rattle.prop_language.specs.Said.{step_of}
 use Rattle.prop_compound.specs.Kinds.{IsSized, IsLocalOf}
 use Rattle.prop_compound.specs.Defining.{step_numbered}
 use Rattle.prop_compound.proofs.Looping.{made_of_made_more}
-use Rattle.prop_compound.proofs.definitions.Definitions.push_numbered.Goals as goal
+use Rattle.prop_compound.proofs.definitions.Definitions.all_numbered.Goals as goal
 
 pub loop-step-init : goal.loop-step-init
 loop-step-init g c = record {
-  steps = c.requires;
-  locals = rw c.requires (All-nil (IsLocalOf (IsSized c.args.words.now)));
+  steps = c.new-all.ensures.items;
+  locals = rw c.new-all.ensures.items (All-nil (IsLocalOf (IsSized c.args.words.now)));
 }
 
 pub loop-step-preserved : goal.loop-step-preserved

@@ -3,7 +3,7 @@ use Rattle.prop_procedures.specs.Kept.{stored_of}
 use Rattle.prop_language.specs.Said.{step_of}
 use Rattle.prop_compound.specs.Kinds.{IsSized, IsLocalOf}
 use Rattle.prop_compound.specs.Defining.{step_numbered}
-use Rattle.prop_compound.proofs.definitions.Definitions.push_numbered.Given as goal
+use Rattle.prop_compound.proofs.definitions.Definitions.all_numbered.Given as goal
 
 abbrev pub invariant-loop-step : goal.invariant-loop-step
 invariant-loop-step g l = record {
