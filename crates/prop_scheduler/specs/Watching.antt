@@ -1,8 +1,9 @@
 -- Which cells are to be looked at.
 use Rattle.std.specs.Prelude.{◌≡◌, ◌<◌, ℕ, List, All, Contains, length}
 use Rattle.prop_lattice.specs.declared.info.Info.TheVariants.{Contradiction}
+use Rattle.prop_contents.specs.Contents.{beliefs}
 use Rattle.prop_cells.specs.inner.Problems.{Premises}
-use Rattle.prop_cells.specs.Data.{Data, beliefs}
+use Rattle.prop_cells.specs.Data.{Data}
 
 -- the watched cells are cells, and each that is believed to hold a contradiction is watched
 pub record IsWatched (s : Premises) (d : Data) (watched : List ℕ) : Type 0 where
