@@ -1,9 +1,9 @@
 -- What stays where the statements under a premise go.
 use Rattle.std.proofs.Common.{◌≡◌, ◌∙◌, ◌==◌, ℕ, Bool, true, false, not, ◌&&◌, IsTrue, All, Contains, List, [], ◌∷◌}
-use Rattle.std.proofs.Common.{Option, Some, None, map, filter, length, get_or, slice_index_or, refl, sym, ap, ◌⊎◌, inl}
-use Rattle.std.proofs.Common.{inr, zero, suc, arith, ◌<◌, ◌≤◌, ◌++◌, take, drop, slice_set}
+use Rattle.std.proofs.Common.{Option, Some, None, map, filter, get_or, slice_index_or, refl, sym, ap, ◌⊎◌, inl, inr}
+use Rattle.std.proofs.Common.{suc, arith}
 use Rattle.std.proofs.lemmas.Bool.Decides.{eqb_tells}
-use Rattle.std.proofs.lemmas.List.{length-map, take-append-le, take_all}
+use Rattle.std.proofs.lemmas.List.{length-map}
 use Rattle.std.proofs.lemmas.List.Elements.{All-contains, All-cons, All-filter, All-get_or, All-weaker, filter_passes}
 use Rattle.std.proofs.lemmas.List.Elements.{All-contains_itself}
 use Rattle.prop_lattice.specs.declared.info.Info.{Info}
@@ -18,7 +18,7 @@ use Rattle.prop_procedures.specs.Fitting.{kind_at}
 use Rattle.prop_procedures.specs.declared.shape.Kinded.{Kinded}
 use Rattle.prop_contents.specs.Contents.{Entry, beliefs, content_of}
 use Rattle.prop_contents.specs.Changes.{not_on}
-use Rattle.prop_contents.proofs.Dropping.{content_forgotten}
+use Rattle.prop_contents.proofs.DroppingLaws.{content_forgotten}
 use Rattle.prop_cells.specs.declared.instance.Statement.{Statement}
 use Rattle.prop_cells.specs.Problems.{Problem, Assignment, IsSolution, Entails}
 use Rattle.prop_cells.specs.inner.Problems.{Premises, Satisfies, Meets}

@@ -1,15 +1,14 @@
 -- What founded entries say together is entailed, and by few premises.
-use Rattle.std.proofs.Common.{◌≡◌, ◌∙◌, ◌+◌, ◌<◌, ◌++◌, length, take, ℕ, suc, Bool, true, false, IsTrue, ◌||◌, List, []}
-use Rattle.std.proofs.Common.{◌∷◌, get_or, refl, sym, ap, arith, Option, Some, None, All, Contains}
+use Rattle.std.proofs.Common.{◌≡◌, ◌∙◌, ℕ, suc, Bool, true, false, IsTrue, ◌||◌, List, [], ◌∷◌, get_or, refl, sym}
+use Rattle.std.proofs.Common.{arith, Option, Some, None, All, Contains}
 use Rattle.std.specs.List.{list_any, AllZip}
 use Rattle.std.proofs.lemmas.List.Elements.{All-weaker, All-contains, All-cons}
-use Rattle.std.proofs.lemmas.List.{take_more}
-use Rattle.std.proofs.lemmas.List.Folds.{Any-from_list_any, list_any-append}
+use Rattle.std.proofs.lemmas.List.Folds.{Any-from_list_any}
 use Rattle.prop_lattice.specs.declared.info.Info.{Info}
 use Rattle.prop_lattice.specs.declared.info.Info.TheVariants.{Nothing, Contradiction}
 use Rattle.prop_lattice.specs.Order.{Below, merge_of}
 use Rattle.prop_lattice.specs.laws.OrderLaws.{info_laws}
-use Rattle.prop_numbers.specs.Sets.{set_of, is_within, union, IsPart, IsSame}
+use Rattle.prop_numbers.specs.Sets.{set_of, is_within, IsPart}
 use Rattle.prop_numbers.proofs.WithinLemmas.{within_has, within_from}
 use Rattle.prop_tms.specs.Beliefs.{belief_of, IsLean}
 use Rattle.prop_tms.proofs.BeliefLemmas.{belief_below}
@@ -20,9 +19,7 @@ use Rattle.prop_cells.specs.Problems.{Problem, Assignment, IsSolution, Entails}
 use Rattle.prop_cells.specs.inner.Problems.{Premises, Satisfies, IsContradictory}
 use Rattle.prop_cells.specs.Problems.{is_member}
 use Rattle.prop_cells.specs.Reach.{Reaches, Explains, IsConflict}
-use Rattle.prop_cells.proofs.RowLemmas.{or_none}
-use Rattle.prop_cells.specs.Data.{Data, IsFounded, IsKept, IsClash}
-use Rattle.prop_cells.specs.Data.{problem_of}
+use Rattle.prop_cells.specs.Data.{Data, IsFounded, IsKept, IsClash, problem_of}
 
 -- ---- more premises
 

@@ -8,24 +8,21 @@ use Rattle.std.proofs.lemmas.List.{get_or_default, get_or-set_other, get_or-set_
 use Rattle.std.proofs.lemmas.List.{length-set, length-take}
 use Rattle.std.proofs.lemmas.List.Folds.{Any-from_list_any}
 use Rattle.std.proofs.lemmas.List.Elements.{All-weaker, All-push, All-contains}
-use Rattle.prop_lattice.specs.declared.info.Info.TheVariants.{Nothing}
-use Rattle.prop_lattice.specs.Order.{Below, merge_of}
+use Rattle.prop_lattice.specs.Order.{Below}
 use Rattle.prop_lattice.specs.laws.OrderLaws.{info_laws}
 use Rattle.prop_lattice.specs.Rank.{IsOf}
 use Rattle.prop_numbers.specs.Sets.{set_of, union, is_within, is_at_most_one_of, IsSame, IsPart}
-use Rattle.prop_tms.specs.Beliefs.{belief_of, Trims}
 use Rattle.prop_tms.proofs.BeliefLemmas.{belief_below, below_belief}
 use Rattle.prop_tms.proofs.BeliefUses.{belief_of-more}
 use Rattle.prop_procedures.specs.declared.shape.Kinded.{Kinded}
 use Rattle.prop_procedures.specs.Fitting.{kind_at}
 use Rattle.prop_contents.specs.Contents.{Entry, beliefs, content_of, support_of}
-use Rattle.prop_contents.specs.Changes.{TrimsAt, derived_of, most_derived}
+use Rattle.prop_contents.specs.Changes.{TrimsAt, derived_of}
 use Rattle.prop_contents.proofs.Lists.{get_or-push_default}
 use Rattle.prop_cells.specs.declared.instance.Statement.{Statement}
 use Rattle.prop_cells.specs.Problems.{is_member}
 use Rattle.prop_cells.specs.inner.Problems.{Premises}
-use Rattle.prop_cells.specs.Data.{Data, IsStated, IsWellMade}
-use Rattle.prop_cells.specs.Data.{told_of}
+use Rattle.prop_cells.specs.Data.{Data, IsStated, IsWellMade, told_of}
 use Rattle.prop_cells.specs.inner.Data.{IsStored, AreTold}
 
 -- a cell was told of under these premises too

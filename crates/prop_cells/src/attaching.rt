@@ -94,6 +94,7 @@ pub(crate) fn sides_given(params: &[Param], given: Option<usize>) -> Option<(Sid
 }
 
 /// An instance as it is asked for: a parameter by its number or none, and cells by their numbers.
+#[derive(Drop)]
 pub(crate) struct Asked<'a> {
     pub(crate) param: Option<usize>,
     pub(crate) ins: &'a [usize],

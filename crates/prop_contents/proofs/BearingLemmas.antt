@@ -15,7 +15,7 @@ use Rattle.prop_contents.specs.Contents.{Entry, beliefs, content_of}
 use Rattle.prop_contents.specs.Changes.{AddsAt, TrimsAt, not_on, entries_below}
 use Rattle.prop_contents.specs.inner.Bearing.{BearOn, AreSame, UnitesAt}
 use Rattle.prop_contents.proofs.Lists.{All-from_contains, get_or-push_default}
-use Rattle.prop_contents.proofs.Dropping.{content_forgotten}
+use Rattle.prop_contents.proofs.DroppingLaws.{content_forgotten}
 
 -- ---- what two worldviews believe alike
 

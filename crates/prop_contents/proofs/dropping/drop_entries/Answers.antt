@@ -1,6 +1,6 @@
 use Rattle.std.proofs.Common.{◌∙◌, refl, ap, add-one, slice_set}
 use Rattle.prop_contents.specs.Changes.{not_on}
-use Rattle.prop_contents.proofs.Dropping.{first_gone, first_gone-at, first_gone-more, first_gone-all}
+use Rattle.prop_contents.proofs.DroppingLaws.{first_gone, first_gone-at, first_gone-more, first_gone-all}
 use Rattle.prop_contents.proofs.dropping.drop_entries.Goals as goal
 
 pub loop-content-init : goal.loop-content-init

@@ -1,5 +1,5 @@
 use Rattle.std.proofs.Common.{◌≡◌}
-use Rattle.prop_contents.proofs.Dropping.{first_gone}
+use Rattle.prop_contents.proofs.DroppingLaws.{first_gone}
 use Rattle.prop_contents.proofs.dropping.drop_entries.Given as goal
 
 abbrev pub invariant-loop-content : goal.invariant-loop-content

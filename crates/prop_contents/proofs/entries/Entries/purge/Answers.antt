@@ -1,6 +1,6 @@
 use Rattle.std.proofs.Common.{sym, subst}
 use Rattle.prop_contents.proofs.BearingLemmas.{AreAmong, bear_fewer, forgotten_among}
-use Rattle.prop_contents.proofs.Dropping.{written_back}
+use Rattle.prop_contents.proofs.DroppingLaws.{written_back}
 use Rattle.prop_contents.proofs.entries.Entries.purge.Goals as goal
 
 pub invariant_of-self : goal.invariant_of-self
