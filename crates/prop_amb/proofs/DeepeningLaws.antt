@@ -3,8 +3,9 @@ use Rattle.std.proofs.Common.{◌≡◌, ◌∙◌, ℕ, ◌+◌, ◌-◌, ◌<�
 use Rattle.std.proofs.Common.{inr, arith}
 use Rattle.prop_numbers.specs.Sets.{Members, set_of}
 use Rattle.prop_procedures.specs.Stored.{Stored}
+use Rattle.prop_contents.specs.Contents.{beliefs}
 use Rattle.prop_cells.specs.Problems.{Problem}
-use Rattle.prop_cells.specs.Data.{Data, IsFree, beliefs, problem_of}
+use Rattle.prop_cells.specs.Data.{Data, IsFree, problem_of}
 use Rattle.prop_nogoods.specs.Stores.{has_part}
 use Rattle.prop_scheduler.specs.Turns.{IsUnderWay, IsSettled}
 use Rattle.prop_scheduler.specs.Potential.{potential, most_steps}

@@ -7,8 +7,9 @@ use Rattle.prop_premises.specs.declared.choice.Choice.{Choice}
 use Rattle.prop_premises.specs.Origins.{Origin, choices_of}
 use Rattle.prop_premises.specs.ChoiceLists.{IsChoiceList, place_of, lists_count}
 use Rattle.prop_procedures.specs.Stored.{Stored}
+use Rattle.prop_contents.specs.Contents.{beliefs}
 use Rattle.prop_cells.specs.Problems.{Problem, IsConsistent}
-use Rattle.prop_cells.specs.Data.{Data, beliefs, problem_of}
+use Rattle.prop_cells.specs.Data.{Data, problem_of}
 use Rattle.prop_scheduler.specs.Turns.{IsUnderWay}
 use Rattle.prop_scheduler.specs.Potential.{potential, most_steps}
 use Rattle.prop_scheduler.specs.Shifts.{AreShifted}

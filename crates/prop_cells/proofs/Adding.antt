@@ -14,12 +14,15 @@ use Rattle.prop_tms.specs.Beliefs.{belief_of}
 use Rattle.prop_tms.proofs.BeliefUses.{said_kept}
 use Rattle.prop_procedures.specs.declared.shape.Kinded.{Kinded}
 use Rattle.prop_procedures.specs.Stored.{span_kind}
+use Rattle.prop_contents.specs.Contents.{Entry, beliefs, content_of, support_of}
+use Rattle.prop_contents.specs.Changes.{AddsAt}
+use Rattle.prop_contents.proofs.Lists.{All-from_contains}
 use Rattle.prop_cells.specs.Problems.{Assignment, MergesAt, is_member}
 use Rattle.prop_cells.specs.inner.Problems.{Premises, AreOfKinds}
 use Rattle.prop_procedures.specs.Fitting.{kind_at}
-use Rattle.prop_cells.specs.Data.{Data, Entry, IsWellMade, AddsAt, Merges, beliefs, content_of, support_of}
+use Rattle.prop_cells.specs.Data.{Data, IsWellMade, Merges}
 use Rattle.prop_cells.proofs.Fitted.{merge_of_kind}
-use Rattle.prop_cells.proofs.Fixpoint.{All-from_contains, merges_grow}
+use Rattle.prop_cells.proofs.Fixpoint.{merges_grow}
 
 -- where each entry is of its cell's kind, so is what is believed
 pub beliefs_of_kinds : (d : Data) → IsWellMade d → (s : Premises) → AreOfKinds d.kinds (beliefs s d.contents)

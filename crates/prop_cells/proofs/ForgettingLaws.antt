@@ -1,9 +1,9 @@
 -- What stays where the statements under a premise go.
 use Rattle.std.proofs.Common.{◌≡◌, ◌∙◌, ◌==◌, ℕ, Bool, true, false, not, ◌&&◌, IsTrue, All, Contains, List, [], ◌∷◌}
-use Rattle.std.proofs.Common.{Option, Some, None, map, filter, length, get_or, slice_index_or, refl, sym, ap, ◌⊎◌, inl}
-use Rattle.std.proofs.Common.{inr, zero, suc, arith, ◌<◌, ◌≤◌, ◌++◌, take, drop, slice_set}
+use Rattle.std.proofs.Common.{Option, Some, None, map, filter, get_or, slice_index_or, refl, sym, ap, ◌⊎◌, inl, inr}
+use Rattle.std.proofs.Common.{suc, arith}
 use Rattle.std.proofs.lemmas.Bool.Decides.{eqb_tells}
-use Rattle.std.proofs.lemmas.List.{length-map, take-append-le, take_all}
+use Rattle.std.proofs.lemmas.List.{length-map}
 use Rattle.std.proofs.lemmas.List.Elements.{All-contains, All-cons, All-filter, All-get_or, All-weaker, filter_passes}
 use Rattle.std.proofs.lemmas.List.Elements.{All-contains_itself}
 use Rattle.prop_lattice.specs.declared.info.Info.{Info}
@@ -16,6 +16,9 @@ use Rattle.prop_tms.proofs.BeliefUses.{belief_of-without, belief_of-more}
 use Rattle.prop_procedures.specs.Stored.{Stored}
 use Rattle.prop_procedures.specs.Fitting.{kind_at}
 use Rattle.prop_procedures.specs.declared.shape.Kinded.{Kinded}
+use Rattle.prop_contents.specs.Contents.{Entry, beliefs, content_of}
+use Rattle.prop_contents.specs.Changes.{not_on}
+use Rattle.prop_contents.proofs.DroppingLaws.{content_forgotten}
 use Rattle.prop_cells.specs.declared.instance.Statement.{Statement}
 use Rattle.prop_cells.specs.Problems.{Problem, Assignment, IsSolution, Entails}
 use Rattle.prop_cells.specs.inner.Problems.{Premises, Satisfies, Meets}
@@ -24,9 +27,9 @@ use Rattle.prop_cells.specs.inner.Problems.{IsContradictory}
 use Rattle.prop_cells.specs.Reach.{Reaches}
 use Rattle.prop_cells.specs.inner.Reach.{IsRelatedAt}
 use Rattle.prop_cells.specs.Reach.Reaches.{stated, passed}
-use Rattle.prop_cells.specs.Data.{Data, Entry, IsStated, IsWellMade, IsFounded, IsKept, beliefs, content_of, problem_of}
+use Rattle.prop_cells.specs.Data.{Data, IsStated, IsWellMade, IsFounded, IsKept, problem_of}
 use Rattle.prop_cells.specs.inner.Data.{IsStored}
-use Rattle.prop_cells.specs.Forgetting.{Forgets, forgotten, not_on, not_under}
+use Rattle.prop_cells.specs.Forgetting.{Forgets, forgotten, not_under}
 use Rattle.prop_cells.specs.inner.Forgetting.{is_under}
 
 -- ---- a problem
@@ -133,46 +136,11 @@ forgets_data library p d = record {
   constraints = All-contains_itself _;
 }
 
-pub content_forgotten : (p : ℕ) (contents : List (List Entry)) (cell : ℕ)
-    → content_of (map (λ entries. not_on p entries) contents) cell ≡ not_on p (content_of contents cell)
-content_forgotten p [] cell = refl
-content_forgotten p (entries ∷ contents) zero = refl
-content_forgotten p (entries ∷ contents) (suc cell) = content_forgotten p contents cell
-
 -- who doesn't believe p believes what they did
 pub beliefs_forgotten : (p : ℕ) (s : Premises) (contents : List (List Entry)) (cell : ℕ) → s p ≡ false
     → beliefs s (map (λ entries. not_on p entries) contents) cell ≡ beliefs s contents cell
 beliefs_forgotten p s contents cell lacks =
     rw (content_forgotten p contents cell) (belief_of-without Nothing merge_of p s lacks (content_of contents cell))
-
--- ---- a loop over the cells
-
--- the entries on p are gone from the first n cells
-abbrev pub first_gone : ℕ → ℕ → List (List Entry) → List (List Entry)
-first_gone p zero contents = contents
-first_gone p (suc n) [] = []
-first_gone p (suc n) (entries ∷ contents) = not_on p entries ∷ first_gone p n contents
-
-pub first_gone-at : (p n : ℕ) (contents : List (List Entry)) (d : List Entry)
-    → get_or (first_gone p n contents) n d ≡ get_or contents n d
-first_gone-at p zero contents d = refl
-first_gone-at p (suc n) [] d = refl
-first_gone-at p (suc n) (entries ∷ contents) d = first_gone-at p n contents d
-
-pub first_gone-more : (p n : ℕ) (contents : List (List Entry)) (d : List Entry) → n < length contents
-    → slice_set (first_gone p n contents) n (not_on p (get_or contents n d)) ≡ first_gone p (suc n) contents
-first_gone-more p n [] d l = absurd (omega (arith, l))
-first_gone-more p zero (entries ∷ contents) d l = refl
-first_gone-more p (suc n) (entries ∷ contents) d l =
-    ap (λ x. not_on p entries ∷ x) (first_gone-more p n contents d (omega (arith, l)))
-
-pub first_gone-all : (p n : ℕ) (contents : List (List Entry)) → length contents ≤ n
-    → first_gone p n contents ≡ map (λ entries. not_on p entries) contents
-first_gone-all p zero [] l = refl
-first_gone-all p zero (entries ∷ contents) l = absurd (omega (arith, l))
-first_gone-all p (suc n) [] l = refl
-first_gone-all p (suc n) (entries ∷ contents) l =
-    ap (λ x. not_on p entries ∷ x) (first_gone-all p n contents (omega (arith, l)))
 
 -- ---- what the data keeps
 
@@ -269,11 +237,3 @@ module _ (p : ℕ) where
           h.told.each;
     };
   }
-
--- all contents, written back in their place
-pub written_back : (p : ℕ) (old new : List (List Entry)) (n : ℕ) → n ≡ length old
-    → new ≡ map (λ entries. not_on p entries) old
-    → take n (new ++ drop (length new) old) ≡ map (λ entries. not_on p entries) old
-written_back p old new n count is =
-    let all : length new ≡ n = ap length is ∙ length-map old (λ entries. not_on p entries) ∙ sym count in
-    take-append-le n new (drop (length new) old) (omega (arith, all)) ∙ take_all n new (omega (arith, all)) ∙ is

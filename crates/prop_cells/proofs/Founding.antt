@@ -1,27 +1,25 @@
 -- What founded entries say together is entailed, and by few premises.
-use Rattle.std.proofs.Common.{◌≡◌, ◌∙◌, ◌+◌, ◌<◌, ◌++◌, length, take, ℕ, suc, Bool, true, false, IsTrue, ◌||◌, List, []}
-use Rattle.std.proofs.Common.{◌∷◌, get_or, refl, sym, ap, arith, Option, Some, None, All, Contains}
+use Rattle.std.proofs.Common.{◌≡◌, ◌∙◌, ℕ, suc, Bool, true, false, IsTrue, ◌||◌, List, [], ◌∷◌, get_or, refl, sym}
+use Rattle.std.proofs.Common.{arith, Option, Some, None, All, Contains}
 use Rattle.std.specs.List.{list_any, AllZip}
 use Rattle.std.proofs.lemmas.List.Elements.{All-weaker, All-contains, All-cons}
-use Rattle.std.proofs.lemmas.List.{take_more}
-use Rattle.std.proofs.lemmas.List.Folds.{Any-from_list_any, list_any-append}
+use Rattle.std.proofs.lemmas.List.Folds.{Any-from_list_any}
 use Rattle.prop_lattice.specs.declared.info.Info.{Info}
 use Rattle.prop_lattice.specs.declared.info.Info.TheVariants.{Nothing, Contradiction}
 use Rattle.prop_lattice.specs.Order.{Below, merge_of}
 use Rattle.prop_lattice.specs.laws.OrderLaws.{info_laws}
-use Rattle.prop_numbers.specs.Sets.{set_of, is_within, union, IsPart, IsSame}
+use Rattle.prop_numbers.specs.Sets.{set_of, is_within, IsPart}
 use Rattle.prop_numbers.proofs.WithinLemmas.{within_has, within_from}
 use Rattle.prop_tms.specs.Beliefs.{belief_of, IsLean}
 use Rattle.prop_tms.proofs.BeliefLemmas.{belief_below}
 use Rattle.prop_tms.proofs.BeliefUses.{said_by, within_lean, lean_is_enough}
 use Rattle.prop_procedures.specs.Stored.{Stored}
+use Rattle.prop_contents.specs.Contents.{Entry, IsLeanAt, IsSupport, beliefs, content_of}
 use Rattle.prop_cells.specs.Problems.{Problem, Assignment, IsSolution, Entails}
 use Rattle.prop_cells.specs.inner.Problems.{Premises, Satisfies, IsContradictory}
 use Rattle.prop_cells.specs.Problems.{is_member}
 use Rattle.prop_cells.specs.Reach.{Reaches, Explains, IsConflict}
-use Rattle.prop_cells.proofs.RowLemmas.{or_none}
-use Rattle.prop_cells.specs.Data.{Data, Entry, IsFounded, IsKept, IsLeanAt, IsSupport, IsClash, beliefs, content_of}
-use Rattle.prop_cells.specs.Data.{problem_of}
+use Rattle.prop_cells.specs.Data.{Data, IsFounded, IsKept, IsClash, problem_of}
 
 -- ---- more premises
 
@@ -166,29 +164,6 @@ clash_conflicts library d s support kept clash =
       cell = clash.cell;
       related = why.related;
     }
-
--- ---- one support more
-
-zip_push : {A B : Type 0} (R : A → B → Type 0) (xs : List A) (ys : List B) (x : A) (y : B) → AllZip R xs ys → R x y
-    → AllZip R (xs ++ x ∷ []) (ys ++ y ∷ [])
-zip_push R [] [] x y h r = (r, tt)
-zip_push R [] (z ∷ ys) x y h r = absurd h
-zip_push R (z ∷ xs) [] x y h r = absurd h
-zip_push R (a ∷ xs) (b ∷ ys) x y h r = (h.0, zip_push R xs ys x y h.1 r)
-
-pub support_more : (s : Premises) (contents : List (List Entry)) (cells : List ℕ) (i : ℕ) (support part new : List ℕ)
-    → i < length cells → IsSupport s contents (take i cells) support →
-    IsLeanAt s contents (get_or cells i 0) part → IsSame (set_of new) (union (set_of support) (set_of part))
-    → IsSupport s contents (take (i + 1) cells) new
-support_more s contents cells i support part new l h lean is = rw (take_more cells i 0 l) (record {
-  parts = h.parts ++ part ∷ [];
-  lean = zip_push (IsLeanAt s contents) (take i cells) h.parts (get_or cells i 0) part h.lean lean;
-  union = λ p.
-      let f : List ℕ → Bool = λ other. set_of other p in
-      is p ∙ ap (λ b. b || set_of part p) (h.union p)
-      ∙ ap (λ b. list_any f h.parts || b) (sym (or_none (set_of part p)))
-      ∙ sym (list_any-append f h.parts (part ∷ []));
-})
 
 -- the union of lean supports is believed
 pub support_believed : (library : List Stored) (d : Data) (s : Premises) (cells support : List ℕ) → IsKept library d

@@ -10,10 +10,10 @@ use Rattle.std.proofs.lemmas.List.{length-append, length-take, get_or-take, get_
 use Rattle.std.proofs.lemmas.List.{length-map, map-set, set-get_or, get_or-map, append-nil, map-append}
 use Rattle.std.proofs.lemmas.List.Elements.{All-head, All-tail, All-more, All-weaker}
 use Rattle.std.proofs.lemmas.List.Folds.{list_any_more}
+use Rattle.prop_contents.proofs.Lists.{get_or-push_default}
 use Rattle.prop_cells.specs.Instances.{Instance, numbers_from}
 use Rattle.prop_cells.specs.inner.Data.{AreRows}
 use Rattle.prop_cells.specs.inner.Rooms.{row_items, HasRoom, ChangesAt, Noted, TakenBack}
-use Rattle.prop_cells.proofs.Lists.{get_or-push_default}
 
 pub or_none : (b : Bool) → (b || false) ≡ b
 or_none true = refl

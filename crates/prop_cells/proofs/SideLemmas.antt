@@ -15,13 +15,15 @@ use Rattle.prop_tms.specs.Beliefs.{Subsumes, joined_with}
 use Rattle.prop_tms.proofs.KeptLemmas.{grown_filter}
 use Rattle.prop_procedures.specs.Fitting.{kind_at}
 use Rattle.prop_procedures.specs.Stored.{Stored}
+use Rattle.prop_contents.specs.Contents.{Entry, content_of}
+use Rattle.prop_contents.specs.Changes.{StandsAt, entries_below}
 use Rattle.prop_cells.specs.declared.instance.Statement.{Statement}
 use Rattle.prop_cells.specs.Problems.{Problem}
 use Rattle.prop_cells.specs.Reach.{Reaches}
 use Rattle.prop_cells.specs.Reach.Reaches.{stated, passed}
-use Rattle.prop_cells.specs.Data.{Data, Entry, IsFounded, IsKept, States, content_of, problem_of}
+use Rattle.prop_cells.specs.Data.{Data, IsFounded, IsKept, States, problem_of}
 use Rattle.prop_cells.specs.Sides.{sides_at, StatesAll, AreUnderBelow}
-use Rattle.prop_cells.specs.inner.Sides.{StandsAt, entries_below, statements_back}
+use Rattle.prop_cells.specs.inner.Sides.{statements_back}
 use Rattle.prop_cells.proofs.Backing.{take_more_of}
 use Rattle.prop_cells.proofs.Keeping.{kept_statement}
 

@@ -8,23 +8,22 @@ use Rattle.std.proofs.lemmas.List.{get_or_default, get_or-set_other, get_or-set_
 use Rattle.std.proofs.lemmas.List.{length-set, length-take}
 use Rattle.std.proofs.lemmas.List.Folds.{Any-from_list_any}
 use Rattle.std.proofs.lemmas.List.Elements.{All-weaker, All-push, All-contains}
-use Rattle.prop_lattice.specs.declared.info.Info.TheVariants.{Nothing}
-use Rattle.prop_lattice.specs.Order.{Below, merge_of}
+use Rattle.prop_lattice.specs.Order.{Below}
 use Rattle.prop_lattice.specs.laws.OrderLaws.{info_laws}
 use Rattle.prop_lattice.specs.Rank.{IsOf}
 use Rattle.prop_numbers.specs.Sets.{set_of, union, is_within, is_at_most_one_of, IsSame, IsPart}
-use Rattle.prop_tms.specs.Beliefs.{belief_of, Trims}
 use Rattle.prop_tms.proofs.BeliefLemmas.{belief_below, below_belief}
 use Rattle.prop_tms.proofs.BeliefUses.{belief_of-more}
 use Rattle.prop_procedures.specs.declared.shape.Kinded.{Kinded}
 use Rattle.prop_procedures.specs.Fitting.{kind_at}
+use Rattle.prop_contents.specs.Contents.{Entry, beliefs, content_of, support_of}
+use Rattle.prop_contents.specs.Changes.{TrimsAt, derived_of}
+use Rattle.prop_contents.proofs.Lists.{get_or-push_default}
 use Rattle.prop_cells.specs.declared.instance.Statement.{Statement}
 use Rattle.prop_cells.specs.Problems.{is_member}
 use Rattle.prop_cells.specs.inner.Problems.{Premises}
-use Rattle.prop_cells.specs.Data.{Data, Entry, IsStated, IsWellMade, TrimsAt, beliefs, content_of, derived_of}
-use Rattle.prop_cells.specs.Data.{most_derived, support_of, told_of}
+use Rattle.prop_cells.specs.Data.{Data, IsStated, IsWellMade, told_of}
 use Rattle.prop_cells.specs.inner.Data.{IsStored, AreTold}
-use Rattle.prop_cells.proofs.Lists.{get_or-push_default}
 
 -- a cell was told of under these premises too
 pub record TellsAt (old new : List (List ℕ)) (cell : ℕ) (support : List ℕ) : Type 0 where
@@ -101,34 +100,6 @@ told_taken d told count made h = record {
 }
 
 -- ---- entries that go
-
-pub trims_at : (s told : Premises) (contents : List (List Entry)) (cell : ℕ) (old new : List Entry)
-    → cell < length contents → old ≡ slice_index_or contents cell old → most_derived < length (derived_of told old)
-    → Trims Nothing merge_of told s old new →
-    TrimsAt s told contents (slice_set contents cell new) cell
-trims_at s told contents cell old new l at many t =
-    let is : old ≡ content_of contents cell = at ∙ get_or_default contents cell old [] l in
-    let now : content_of (slice_set contents cell new) cell ≡ new = get_or-set_same contents cell new [] l in
-    record {
-      same_length = length-set contents cell new;
-      among = rw (now, ← is) t.among;
-      belief = ap (belief_of Nothing merge_of s) now ∙ t.belief ∙ ap (belief_of Nothing merge_of s) is;
-      few = λ le. let n = ap (λ es. length (derived_of told es)) is in absurd (omega (arith, n, le, many));
-      others = λ c ne. get_or-set_other contents cell c new [] ne;
-    }
-
-pub trim_keeps : (s told : Premises) (contents : List (List Entry)) (cell : ℕ) (old new : List Entry)
-    → cell < length contents → old ≡ slice_index_or contents cell old → Trims Nothing merge_of told s old new →
-    (e : Entry) → Contains (content_of contents cell) e → IsTrue (is_at_most_one_of told e.support)
-    → Contains (content_of (slice_set contents cell new) cell) e
-trim_keeps s told contents cell old new l at t e c is_told =
-    let is : old ≡ content_of contents cell = at ∙ get_or_default contents cell old [] l in
-    rw (get_or-set_same contents cell new [] l) (t.kept e (rw (← is) at c) is_told)
-
--- what is read at a place that there is
-pub read_there : {X : Type 0} (xs : List X) (i : ℕ) (x d : X) → i < length xs → x ≡ slice_index_or xs i x
-    → x ≡ slice_index_or xs i d
-read_there xs i x d l at = at ∙ get_or_default xs i x d l
 
 -- what rests on one of some premises alone rests on one of more
 one_of_more : (s t : Premises) → IsPart s t → (support : List ℕ) → is_at_most_one_of s support ≡ true

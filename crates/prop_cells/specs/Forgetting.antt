@@ -2,21 +2,17 @@
 use Rattle.std.specs.Prelude.{◌≡◌, ◌⊎◌, ◌==◌, ℕ, false, not, map, filter, All, Contains, List}
 use Rattle.std.specs.Prelude.{Some, slice_get}
 use Rattle.std.specs.Option.{option_map_or}
-use Rattle.prop_numbers.specs.Sets.{set_of}
 use Rattle.prop_procedures.specs.declared.shape.Kinded.{Kinded}
+use Rattle.prop_contents.specs.Changes.{not_on}
 use Rattle.prop_cells.specs.declared.instance.Statement.{Statement}
 use Rattle.prop_cells.specs.Problems.{Problem}
-use Rattle.prop_cells.specs.Data.{Data, Entry}
+use Rattle.prop_cells.specs.Data.{Data}
 
 -- the statements that don't stand under p, but under another premise or none
 abbrev pub not_under : ℕ → List Statement → List Statement
 not_under p = filter (λ x. not (option_map_or (λ q. q == p) x.premise false))
 
--- the entries that don't rest on p
-abbrev pub not_on : ℕ → List Entry → List Entry
-not_on p entries = filter (λ e. not (set_of e.support p)) entries
-
--- the data without the statements under p and the entries that rest on p
+-- no statement under p, and no entry that rests on it
 abbrev pub forgotten : ℕ → Data → Data
 forgotten p d = record d {
   contents = map (λ entries. not_on p entries) d.contents;

@@ -1,4 +1,3 @@
-pub mod Bearing
 pub mod Data
 pub mod Rooms
 pub mod Back

@@ -93,6 +93,14 @@ pub(crate) fn sides_given(params: &[Param], given: Option<usize>) -> Option<(Sid
     }
 }
 
+/// An instance as it is asked for: a parameter by its number or none, and cells by their numbers.
+#[derive(Drop)]
+pub(crate) struct Asked<'a> {
+    pub(crate) param: Option<usize>,
+    pub(crate) ins: &'a [usize],
+    pub(crate) out: usize,
+}
+
 /// The cell at a place, the output last.
 fn cell_at(ins: &[usize], out: usize, i: usize) -> usize
     requires { i ≤ length ins.now }
@@ -107,38 +115,38 @@ fn places(
     shapes: &[Shape],
     shape: Shape,
     held: &Cells,
-    ins: &[usize],
-    out: usize,
+    asked: &Asked<'_>,
 ) -> SmallVec<(Shape, Kinded), 129>
-    requires few { length ins.now ≤ 128 }
-    requires count { length ins.now ≡ length shapes.now }
-    requires cells { All (λ c. c < length held.now.kinds) (ins.now ++ out ∷ []) }
+    requires few { length asked.now.ins.now ≤ 128 }
+    requires count { length asked.now.ins.now ≡ length shapes.now }
+    requires cells { All (λ c. c < length held.now.kinds)
+        (asked.now.ins.now ++ asked.now.out ∷ []) }
     ensures { result.items ≡ zip (shapes.now ++ shape ∷ [])
-        (map (kind_at held.now.kinds) (ins.now ++ out ∷ [])) }
+        (map (kind_at held.now.kinds) (asked.now.ins.now ++ asked.now.out ∷ [])) }
 {
     let mut places = SmallVec::new(alloc);
-    for i in 0..ins.len() + 1 {
-        places.push_reserved((shape_at(shapes, shape, i), held.kind(cell_at(ins, out, i))));
+    for i in 0..asked.ins.len() + 1 {
+        let cell = cell_at(asked.ins, asked.out, i);
+        places.push_reserved((shape_at(shapes, shape, i), held.kind(cell)));
     }
     places
 }
 
-/// Whether the kinds of as many cells as the procedure has places fit them, with the parameter of a
-/// number or without one. It takes no memory.
+/// Whether the kinds of as many cells as the procedure has places fit them, with the parameter that
+/// is asked for. It takes no memory.
 pub(crate) fn kinds_fit<R: Rule + Drop>(
     alloc: Global,
     p: &Procedure<R>,
     held: &Cells,
-    param: Option<usize>,
-    ins: &[usize],
-    out: usize,
+    asked: &Asked<'_>,
 ) -> bool
-    requires count { length ins.now ≡ length p.now.ins.items }
-    requires cells { All (λ c. c < length held.now.kinds) (ins.now ++ out ∷ []) }
+    requires count { length asked.now.ins.now ≡ length p.now.ins.items }
+    requires cells { All (λ c. c < length held.now.kinds)
+        (asked.now.ins.now ++ asked.now.out ∷ []) }
     ensures { result ≡ kinds_fit (stored_as R.value_of p.now) held.now.kinds
-        (sides_given held.now.params param) (ins.now ++ out ∷ []) }
+        (sides_given held.now.params asked.now.param) (asked.now.ins.now ++ asked.now.out ∷ []) }
 {
-    let given = sides_given(held.params(), param);
-    let places = places(alloc, p.ins(), p.out(), held, ins, out);
+    let given = sides_given(held.params(), asked.param);
+    let places = places(alloc, p.ins(), p.out(), held, asked);
     are_right(p.need(), given, &places)
 }

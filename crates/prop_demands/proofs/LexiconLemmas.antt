@@ -29,7 +29,8 @@ use Rattle.prop_vocabulary.specs.Vocabulary as vocabularies
 use Rattle.prop_vocabulary.specs.Vocabulary.{Vocabulary, elements_of}
 use Rattle.prop_vocabulary.specs.Texts.{elements_of_kind}
 use Rattle.prop_vocabulary.proofs.CellLookups.{of_named}
-use Rattle.prop_cells.specs.Data.{Data, IsKept, beliefs}
+use Rattle.prop_contents.specs.Contents.{beliefs}
+use Rattle.prop_cells.specs.Data.{Data, IsKept}
 use Rattle.prop_cells.specs.Points.{AreFitting, ArePoints}
 use Rattle.prop_cells.specs.Problems.{is_member}
 use Rattle.prop_cells.proofs.Founding.{believed_entailed}

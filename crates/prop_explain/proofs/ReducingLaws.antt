@@ -6,11 +6,12 @@ use Rattle.prop_lattice.specs.Order.{Below}
 use Rattle.prop_lattice.specs.laws.OrderLaws.{info_laws}
 use Rattle.prop_numbers.specs.Sets.{Members, IsPart, set_of, without}
 use Rattle.prop_procedures.specs.Stored.{Stored}
+use Rattle.prop_contents.specs.Contents.{beliefs}
 use Rattle.prop_cells.specs.Problems.{Problem, Assignment, IsSolution, Entails, IsConsistent}
 use Rattle.prop_cells.specs.Problems.{is_member}
 use Rattle.prop_cells.specs.inner.Problems.{Meets}
 use Rattle.prop_cells.specs.Reach.{IsConflict}
-use Rattle.prop_cells.specs.Data.{Data, problem_of, beliefs}
+use Rattle.prop_cells.specs.Data.{Data, problem_of}
 use Rattle.prop_scheduler.specs.Agendas.{Waiting}
 use Rattle.prop_scheduler.specs.Potential.{most_steps}
 use Rattle.prop_cells.proofs.Keeping.{All-at}

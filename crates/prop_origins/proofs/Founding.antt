@@ -12,11 +12,12 @@ use Rattle.prop_numbers.specs.Sets.{set_of, IsSame}
 use Rattle.prop_procedures.specs.declared.shape.Kinded.{Kinded}
 use Rattle.prop_procedures.specs.Stored.{Stored, IsLawful, span_kind}
 use Rattle.prop_procedures.specs.Fitting.{kind_at}
+use Rattle.prop_contents.specs.Contents.{support_of}
 use Rattle.prop_cells.specs.declared.instance.Statement.{Statement}
 use Rattle.prop_cells.specs.Problems.{is_member, value_at}
 use Rattle.prop_cells.specs.inner.Problems.{Premises, AreOfKinds, value_on}
 use Rattle.prop_cells.specs.Instances.{Instance, IsFitting, IsWithin, constraint_of}
-use Rattle.prop_cells.specs.Data.{Data, IsKept, support_of}
+use Rattle.prop_cells.specs.Data.{Data, IsKept}
 use Rattle.prop_cells.proofs.Fixpoint.{map_agree}
 use Rattle.prop_cells.proofs.Fitted.{merge_of_kind, value_of_kind}
 use Rattle.prop_cells.proofs.Keeping.{All-at}

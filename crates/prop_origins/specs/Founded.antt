@@ -8,11 +8,12 @@ use Rattle.prop_lattice.specs.Rank.{IsOf}
 use Rattle.prop_numbers.specs.Sets.{set_of, IsSame}
 use Rattle.prop_procedures.specs.Stored.{Stored}
 use Rattle.prop_procedures.specs.Fitting.{kind_at}
+use Rattle.prop_contents.specs.Contents.{support_of}
 use Rattle.prop_cells.specs.declared.instance.Statement.{Statement}
 use Rattle.prop_cells.specs.Problems.{is_member, value_at}
 use Rattle.prop_cells.specs.inner.Problems.{Premises, Satisfies}
 use Rattle.prop_cells.specs.Instances.{Instance, constraint_of}
-use Rattle.prop_cells.specs.Data.{Data, support_of}
+use Rattle.prop_cells.specs.Data.{Data}
 use Rattle.prop_origins.specs.declared.part.Origin.{Origin}
 use Rattle.prop_origins.specs.declared.part.Origin.TheVariants.{Told, Called}
 use Rattle.prop_origins.specs.Parts.{Part, made, rests_on, calls_in, AreWanted}

@@ -5,10 +5,11 @@ use Rattle.std.proofs.lemmas.Bool.Decides.{eqb_tells}
 use Rattle.prop_lattice.specs.declared.info.Info.{Info}
 use Rattle.prop_lattice.specs.Order.{merge_of}
 use Rattle.prop_procedures.specs.Stored.{Stored}
+use Rattle.prop_contents.specs.Contents.{beliefs}
 use Rattle.prop_cells.specs.Problems.{Assignment, value_at}
 use Rattle.prop_cells.specs.inner.Problems.{Premises}
 use Rattle.prop_cells.specs.Instances.{constraint_of, readers_of}
-use Rattle.prop_cells.specs.Data.{Data, Merges, beliefs}
+use Rattle.prop_cells.specs.Data.{Data, Merges}
 use Rattle.prop_scheduler.specs.Agendas.{all_alerted, without}
 use Rattle.prop_scheduler.specs.Shifts.{Stirs}
 use Rattle.prop_scheduler.specs.Shifts.Stirs.{none as untouched, as_before, stirred}

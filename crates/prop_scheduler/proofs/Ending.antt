@@ -4,10 +4,11 @@ use Rattle.std.proofs.lemmas.List.{length-map}
 use Rattle.std.proofs.lemmas.List.Elements.{All-weaker}
 use Rattle.std.proofs.lemmas.Option.{slice_get_within}
 use Rattle.prop_procedures.specs.Stored.{Stored}
+use Rattle.prop_contents.specs.Contents.{beliefs}
 use Rattle.prop_cells.proofs.Adding.{beliefs_of_kinds}
 use Rattle.prop_cells.specs.inner.Problems.{Premises}
 use Rattle.prop_cells.specs.Instances.{constraint_of}
-use Rattle.prop_cells.specs.Data.{Data, beliefs, problem_of}
+use Rattle.prop_cells.specs.Data.{Data, problem_of}
 use Rattle.prop_scheduler.specs.Agendas.{Waiting, IsLine}
 use Rattle.prop_scheduler.specs.Turns.{IsUnderWay, Turns}
 use Rattle.prop_scheduler.specs.Turns.Turns.{none, more}

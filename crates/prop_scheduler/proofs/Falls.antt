@@ -8,11 +8,12 @@ use Rattle.prop_lattice.specs.declared.info.Info.{Info}
 use Rattle.prop_lattice.proofs.RankLemmas.{rank_falls}
 use Rattle.prop_procedures.specs.declared.shape.Kinded.{Kinded}
 use Rattle.prop_procedures.specs.Stored.{Stored, span_kind}
+use Rattle.prop_contents.specs.Contents.{Entry, beliefs}
 use Rattle.prop_cells.specs.Problems.{Assignment, MergesAt}
 use Rattle.prop_cells.specs.inner.Problems.{Premises, AreOfKinds}
 use Rattle.prop_procedures.specs.Fitting.{kind_at}
 use Rattle.prop_cells.specs.Instances.{Instance, readers_of}
-use Rattle.prop_cells.specs.Data.{Data, Entry, Merges, beliefs, problem_of}
+use Rattle.prop_cells.specs.Data.{Data, Merges, problem_of}
 use Rattle.prop_cells.proofs.Fixpoint.{merges_grow}
 use Rattle.prop_cells.proofs.Reading.{few_readers}
 use Rattle.prop_scheduler.specs.Potential.{rank_in, input_places, potential}

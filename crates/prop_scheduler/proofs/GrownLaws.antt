@@ -10,12 +10,14 @@ use Rattle.prop_lattice.specs.laws.OrderLaws.{info_laws}
 use Rattle.prop_numbers.specs.Sets.{IsPart}
 use Rattle.prop_tms.proofs.BeliefUses.{belief_of-more}
 use Rattle.prop_procedures.specs.Stored.{Stored}
+use Rattle.prop_contents.specs.Contents.{beliefs, content_of}
+use Rattle.prop_contents.proofs.Lists.{All-from_contains}
 use Rattle.prop_cells.specs.Problems.{Assignment, MergesAt, Constraint, value_at}
 use Rattle.prop_cells.specs.inner.Problems.{Premises, AreOfKinds, Meets}
 use Rattle.prop_cells.specs.Instances.{Instance, IsWithin, constraint_of, readers_of}
-use Rattle.prop_cells.specs.Data.{Data, IsWellMade, beliefs, content_of, problem_of}
+use Rattle.prop_cells.specs.Data.{Data, IsWellMade, problem_of}
 use Rattle.prop_cells.proofs.Adding.{beliefs_of_kinds}
-use Rattle.prop_cells.proofs.Fixpoint.{All-from_contains, map_agree, meets_same}
+use Rattle.prop_cells.proofs.Fixpoint.{map_agree, meets_same}
 use Rattle.prop_cells.proofs.Keeping.{All-at}
 use Rattle.prop_cells.proofs.Reading.{readers_are, few_readers}
 use Rattle.prop_scheduler.specs.Agendas.{AllAlerted, all_alerted}

@@ -15,9 +15,10 @@ use Rattle.prop_numbers.proofs.WithinLemmas.{within_has}
 use Rattle.prop_tms.specs.Beliefs.{belief_of}
 use Rattle.prop_refusals.specs.declared.refusal.Refusal.{Refusal}
 use Rattle.prop_procedures.specs.declared.shape.Kinded.{Kinded}
+use Rattle.prop_contents.specs.Contents.{Entry, beliefs}
+use Rattle.prop_contents.specs.Knowing.{known_at, AreBeliefs, ArePassed}
 use Rattle.prop_cells.specs.inner.Problems.{Premises}
-use Rattle.prop_cells.specs.Data.{Data, Entry, beliefs}
-use Rattle.prop_cells.specs.Knowing.{known_at, AreBeliefs, ArePassed}
+use Rattle.prop_cells.specs.Data.{Data}
 use Rattle.prop_scheduler.proofs.UnderWay.{beliefs_fresh}
 
 -- ---- one worldview

@@ -7,11 +7,13 @@ use Rattle.std.proofs.lemmas.List.Sums.{fold-append}
 use Rattle.prop_lattice.specs.declared.info.Info.{Info}
 use Rattle.prop_lattice.specs.Order.{Below}
 use Rattle.prop_procedures.specs.Stored.{Stored}
+use Rattle.prop_contents.specs.Contents.{beliefs}
+use Rattle.prop_contents.proofs.Lists.{All-from_contains}
 use Rattle.prop_cells.specs.Problems.{Constraint, value_at}
 use Rattle.prop_cells.specs.inner.Problems.{Premises, Meets}
 use Rattle.prop_cells.specs.Instances.{Instance, IsWithin, constraint_of, readers_of, writers_of}
-use Rattle.prop_cells.specs.Data.{Data, beliefs}
-use Rattle.prop_cells.proofs.Fixpoint.{All-from_contains, map_agree, meets_same}
+use Rattle.prop_cells.specs.Data.{Data}
+use Rattle.prop_cells.proofs.Fixpoint.{map_agree, meets_same}
 use Rattle.prop_cells.proofs.Reading.{readers_are, writers_cover, writers_below}
 use Rattle.prop_cells.proofs.Keeping.{All-at}
 use Rattle.prop_scheduler.specs.Agendas.{alerted, all_alerted}

@@ -11,9 +11,10 @@ use Rattle.prop_lattice.specs.Order.{Below}
 use Rattle.prop_lattice.specs.declared.info.Info.{Info}
 use Rattle.prop_lattice.specs.laws.OrderLaws.{info_laws}
 use Rattle.prop_numbers.specs.Sets.{is_within}
+use Rattle.prop_contents.specs.Contents.{beliefs, support_of}
 use Rattle.prop_cells.specs.declared.instance.Statement.{Statement}
 use Rattle.prop_cells.specs.inner.Problems.{Premises}
-use Rattle.prop_cells.specs.Data.{Data, States, beliefs, support_of}
+use Rattle.prop_cells.specs.Data.{Data, States}
 use Rattle.prop_cells.proofs.Adding.{adds_merges}
 use Rattle.prop_scheduler.specs.Agendas.{alerted, all_alerted}
 use Rattle.prop_scheduler.specs.Shifts.{Stirs}

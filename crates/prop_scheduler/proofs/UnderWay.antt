@@ -17,16 +17,17 @@ use Rattle.prop_tms.proofs.MergedLemmas.{join-bottom}
 use Rattle.prop_procedures.specs.declared.shape.Kinded.{Kinded}
 use Rattle.prop_procedures.specs.declared.shape.Param.{Param}
 use Rattle.prop_procedures.specs.Stored.{Stored}
+use Rattle.prop_contents.specs.Contents.{Entry, beliefs, support_of}
+use Rattle.prop_contents.proofs.Lists.{All-from_contains}
 use Rattle.prop_cells.specs.declared.instance.Statement.{Statement}
 use Rattle.prop_cells.specs.Problems.{OthersMeet, Constraint, MergesAt}
 use Rattle.prop_cells.specs.inner.Problems.{Premises, Meets}
 use Rattle.prop_cells.specs.Instances.{Instance, constraint_of, readers_of}
-use Rattle.prop_cells.specs.Data.{Data, Entry, IsKept, States, beliefs, support_of}
+use Rattle.prop_cells.specs.Data.{Data, IsKept, States}
 use Rattle.prop_cells.proofs.Adding.{adds_merges, adds_same}
 use Rattle.prop_cells.proofs.Making.{beliefs-push}
 use Rattle.prop_cells.specs.Sides.{sides_at, StatesAll}
 use Rattle.prop_cells.proofs.Fixpoint.{others_meet-step, merges_grow, below_same, meets_same, map_agree}
-use Rattle.prop_cells.proofs.Fixpoint.{All-from_contains}
 use Rattle.prop_cells.proofs.Reading.{readers_are}
 use Rattle.prop_scheduler.specs.Agendas.{AllAlerted}
 use Rattle.prop_scheduler.specs.Turns.{IsUnderWay}

@@ -12,9 +12,10 @@ use Rattle.prop_lattice.specs.declared.info.Info.TheVariants.{Nothing, Contradic
 use Rattle.prop_lattice.specs.Order.{merge_of}
 use Rattle.prop_tms.specs.Beliefs.{belief_of}
 use Rattle.prop_procedures.specs.declared.shape.Kinded.{Kinded}
+use Rattle.prop_contents.specs.Contents.{Entry, beliefs}
+use Rattle.prop_contents.proofs.Lists.{All-from_contains}
 use Rattle.prop_cells.specs.inner.Problems.{Premises}
-use Rattle.prop_cells.specs.Data.{Data, Entry, Merges, IsFree, beliefs}
-use Rattle.prop_cells.proofs.Fixpoint.{All-from_contains}
+use Rattle.prop_cells.specs.Data.{Data, Merges, IsFree}
 use Rattle.prop_cells.proofs.Making.{beliefs-push}
 use Rattle.prop_scheduler.specs.Agendas.{Alerted, FirstAlerted}
 use Rattle.prop_scheduler.specs.Watching.{IsWatched}

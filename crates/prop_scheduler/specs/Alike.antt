@@ -2,8 +2,9 @@
 -- and wait for the same go on alike, call by call.
 use Rattle.std.specs.Prelude.{◌≡◌, ℕ, List}
 use Rattle.prop_procedures.specs.Stored.{Stored}
+use Rattle.prop_contents.specs.Contents.{beliefs}
 use Rattle.prop_cells.specs.inner.Problems.{Premises}
-use Rattle.prop_cells.specs.Data.{Data, beliefs}
+use Rattle.prop_cells.specs.Data.{Data}
 use Rattle.prop_scheduler.specs.Shifts.{Stirs}
 use Rattle.prop_scheduler.specs.Turns.{Turns}
 

@@ -1,9 +1,10 @@
 -- Which instances wait once another set of premises is believed, and in which order. A cell shifts
 -- where something else is believed of it then.
 use Rattle.std.specs.Prelude.{◌≡◌, ◌≢◌, ◌+◌, ◌++◌, ℕ, List, drop, length}
+use Rattle.prop_contents.specs.Contents.{beliefs}
 use Rattle.prop_cells.specs.inner.Problems.{Premises}
 use Rattle.prop_cells.specs.Instances.{Instance, readers_of, writers_of}
-use Rattle.prop_cells.specs.Data.{Data, beliefs}
+use Rattle.prop_cells.specs.Data.{Data}
 use Rattle.prop_scheduler.specs.Agendas.{all_alerted, numbers_below}
 
 -- The line once the first n cells were gone through, the lowest first. A cell is stirred where the

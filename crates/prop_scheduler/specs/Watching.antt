@@ -1,8 +1,9 @@
 -- Which cells are watched: those that are to be looked at for contradictions.
 use Rattle.std.specs.Prelude.{◌≡◌, ◌<◌, ℕ, List, All, Contains, length}
 use Rattle.prop_lattice.specs.declared.info.Info.TheVariants.{Contradiction}
+use Rattle.prop_contents.specs.Contents.{beliefs}
 use Rattle.prop_cells.specs.inner.Problems.{Premises}
-use Rattle.prop_cells.specs.Data.{Data, beliefs}
+use Rattle.prop_cells.specs.Data.{Data}
 
 -- each watched number is that of a cell, and each cell that is believed to hold a contradiction is
 -- watched

@@ -1,7 +1,7 @@
 //! A network under way: a network with the agenda of what is to be done in it.
 ghost use Rattle.std.specs.Prelude.{◌≤◌, length};
 ghost use Rattle.prop_numbers.specs.Sets.{set_of};
-ghost use Rattle.prop_cells.specs.Knowing.{AreBeliefs};
+ghost use Rattle.prop_contents.specs.Knowing.{AreBeliefs};
 
 use crate::agenda::Agenda;
 use crate::seen::Seen;

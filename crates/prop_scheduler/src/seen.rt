@@ -1,8 +1,8 @@
 //! What was seen of what is believed, which is kept while the worldview stays.
 ghost use Rattle.std.specs.Prelude.{◌≡◌, [], IsTrue, List, OnOk};
 ghost use Rattle.prop_numbers.specs.Sets.{set_of, IsSame};
-ghost use Rattle.prop_cells.specs.Data.{Entry};
-ghost use Rattle.prop_cells.specs.Knowing.{AreBeliefs};
+ghost use Rattle.prop_contents.specs.Contents.{Entry};
+ghost use Rattle.prop_contents.specs.Knowing.{AreBeliefs};
 
 use prop_cells::{Known, Network};
 use prop_premises::{Shift, Worldview};

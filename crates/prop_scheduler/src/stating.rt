@@ -3,7 +3,8 @@ ghost use Rattle.std.specs.Prelude.{◌≡◌, ◌<◌, ◌⊎◌, true, false, 
 ghost use Rattle.std.specs.Prelude.{IfErr, length};
 ghost use Rattle.prop_lattice.specs.Order.{Below};
 ghost use Rattle.prop_numbers.specs.Sets.{set_of, is_within};
-ghost use Rattle.prop_cells.specs.Data.{States, support_of};
+ghost use Rattle.prop_contents.specs.Contents.{support_of};
+ghost use Rattle.prop_cells.specs.Data.{States};
 ghost use Rattle.prop_cells.specs.Refusing.{state_refusal};
 ghost use Rattle.prop_cells.specs.Instances.{readers_of};
 ghost use Rattle.prop_scheduler.specs.Shifts.{Stirs};

@@ -2,9 +2,9 @@
 ghost use Rattle.std.specs.Prelude.{◌≡◌, ◌≤◌, length};
 ghost use Rattle.prop_numbers.specs.Sets.{set_of, IsPart};
 ghost use Rattle.prop_procedures.specs.Kept.{stored_of};
+ghost use Rattle.prop_contents.specs.Knowing.{AreBeliefs};
 ghost use Rattle.prop_cells.specs.inner.Problems.{Premises};
 ghost use Rattle.prop_cells.specs.Forgetting.{forgotten};
-ghost use Rattle.prop_cells.specs.Knowing.{AreBeliefs};
 ghost use Rattle.prop_scheduler.specs.Agendas.{all_alerted, numbers_below};
 ghost use Rattle.prop_scheduler.specs.Turns.{IsUnderWay};
 ghost use Rattle.prop_scheduler.specs.Watching.{IsWatched};

@@ -6,9 +6,10 @@ use Rattle.prop_procedures.specs.declared.shape.Kinded.{Kinded}
 use Rattle.prop_procedures.specs.declared.shape.Param.{Param}
 use Rattle.prop_procedures.specs.Stored.{Stored}
 use Rattle.prop_premises.specs.Origins.{Origin}
+use Rattle.prop_contents.specs.Contents.{Entry}
 use Rattle.prop_cells.specs.declared.instance.Statement.{Statement}
 use Rattle.prop_cells.specs.Instances.{Instance}
-use Rattle.prop_cells.specs.Data.{Data, Entry}
+use Rattle.prop_cells.specs.Data.{Data}
 use Rattle.prop_language.specs.Commands.{Command}
 use Rattle.prop_language.specs.Reading.{IsReading}
 use Rattle.prop_engine.specs.Answers.{Answer, Silent, Done, Text, Refused}

@@ -4,7 +4,7 @@ use Rattle.std.proofs.Common.{All, subst, sym, refl, ap, arith, Contains, Vec, G
 use Rattle.std.specs.Prelude.{slice_index_or}
 use Rattle.std.proofs.lemmas.List.Elements.{All-contains, All-push, Contains-append_left, Contains-append_right}
 use Rattle.prop_numbers.specs.Sets.{IsPart, set_of}
-use Rattle.prop_cells.proofs.Fixpoint.{All-from_contains}
+use Rattle.prop_contents.proofs.Lists.{All-from_contains}
 use Rattle.prop_premises.specs.Origins.{Origin, believed_in, choices_of}
 use Rattle.prop_premises.specs.declared.choice.Choice.{Choice}
 use Rattle.prop_procedures.specs.Stored.{Stored}

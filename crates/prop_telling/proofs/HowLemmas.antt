@@ -11,9 +11,10 @@ use Rattle.std.proofs.lemmas.List.Elements.{All-cons}
 use Rattle.prop_lattice.specs.declared.info.Info.{Info}
 use Rattle.prop_numbers.specs.Sets.{set_of}
 use Rattle.prop_procedures.specs.Stored.{Stored}
+use Rattle.prop_contents.specs.Contents.{IsLeanAt, beliefs, support_of}
 use Rattle.prop_cells.specs.inner.Problems.{Premises}
 use Rattle.prop_cells.specs.Instances.{IsWithin}
-use Rattle.prop_cells.specs.Data.{Data, IsKept, IsStated, IsLeanAt, beliefs, problem_of, support_of}
+use Rattle.prop_cells.specs.Data.{Data, IsKept, IsStated, problem_of}
 use Rattle.prop_cells.proofs.Keeping.{All-at}
 use Rattle.prop_origins.specs.declared.part.Origin.{Origin}
 use Rattle.prop_origins.specs.declared.part.Origin.TheVariants.{Told, Called}

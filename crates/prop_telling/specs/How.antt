@@ -10,8 +10,9 @@ use Rattle.prop_procedures.specs.Stored.{Stored}
 use Rattle.prop_language.specs.Commands.{Command}
 use Rattle.prop_language.specs.Reading.{AsRead}
 use Rattle.prop_vocabulary.specs.Cells.{cell_named}
+use Rattle.prop_contents.specs.Contents.{beliefs, IsLeanAt}
 use Rattle.prop_cells.specs.inner.Problems.{Premises}
-use Rattle.prop_cells.specs.Data.{Data, beliefs, problem_of, IsLeanAt}
+use Rattle.prop_cells.specs.Data.{Data, problem_of}
 use Rattle.prop_scheduler.specs.Potential.{most_steps}
 use Rattle.prop_origins.specs.declared.part.Origin.{Origin}
 use Rattle.prop_origins.specs.declared.part.Origin.TheVariants.{Told, Called}

@@ -4,7 +4,7 @@ use Rattle.std.specs.Prelude.{Bool, true, false, length}
 use Rattle.prop_numbers.specs.Sets.{set_of}
 use Rattle.prop_refusals.specs.declared.refusal.Refusal.TheVariants.{Memory}
 use Rattle.prop_procedures.specs.Stored.{Stored}
-use Rattle.prop_cells.specs.Data.{beliefs, IsLeanAt}
+use Rattle.prop_contents.specs.Contents.{beliefs, IsLeanAt}
 use Rattle.prop_cells.specs.Instances.{Instance}
 use Rattle.prop_amb.specs.Going.{Work}
 use Rattle.prop_amb.specs.Stepping.{Steps}

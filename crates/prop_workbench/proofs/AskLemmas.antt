@@ -22,10 +22,11 @@ use Rattle.prop_amb.specs.declared.outcome.Outcome.TheVariants as ended
 use Rattle.prop_workbench.specs.declared.session.Session.{Session}
 use Rattle.prop_procedures.specs.declared.shape.Param.{Param}
 use Rattle.prop_procedures.specs.Stored.{Stored, span_kind}
+use Rattle.prop_contents.specs.Contents.{beliefs}
 use Rattle.prop_cells.specs.Problems.{Problem}
 use Rattle.prop_cells.specs.Points.{AreFitting}
 use Rattle.prop_cells.specs.Reach.{Explains}
-use Rattle.prop_cells.specs.Data.{Data, IsKept, beliefs, problem_of}
+use Rattle.prop_cells.specs.Data.{Data, IsKept, problem_of}
 use Rattle.prop_procedures.specs.Fitting.{kind_at}
 use Rattle.prop_cells.proofs.Adding.{beliefs_of_kinds}
 use Rattle.prop_cells.proofs.Founding.{believed_entailed}

@@ -13,9 +13,10 @@ use Rattle.prop_procedures.specs.declared.shape.Param.{Param}
 use Rattle.prop_procedures.specs.Kept.{stored_of}
 use Rattle.prop_procedures.specs.Stored.{Stored}
 use Rattle.prop_lattice.specs.declared.info.Info.{Info}
+use Rattle.prop_contents.specs.Contents.{beliefs}
 use Rattle.prop_cells.specs.Problems.{Problem}
 use Rattle.prop_cells.specs.Reach.{Explains}
-use Rattle.prop_cells.specs.Data.{Data, IsKept, beliefs, problem_of}
+use Rattle.prop_cells.specs.Data.{Data, IsKept, problem_of}
 use Rattle.prop_scheduler.specs.Live.{IsLiveIn}
 use Rattle.prop_scheduler.specs.Turns.{IsSettled}
 use Rattle.prop_scheduler.specs.Potential.{most_steps}

@@ -10,13 +10,14 @@ use Rattle.prop_numbers.specs.Sets.{Members, set_of, is_within, IsSame}
 use Rattle.prop_tms.specs.Beliefs.{merge_of_all, believed_of}
 use Rattle.prop_tms.proofs.KeptLemmas.{contains_here, contains_there}
 use Rattle.prop_procedures.specs.Stored.{Stored}
+use Rattle.prop_contents.specs.Contents.{Entry, beliefs, content_of}
 use Rattle.prop_cells.specs.declared.instance.Statement.{Statement}
 use Rattle.prop_cells.specs.Problems.{Problem}
 use Rattle.prop_cells.specs.inner.Problems.{Premises}
 use Rattle.prop_cells.specs.Reach.{Reaches}
 use Rattle.prop_cells.specs.inner.Reach.{IsRelatedAt}
 use Rattle.prop_cells.specs.Reach.Reaches.{stated, passed}
-use Rattle.prop_cells.specs.Data.{Data, Entry, IsKept, IsFounded, beliefs, content_of, problem_of}
+use Rattle.prop_cells.specs.Data.{Data, IsKept, IsFounded, problem_of}
 use Rattle.prop_scheduler.specs.Turns.{IsUnderWay}
 use Rattle.prop_scheduler.specs.Watching.{IsWatched}
 use Rattle.prop_scheduler.proofs.UnderWay.{under_way_believed}

@@ -4,7 +4,8 @@ use Rattle.prop_lattice.specs.declared.info.Info.{Info}
 use Rattle.prop_refusals.specs.declared.refusal.Refusal.TheVariants.{Memory}
 use Rattle.prop_numbers.specs.Sets.{Members}
 use Rattle.prop_premises.specs.Origins.{Origin}
-use Rattle.prop_cells.specs.Data.{Data, beliefs, IsLeanAt}
+use Rattle.prop_contents.specs.Contents.{beliefs, IsLeanAt}
+use Rattle.prop_cells.specs.Data.{Data}
 use Rattle.prop_vocabulary.specs.Vocabulary.{Vocabulary}
 use Rattle.prop_language.specs.Commands as commands
 use Rattle.prop_engine.specs.Answers.{Answer, Says, Silent, Done, Text, Refused}

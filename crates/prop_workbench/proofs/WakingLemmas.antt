@@ -7,8 +7,9 @@ use Rattle.prop_numbers.specs.Sets.{set_of}
 use Rattle.prop_premises.specs.Origins.{premise_number}
 use Rattle.prop_procedures.specs.Stored.{Stored}
 use Rattle.prop_procedures.specs.declared.shape.Kinded.{Kinded}
+use Rattle.prop_contents.specs.Contents.{Entry, beliefs, content_of}
 use Rattle.prop_cells.specs.declared.instance.Statement.{Statement}
-use Rattle.prop_cells.specs.Data.{Data, Entry, IsKept, States, beliefs, content_of}
+use Rattle.prop_cells.specs.Data.{Data, IsKept, States}
 use Rattle.prop_scheduler.specs.Shifts.{touching}
 use Rattle.prop_scheduler.proofs.Line.{between_none}
 use Rattle.prop_scheduler.proofs.Stirring.{stirs_none}

@@ -2,7 +2,8 @@
 use Rattle.std.specs.Prelude.{◌≡◌, ℕ, List, [], codes, Option, Some, Result, Ok, ◌⊎◌, ⊤}
 use Rattle.prop_refusals.specs.declared.refusal.Refusal.{Refusal}
 use Rattle.prop_numbers.specs.Sets.{Members}
-use Rattle.prop_cells.specs.Data.{Data, beliefs, IsLeanAt}
+use Rattle.prop_contents.specs.Contents.{beliefs, IsLeanAt}
+use Rattle.prop_cells.specs.Data.{Data}
 use Rattle.prop_language.specs.Commands.{Command}
 use Rattle.prop_engine.specs.Answers.{Answer, Text}
 use Rattle.prop_workbench.specs.Machine.{State}

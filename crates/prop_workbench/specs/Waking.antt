@@ -6,9 +6,10 @@ use Rattle.prop_refusals.specs.declared.refusal.Refusal.{Refusal}
 use Rattle.prop_refusals.specs.declared.refusal.Refusal.TheVariants.{Memory}
 use Rattle.prop_numbers.specs.Sets.{Members}
 use Rattle.prop_nogoods.specs.Stores.{lacking}
+use Rattle.prop_contents.specs.Contents.{content_of}
 use Rattle.prop_cells.specs.declared.instance.Statement.{Statement}
 use Rattle.prop_cells.specs.Instances.{Instance, readers_of}
-use Rattle.prop_cells.specs.Data.{Data, content_of}
+use Rattle.prop_cells.specs.Data.{Data}
 use Rattle.prop_cells.specs.Forgetting.{forgotten}
 use Rattle.prop_cells.specs.Sides.{StatesAll}
 use Rattle.prop_scheduler.specs.Agendas.{all_alerted, numbers_below}

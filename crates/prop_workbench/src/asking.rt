@@ -33,7 +33,7 @@ impl<R: Rule + Drop, O: Order + Drop> Session<R, O> {
     ghost use Rattle.std.specs.Prelude.{codes, length};
     ghost use Rattle.prop_numbers.specs.Sets.{set_of, IsSame};
     ghost use Rattle.prop_premises.specs.ChoiceLists.{lists_count};
-    ghost use Rattle.prop_cells.specs.Data.{beliefs};
+    ghost use Rattle.prop_contents.specs.Contents.{beliefs};
     ghost use Rattle.prop_scheduler.specs.Potential.{most_steps};
     ghost use Rattle.prop_language.specs.Commands as commands;
     ghost use Rattle.prop_explain.specs.Irreducible.{IfLeast, IfNotReduced, OfCore};

@@ -3,7 +3,8 @@ ghost use Rattle.std.specs.Prelude.{◌≡◌, ◌<◌, ◌≤◌, ◌+◌, ◌^
 ghost use Rattle.prop_lattice.specs.Rank.{IsOf};
 ghost use Rattle.prop_numbers.specs.Sets.{is_below};
 ghost use Rattle.prop_procedures.specs.Fitting.{kind_at};
-ghost use Rattle.prop_cells.specs.Data.{IsWellMade, content_of};
+ghost use Rattle.prop_contents.specs.Contents.{content_of};
+ghost use Rattle.prop_cells.specs.Data.{IsWellMade};
 ghost use Rattle.prop_cells.specs.Sides.{sides_at, StatesAll};
 ghost use Rattle.prop_cells.specs.inner.Sides.{statements_back};
 

@@ -10,7 +10,8 @@ use Rattle.prop_procedures.specs.Fitting.{kind_at}
 use Rattle.prop_vocabulary.specs.Cells.{CellNames, cell_named}
 use Rattle.prop_vocabulary.specs.Names.{number_in}
 use Rattle.prop_vocabulary.specs.Vocabulary.{Vocabulary, elements_of}
-use Rattle.prop_cells.specs.Data.{Data, beliefs}
+use Rattle.prop_contents.specs.Contents.{beliefs}
+use Rattle.prop_cells.specs.Data.{Data}
 use Rattle.prop_meaning.specs.Words.{Lexicon}
 use Rattle.prop_demands.specs.Naming.{symbol_word}
 use Rattle.prop_demands.specs.declared.reading.Glossary.{Glossary}

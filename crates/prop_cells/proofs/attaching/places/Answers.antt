@@ -40,7 +40,7 @@ loop-i-preserved c =
     let longer : length c.push_reserved.new.self.items ≡ length (c.loop-i.places.items ++ place ∷ []) =
     ap length c.push_reserved.ensures.items in
     record {
-      items = place_more c.args.shapes.now c.args.shape c.args.held.now.kinds c.args.ins.now c.args.out c.requires.count
+      items = place_more c.args.shapes.now c.args.shape c.args.held.now.kinds c.args.asked.now.ins.now c.args.asked.now.out c.requires.count
           c.loop-i.places.items c.push_reserved.new.self.items i c.shape_at.result c.kind.result c.loop-i-test.true
           c.shape_at.ensures
           (c.kind.ensures ∙ ap (kind_at c.args.held.now.kinds) c.cell_at.ensures) h.items c.push_reserved.ensures.items;
@@ -50,5 +50,5 @@ loop-i-preserved c =
 
 pub returns : goal.returns
 returns c =
-    let s = size c.args.shapes.now c.args.shape c.args.held.now.kinds c.args.ins.now c.args.out c.requires.count in
+    let s = size c.args.shapes.now c.args.shape c.args.held.now.kinds c.args.asked.now.ins.now c.args.asked.now.out c.requires.count in
     c.loop-i.invariant.items ∙ take_all c.loop-i.i _ (omega (arith, s, c.loop-i-test.false))

@@ -2,9 +2,9 @@ use Rattle.std.proofs.Common.{◌≡◌, ◌∙◌, sym, subst}
 use Rattle.prop_lattice.specs.Order.{Below}
 use Rattle.prop_numbers.specs.Sets.{Members, set_of}
 use Rattle.prop_procedures.specs.Kept.{stored_of}
+use Rattle.prop_contents.specs.Contents.{beliefs}
 use Rattle.prop_cells.specs.Problems.{Problem, IsConsistent, Entails}
 use Rattle.prop_cells.specs.Reach.{IsConflict}
-use Rattle.prop_cells.specs.Data.{beliefs}
 use Rattle.prop_scheduler.specs.Turns.{IsSettled}
 use Rattle.prop_explain.proofs.ReducingLaws.{no_conflict, same_problem, settled_below, settled_entails}
 use Rattle.prop_explain.proofs.reducing.attempt.Goals as goal

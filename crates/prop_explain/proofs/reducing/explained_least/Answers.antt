@@ -1,6 +1,7 @@
 use Rattle.prop_numbers.specs.Sets.{set_of}
 use Rattle.prop_procedures.specs.Kept.{stored_of}
-use Rattle.prop_cells.specs.Data.{beliefs, problem_of}
+use Rattle.prop_contents.specs.Contents.{beliefs}
+use Rattle.prop_cells.specs.Data.{problem_of}
 use Rattle.prop_explain.proofs.ReducingLaws.{consistent_fewer, under_way_at_rest, watched_at_rest}
 use Rattle.prop_explain.proofs.reducing.explained_least.Goals as goal
 

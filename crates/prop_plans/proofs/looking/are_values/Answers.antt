@@ -3,7 +3,7 @@ use Rattle.prop_lattice.specs.declared.info.Info.{Info}
 use Rattle.prop_lattice.specs.declared.info.Info.TheVariants.{Nothing}
 use Rattle.prop_procedures.specs.declared.shape.Kinded.{Kinded}
 use Rattle.prop_procedures.specs.Fitting.{kind_at}
-use Rattle.prop_cells.proofs.Telling.{read_there}
+use Rattle.prop_contents.proofs.Trimming.{read_there}
 use Rattle.prop_plans.specs.Plans.{IsValueOf, value_in}
 use Rattle.prop_plans.proofs.looking.are_values.Goals as goal
 

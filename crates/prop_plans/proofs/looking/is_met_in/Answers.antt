@@ -3,10 +3,10 @@ use Rattle.std.proofs.lemmas.Option.{same_Some, slice_get_within}
 use Rattle.prop_lattice.specs.declared.info.Info.TheVariants.{Nothing}
 use Rattle.prop_procedures.specs.Kept.{stored_of}
 use Rattle.prop_procedures.specs.Stored.{value_of}
+use Rattle.prop_contents.proofs.Trimming.{read_there}
 use Rattle.prop_cells.specs.Instances.{Instance, IsFitting, IsWithin, constraint_of}
 use Rattle.prop_cells.specs.inner.Problems.{Meets}
 use Rattle.prop_cells.proofs.Keeping.{All-at, call_fits}
-use Rattle.prop_cells.proofs.Telling.{read_there}
 use Rattle.prop_plans.specs.Plans.{value_in}
 use Rattle.prop_plans.proofs.Planned.{answered}
 use Rattle.prop_plans.proofs.Values.{values_clear, values_of_kinds}

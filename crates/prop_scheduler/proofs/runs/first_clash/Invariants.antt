@@ -1,6 +1,6 @@
 use Rattle.std.proofs.Common.{◌≡◌, length}
 use Rattle.prop_numbers.specs.Sets.{set_of}
-use Rattle.prop_cells.specs.Knowing.{AreBeliefs}
+use Rattle.prop_contents.specs.Knowing.{AreBeliefs}
 use Rattle.prop_scheduler.specs.Watching.{IsWatched}
 use Rattle.prop_scheduler.proofs.runs.first_clash.Given as goal
 

@@ -1,6 +1,6 @@
 use Rattle.std.proofs.Common.{List, ℕ, ◌+◌, subst, arith}
 use Rattle.prop_numbers.specs.Sets.{set_of}
-use Rattle.prop_cells.specs.Knowing.{AreBeliefs}
+use Rattle.prop_contents.specs.Knowing.{AreBeliefs}
 use Rattle.prop_scheduler.proofs.KnownLaws.{all_passed}
 use Rattle.prop_scheduler.proofs.seen.shift.Goals as goal
 

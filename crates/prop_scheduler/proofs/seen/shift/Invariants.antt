@@ -1,6 +1,6 @@
 use Rattle.std.proofs.Common.{◌≤◌, ◌+◌, ◌-◌, length}
 use Rattle.prop_numbers.specs.Sets.{set_of}
-use Rattle.prop_cells.specs.Knowing.{ArePassed}
+use Rattle.prop_contents.specs.Knowing.{ArePassed}
 use Rattle.prop_scheduler.proofs.seen.shift.Given as goal
 
 abbrev pub invariant-loop-cell : goal.invariant-loop-cell

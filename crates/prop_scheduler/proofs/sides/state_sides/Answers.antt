@@ -4,8 +4,9 @@ use Rattle.prop_lattice.specs.declared.info.Info.{Info}
 use Rattle.prop_lattice.specs.Order.{Below}
 use Rattle.prop_numbers.specs.Sets.{set_of}
 use Rattle.prop_procedures.specs.Kept.{stored_of}
+use Rattle.prop_contents.specs.Contents.{beliefs}
 use Rattle.prop_cells.specs.Instances.{readers_of, writers_of}
-use Rattle.prop_cells.specs.Data.{IsKept, beliefs}
+use Rattle.prop_cells.specs.Data.{IsKept}
 use Rattle.prop_cells.proofs.Reading.{readers_are, writers_below}
 use Rattle.std.proofs.lemmas.List.Sums.{fold-append}
 use Rattle.prop_scheduler.specs.Agendas.{AllAlerted, alerted, all_alerted}

@@ -3,8 +3,9 @@ use Rattle.std.proofs.lemmas.List.Elements.{All-weaker}
 use Rattle.prop_lattice.specs.Order.{merge_of}
 use Rattle.prop_numbers.specs.Sets.{set_of}
 use Rattle.prop_procedures.specs.Kept.{stored_of}
+use Rattle.prop_contents.specs.Contents.{beliefs}
 use Rattle.prop_cells.specs.Instances.{readers_of}
-use Rattle.prop_cells.specs.Data.{IsKept, beliefs}
+use Rattle.prop_cells.specs.Data.{IsKept}
 use Rattle.prop_cells.proofs.Reading.{readers_are}
 use Rattle.prop_cells.proofs.KnowingLaws.{known_merged}
 use Rattle.prop_scheduler.specs.Agendas.{all_alerted}

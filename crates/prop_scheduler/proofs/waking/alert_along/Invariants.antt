@@ -1,7 +1,7 @@
 use Rattle.std.proofs.Common.{◌≡◌, ◌≢◌, ◌<◌, ◌≤◌, ◌+◌, ◌-◌, length}
 use Rattle.prop_numbers.specs.Sets.{set_of}
-use Rattle.prop_cells.specs.Data.{beliefs}
-use Rattle.prop_cells.specs.Knowing.{ArePassed}
+use Rattle.prop_contents.specs.Contents.{beliefs}
+use Rattle.prop_contents.specs.Knowing.{ArePassed}
 use Rattle.prop_scheduler.specs.Shifts.{AreShifted}
 use Rattle.prop_scheduler.proofs.WatchLaws.{AreLooked}
 use Rattle.prop_scheduler.proofs.waking.alert_along.Given as goal

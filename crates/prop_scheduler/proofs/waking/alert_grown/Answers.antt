@@ -1,8 +1,9 @@
 use Rattle.std.proofs.Common.{List, ℕ, length, sym, subst, ◌≤◌}
 use Rattle.prop_numbers.specs.Sets.{set_of, IsPart}
 use Rattle.prop_procedures.specs.Kept.{stored_of}
-use Rattle.prop_cells.specs.Data.{beliefs, problem_of}
-use Rattle.prop_cells.specs.Knowing.{AreBeliefs}
+use Rattle.prop_contents.specs.Contents.{beliefs}
+use Rattle.prop_contents.specs.Knowing.{AreBeliefs}
+use Rattle.prop_cells.specs.Data.{problem_of}
 use Rattle.prop_scheduler.specs.Turns.{IsUnderWay}
 use Rattle.prop_scheduler.specs.Potential.{potential}
 use Rattle.prop_scheduler.specs.Watching.{IsWatched}

@@ -1,9 +1,10 @@
 use Rattle.std.proofs.Common.{◌≡◌, ◌≢◌, ◌<◌, ◌≤◌, ◌+◌, ◌-◌, length}
 use Rattle.prop_numbers.specs.Sets.{set_of}
 use Rattle.prop_procedures.specs.Kept.{stored_of}
-use Rattle.prop_cells.specs.Data.{beliefs, problem_of}
+use Rattle.prop_contents.specs.Contents.{beliefs}
+use Rattle.prop_contents.specs.Knowing.{ArePassed}
+use Rattle.prop_cells.specs.Data.{problem_of}
 use Rattle.prop_scheduler.specs.Potential.{potential}
-use Rattle.prop_cells.specs.Knowing.{ArePassed}
 use Rattle.prop_scheduler.specs.Shifts.{AreGrown}
 use Rattle.prop_scheduler.proofs.GrownLaws.{partly}
 use Rattle.prop_scheduler.proofs.WatchLaws.{AreLooked}

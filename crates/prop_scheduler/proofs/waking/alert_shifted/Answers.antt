@@ -1,7 +1,7 @@
 use Rattle.std.proofs.Common.{List, ℕ, length, sym, subst}
 use Rattle.prop_numbers.specs.Sets.{set_of}
 use Rattle.prop_procedures.specs.Kept.{stored_of}
-use Rattle.prop_cells.specs.Knowing.{AreBeliefs}
+use Rattle.prop_contents.specs.Knowing.{AreBeliefs}
 use Rattle.prop_scheduler.specs.Turns.{IsUnderWay}
 use Rattle.prop_scheduler.specs.Watching.{IsWatched}
 use Rattle.prop_scheduler.specs.Shifts.{AreShifted}

@@ -1,7 +1,7 @@
 use Rattle.std.proofs.Common.{◌<◌, ℕ, Contains, length, sym, arith, inl, inr}
 use Rattle.std.proofs.lemmas.List.Elements.{All-contains}
 use Rattle.prop_procedures.specs.Kept.{stored_of}
-use Rattle.prop_cells.proofs.Fixpoint.{All-from_contains}
+use Rattle.prop_contents.proofs.Lists.{All-from_contains}
 use Rattle.prop_scheduler.proofs.UnderWay.{under_way_all}
 use Rattle.prop_scheduler.proofs.WatchLaws.{watched_all}
 use Rattle.prop_scheduler.proofs.waking.wake_all.Goals as goal

@@ -1,7 +1,9 @@
 use Rattle.std.proofs.Common.{◌<◌, [], length, subst, arith}
 use Rattle.prop_numbers.specs.Sets.{set_of}
-use Rattle.prop_cells.specs.Data.{Data, TrimsAt, told_of}
-use Rattle.prop_cells.proofs.Telling.{read_there, stored_trim, told_part, trims_told}
+use Rattle.prop_contents.specs.Changes.{TrimsAt}
+use Rattle.prop_contents.proofs.Trimming.{read_there}
+use Rattle.prop_cells.specs.Data.{Data, told_of}
+use Rattle.prop_cells.proofs.Telling.{stored_trim, told_part, trims_told}
 use Rattle.prop_cells.proofs.cells.Cells.trim.Goals as goal
 
 pub invariant_of-self : goal.invariant_of-self

@@ -2,9 +2,11 @@ use Rattle.std.proofs.Common.{◌≡◌, ◌∙◌, ap}
 use Rattle.prop_numbers.specs.Sets.{set_of}
 use Rattle.prop_procedures.specs.Kept.{stored_of}
 use Rattle.prop_procedures.specs.inner.Kept.{all_lawful}
+use Rattle.prop_contents.specs.Contents.{beliefs}
+use Rattle.prop_contents.specs.Changes.{AddsAt, TrimsAt}
 use Rattle.prop_cells.specs.Problems.{value_at}
 use Rattle.prop_cells.specs.Instances.{constraint_of}
-use Rattle.prop_cells.specs.Data.{AddsAt, AddsFrom, Data, TrimsAt, beliefs, told_of}
+use Rattle.prop_cells.specs.Data.{AddsFrom, Data, told_of}
 use Rattle.prop_cells.proofs.Keeping.{calls_new, kept_call, value_fits}
 use Rattle.prop_cells.proofs.network.Network.grow.Goals as goal
 

@@ -3,8 +3,8 @@ use Rattle.std.proofs.lemmas.List.Elements.{All-contains}
 use Rattle.std.proofs.lemmas.Option.{slice_get_within}
 use Rattle.prop_numbers.specs.Sets.{set_of}
 use Rattle.prop_procedures.specs.Kept.{stored_of}
+use Rattle.prop_contents.specs.Contents.{beliefs}
 use Rattle.prop_cells.specs.Instances.{IsFitting, IsWithin}
-use Rattle.prop_cells.specs.Data.{beliefs}
 use Rattle.prop_cells.proofs.Keeping.{call_fits}
 use Rattle.prop_cells.proofs.network.Network.value_in.Goals as goal
 

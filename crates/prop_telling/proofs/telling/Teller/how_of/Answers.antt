@@ -3,7 +3,8 @@ use Rattle.std.proofs.lemmas.Result.{IfOk-weaker}
 use Rattle.std.specs.String.{string_bytes}
 use Rattle.prop_numbers.specs.Sets.{set_of}
 use Rattle.prop_procedures.specs.Kept.{stored_of}
-use Rattle.prop_cells.specs.Data.{problem_of, beliefs, IsLeanAt}
+use Rattle.prop_contents.specs.Contents.{beliefs, IsLeanAt}
+use Rattle.prop_cells.specs.Data.{problem_of}
 use Rattle.prop_origins.specs.Founded.{MakeUp, FallShort}
 use Rattle.prop_origins.specs.Parts.{calls_in}
 use Rattle.prop_origins.specs.Whole.{IfWhole, IfCut}

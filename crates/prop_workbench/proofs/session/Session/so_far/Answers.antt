@@ -1,7 +1,7 @@
 use Rattle.std.proofs.Common.{◌≡◌, ◌∙◌, List, ℕ, codes, refl, ap, inl, inr, Some}
 use Rattle.prop_numbers.specs.Sets.{Members, set_of}
 use Rattle.prop_procedures.specs.Kept.{stored_of}
-use Rattle.prop_cells.specs.Data.{beliefs}
+use Rattle.prop_contents.specs.Contents.{beliefs}
 use Rattle.prop_language.specs.Commands as commands
 use Rattle.prop_vocabulary.specs.Cells.{cell_named}
 use Rattle.prop_texts.specs.Texts.{equation, because}

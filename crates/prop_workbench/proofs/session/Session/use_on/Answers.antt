@@ -2,7 +2,8 @@ use Rattle.std.proofs.Common.{◌≡◌, ◌∙◌, ◌<◌, All, length, refl, 
 use Rattle.std.proofs.lemmas.Result.{on_ok_weaker, on_err_weaker, IfErr-weaker}
 use Rattle.prop_numbers.specs.Sets.{set_of}
 use Rattle.prop_procedures.specs.Kept.{stored_of}
-use Rattle.prop_cells.specs.Data.{Data, content_of, problem_of}
+use Rattle.prop_contents.specs.Contents.{content_of}
+use Rattle.prop_cells.specs.Data.{Data, problem_of}
 use Rattle.prop_amb.specs.Search.{IsSearch}
 use Rattle.prop_language.specs.Said.{by_of}
 use Rattle.prop_scheduler.specs.Making.{with_flat}
