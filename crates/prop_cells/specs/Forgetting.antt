@@ -12,7 +12,7 @@ use Rattle.prop_cells.specs.Data.{Data}
 abbrev pub not_under : ℕ → List Statement → List Statement
 not_under p = filter (λ x. not (option_map_or (λ q. q == p) x.premise false))
 
--- no statement under p, and no entry that rests on it
+-- the data without the statements under p and the entries that rest on p
 abbrev pub forgotten : ℕ → Data → Data
 forgotten p d = record d {
   contents = map (λ entries. not_on p entries) d.contents;

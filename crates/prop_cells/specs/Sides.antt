@@ -1,5 +1,5 @@
--- The sides of a choice at a cell: statements under premises with numbers in a row, which are made
--- all or none.
+-- How the sides of a choice are stated at a cell, all or none: what one adds, and what is taken
+-- back.
 use Rattle.std.specs.Prelude.{◌≡◌, ◌<◌, ℕ, suc, List, [], ◌∷◌, Some, All}
 use Rattle.prop_lattice.specs.declared.info.Info.{Info}
 use Rattle.prop_cells.specs.declared.instance.Statement.{Statement}

@@ -13,24 +13,24 @@ pub record AddsAt (old new : List (List Entry)) (cell : ℕ) (e : Entry) : Type 
   pub adds : Adds Nothing merge_of (content_of old cell) (content_of new cell) e
   pub others : (c : ℕ) → c ≢ cell → content_of new c ≡ content_of old c
 
--- the entry, with what those on its premises say, stands at the cell, without those that it
--- subsumes; or the cell stays
+-- The entry was added to the cell: it stands there, joined with what entries on the same premises
+-- said, and those that it then subsumes are gone. Or the cell stays.
 abbrev pub StandsAt : List (List Entry) → List (List Entry) → ℕ → Entry → Type 0
 StandsAt old new cell e =
     IsGrownBy (Subsumes Below (joined_with Nothing merge_of (content_of old cell) e))
     (content_of old cell) (content_of new cell)
     (joined_with Nothing merge_of (content_of old cell) e)
 
--- how many derived entries a cell may hold before any go
+-- how many derived entries a cell may hold before some are dropped
 abbrev pub most_derived : ℕ
 most_derived = 8
 
--- the entries that rest on something else than nothing or one of these premises alone
+-- the derived entries: those that rest on several premises, or on one that is none of these
 abbrev pub derived_of : Members → List Entry → List Entry
 derived_of told entries = filter (λ e. not (is_at_most_one_of told e.support)) entries
 
--- entries of a cell went, which held more than so many derived ones, and these premises believe
--- what they did
+-- Entries of the cell may have been dropped, if it held too many derived ones, where `told` are the
+-- premises under which something is stated of it. What the premises `s` believe stays as it was.
 pub record TrimsAt (s told : Members) (old new : List (List Entry)) (cell : ℕ) : Type 0 where
   pub same_length : length new ≡ length old
   pub among : All (Contains (content_of old cell)) (content_of new cell)
@@ -39,7 +39,7 @@ pub record TrimsAt (s told : Members) (old new : List (List Entry)) (cell : ℕ)
       → content_of new cell ≡ content_of old cell
   pub others : (c : ℕ) → c ≢ cell → content_of new c ≡ content_of old c
 
--- the cell's entries with premises below this alone
+-- the contents, where the cell has only its entries with premises below this
 abbrev pub entries_below : ℕ → List (List Entry) → ℕ → List (List Entry)
 entries_below premise contents cell =
     slice_set contents cell (filter (λ e. is_below premise e.support) (content_of contents cell))

@@ -8,30 +8,31 @@ use Rattle.prop_numbers.specs.Sets.{Members, set_of, IsSame}
 use Rattle.prop_tms.specs.Beliefs.{belief_of, IsLean}
 use Rattle.prop_tms.specs.declared.supported.Supported.{Supported}
 
--- an information with the premises that it rests on
+-- an information with its support: the premises that it rests on
 abbrev pub Entry : Type 0
 Entry = Supported Info
 
--- the entries of a cell, and none where there is no cell
+-- the entries of a cell; none where there is no such cell
 abbrev pub content_of : List (List Entry) → ℕ → List Entry
 content_of contents cell = slice_index_or contents cell []
 
--- what the entries say of each cell to one who believes these premises
+-- what is believed of each cell by one who believes just these premises: what those of its entries
+-- say together that rest on no others
 abbrev pub beliefs : Members → List (List Entry) → ℕ → Info
 beliefs s contents cell = belief_of Nothing merge_of s (content_of contents cell)
 
--- the premise of a statement, or none
+-- the support of what is stated: its premise, if it has one
 abbrev pub support_of : Option ℕ → List ℕ
 support_of None = []
 support_of (Some p) = p ∷ []
 
--- the support is that of believed entries of the cell that say together what is believed of it,
--- none of which can be left out
+-- the support is lean: it has the premises of believed entries of the cell that say together what
+-- is believed of it, none of which can be left out
 abbrev pub IsLeanAt : Members → List (List Entry) → ℕ → List ℕ → Type 0
 IsLeanAt s contents cell support =
     IsLean Nothing merge_of (content_of contents cell) s (beliefs s contents cell) support
 
--- the union of one lean support for each of these cells
+-- the support is the union of one lean support for each of these cells
 pub record IsSupport (s : Members) (contents : List (List Entry)) (cells : List ℕ)
     (support : List ℕ) : Type 0 where
   pub parts : List (List ℕ)

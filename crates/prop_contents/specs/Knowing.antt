@@ -8,13 +8,14 @@ use Rattle.prop_contents.specs.Contents.{Entry, beliefs}
 abbrev pub known_at : List (Option Info) → ℕ → Option Info
 known_at known cell = slice_index_or known cell None
 
--- what is known of each cell is what is believed of it
+-- where something is known of a cell, it is what is believed of it
 abbrev pub AreBeliefs : Members → List (List Entry) → List (Option Info) → Type 0
 AreBeliefs s contents known = (cell : ℕ) (info : Info) → known_at known cell ≡ Some info
     → beliefs s contents cell ≡ info
 
--- what is known of each cell below n is what these premises believe of it, and of each other cell
--- what those before them did
+-- The record is gone through when other premises are believed than before. Where something is known
+-- of a cell below n, it is what the premises `after` believe of it; of another cell, what those
+-- `before` did.
 pub record ArePassed (n : ℕ) (before after : Members) (contents : List (List Entry))
     (known : List (Option Info)) : Type 0 where
   pub passed : (cell : ℕ) (info : Info) → cell < n → known_at known cell ≡ Some info

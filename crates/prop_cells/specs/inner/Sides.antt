@@ -1,5 +1,5 @@
--- The sides of a choice at a cell: statements under premises with numbers in a row, which are made
--- all or none.
+-- How the sides of a choice are stated at a cell, all or none: what one adds, and what is taken
+-- back.
 use Rattle.std.specs.Prelude.{ℕ, take}
 use Rattle.prop_contents.specs.Changes.{entries_below}
 use Rattle.prop_cells.specs.Data.{Data}
