@@ -1,5 +1,5 @@
-//! The names of cells that have none of their own, and of instances, by the uses that made them; and
-//! the words for kinds.
+//! The names of cells that have none of their own, and of instances, by the uses that made them;
+//! and the words for kinds.
 ghost use Rattle.std.specs.Prelude.{◌≡◌, ◌<◌, ◌≤◌, ◌++◌, ◌∷◌, [], IfOk, IfSome, OnOk, Some, None};
 ghost use Rattle.std.specs.Prelude.{length, string_bytes, option_copied, cond};
 ghost use Rattle.prop_notes.specs.Naming.{uses_by_cell, uses_by_instance, use_at, local_of};
