@@ -11,7 +11,7 @@ use Rattle.prop_program.specs.declared.chosen.Pick.{Pick}
 use Rattle.prop_program.specs.declared.chosen.Pick.TheVariants.{Fifo, Lifo, Mixed}
 use Rattle.prop_program.specs.declared.fault.Fault.{Fault}
 use Rattle.prop_program.proofs.Starts.{nothing_served}
-use Rattle.prop_telling.specs.Notes.{no_notes}
+use Rattle.prop_notes.specs.Notes.{no_notes}
 use Rattle.prop_telling.specs.Telling.{Told}
 use Rattle.prop_seeking.specs.Seeking.{Sought, new_sought}
 use Rattle.prop_blaming.specs.Answering.{IsBlamed}

@@ -5,7 +5,7 @@ use Rattle.prop_procedures.specs.Stored.{Stored}
 use Rattle.prop_engine.specs.Answers.{Answer}
 use Rattle.prop_workbench.specs.Questions.{Picks}
 use Rattle.prop_telling.specs.Asking.{is_step}
-use Rattle.prop_telling.specs.Notes.{is_done}
+use Rattle.prop_notes.specs.Notes.{is_done}
 use Rattle.prop_telling.specs.Telling.{Told, Own, telling}
 use Rattle.prop_seeking.specs.Asking.{begins, is_question}
 use Rattle.prop_seeking.specs.Seeking.{Seeks, Sought, Strides, seeking}

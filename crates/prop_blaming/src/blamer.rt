@@ -1,7 +1,7 @@
 //! A session with a seeker around it that answers what can't all hold.
 ghost use Rattle.std.specs.Prelude.{◌≡◌, ◌&&◌, codes, nat_le, not};
 ghost use Rattle.prop_engine.specs.Answers.{answer_of};
-ghost use Rattle.prop_telling.specs.Notes.{is_done};
+ghost use Rattle.prop_notes.specs.Notes.{is_done};
 ghost use Rattle.prop_seeking.specs.Asking.{begins};
 
 use crate::asking::{Asked, is_blame, is_limit, question_of};
@@ -45,7 +45,7 @@ impl<R: Guarded + Drop, O: Order + Drop> Blamer<R, O> {
     ghost use Rattle.prop_engine.specs.Answers.{answer_of, Refused, Text};
     ghost use Rattle.prop_workbench.specs.Loading.{Loads};
     ghost use Rattle.prop_workbench.specs.Sessions.{library_of, state_of, IsSound};
-    ghost use Rattle.prop_telling.specs.Notes.{no_notes};
+    ghost use Rattle.prop_notes.specs.Notes.{no_notes};
     ghost use Rattle.prop_seeking.specs.Asking.{as_value};
     ghost use Rattle.prop_seeking.specs.Seeking.{seeking};
     ghost use Rattle.prop_seeking.specs.inner.Seekers.{Gives, sought_of};

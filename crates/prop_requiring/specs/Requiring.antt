@@ -14,7 +14,7 @@ use Rattle.prop_demands.specs.Demanding.{Demands, demanded}
 use Rattle.prop_demands.specs.Refusing.{IsRefused}
 use Rattle.prop_telling.specs.Posting.{TellsPosting}
 use Rattle.prop_telling.specs.Telling.{Own}
-use Rattle.prop_telling.specs.inner.Notes.{is_without_trace}
+use Rattle.prop_telling.specs.inner.Posting.{is_without_trace}
 use Rattle.prop_seeking.specs.Seeking.{Sought}
 use Rattle.prop_blaming.specs.Blaming.{blaming}
 use Rattle.prop_requiring.specs.Asking.{IsAsked, IsMisread, is_requirement}

@@ -38,7 +38,7 @@ impl<R: Guarded + Drop, O: Order + Drop> Requirer<R, O> {
     ghost use Rattle.prop_vocabulary.specs.Vocabulary as vocabularies;
     ghost use Rattle.prop_workbench.specs.Posting.{MayBePosted};
     ghost use Rattle.prop_workbench.specs.Sessions.{library_of, state_of, IsSound};
-    ghost use Rattle.prop_telling.specs.Notes.{no_notes};
+    ghost use Rattle.prop_notes.specs.Notes.{no_notes};
     ghost use Rattle.prop_seeking.specs.inner.Seekers.{sought_of};
     ghost use Rattle.prop_demands.specs.Refusing.{IsRefused};
     ghost use Rattle.prop_demands.specs.inner.Postings.{IsUnderstoodIn};

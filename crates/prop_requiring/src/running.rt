@@ -6,7 +6,7 @@ ghost use Rattle.prop_program.specs.Answering.{Serves};
 ghost use Rattle.prop_workbench.specs.Engine.{standing_of};
 ghost use Rattle.prop_workbench.specs.Sessions.{library_of, IsSound, IsMeant};
 ghost use Rattle.prop_requiring.specs.Answering.{IsRequired};
-ghost use Rattle.prop_telling.specs.Notes.{no_notes};
+ghost use Rattle.prop_notes.specs.Notes.{no_notes};
 ghost use Rattle.prop_requiring.specs.Requiring.{requiring};
 ghost use Rattle.prop_seeking.specs.inner.Seekers.{sought_of};
 ghost use Rattle.prop_demands.specs.inner.Palettes.{IsPalette};

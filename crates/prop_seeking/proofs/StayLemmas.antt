@@ -22,7 +22,7 @@ use Rattle.prop_workbench.specs.Questions.{Picks}
 use Rattle.prop_telling.specs.Asking.{is_step, is_how, is_list}
 use Rattle.prop_telling.specs.How.{TellsHow}
 use Rattle.prop_telling.specs.Listing.{SaysList}
-use Rattle.prop_telling.specs.Notes.{is_done}
+use Rattle.prop_notes.specs.Notes.{is_done}
 use Rattle.prop_telling.specs.Telling.{Told, telling, Own, TellsStep, DoesAsSession}
 use Rattle.prop_plans.specs.Plans.{IsUnderWay}
 use Rattle.prop_solve.specs.Searches.{Search, Proposed, IsSearch, IsProposed}

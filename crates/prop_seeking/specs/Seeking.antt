@@ -10,7 +10,7 @@ use Rattle.prop_engine.specs.Transcripts.{Machine}
 use Rattle.prop_language.specs.Reading.{AsRead}
 use Rattle.prop_workbench.specs.Questions.{Picks}
 use Rattle.prop_telling.specs.Asking.{is_step}
-use Rattle.prop_telling.specs.Notes.{is_done}
+use Rattle.prop_notes.specs.Notes.{is_done}
 use Rattle.prop_telling.specs.Telling.{Told, Own, telling, new_told}
 use Rattle.prop_seeking.specs.Asking.{Question, asked, as_value, begins, is_question}
 use Rattle.prop_seeking.specs.Plans.{Says}

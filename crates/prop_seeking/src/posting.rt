@@ -13,7 +13,7 @@ impl<R: Guarded + Drop, O: Order + Drop> Seeker<R, O> {
     ghost use Rattle.prop_workbench.specs.Sessions.{library_of, state_of};
     ghost use Rattle.prop_workbench.specs.inner.Effects.{name_of};
     ghost use Rattle.prop_telling.specs.Posting.{TellsPosting};
-    ghost use Rattle.prop_telling.specs.inner.Notes.{is_without_trace};
+    ghost use Rattle.prop_telling.specs.inner.Posting.{is_without_trace};
     ghost use Rattle.prop_telling.specs.inner.Telling.{told_of};
     ghost use Rattle.prop_seeking.specs.inner.Seekers.{IsReady};
 

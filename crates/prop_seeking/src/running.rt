@@ -6,7 +6,7 @@ ghost use Rattle.prop_program.specs.Answering.{Serves};
 ghost use Rattle.prop_workbench.specs.Engine.{standing_of};
 ghost use Rattle.prop_workbench.specs.Sessions.{library_of, IsSound, IsMeant};
 ghost use Rattle.prop_seeking.specs.Answering.{IsSought};
-ghost use Rattle.prop_telling.specs.Notes.{no_notes};
+ghost use Rattle.prop_notes.specs.Notes.{no_notes};
 ghost use Rattle.prop_seeking.specs.Seeking.{seeking};
 ghost use Rattle.prop_seeking.specs.inner.Seekers.{sought_of, IsReady};
 

@@ -1,7 +1,7 @@
 //! A session with a teller around it that answers questions for points.
 ghost use Rattle.std.specs.Prelude.{◌≡◌, ◌&&◌, codes, not, IfSome, List, None};
 ghost use Rattle.prop_engine.specs.Answers.{answer_of, is_refusal};
-ghost use Rattle.prop_telling.specs.Notes.{is_done};
+ghost use Rattle.prop_notes.specs.Notes.{is_done};
 ghost use Rattle.prop_lessons.specs.Lessons.{AreTaught};
 ghost use Rattle.prop_procedures.specs.Stored.{Stored};
 ghost use Rattle.prop_seeking.specs.Asking.{begins};
@@ -82,7 +82,7 @@ impl<R: Guarded + Drop, O: Order + Drop> Seeker<R, O> {
     ghost use Rattle.prop_engine.specs.Answers.{answer_of, Refused, Text};
     ghost use Rattle.prop_workbench.specs.Loading.{Loads};
     ghost use Rattle.prop_workbench.specs.Sessions.{library_of, state_of, IsMeant, IsSound};
-    ghost use Rattle.prop_telling.specs.Notes.{is_done, no_notes};
+    ghost use Rattle.prop_notes.specs.Notes.{is_done, no_notes};
     ghost use Rattle.prop_telling.specs.Telling.{telling};
     ghost use Rattle.prop_telling.specs.inner.Telling.{told_of};
     ghost use Rattle.prop_lessons.specs.Lessons.{AreTaught};

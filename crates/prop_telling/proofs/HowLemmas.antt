@@ -30,7 +30,8 @@ use Rattle.prop_workbench.specs.Sessions.{AreKnown}
 use Rattle.prop_workbench.proofs.PremiseLemmas.{set_has}
 use Rattle.prop_telling.specs.How.{part_text, parts_text, parts_of, made_text, how_text, lines_for, most_calls, AreTold}
 use Rattle.prop_telling.specs.How.{SaysHow}
-use Rattle.prop_telling.specs.Texts.{says_text, sides_text}
+use Rattle.prop_notes.specs.Texts.{sides_text}
+use Rattle.prop_telling.specs.Texts.{says_text}
 use Rattle.prop_telling.specs.inner.How.{IsThere}
 
 -- each premise of the set has a number below n

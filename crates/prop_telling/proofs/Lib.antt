@@ -1,6 +1,5 @@
-pub mod TextLemmas
 pub mod TellingLemmas
-pub mod NoteLemmas
+pub mod NotingLemmas
 pub mod PostingLemmas
 pub mod ListingLemmas
 pub mod HowLemmas

@@ -12,25 +12,11 @@ use Rattle.prop_premises.specs.Origins.{choices_of}
 use Rattle.prop_premises.specs.declared.choice.Choice.{Choice}
 use Rattle.prop_premises.specs.ChoiceLists.{hypothetical, IsSide}
 use Rattle.prop_numbers.specs.Sets.{Members}
-use Rattle.prop_vocabulary.specs.Cells.{CellNames}
 use Rattle.prop_amb.specs.Search.{Stand, IsStand}
 use Rattle.prop_amb.proofs.ZipLemmas.{some_same, zip_length, zip_both}
 use Rattle.prop_amb.proofs.LookingLaws.{its_side}
-use Rattle.prop_telling.specs.Notes.{Notes}
-use Rattle.prop_telling.specs.Naming.{cell_name, cell_names}
 use Rattle.prop_telling.specs.Listing.{premise_lines, premise_line, belief_text, choice_text, choice_line}
 use Rattle.prop_telling.proofs.TellingLemmas.{there}
-
--- one more cell
-pub names_more : (notes : Notes) (names : CellNames) (cells : List ℕ) (i d : ℕ) (before name : List ℕ)
-    → i < length cells → before ≡ cell_names notes names (take i cells)
-    → name ≡ cell_name notes names (get_or cells i d)
-    → before ++ (32 ∷ name) ≡ cell_names notes names (take (i + 1) cells)
-names_more notes names cells i d before name l is named =
-    let f : ℕ → List ℕ = λ cell. 32 ∷ cell_name notes names cell in
-    let x = get_or cells i d in
-    (λ j. is j ++ (32 ∷ named j)) ∙ ap (λ t. cell_names notes names (take i cells) ++ t) (sym (append-nil (f x)))
-    ∙ sym (flat_map-append f (take i cells) (x ∷ [])) ∙ ap (cell_names notes names) (sym (take_more cells i d l))
 
 -- one more line of so many
 pub lines_more : (f : ℕ → List ℕ) (old now new : List (List ℕ)) (k : ℕ) (line : List ℕ)

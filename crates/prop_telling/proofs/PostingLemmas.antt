@@ -7,7 +7,7 @@ use Rattle.prop_procedures.specs.Stored.{Stored}
 use Rattle.prop_workbench.specs.declared.posting.Posting.{Posting}
 use Rattle.prop_workbench.specs.Machine.{State}
 use Rattle.prop_workbench.specs.Posting.{IsPosted}
-use Rattle.prop_telling.specs.inner.Notes.{is_without_trace}
+use Rattle.prop_telling.specs.inner.Posting.{is_without_trace}
 
 memory_leaves : is_without_trace (Err Memory) ≡ true → ⊥
 memory_leaves e = cc

@@ -26,7 +26,8 @@ use Rattle.prop_texts.specs.Texts.{premises_text}
 use Rattle.prop_workbench.specs.Machine.{State}
 use Rattle.prop_workbench.specs.Engine.{Standing}
 use Rattle.prop_telling.specs.Asking.{as_why}
-use Rattle.prop_telling.specs.Texts.{call_text, says_text, sides_text}
+use Rattle.prop_notes.specs.Texts.{call_text, sides_text}
+use Rattle.prop_telling.specs.Texts.{says_text}
 
 -- a statement by its premise, or a call
 abbrev pub origin_text : List Stored → State → List ℕ → Origin → List ℕ

@@ -1,7 +1,5 @@
 pub mod Asking
 pub mod Texts
-pub mod Notes
-pub mod Naming
 pub mod Listing
 pub mod How
 pub mod Telling

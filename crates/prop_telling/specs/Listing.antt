@@ -1,12 +1,9 @@
 -- What is there, line by line.
-use Rattle.std.specs.Prelude.{◌≡◌, ◌⊎◌, ℕ, ◌-◌, List, [], ◌∷◌, ◌++◌, Bool, true, false, codes}
+use Rattle.std.specs.Prelude.{◌≡◌, ◌⊎◌, ℕ, List, [], ◌∷◌, ◌++◌, Bool, true, false, codes}
 use Rattle.std.specs.Prelude.{decimal, Option, Some, None, flat_map, length, map, slice_get}
-use Rattle.std.specs.Prelude.{slice_index_or, ◌+◌}
-use Rattle.std.specs.Prelude.{unwrap_or, cond, ◌==◌}
+use Rattle.std.specs.Prelude.{slice_index_or, unwrap_or, ◌+◌}
 use Rattle.std.specs.List.{range_with_len}
 use Rattle.std.specs.Option.{option_map_or}
-use Rattle.prop_lattice.specs.declared.info.Kind.{Kind}
-use Rattle.prop_lattice.specs.declared.info.Kind.TheVariants.{Span, Set, Symbol}
 use Rattle.prop_numbers.specs.Sets.{Members, set_of}
 use Rattle.prop_refusals.specs.declared.refusal.Refusal.TheVariants.{Memory}
 use Rattle.prop_premises.specs.Origins.{Origin, User, Side, choices_of, name_of}
@@ -26,19 +23,9 @@ use Rattle.prop_texts.specs.inner.Listed.{label_at}
 use Rattle.prop_workbench.specs.Machine.{State}
 use Rattle.prop_workbench.specs.inner.Machine.{text_at}
 use Rattle.prop_workbench.specs.Engine.{Standing}
-use Rattle.prop_telling.specs.Texts.{procedure_text}
-use Rattle.prop_telling.specs.Notes.{Notes}
-use Rattle.prop_telling.specs.Naming.{cell_name, cell_names, made_at}
-
--- the name of the domain with this number, of which the first has 1
-abbrev pub domain_text : Notes → ℕ → List ℕ
-domain_text notes number = unwrap_or (slice_get notes.domains (number - 1)) []
-
--- the word for a kind
-abbrev pub kind_text : Notes → Kind → List ℕ
-kind_text notes Span = codes "span"
-kind_text notes Symbol = codes "symbol"
-kind_text notes (Set number) = cond (number == 0) (codes "truth") (domain_text notes number)
+use Rattle.prop_notes.specs.Texts.{procedure_text}
+use Rattle.prop_notes.specs.Notes.{Notes}
+use Rattle.prop_notes.specs.Naming.{cell_name, cell_names, kind_text, made_at}
 
 abbrev pub belief_text : Bool → List ℕ
 belief_text true = codes "in"

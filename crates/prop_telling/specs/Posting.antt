@@ -6,7 +6,7 @@ use Rattle.prop_workbench.specs.declared.posting.Posting.{Posting}
 use Rattle.prop_workbench.specs.Engine.{WorkFits}
 use Rattle.prop_workbench.specs.Posting.{IsPosted}
 use Rattle.prop_workbench.specs.Steps.{Covers}
-use Rattle.prop_telling.specs.Notes.{required, with_note}
+use Rattle.prop_notes.specs.Notes.{required, with_note}
 use Rattle.prop_telling.specs.Telling.{Told}
 
 -- The session takes it, and it is noted unless nothing has changed. What was learned still covers

@@ -19,11 +19,11 @@ use Rattle.prop_workbench.specs.Questions.{Picks}
 use Rattle.prop_workbench.specs.Engine.{Standing, WorkFits, Works, new_standing}
 use Rattle.prop_language.specs.Reading.{AsRead}
 use Rattle.prop_telling.specs.Asking.{is_step, is_how, is_list, may_declare}
-use Rattle.prop_telling.specs.Notes.{Notes, no_notes, note_read, noted}
+use Rattle.prop_notes.specs.Notes.{Notes, no_notes, note_read, noted}
 use Rattle.prop_telling.specs.Listing.{SaysList}
 use Rattle.prop_telling.specs.How.{TellsHow}
-use Rattle.prop_telling.specs.Texts.{call_text, says_text, sides_text, moved_text}
-use Rattle.prop_telling.specs.Texts.{two_lines, three_lines}
+use Rattle.prop_notes.specs.Texts.{call_text, sides_text, moved_text}
+use Rattle.prop_telling.specs.Texts.{says_text, two_lines, three_lines}
 
 -- The text says what is believed of the cell, with the premises of believed entries that say so,
 -- none of which can be left out.

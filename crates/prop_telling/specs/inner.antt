@@ -1,3 +1,3 @@
 pub mod Telling
-pub mod Notes
+pub mod Posting
 pub mod How

@@ -7,10 +7,10 @@ ghost use Rattle.prop_telling.specs.How.{asked, lines_for, parts_of};
 
 use crate::asking::as_why;
 use crate::telling::Teller;
-use crate::texts::call_text;
 use prop_engine::Reply;
 use prop_language::{Command, read_line};
 use prop_lattice::Info;
+use prop_notes::call_text;
 use prop_origins::{Composition, Origin, Part, origins};
 use prop_premises::PremiseSet;
 use prop_procedures::Rule;
@@ -58,7 +58,8 @@ impl<R: Rule + Drop, O: Order + Drop> Teller<R, O> {
     ghost use Rattle.prop_telling.specs.How.{TellsHow, AnswersTo, SaysHow};
     ghost use Rattle.prop_telling.specs.How.{origin_text, part_text, parts_text, made_text};
     ghost use Rattle.prop_telling.specs.How.{how_text};
-    ghost use Rattle.prop_telling.specs.Texts.{says_text, sides_text};
+    ghost use Rattle.prop_notes.specs.Texts.{sides_text};
+    ghost use Rattle.prop_telling.specs.Texts.{says_text};
     ghost use Rattle.prop_telling.specs.inner.How.{IsThere};
 
     /// Tells what makes up the value of a cell, as it stands. The line is read as if it said `why`.

@@ -16,11 +16,8 @@
 mod asking;
 mod how;
 mod listing;
-mod naming;
-mod notes;
 mod posting;
 mod telling;
-mod texts;
 
 pub use asking::is_apart;
 pub use posting::is_without_trace;

@@ -5,44 +5,18 @@ ghost use Rattle.prop_procedures.specs.Kept.{stored_of};
 ghost use Rattle.prop_cells.specs.Data.{IsKept};
 ghost use Rattle.prop_cells.specs.Instances.{Instance as InstanceOf};
 ghost use Rattle.prop_texts.specs.inner.Listed.{label_at};
-ghost use Rattle.prop_telling.specs.Listing.{domain_text, kind_text, belief_text, begin_text};
+ghost use Rattle.prop_telling.specs.Listing.{belief_text, begin_text};
 ghost use Rattle.prop_telling.specs.Listing.{list_text, instance_text, refuted_lines};
 
-use crate::naming::Made;
-use crate::notes::Notes;
 use crate::telling::Teller;
-use crate::texts::{label_text, push_text, reason_text};
 use prop_cells::Network;
 use prop_engine::Reply;
-use prop_lattice::Kind;
+use prop_notes::{Made, Notes, kind_text, label_text, push_text, reason_text};
 use prop_premises::{Choice, Premise, PremiseSet, Premises};
 use prop_procedures::Rule;
 use prop_scheduler::Order;
 use prop_vocabulary::CellNames;
 use std::alloc::{AllocError, Global};
-use std::fmt::Write;
-
-/// The name of the domain with this number.
-fn domain_text(notes: &Notes, number: usize) -> &str
-    ensures { result.now ≡ domain_text notes.now number }
-{
-    match notes.domains.get(number.saturating_sub(1)) {
-        Some(name) => name.as_str(),
-        None => "",
-    }
-}
-
-/// The word for a kind: the domains have their names from the notes.
-fn kind_text(notes: &Notes, kind: Kind) -> &str
-    ensures { result.now ≡ kind_text notes.now kind }
-{
-    match kind {
-        Kind::Span => "span",
-        Kind::Symbol => "symbol",
-        Kind::Set(0) => "truth",
-        Kind::Set(number) => domain_text(notes, usize::from(number)),
-    }
-}
 
 /// How a statement under this premise begins: `fix`, or `tell` with the premise.
 fn begin_text(

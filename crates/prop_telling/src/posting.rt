@@ -1,28 +1,13 @@
 //! What a layer above posts in the session, noted.
 ghost use Rattle.std.specs.Prelude.{◌≡◌};
-ghost use Rattle.prop_telling.specs.Notes.{required};
-ghost use Rattle.prop_telling.specs.inner.Notes.{is_without_trace, note_value};
+ghost use Rattle.prop_telling.specs.inner.Posting.{is_without_trace};
 
-use crate::notes::{Note, Notes, Use};
 use crate::telling::Teller;
 use prop_procedures::Rule;
 use prop_refusals::Refusal;
 use prop_scheduler::Order;
 use prop_workbench::Posting;
 use std::alloc::{AllocError, Global};
-
-/// What is noted of what is required, where there are so many cells and instances.
-fn required(alloc: Global, cells: usize, instances: usize) -> Note
-    ensures { note_value result ≡ required cells instances }
-{
-    Note::Attached(Use {
-        of: None,
-        required: true,
-        by: String::new(alloc),
-        cells,
-        instances,
-    })
-}
 
 /// Whether it was refused before anything was made.
 pub fn is_without_trace(end: &Result<(), Refusal>) -> bool
@@ -34,39 +19,13 @@ pub fn is_without_trace(end: &Result<(), Refusal>) -> bool
     }
 }
 
-impl Notes {
-    ghost use Rattle.std.specs.Prelude.{◌≡◌, length, IfOk, OnOk, OnErr};
-    ghost use Rattle.prop_telling.specs.Notes.{required, with_note};
-
-    /// Notes that something is required, where there are so many cells and instances, and tells how
-    /// much was noted before. After want of memory nothing has changed.
-    fn require(
-        &mut self,
-        alloc: Global,
-        cells: usize,
-        instances: usize,
-    ) -> Result<(usize, usize, usize), AllocError>
-        ensures ok { OnOk result (self.new ≡ with_note self.old (required cells instances)) }
-        ensures counts { IfOk result (λ counts. counts ≡ (
-          length self.old.domains,
-          length self.old.definitions,
-          length self.old.uses,
-        )) }
-        ensures err { OnErr result (self.new ≡ self.old) }
-    {
-        let counts = self.counts();
-        self.add(required(alloc, cells, instances))?;
-        Ok(counts)
-    }
-}
-
 impl<R: Rule + Drop, O: Order + Drop> Teller<R, O> {
     ghost use Rattle.std.specs.Prelude.{◌≡◌, ◌⊎◌, ℕ, List, length, take, IfOk, OnOk, OnErr};
     ghost use Rattle.prop_workbench.specs.Posting.{IsPosted, MayBePosted};
     ghost use Rattle.prop_workbench.specs.Sessions.{IsSound, library_of, shown_of, state_of};
     ghost use Rattle.prop_workbench.specs.Steps.{Covers};
     ghost use Rattle.prop_workbench.specs.inner.Effects.{name_of};
-    ghost use Rattle.prop_telling.specs.Notes.{required, with_note};
+    ghost use Rattle.prop_notes.specs.Notes.{required, with_note};
     ghost use Rattle.prop_telling.specs.Posting.{TellsPosting};
     ghost use Rattle.prop_telling.specs.inner.Telling.{told_of};
 

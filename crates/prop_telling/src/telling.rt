@@ -1,15 +1,14 @@
 //! A session that tells what it does.
 ghost use Rattle.std.specs.Prelude.{◌≡◌};
 ghost use Rattle.prop_engine.specs.Answers.{answer_of};
-ghost use Rattle.prop_telling.specs.Notes.{is_done};
+ghost use Rattle.prop_notes.specs.Notes.{is_done};
 
 use crate::asking::{is_how, is_list, is_step, may_declare};
-use crate::notes::{Note, Notes};
-use crate::texts::{call_text, cell_text, moved_text, sides_text};
 use prop_amb::{Move, Step};
 use prop_engine::Reply;
 use prop_language::read_line;
 use prop_lattice::Info;
+use prop_notes::{Note, Notes, call_text, cell_text, moved_text, sides_text};
 use prop_premises::{PremiseSet, Worldview};
 use prop_procedures::Rule;
 use prop_refusals::Refusal;
@@ -44,11 +43,11 @@ impl<R: Rule + Drop, O: Order + Drop> Teller<R, O> {
     ghost use Rattle.prop_workbench.specs.Sessions.{IsSound, IsMeant};
     ghost use Rattle.prop_telling.specs.Telling.{telling, DoesAsSession, IsNoted, TellsStep};
     ghost use Rattle.prop_telling.specs.Telling.{SaysStep, SaysCall, SaysValue};
-    ghost use Rattle.prop_telling.specs.Texts.{moved_text, sides_text, says_text};
-    ghost use Rattle.prop_telling.specs.Texts.{two_lines, three_lines};
-    ghost use Rattle.prop_telling.specs.inner.Telling.{IsNamed, told_of};
-    ghost use Rattle.prop_telling.specs.inner.Notes.{note_value, LacksMemory};
-    ghost use Rattle.prop_telling.specs.Notes.{no_notes, note_read};
+    ghost use Rattle.prop_notes.specs.Texts.{moved_text, sides_text};
+    ghost use Rattle.prop_telling.specs.Texts.{says_text, two_lines, three_lines};
+    ghost use Rattle.prop_telling.specs.inner.Telling.{IsNamed, LacksMemory, told_of};
+    ghost use Rattle.prop_notes.specs.inner.Notes.{note_value};
+    ghost use Rattle.prop_notes.specs.Notes.{no_notes, note_read};
     ghost use Rattle.prop_telling.specs.Asking.{may_declare};
     ghost use Rattle.prop_workbench.specs.Loading.{Loads};
     ghost use Rattle.prop_language.specs.Said.{words};

@@ -23,7 +23,7 @@ use Rattle.prop_workbench.specs.Engine.{Standing, Works}
 use Rattle.prop_telling.specs.Asking.{is_step, is_how, is_list, may_declare}
 use Rattle.prop_telling.specs.How.{TellsHow}
 use Rattle.prop_telling.specs.Listing.{SaysList}
-use Rattle.prop_telling.specs.Notes.{Note, is_done, note_read, noted}
+use Rattle.prop_notes.specs.Notes.{Note, is_done, note_read, noted}
 use Rattle.prop_telling.specs.Telling.{DoesAsSession, IsNoted, Own, TellsStep, Told, telling}
 use Rattle.prop_telling.specs.laws.TellingLaws.{lacks_read, memory_works, telling_asks_by_prefix}
 use Rattle.prop_seeking.specs.Asking.{Question, asked, as_value, begins, is_question}

@@ -20,10 +20,10 @@ use Rattle.prop_workbench.specs.laws.MachineLaws.{working_asks_by_prefix}
 use Rattle.prop_workbench.specs.laws.RefusalLaws.{lean_refused, earns_refused, wakes_refused}
 use Rattle.prop_telling.specs.Asking.{is_step, is_how, as_why, is_list, may_declare}
 use Rattle.prop_telling.specs.How.{TellsHow}
-use Rattle.prop_telling.specs.Notes.{Notes, Note, note_read, noted}
+use Rattle.prop_notes.specs.Notes.{Notes, Note, note_read, noted}
 use Rattle.prop_telling.specs.Telling.{Told, telling, Own, TellsStep, IsNoted, DoesAsSession}
 use Rattle.prop_telling.specs.Listing.{SaysList}
-use Rattle.prop_telling.specs.inner.Notes.{LacksMemory}
+use Rattle.prop_telling.specs.inner.Telling.{LacksMemory}
 
 -- ---- what is kept of a line
 

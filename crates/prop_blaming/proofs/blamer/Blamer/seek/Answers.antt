@@ -2,7 +2,7 @@ use Rattle.std.proofs.Common.{◌∙◌, ap, sym, subst, Option, None, IfSome}
 use Rattle.std.specs.Prelude.{codes}
 use Rattle.prop_procedures.specs.Kept.{stored_of}
 use Rattle.prop_engine.specs.Answers.{answer_of}
-use Rattle.prop_telling.specs.Notes.{is_done}
+use Rattle.prop_notes.specs.Notes.{is_done}
 use Rattle.prop_seeking.specs.Asking.{begins}
 use Rattle.prop_seeking.specs.inner.Seekers.{sought_of}
 use Rattle.prop_seeking.proofs.LimitLemmas.{calm_line}

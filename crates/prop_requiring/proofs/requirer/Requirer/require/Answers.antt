@@ -8,7 +8,7 @@ use Rattle.prop_workbench.specs.inner.Effects.{name_of}
 use Rattle.prop_procedures.specs.Stored.{Stored}
 use Rattle.prop_telling.specs.Posting.{TellsPosting}
 use Rattle.prop_telling.specs.inner.Telling.{told_of}
-use Rattle.prop_telling.specs.inner.Notes.{is_without_trace}
+use Rattle.prop_telling.specs.inner.Posting.{is_without_trace}
 use Rattle.prop_seeking.specs.inner.Seekers.{inquiry_of}
 use Rattle.prop_demands.specs.inner.Laws.{IsSolid}
 use Rattle.prop_demands.proofs.Demands.{posting_demands}

@@ -8,7 +8,7 @@ use Rattle.prop_engine.specs.Answers.{answer_of}
 use Rattle.prop_telling.specs.inner.Telling.{told_of}
 use Rattle.std.proofs.Common.{ap}
 use Rattle.std.specs.Prelude.{codes}
-use Rattle.prop_telling.specs.Notes.{is_done}
+use Rattle.prop_notes.specs.Notes.{is_done}
 use Rattle.prop_seeking.specs.Asking.{begins}
 use Rattle.prop_seeking.proofs.LimitLemmas.{calm_line}
 use Rattle.prop_seeking.proofs.StayLemmas.{telling_stays, stayed_inquiry}

@@ -5,7 +5,8 @@ use Rattle.prop_numbers.specs.Sets.{set_of}
 use Rattle.prop_procedures.specs.Kept.{stored_of}
 use Rattle.prop_workbench.specs.Sessions.{state_of, work_of}
 use Rattle.prop_telling.specs.Telling.{SaysValue}
-use Rattle.prop_telling.specs.Texts.{sides_text, call_text, three_lines}
+use Rattle.prop_notes.specs.Texts.{sides_text, call_text}
+use Rattle.prop_telling.specs.Texts.{three_lines}
 use Rattle.prop_telling.proofs.TellingLemmas.{there}
 use Rattle.prop_telling.proofs.telling.Teller.call.Goals as goal
 

@@ -5,7 +5,7 @@ use Rattle.prop_engine.specs.Answers.{Refused}
 use Rattle.prop_workbench.specs.Engine.{standing_of}
 use Rattle.prop_telling.specs.inner.Telling.{told_of}
 use Rattle.prop_telling.specs.laws.TellingLaws.{memory_works}
-use Rattle.prop_telling.proofs.NoteLemmas.{unnoted_by, does_noted}
+use Rattle.prop_telling.proofs.NotingLemmas.{unnoted_by, does_noted}
 use Rattle.prop_telling.proofs.telling.Teller.declare.Goals as goal
 
 pub returns-in-Err-clause-does : goal.returns-in-Err-clause-does

@@ -3,10 +3,11 @@ use Rattle.prop_procedures.specs.Kept.{stored_of}
 use Rattle.prop_refusals.specs.declared.refusal.Refusal.TheVariants.{Memory}
 use Rattle.prop_engine.specs.Answers.{Refused, answer_of}
 use Rattle.prop_workbench.specs.Engine.{standing_of}
-use Rattle.prop_telling.specs.inner.Notes.{note_value}
+use Rattle.prop_notes.specs.inner.Notes.{note_value}
 use Rattle.prop_telling.specs.inner.Telling.{told_of}
 use Rattle.prop_telling.specs.laws.TellingLaws.{memory_works}
-use Rattle.prop_telling.proofs.NoteLemmas.{taken_back, declares_lacks, unnoted_by, does_noted}
+use Rattle.prop_notes.proofs.NoteLemmas.{taken_back}
+use Rattle.prop_telling.proofs.NotingLemmas.{declares_lacks, unnoted_by, does_noted}
 use Rattle.prop_telling.proofs.telling.Teller.declare_noted.Goals as goal
 
 pub returns-then-not-is_done-clause-does : goal.returns-then-not-is_done-clause-does

@@ -3,8 +3,8 @@ use Rattle.std.proofs.lemmas.Result.{IfOk-weaker}
 use Rattle.prop_refusals.specs.declared.refusal.Refusal.TheVariants.{Memory}
 use Rattle.prop_language.specs.Said.{said}
 use Rattle.prop_workbench.proofs.HeardLemmas.{follows_refused}
-use Rattle.prop_telling.specs.Notes.{note_read}
-use Rattle.prop_telling.proofs.NoteLemmas.{some_lacks, on_err, other_one}
+use Rattle.prop_notes.specs.Notes.{note_read}
+use Rattle.prop_telling.proofs.NotingLemmas.{some_lacks, on_err, other_one}
 use Rattle.prop_telling.proofs.telling.Teller.note.Goals as goal
 
 pub returns-in-Ok-clause-ok : goal.returns-in-Ok-clause-ok

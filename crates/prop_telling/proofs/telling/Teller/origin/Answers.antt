@@ -5,7 +5,7 @@ use Rattle.prop_procedures.specs.Kept.{stored_of}
 use Rattle.prop_origins.specs.declared.part.Origin.TheVariants.{Called}
 use Rattle.prop_workbench.specs.Sessions.{state_of}
 use Rattle.prop_telling.specs.How.{origin_text}
-use Rattle.prop_telling.specs.Texts.{call_text}
+use Rattle.prop_notes.specs.Texts.{call_text}
 use Rattle.prop_telling.proofs.TellingLemmas.{there}
 use Rattle.prop_telling.proofs.telling.Teller.origin.Goals as goal
 

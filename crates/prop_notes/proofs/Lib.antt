@@ -1,0 +1,3 @@
+pub mod TextLemmas
+pub mod NoteLemmas
+pub mod NamingLemmas

@@ -1,0 +1,4 @@
+pub mod Texts
+pub mod Notes
+pub mod Naming
+pub mod inner
