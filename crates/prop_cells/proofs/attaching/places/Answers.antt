@@ -43,7 +43,7 @@ loop-i-preserved c =
       items = place_more c.args.shapes.now c.args.shape c.args.held.now.kinds c.args.asked.now.ins.now c.args.asked.now.out c.requires.count
           c.loop-i.places.items c.push_reserved.new.self.items i c.shape_at.result c.kind.result c.loop-i-test.true
           c.shape_at.ensures
-          (c.kind.ensures ∙ ap (kind_at c.args.held.now.kinds) c.cell_at.ensures) h.items c.push_reserved.ensures.items;
+          (c.kind.ensures ∙ ap (kind_at c.args.held.now.kinds) c.cell_at-cell.ensures) h.items c.push_reserved.ensures.items;
       count = longer ∙ length-append c.loop-i.places.items (place ∷ []) ∙ ap (λ n. n + 1) h.count;
       room = c.push_reserved.ensures.capacity ∙ h.room;
     }
