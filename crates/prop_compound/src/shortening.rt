@@ -1,6 +1,6 @@
 //! Shorter steps that make the same cells and instances: a use of what makes nothing is left out,
 //! and one of what is itself a single use goes straight on to that.
-ghost use Rattle.std.specs.Prelude.{◌≡◌, ◌++◌, [], All, length, option_to_list, IfOk, OnOk};
+ghost use Rattle.std.specs.Prelude.{◌≡◌, ◌++◌, [], All, length, OnOk};
 ghost use Rattle.std.specs.List.{flat_map};
 ghost use Rattle.prop_compound.specs.Kept.{all_bare};
 ghost use Rattle.prop_compound.specs.inner.Kept.{AreInScope, IsUseBelow, AreKept};
@@ -10,29 +10,38 @@ use crate::definition::{KeptDefinition, NumberedStep, Passing, Places, Used, pas
 use crate::expanding::cells_at;
 use std::alloc::{AllocError, Global};
 
-/// What is short for a use of what has this plan, if it makes anything.
-fn through(
+/// A use as a step has it: of what, at which places, and what it passes on as parameter.
+#[derive(Clone, Copy)]
+struct Chosen<'a> {
+    used: Used,
+    places: &'a [usize],
+    passing: Passing,
+}
+
+/// Puts a use of what has this plan last.
+fn push_through(
     alloc: Global,
     inner: &[NumberedStep],
-    used: Used,
-    places: &[usize],
-    passing: Passing,
-) -> Result<Option<NumberedStep>, AllocError>
-    requires { AreInScope (length places.now) inner.now }
-    ensures { IfOk result (λ step.
-        option_to_list step ≡ through inner.now used places.now passing) }
+    whole: &Chosen<'_>,
+    plan: &mut Vec<NumberedStep>,
+) -> Result<(), AllocError>
+    requires { AreInScope (length whole.now.places.now) inner.now }
+    ensures { OnOk result (plan.new.items ≡ plan.old.items ++ through inner.now whole.now.used
+        whole.now.places.now whole.now.passing) }
 {
     if inner.is_empty() {
-        return Ok(None);
+        return Ok(());
     }
     if inner.len() == 1
         && let NumberedStep::Use(used, chosen, own) = &inner[0]
     {
-        let places = Places::new(cells_at(alloc, places, chosen.as_slice())?);
-        return Ok(Some(NumberedStep::Use(*used, places, passed(passing, *own))));
+        let places = Places::new(cells_at(alloc, whole.places, chosen.as_slice())?);
+        plan.push(NumberedStep::Use(*used, places, passed(whole.passing, *own)))?;
+        return Ok(());
     }
-    let places = Places::new(Vec::from_slice(alloc, places)?);
-    Ok(Some(NumberedStep::Use(used, places, passing)))
+    let places = Places::new(Vec::from_slice(alloc, whole.places)?);
+    plan.push(NumberedStep::Use(whole.used, places, whole.passing))?;
+    Ok(())
 }
 
 /// Puts what is short for the step last.
@@ -49,18 +58,19 @@ fn push_short(
     match step {
         NumberedStep::Local(kind) => plan.push(NumberedStep::Local(*kind))?,
         NumberedStep::Like(place) => plan.push(NumberedStep::Like(*place))?,
-        NumberedStep::Use(used, places, passing) => match *used {
-            Used::Procedure(_) => {
-                let places = Places::new(Vec::from_slice(alloc, places.as_slice())?);
-                plan.push(NumberedStep::Use(*used, places, *passing))?;
-            }
-            Used::Definition(number) => {
+        NumberedStep::Use(used, places, passing) => {
+            if let Used::Definition(number) = *used {
                 let inner = &definitions[number].plan;
-                if let Some(short) = through(alloc, inner, *used, places.as_slice(), *passing)? {
-                    plan.push(short)?;
-                }
+                let whole = Chosen {
+                    used: *used,
+                    places: places.as_slice(),
+                    passing: *passing,
+                };
+                return push_through(alloc, inner, &whole, plan);
             }
-        },
+            let places = Places::new(Vec::from_slice(alloc, places.as_slice())?);
+            plan.push(NumberedStep::Use(*used, places, *passing))?;
+        }
     }
     Ok(())
 }
