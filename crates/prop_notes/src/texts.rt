@@ -136,11 +136,7 @@ pub fn push_text(text: &mut String, line: &str) -> Result<(), AllocError>
 }
 
 /// A side of a choice, and its next one, each with one space before it.
-pub fn moved_text(
-    alloc: Global,
-    premises: &Premises,
-    side: Premise,
-) -> Result<String, AllocError>
+pub fn moved_text(alloc: Global, premises: &Premises, side: Premise) -> Result<String, AllocError>
     requires { side < length premises.now }
     ensures { IfOk result (λ text. string_bytes text ≡ moved_text premises.now side) }
 {

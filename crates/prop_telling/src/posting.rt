@@ -7,7 +7,7 @@ use prop_procedures::Rule;
 use prop_refusals::Refusal;
 use prop_scheduler::Order;
 use prop_workbench::Posting;
-use std::alloc::{AllocError, Global};
+use std::alloc::AllocError;
 
 /// Whether it was refused before anything was made.
 pub fn is_without_trace(end: &Result<(), Refusal>) -> bool
