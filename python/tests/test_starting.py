@@ -90,8 +90,12 @@ def test_a_run_imports_no_workbench(tmp_path: Path) -> None:
     assert len(found) <= 105
 
 
-def test_a_solver_imports_what_solves_alone(tmp_path: Path) -> None:
-    """No quantities, no projects, no views, and of the questions those that find solutions."""
+def test_a_solver_imports_what_solves_alone(
+    tmp_path: Path, wide: str, monkeypatch: pytest.MonkeyPatch
+) -> None:
+    """No quantities, no projects, no views, and of the questions those that find solutions, by
+    propwide's search."""
+    monkeypatch.setenv("PROPWIDE", wide)
     model = "var 1..3: x :: output_var;\nconstraint int_ne(x, 1);\nsolve satisfy;\n"
     (tmp_path / "model.fzn").write_text(model, encoding="utf-8")
     found = imported(
@@ -103,8 +107,24 @@ def test_a_solver_imports_what_solves_alone(tmp_path: Path) -> None:
     assert not HEAVY & found
     parts = ("measuring", "planning", "watching", "pictures", "page", "notebook")
     assert [name for name in found if name.startswith(tuple(f"propbench.{x}" for x in parts))] == []
-    assert "propbench.questions.scenarios" not in found
-    assert len(found) <= 180
+    # (nor what shows a claim, goes by cases, or asks how wide a terminal is)
+    unneeded = {f"propbench.questions.{x}" for x in ("certificate", "scenarios", "trial")}
+    assert not {*unneeded, "propbench.model.lowering", "shutil"} & found
+    assert len(found) <= 165
+
+
+def test_a_started_solver_looks_for_garbage_again(tmp_path: Path) -> None:
+    """It does not while it imports, and then leaves out what was imported."""
+    (tmp_path / "model.fzn").write_text("var 1..1: x :: output_var;\nsolve satisfy;\n")
+    told = (
+        "import gc, sys\n"
+        "from propbench.flatzinc.starting import main\n"
+        "assert main() == 0 and gc.isenabled() and gc.get_freeze_count() > 1000\n"
+    )
+    words = [sys.executable, "-c", told, str(tmp_path / "model.fzn")]
+    environment = {**os.environ, "PYTHONPATH": SOURCES}
+    ran = subprocess.run(words, env=environment, capture_output=True, text=True)
+    assert (ran.returncode, ran.stdout, ran.stderr) == (0, "x = 1;\n----------\n", "")
 
 
 @pytest.mark.parametrize("package", ["propbench", "propbench.errors", "propbench.questions"])

@@ -37,7 +37,7 @@ SOLVES = """\
 # The solver that MiniZinc calls by propbench.msc.
 import sys
 
-from propbench.flatzinc.command import main
+from propbench.flatzinc.starting import main
 
 sys.exit(main())
 """

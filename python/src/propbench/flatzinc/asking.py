@@ -1,19 +1,23 @@
-"""What is asked of a model: some solution, several, or the best; of propwide, or by cases."""
+"""What is asked of a model: some solution, several, or the best; of propwide, or by cases.
+
+What goes by cases is imported where a question does.
+"""
+
+from __future__ import annotations
 
 from collections.abc import Callable, Mapping
-from contextlib import suppress
 from dataclasses import dataclass, field
-from typing import Protocol
+from typing import TYPE_CHECKING, Protocol
 
 from propbench.points import Best, NoneFits, Several
-from propbench.questions import Interrupted, Optimum, Plan, Plans, Point, Solution
 from propbench.questions.clock import Clock
-from propbench.questions.ends import optimum_by_cases, solution_by_cases
-from propbench.questions.model import Model
+from propbench.questions.model import Model, Plan, Point
 from propbench.questions.outcomes import NothingFits
-from propbench.questions.plans import plans_by_cases
 from propbench.questions.seeking import Seeker, count_asked, points_of
 from propbench.replies import Reply
+
+if TYPE_CHECKING:
+    from propbench.questions import Optimum, Plans
 
 
 @dataclass
@@ -80,11 +84,13 @@ class AnySolution(SolutionQuestion):
 
     def go_by_cases(self, clock: Clock) -> None:
         """Goes by cases."""
+        from propbench.questions.ends import solution_by_cases
+
         found = solution_by_cases(self.told.model, clock)
-        if isinstance(found, Solution):
-            self._tell(found)
-        elif isinstance(found, NothingFits):
+        if isinstance(found, NothingFits):
             self.told.is_complete = found.premises is not None
+        else:
+            self._tell(found)
 
     def _tell(self, plan: Mapping[str, Point]) -> None:
         self.told.tell(plan)
@@ -131,6 +137,9 @@ class ManySolutions(SolutionQuestion):
 
     def go_by_cases(self, clock: Clock) -> None:
         """Goes by cases."""
+        from propbench.questions import Interrupted, Plans
+        from propbench.questions.plans import plans_by_cases
+
         try:
             self._tell_all(plans_by_cases(self.told.model, self.show, self.most, clock))
         except Interrupted as stopped:
@@ -184,6 +193,9 @@ class BestSolution(SolutionQuestion):
 
     def go_by_cases(self, clock: Clock) -> None:
         """Goes by cases."""
+        from propbench.questions import Interrupted, Optimum
+        from propbench.questions.ends import optimum_by_cases
+
         try:
             self._take(optimum_by_cases(self.told.model, self.cell, self.sort, clock))
         except Interrupted as stopped:

@@ -9,6 +9,7 @@ import threading
 import time
 from collections.abc import Iterator, Sequence
 from contextlib import contextmanager
+from functools import partial
 
 from propbench.finding import NoProgram
 from propbench.flatzinc.building import Built
@@ -34,7 +35,11 @@ propbench MODEL DATA`. That there is no solution, and none that is better, is wh
 def parser() -> argparse.ArgumentParser:
     """The reader of the command line, with the options that MiniZinc gives a solver."""
     made = argparse.ArgumentParser(
-        prog="fzn-propbench", description=DESCRIPTION, allow_abbrev=False
+        prog="fzn-propbench",
+        description=DESCRIPTION,
+        allow_abbrev=False,
+        # (it is asked for with each option, and the terminal's width takes long to find out)
+        formatter_class=partial(argparse.HelpFormatter, width=80),
     )
     made.add_argument("file", metavar="FILE", help="the model in FlatZinc, or - for standard input")
     made.add_argument("-a", "--all", action="store_true", help="all solutions, not one alone")
@@ -47,6 +52,7 @@ def parser() -> argparse.ArgumentParser:
     made.add_argument("-s", "--statistics", action="store_true", help="statistics too")
     made.add_argument("-v", "--verbose", action="store_true", help="tell what is done")
     made.add_argument("--program", metavar="PATH", help="the program that answers")
+    made.formatter_class = argparse.HelpFormatter
     return made
 
 

@@ -24,8 +24,8 @@ from propbench.flatzinc.seeking import SearchWay, Sought
 from propbench.flatzinc.terms import Name
 from propbench.model.cells import ElementCell, NumberCell
 from propbench.questions import Plan
-from propbench.questions.bounding import GREATEST, LEAST
 from propbench.questions.clock import Clock
+from propbench.questions.model import GREATEST, LEAST
 from propbench.questions.seeking import Unlike, seeks
 
 if TYPE_CHECKING:

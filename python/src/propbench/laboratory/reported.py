@@ -18,9 +18,10 @@ from propbench.model.events import Event, LawStated, Read
 from propbench.model.measures import Interval
 from propbench.questions.certificate import Certificate, Evidence
 from propbench.questions.clock import Clock
+from propbench.questions.marks import mark_for
 from propbench.questions.model import Model
 from propbench.questions.rooms import beyond
-from propbench.questions.trial import Trial, mark_for
+from propbench.questions.trial import Trial
 
 # Of so many quantities at the most there are bars.
 _BARS = 40

@@ -11,7 +11,6 @@ from propbench.model.events import Statement
 from propbench.model.first import First
 from propbench.model.given import values_of
 from propbench.model.kinds import Domain, Plain, Point
-from propbench.model.lowering import lowered
 from propbench.model.meaning import Beyond, PlanPoints
 from propbench.model.network import Network
 from propbench.model.nodes import Declared
@@ -155,6 +154,8 @@ class BenchModel:
     ) -> dict[str, Point]:
         """The plan with numbers as low as they can be in the alternatives that it takes, but for
         the cells that are kept; it is to be looked at whether all holds there."""
+        from propbench.model.lowering import lowered
+
         cells, holding = self._network.cells, {None, *believed}
         events = [each for each in self._network.events if each.premise in holding]
         found = lowered(events, self._points(plan), [cells[name] for name in kept])

@@ -16,9 +16,9 @@ from propbench.points import Points
 from propbench.questions.asking import AnyResult, premises_named, tried_by
 from propbench.questions.certificate import OPEN, Certificate, Evidence
 from propbench.questions.kept import Base, begun
+from propbench.questions.marks import mark_for
 from propbench.questions.model import Model
 from propbench.questions.seeking import Claims, Seeker
-from propbench.questions.trial import mark_for
 from propbench.replies import UNSETTLED
 from propbench.session import Session
 from propbench.values import Nothing

@@ -4,6 +4,8 @@ from collections.abc import Iterable, Mapping, Sequence
 from dataclasses import dataclass, field, replace
 
 from propbench.questions.certificate import Certificate, Evidence
+from propbench.questions.model import GREATEST as GREATEST
+from propbench.questions.model import LEAST as LEAST
 from propbench.questions.model import Model, Plan
 from propbench.questions.outcomes import Cannot, Fits, Fork, NothingFits
 from propbench.questions.rooms import NumberRoom
@@ -13,8 +15,6 @@ from propbench.questions.searching import decided
 from propbench.questions.trial import Trial
 from propbench.showing import quoted
 from propbench.words import MOST_NUMBER
-
-LEAST, GREATEST = "least", "greatest"
 
 
 @dataclass(frozen=True, repr=False)

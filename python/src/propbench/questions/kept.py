@@ -11,8 +11,8 @@ from dataclasses import dataclass, field, replace
 
 from propbench.closing import Closing
 from propbench.program import OutOfTime, ProgramEnded
+from propbench.questions.marks import mark_for
 from propbench.questions.model import Model
-from propbench.questions.trial import mark_for
 from propbench.refusals import Refused
 from propbench.session import Session
 from propbench.words import MOST_STEPS, is_silent

@@ -10,6 +10,8 @@ from propbench.session import Session
 
 # Points by the names of cells.
 Plan = dict[str, Point]
+# The ends of a number that can be asked for.
+LEAST, GREATEST = "least", "greatest"
 
 
 class Model(Protocol):

@@ -19,10 +19,10 @@ from propbench.questions.blaming import BY_SEARCH
 from propbench.questions.certificate import Certificate, Evidence
 from propbench.questions.changes import Change, resolved
 from propbench.questions.conflicts import Premises
+from propbench.questions.marks import mark_for
 from propbench.questions.model import Model
 from propbench.questions.seeking import blames
 from propbench.questions.shown import Shown
-from propbench.questions.trial import mark_for
 from propbench.replies import Contradiction, Value, Worldview, reply_of
 from propbench.session import Session
 from propbench.words import is_silent

@@ -6,25 +6,29 @@ hold (as what is stated says more than its lines), nothing is said, and the sear
 has its turn.
 """
 
+from __future__ import annotations
+
 import time
 from collections.abc import Callable, Iterable, Iterator, Mapping, Sequence
 from contextlib import contextmanager, suppress
+from typing import TYPE_CHECKING
 
 from propbench.blamed import Blamed
 from propbench.clock import Clock
 from propbench.closing import Closing
 from propbench.points import Best, Points, Several, SoFar
 from propbench.program import OutOfTime
-from propbench.questions.bounding import LEAST
-from propbench.questions.certificate import Certificate, Evidence
 from propbench.questions.kept import WITHOUT_END, Base, Kept, begun, kept_for
-from propbench.questions.model import Model, Plan
+from propbench.questions.model import LEAST, Model, Plan
 from propbench.questions.outcomes import Fits
 from propbench.replies import UNSETTLED, Reply, Unsettled, Value
 from propbench.runs import is_settled
 from propbench.session import Session
 from propbench.values import Held, Nothing, Span
 from propbench.words import MOST_NUMBER, is_well_encoded
+
+if TYPE_CHECKING:
+    from propbench.questions.certificate import Certificate, Evidence
 
 # Where a session keeps what its program searches for.
 _TELLS = "tells"
@@ -240,6 +244,8 @@ class Seeker(Closing):
 
     def evidence(self) -> Evidence:
         """What shows claims, as yet without plans."""
+        from propbench.questions.certificate import Evidence
+
         premises = {name: line for line, name in self._premises.items()}
         return Evidence(self.base, self.mark, self.lines, premises, self.session.program)
 

@@ -11,6 +11,7 @@ from propbench.clock import Clock
 from propbench.closing import Closing
 from propbench.program import OutOfTime
 from propbench.questions.checker import digits
+from propbench.questions.marks import mark_for
 from propbench.questions.model import Model, Plan
 from propbench.questions.rooms import (
     NameRoom,
@@ -43,14 +44,6 @@ _EITHER = NameRoom(("no", "yes"))
 Case = tuple[str, Room]
 # What is seen of the network: what is left for each of the user's cells, or no values.
 Seen = dict[str, Held] | Settled | Unsettled | Contradiction
-
-
-def mark_for(base: Iterable[str], form: str = "_q{}_") -> str:
-    """What does not stand in the lines, so that names which begin with it are not taken."""
-    text, number = " ".join(base), 0
-    while (mark := form.format(number)) in text:
-        number += 1
-    return mark
 
 
 class Trial(Closing):
