@@ -89,41 +89,48 @@ fn told(alloc: Global, number: usize, statement: &Statement) -> Result<Part, All
     })
 }
 
-/// Logs what a statement says, where it says more than those before it. Then the readers of its
-/// cell wait.
+/// The data of a network, and the premises under which its statements are told.
+#[derive(Clone, Copy)]
+struct Under<'a> {
+    held: &'a Cells,
+    premises: &'a PremiseSet,
+}
+
+/// Logs what a statement says, where its premise is one of these or it has none, and where it says
+/// more than those before it. Then the readers of its cell wait.
 fn note(
     alloc: Global,
-    held: &Cells,
+    under: &Under<'_>,
     number: usize,
     line: &mut Line,
     log: &mut Log,
 ) -> Result<(), AllocError>
-    requires number { number < length held.now.statements }
-    requires made { IsWellMade held.now }
-    requires cells { log.old.cells ≡ length held.now.kinds }
-    requires line { line.old.count ≡ length held.now.instances }
-    requires of_kinds { AreOfKinds held.now.kinds (made log.old.parts) }
+    requires number { number < length under.now.held.now.statements }
+    requires made { IsWellMade under.now.held.now }
+    requires cells { log.old.cells ≡ length under.now.held.now.kinds }
+    requires line { line.old.count ≡ length under.now.held.now.instances }
+    requires of_kinds { AreOfKinds under.now.held.now.kinds (made log.old.parts) }
     ensures cells { log.new.cells ≡ log.old.cells }
     ensures line { line.new.count ≡ line.old.count }
-    ensures founded { (x : Statement) → slice_get held.now.statements number ≡ Some x
-        → (library : List Stored) (s : Premises) → IsTrue (is_member s x.premise)
-        → AreFounded library held.now s log.old.parts
-        → AreFounded library held.now s log.new.parts }
+    ensures founded { (library : List Stored)
+        → AreFounded library under.now.held.now (set_of under.now.premises.now) log.old.parts
+        → AreFounded library under.now.held.now (set_of under.now.premises.now) log.new.parts }
     ensures proceeds { OnOk result ((library : List Stored)
-        → Proceeds (problem_of library held.now) 0 line.old.line line.new.line
+        → Proceeds (problem_of library under.now.held.now) 0 line.old.line line.new.line
         (made log.old.parts) (made log.new.parts)) }
-    ensures heard { OnOk result ((x : Statement) → slice_get held.now.statements number ≡ Some x
-        → Below x.info (made log.new.parts x.cell)) }
+    ensures heard { OnOk result ((x : Statement)
+        → slice_get under.now.held.now.statements number ≡ Some x
+        → Satisfies (set_of under.now.premises.now) (made log.new.parts) x) }
     ensures calls { OnOk result (calls_in log.new.parts ≡ calls_in log.old.parts) }
 {
-    let statement = held.statements()[number];
+    let statement = under.held.statements()[number];
     let cell = statement.cell;
-    if log.made(cell).implies(statement.info) {
+    if !is_among(under.premises, &statement) || log.made(cell).implies(statement.info) {
         return Ok(());
     }
     let part = told(alloc, number, &statement)?;
     log.push(part)?;
-    line.alert(held.readers(cell));
+    line.alert(under.held.readers(cell));
     Ok(())
 }
 
@@ -151,11 +158,9 @@ fn tell(
         (All (Satisfies (set_of premises.now) (made log.new.parts)) held.now.statements) }
     ensures calls { OnOk result (calls_in log.new.parts ≡ calls_in log.old.parts) }
 {
+    let under = Under { held, premises };
     for number in 0..held.statements().len() {
-        let statement = held.statements()[number];
-        if is_among(premises, &statement) {
-            note(alloc, held, number, line, log)?;
-        }
+        note(alloc, &under, number, line, log)?;
     }
     Ok(())
 }

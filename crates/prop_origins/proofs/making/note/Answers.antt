@@ -1,6 +1,7 @@
 use Rattle.std.proofs.Common.{◌≡◌, ◌∙◌, ◌∷◌, length, slice_get, Some, IsTrue, refl, ap, subst, sym, arith}
 use Rattle.std.proofs.lemmas.Option.{slice_get_read}
 use Rattle.prop_lattice.specs.Order.{Below}
+use Rattle.prop_numbers.specs.Sets.{set_of}
 use Rattle.prop_cells.specs.Problems.{is_member}
 use Rattle.prop_cells.specs.declared.instance.Statement.{Statement}
 use Rattle.prop_cells.specs.Data.{IsStated, problem_of}
@@ -19,17 +20,17 @@ use Rattle.prop_origins.proofs.making.note.Goals as goal
 pub alert-requires : goal.alert-requires
 alert-requires c =
     rw (c.readers.ensures, c.requires.line)
-    ((readers_are c.args.held.now.instances c.index-statements-number.result.cell).below)
+    ((readers_are c.args.under.now.held.now.instances c.index-statements-number.result.cell).below)
 
 pub returns-clause-founded : goal.returns-clause-founded
-returns-clause-founded c = λ y at_y library s y_member f.
-    let d = c.args.held.now in
+returns-clause-founded c = λ library f.
+    let d = c.args.under.now.held.now in
+    let s = set_of c.args.under.now.premises.now in
     let x = c.index-statements-number.result in
     let at : slice_get d.statements c.args.number ≡ Some x =
     slice_get_read d.statements (length d.statements) c.args.number x refl c.requires.number
     (rw c.statements.ensures at c.index-statements-number.is) in
-    let same : x ≡ y = cc in
-    let member = subst (λ (z : Statement). IsTrue (is_member s z.premise)) (sym same) y_member in
+    let member : IsTrue (is_member s x.premise) = sym c.is_among.ensures ∙ c.if-not-is_among.false in
     let stated = All-at (IsStated d.kinds d.contents) d.statements c.args.number x c.requires.made.stated at in
     let of_kind = stated.of_kind in
     let more : ¬ (Below x.info (made c.args.log.now.parts x.cell)) =
@@ -40,7 +41,7 @@ returns-clause-founded c = λ y at_y library s y_member f.
 
 pub returns-clause-proceeds : goal.returns-clause-proceeds
 returns-clause-proceeds c = λ library.
-    let d = c.args.held.now in
+    let d = c.args.under.now.held.now in
     let x = c.index-statements-number.result in
     let parts = c.args.log.now.parts in
     let at : slice_get d.statements c.args.number ≡ Some x =
@@ -61,8 +62,8 @@ returns-clause-proceeds c = λ library.
     c.requires.of_kinds of_kind more alerted)
 
 pub returns-clause-heard : goal.returns-clause-heard
-returns-clause-heard c = λ y at_y.
-    let d = c.args.held.now in
+returns-clause-heard c = λ y at_y member.
+    let d = c.args.under.now.held.now in
     let x = c.index-statements-number.result in
     let p = c.in_ok-part.part in
     let parts = c.args.log.now.parts in

@@ -1,11 +1,9 @@
-use Rattle.std.proofs.Common.{◌≡◌, ◌∙◌, ◌<◌, ◌≤◌, List, [], None, Some, All, IsTrue, ap, arith, get_or, slice_get}
-use Rattle.std.proofs.Common.{length, take, refl, subst, sym}
+use Rattle.std.proofs.Common.{◌∙◌, ◌<◌, ◌≤◌, List, [], None, All, ap, arith, get_or, length, take, refl, subst}
 use Rattle.std.proofs.lemmas.List.{take_all}
 use Rattle.std.proofs.lemmas.List.Elements.{All-nil, All-more}
-use Rattle.std.proofs.lemmas.Option.{slice_get-get_or, slice_get_read}
+use Rattle.std.proofs.lemmas.Option.{slice_get-get_or}
 use Rattle.prop_lattice.specs.declared.info.Info.TheVariants.{Nothing}
 use Rattle.prop_numbers.specs.Sets.{set_of}
-use Rattle.prop_cells.specs.Problems.{is_member}
 use Rattle.prop_cells.specs.declared.instance.Statement.{Statement}
 use Rattle.prop_cells.specs.Data.{problem_of}
 use Rattle.prop_origins.specs.Parts.{made}
@@ -18,17 +16,7 @@ note-requires-clause-of_kinds c = (c.loop-number.invariant.proceeds []).of_kinds
 
 pub returns-in_err-note-clause-founded : goal.returns-in_err-note-clause-founded
 returns-in_err-note-clause-founded c = λ library f.
-    let d = c.args.held.now in
-    let s = set_of c.args.premises.now in
-    let n = c.loop-number.number in
-    let x = c.index-statements-number.result in
-    let end = ap (λ (xs : List Statement). length xs) c.statements-number-end.ensures in
-    let within : n < length d.statements = omega (arith, c.loop-number-test.true, end) in
-    let at : slice_get d.statements n ≡ Some x =
-    slice_get_read d.statements (length d.statements) n x refl within
-    (rw c.statements.ensures at c.index-statements-number.is) in
-    let member : IsTrue (is_member s x.premise) = sym c.is_among.ensures ∙ c.if-is_among.true in
-    c.note.ensures.founded x at library s member (c.loop-number.invariant.founded library f)
+    c.note.ensures.founded library (c.loop-number.invariant.founded library f)
 
 pub loop-number-init : goal.loop-number-init
 loop-number-init c = record {
@@ -41,61 +29,29 @@ loop-number-init c = record {
   calls = refl;
 }
 
-pub loop-number-preserved-then-is_among : goal.loop-number-preserved-then-is_among
-loop-number-preserved-then-is_among c =
+pub loop-number-preserved : goal.loop-number-preserved
+loop-number-preserved c =
     let d = c.args.held.now in
     let s = set_of c.args.premises.now in
     let was = made c.loop-number.log.parts in
     let now = made c.note.new.log.parts in
     let n = c.loop-number.number in
-    let x = c.index-statements-number.result in
     let nobody : Statement = record { premise = None; cell = 0; info = Nothing } in
     let end = ap (λ (xs : List Statement). length xs) c.statements-number-end.ensures in
     let within : n < length d.statements = omega (arith, c.loop-number-test.true, end) in
-    let at : slice_get d.statements n ≡ Some x =
-    slice_get_read d.statements (length d.statements) n x refl within
-    (rw c.statements.ensures at c.index-statements-number.is) in
-    let member : IsTrue (is_member s x.premise) = sym c.is_among.ensures ∙ c.if-is_among.true in
     let step = c.in_ok-note.ensures.proceeds in
     let heard = c.in_ok-note.ensures.heard (get_or d.statements n nobody)
     (slice_get-get_or d.statements n nobody within) in
     record {
       cells = c.note.ensures.cells ∙ c.loop-number.invariant.cells;
       line = c.note.ensures.line ∙ c.loop-number.invariant.line;
-      founded = λ library f.
-          c.note.ensures.founded x at library s member (c.loop-number.invariant.founded library f);
+      founded = λ library f. c.note.ensures.founded library (c.loop-number.invariant.founded library f);
       proceeds = λ library. proceeds_then (problem_of library d) 0 0 c.args.line.now.line c.loop-number.line.line
           c.note.new.line.line (made c.args.log.now.parts) was now (c.loop-number.invariant.proceeds library)
           (step library);
       heard = All-more (Satisfies s now) d.statements n nobody within
-          (heard_still s was now (take n d.statements) (step []).grows c.loop-number.invariant.heard) (λ _. heard);
+          (heard_still s was now (take n d.statements) (step []).grows c.loop-number.invariant.heard) heard;
       calls = c.in_ok-note.ensures.calls ∙ c.loop-number.invariant.calls;
-    }
-
-pub loop-number-preserved : goal.loop-number-preserved
-loop-number-preserved c =
-    let d = c.args.held.now in
-    let s = set_of c.args.premises.now in
-    let now = made c.loop-number.log.parts in
-    let n = c.loop-number.number in
-    let x = c.index-statements-number.result in
-    let nobody : Statement = record { premise = None; cell = 0; info = Nothing } in
-    let y = get_or d.statements n nobody in
-    let end = ap (λ (xs : List Statement). length xs) c.statements-number-end.ensures in
-    let within : n < length d.statements = omega (arith, c.loop-number-test.true, end) in
-    let at : slice_get d.statements n ≡ Some x =
-    slice_get_read d.statements (length d.statements) n x refl within
-    (rw c.statements.ensures at c.index-statements-number.is) in
-    let at_y : slice_get d.statements n ≡ Some y = slice_get-get_or d.statements n nobody within in
-    let same : x ≡ y = cc in
-    record {
-      cells = c.loop-number.invariant.cells;
-      line = c.loop-number.invariant.line;
-      founded = c.loop-number.invariant.founded;
-      proceeds = c.loop-number.invariant.proceeds;
-      heard = All-more (Satisfies s now) d.statements n nobody within c.loop-number.invariant.heard
-          (λ member. absurd (cc (c.is_among.ensures, c.if-is_among.false, same, member)));
-      calls = c.loop-number.invariant.calls;
     }
 
 pub returns-clause-proceeds : goal.returns-clause-proceeds
