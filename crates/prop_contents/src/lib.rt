@@ -5,9 +5,9 @@
 //! don't rest on the premise. `next_shifted` finds the first cell of which two worldviews believe
 //! different things, and passes over many at once on whose premises they agree.
 //!
-//! What is believed of a cell is worked out where it isn't known, and known from then on where there
-//! is room (`Known`, `known_belief`, `gather`). A support is that of believed entries that say
-//! together what is believed, none of which can be left out (`strongest_of`, `supports`).
+//! What is believed of a cell is worked out where it isn't known, and known from then on where
+//! there is room (`Known`, `known_belief`, `gather`). A support is that of believed entries that
+//! say together what is believed, none of which can be left out (`strongest_of`, `supports`).
 #![tactic(auto)]
 
 mod bearing;

@@ -36,19 +36,22 @@ pub loop-i-preserved : goal.loop-i-preserved
 loop-i-preserved c =
     let h = c.loop-i.invariant in
     let i = c.loop-i.i in
+    let asked = c.args.asked.now in
     let place : Shape × Kinded = (c.shape_at.result, c.kind.result) in
     let longer : length c.push_reserved.new.self.items ≡ length (c.loop-i.places.items ++ place ∷ []) =
     ap length c.push_reserved.ensures.items in
     record {
-      items = place_more c.args.shapes.now c.args.shape c.args.held.now.kinds c.args.asked.now.ins.now c.args.asked.now.out c.requires.count
+      items = place_more c.args.shapes.now c.args.shape c.args.held.now.kinds asked.ins.now asked.out c.requires.count
           c.loop-i.places.items c.push_reserved.new.self.items i c.shape_at.result c.kind.result c.loop-i-test.true
           c.shape_at.ensures
-          (c.kind.ensures ∙ ap (kind_at c.args.held.now.kinds) c.cell_at-cell.ensures) h.items c.push_reserved.ensures.items;
+          (c.kind.ensures ∙ ap (kind_at c.args.held.now.kinds) c.cell_at-cell.ensures) h.items
+          c.push_reserved.ensures.items;
       count = longer ∙ length-append c.loop-i.places.items (place ∷ []) ∙ ap (λ n. n + 1) h.count;
       room = c.push_reserved.ensures.capacity ∙ h.room;
     }
 
 pub returns : goal.returns
 returns c =
-    let s = size c.args.shapes.now c.args.shape c.args.held.now.kinds c.args.asked.now.ins.now c.args.asked.now.out c.requires.count in
+    let asked = c.args.asked.now in
+    let s = size c.args.shapes.now c.args.shape c.args.held.now.kinds asked.ins.now asked.out c.requires.count in
     c.loop-i.invariant.items ∙ take_all c.loop-i.i _ (omega (arith, s, c.loop-i-test.false))
