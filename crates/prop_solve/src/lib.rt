@@ -12,7 +12,6 @@ pub mod bound;
 mod choosing;
 pub mod earlier;
 mod gate;
-mod heaviest;
 mod heeding;
 pub mod news;
 mod pace;

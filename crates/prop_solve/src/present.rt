@@ -1,9 +1,7 @@
 //! What a trail believes now, laid out so that much of it is read quickly.
 
-use crate::heaviest::Heaviest;
 use prop_deriving::Course;
 use prop_lattice::Info;
-use prop_learned::weights::Weights;
 use prop_trail::Trail;
 use std::alloc::{AllocError, Global};
 
@@ -19,7 +17,6 @@ pub(crate) struct Present {
     open: Vec<u64>,
     course: Course,
     kept: Vec<Info>,
-    heaviest: Heaviest,
 }
 
 /// Whether several bits are set. (That is quicker than to count them.)
@@ -53,7 +50,6 @@ impl Present {
             open: vec![in alloc; 0; beliefs.len() / WORD + 1]?,
             course: Course::new(alloc, beliefs.len())?,
             kept: Vec::from_slice(alloc, beliefs)?,
-            heaviest: Heaviest::new(alloc),
         };
         for (place, info) in beliefs.iter().enumerate() {
             present.set(place, *info);
@@ -115,17 +111,6 @@ impl Present {
         }
     }
 
-    /// Looks at what the open places weigh, where some may have come to weigh more since the last
-    /// look, or to be open: so it is each time that something is taken back.
-    pub(crate) fn weigh(&mut self, weights: &Weights) -> Result<(), AllocError> {
-        self.heaviest.look(weights, &self.open)
-    }
-
-    /// No open one of 64 places weighs more than this.
-    pub(crate) fn heaviest_among(&self, word: usize) -> u64 {
-        self.heaviest.among(word)
-    }
-
     /// How many times 64 places there are.
     pub(crate) fn words(&self) -> usize {
         self.open.len()
@@ -144,7 +129,6 @@ impl Present {
 
     /// All is as it was before the levels above this one.
     pub(crate) fn take_back(&mut self, trail: &Trail, level: usize) {
-        self.heaviest.forget();
         if level >= trail.level() {
             return;
         }

@@ -673,7 +673,6 @@ impl Solver {
             self.pace.begin();
             return self.spread.restart();
         }
-        self.spread.weigh(&self.weights)?;
         match self.next_place() {
             Some(place) => {
                 let first = self.first(place);

@@ -229,13 +229,6 @@ impl Spread {
         learning.second(&self.trail)
     }
 
-    /// Looks at what the open places weigh, where that has changed.
-    pub(crate) fn weigh(&mut self, weights: &Weights) -> Result<(), AllocError>
-        ensures same { self.new ≡ self.old }
-    {
-        self.present.weigh(weights)
-    }
-
     /// Of these places one that is open, which is decided next.
     pub(crate) fn pick_named(&self, named: &[usize], weights: &Weights) -> Option<usize> {
         pick_named(&self.trail, &self.present, named, weights)

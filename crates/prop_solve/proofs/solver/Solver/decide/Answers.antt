@@ -1,7 +1,7 @@
 use Rattle.std.proofs.Common.{inl, subst, sym}
 use Rattle.prop_procedures.specs.Kept.{stored_of}
 use Rattle.prop_solve.specs.Searches.{IsSearch}
-use Rattle.prop_solve.proofs.SearchLemmas.{all_proposed, on_ok_more, with_nogoods, with_proposal, with_spread}
+use Rattle.prop_solve.proofs.SearchLemmas.{all_proposed, on_ok_more, with_nogoods, with_proposal}
 use Rattle.prop_solve.proofs.solver.Solver.decide.Goals as goal
 
 pub returns-then-level-gt0-clause-search : goal.returns-then-level-gt0-clause-search
@@ -19,7 +19,6 @@ returns-in_ok-self-inside-in-None-clause-search g c =
     let d = c.args.network.now.cells in
     let premises = c.args.premises.now in
     let s = subst (IsSearch library d premises) (sym c.self.view_is) c.requires.search in
-    let weighed = with_spread library d premises _ c.weigh.new.self c.weigh.ensures.same s in
     let o = c.in_ok-self-inside-in-None.field-0 in
     let h = with_proposal library d premises _ o
-    (all_proposed library d premises o c.in_ok-self-inside-in-None.ensures) weighed in h
+    (all_proposed library d premises o c.in_ok-self-inside-in-None.ensures) s in h
