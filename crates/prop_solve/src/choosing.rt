@@ -12,15 +12,31 @@ const FEW: i64 = 1_000_000;
 /// How many numbers are left at the most where single ones may be out between them.
 const WITH_HOLES: u64 = 256;
 
+/// As few values as are left of a place that is open.
+const FEWEST: u64 = 2;
+
 /// A place that is open, by how many values are left of it for what it weighs.
 #[derive(Clone, Copy)]
 struct Candidate {
     place: usize,
     values: u64,
     weight: u64,
+    /// No place that weighs no more than this is before it, however few values are left there.
+    least: u64,
 }
 
 impl Candidate {
+    /// A place of which so many values are left, two at the least.
+    fn new(place: usize, values: u64, weight: u64) -> Candidate {
+        let least = weight.saturating_mul(FEWEST).checked_div(values);
+        Candidate {
+            place,
+            values,
+            weight,
+            least: least.unwrap_or(0),
+        }
+    }
+
     /// Whether fewer values are left for the weight.
     fn is_before(&self, other: &Candidate) -> bool {
         u128::from(self.values) * u128::from(other.weight)
@@ -58,11 +74,15 @@ fn open_place(
     if values < 2 || values == u64::MAX {
         return None;
     }
-    Some(Candidate {
-        place,
-        values,
-        weight: weights.of(place),
-    })
+    Some(Candidate::new(place, values, weights.of(place)))
+}
+
+/// Whether a place of this weight may be before the best one.
+fn is_in_reach(best: Option<Candidate>, weight: u64) -> bool {
+    match best {
+        Some(found) => weight > found.least,
+        None => true,
+    }
 }
 
 /// The one of which less is left for what it weighs; the first where both are alike.
@@ -118,7 +138,10 @@ pub(crate) fn pick(
             let place = word
                 .saturating_mul(64)
                 .saturating_add(left.trailing_zeros() as usize);
-            best = better(best, open_place(trail, present, place, weights));
+            // (most places are passed over by their weight, before their values are counted)
+            if is_in_reach(best, weights.of(place)) {
+                best = better(best, open_place(trail, present, place, weights));
+            }
             left &= left.wrapping_sub(1);
         }
     }
