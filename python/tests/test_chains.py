@@ -11,6 +11,7 @@ from hypothesis import strategies as st
 
 from propbench import Workbench
 from propbench.planning import Project, Task
+from propbench.planning.folded import FoldedChain
 from propbench.questions import NothingFits
 
 DAYS = 8
@@ -125,6 +126,111 @@ def test_a_chain_is_the_reason(case: Case) -> None:
         assert {*rooms} <= {*str(chain).split()}
 
 
+@settings(max_examples=20 * TIMES)
+@given(cases())
+def test_a_folded_chain_is_the_reason(case: Case) -> None:
+    """Its premises leave no sooner end in all plans, whether or not the program searched for that;
+    each task of it begins when what it waits for is over, and stretches have all tasks once."""
+    with Workbench() as w:
+        p = project_of(w, case)
+        best = w.least(p.end)
+        if best.plan is None or not best.proved or not (best.because or best.value == 0):
+            return
+        end = soonest(case, w.premises)
+        chain = p.how(best)
+        assert best.value == end == soonest(case, chain.premises) == chain.schedule.end
+        assert {*chain.premises} <= {*best.because}
+        told = {name for link in chain.links for name in chain.behind(link.entry.task)}
+        assert {*chain.others} == {*chain.premises} - told
+        assert sorted(sum(chain.by_kind.values(), ())) == sorted(chain.others)
+        ends = {entry.task: entry.end for entry in chain.schedule.entries}
+        for link in chain.links:
+            assert all(ends[task] == link.entry.start for task in link.after)
+            kept = [f"{task} takes {case.tasks[int(task[1:])].days}" for task in link.after]
+            orders = [f"{link.entry.task} after {task}" for task in link.after]
+            assert {*kept} <= {*chain.premises} or {*orders} & {*chain.premises}
+        assert [task for it in chain.stretches for task in it.tasks] == [
+            link.entry.task for link in chain.links
+        ]
+
+
+def days_of(chain: FoldedChain) -> list[list[object]]:
+    """What the rows of a chain say but of whom."""
+    return [[row[0], row[1], row[2], row[4], row[5]] for row in chain.rows()]
+
+
+def test_a_long_chain_is_told_in_few_rows() -> None:
+    """Ana has eight tasks of two days and ben has eight of one behind, all in order; by hand."""
+    with Workbench() as w:
+        p = w.project(days=60, people="ana ben")
+        made = [p.task("a0", 2, who="ana")]
+        for number in range(1, 8):
+            made.append(p.task(f"a{number}", 2, who="ana", after=made[-1:]))
+        for number in range(8):
+            made.append(p.task(f"b{number}", 1, who="ben", after=made[-1:]))
+        p.task("aside", 3, who="ben")
+        p.not_before(1, made[0], under="not at once")
+        best = w.least(p.end)
+        assert best.value == 1 + 16 + 8
+        if not best.because:
+            return
+        chain = p.how(best)
+        assert len(chain.links) == 16 and len(chain.premises) == 16 + 15 + 1
+        assert days_of(chain) == [
+            [1, 3, "a0", "not at once", 2],
+            *([2 * n + 1, 2 * n + 3, f"a{n}", f"a{n - 1}", 2] for n in range(1, 5)),
+            ["", "", "(5 tasks between)", "", 10],
+            *([17 + n, 18 + n, f"b{n}", f"b{n - 1}", 2] for n in range(2, 8)),
+        ]
+        assert chain.others == () and "others" not in str(chain)
+        assert chain.whole().count("takes") == 16 and "aside" not in chain.whole()
+
+
+def test_what_somebody_does_in_a_row_is_one_stretch() -> None:
+    """Ana has 14 tasks of two days, from day 3, when she is back, to day 31, in any order."""
+    with Workbench() as w:
+        p = w.project(days=60, people="ana ben")
+        for number in range(14):
+            p.task(f"t{number}", 2, who="ana", pauses=False)
+        p.away("ana", 0, 3, under="holiday")
+        for number in range(4):
+            p.task(f"u{number}", 2, who="ben")
+        best = w.least(p.end)
+        assert best.value == 31
+        if not best.because:
+            return
+        chain = p.how(best)
+        kinds = {"holiday", "ana does one thing at a time"}
+        assert {*chain.premises} == kinds | {f"t{number} takes 2" for number in range(14)}
+        [stretch] = chain.stretches
+        assert {*stretch.tasks} == {f"t{number}" for number in range(14)}
+        [[first, last, task, who, waits, count]] = chain.rows()
+        assert (first, last, who, count) == (3, 31, ("ana",), 16)
+        assert str(task).endswith(" (14 tasks in a row)") and waits == "ana, away 0 to 3"
+        assert {*chain.behind("t3")} == kinds | {"t3 takes 2"}
+
+
+def test_what_is_behind_is_counted_by_kind() -> None:
+    """A budget, which is behind a length, and a way that is dear."""
+    with Workbench() as w:
+        p = w.project(days=30, people="ana")
+        quick = {"good": dict(days=6, cost=10), "quick": dict(days=2, cost=90)}
+        p.task("a", who="ana", options=quick)
+        w.require(p.total_cost <= 50, under="the budget")
+        w.tell("no gifts", p.total_cost, 0, 60)
+        best = w.least(p.end)
+        assert best.value == 6
+        if not best.because:
+            return
+        chain = p.how(best)
+        assert chain.others == ("the budget",) or chain.others == ("no gifts",)
+        assert str(chain).split("\n")[-1] in (
+            "and 1 other: 1 constraint.",
+            "and 1 other: 1 statement.",
+        )
+        assert [*chain.by_kind] in (["constraints"], ["statements"])
+
+
 def test_a_chain_prints_what_is_waited_for() -> None:
     """Ana has 7 days of work, from the day on which she is back; c can wait for as many as b takes
     less two."""
@@ -216,13 +322,13 @@ def test_a_chain_of_what_the_program_names() -> None:
             return
         asked: list[str] = []
         found = p.how(best, progress=asked.append)
-        assert not asked and found.complete and found.premises == best.because
+        assert not asked and found.complete and {*found.premises} <= {*best.because}
         assert [link.entry.task for link in found.links][-1] == "third"
         behind = found.behind("third")
         assert "third takes 2" in behind and set(behind) <= set(best.because)
         told = {name for link in found.links for name in found.behind(link.entry.task)}
-        assert set(found.others) == set(best.because) - told
-        assert f"no sooner by {len(best.because)} premises" in str(found)
+        assert set(found.others) == set(found.premises) - told
+        assert f"no sooner by {len(found.premises)} premises" in str(found)
         with pytest.raises(KeyError):
             found.behind("aside")
         with pytest.raises(ValueError, match="ask for the least of it"):

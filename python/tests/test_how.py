@@ -9,6 +9,7 @@ import random
 import re
 from collections.abc import Callable, Iterable, Iterator
 from dataclasses import dataclass
+from itertools import product
 from typing import Any
 
 import pytest
@@ -492,11 +493,25 @@ def test_a_tree_of_many_parts(wide: str) -> None:
         watched = SessionWatched(session)
         watched.see()
         claim = watched.how("x49")
-    text = str(claim).split("\n")
+        talk = Talk(session)
+        assert talk(":how x49") == str(claim) and talk(":how x49 all") == claim.whole()
+        assert talk(":how x49 x48").startswith("Say of which cell")
+    text = claim.whole().split("\n")
     assert len(list(claim.claims())) == 50 and len(text) == 13
     assert text[-1].endswith(" (and more behind)") and text[0].startswith(
         f"x49 = {2**49}..{2**50},"
     )
+    # (of 50 steps the first and the last ones)
+    told = [f"x{at} = {2**at}..{2 ** (at + 1)}" for at in range(49, -1, -1)]
+    folded = [line.strip().partition(",")[0] for line in str(claim).split("\n")]
+    assert folded == [*told[:6], "(40 steps between)", *told[-4:]]
+    assert claim.is_folded and [each.cell for each in claim.chain] == [
+        f"x{49 - n}" for n in range(50)
+    ]
+    assert claim.of("x3").says == "8..16" and claim.of("x3").premises == ()
+    assert claim._repr_html_().count("<details>") == 1
+    with pytest.raises(KeyError):
+        claim.of("y")
 
 
 def test_a_picture_shows_what_compounds_hold(wide: str) -> None:
@@ -509,3 +524,147 @@ def test_a_picture_shows_what_compounds_hold(wide: str) -> None:
     with bench(wide) as w:
         dot = w.cells[1].picture().dot
         assert "the price &lt;= 2000" in dot and "fee" not in dot and "small" in dot
+
+
+# --- reasons that are folded ---
+
+# Constraints between two numbers and another: as the workbench has them, and in whole numbers.
+PAIRS: list[tuple[Callable[[Number, Number, int], Truth], Callable[[int, int, int], bool]]] = [
+    (lambda x, y, n: x + n <= y, lambda x, y, n: x + n <= y),
+    (lambda x, y, n: x + y <= n + 20, lambda x, y, n: x + y <= n + 20),
+    (lambda x, y, n: 2 * x >= y + n, lambda x, y, n: 2 * x >= y + n),
+    (lambda x, y, n: x * y >= n, lambda x, y, n: x * y >= n),
+    (lambda x, y, n: (x < n) | (y > n), lambda x, y, n: x < n or y > n),
+]
+FEW = ("k", "l", "m", "n")
+
+
+@dataclass(frozen=True)
+class Net:
+    """Numbers from 0 to 12 and constraints between two of them, each under a premise of its own."""
+
+    rows: tuple[tuple[int, str, str, int], ...]
+
+    def made(self, wide: str, premises: Iterable[str] | None = None) -> Workbench:
+        """A workbench with these premises, or all."""
+        w = Workbench(wide)
+        cells = {name: w.number(name, 0, 12) for name in FEW}
+        for place, (form, one, other, number) in enumerate(self.rows):
+            if premises is None or f"p{place}" in premises:
+                w.require(PAIRS[form][0](cells[one], cells[other], number), under=f"p{place}")
+        return w
+
+    def points(self, premises: Iterable[str]) -> Iterator[dict[str, int]]:
+        """All points at which these premises hold."""
+        kept = [self.rows[int(name[1:])] for name in premises]
+        for values in product(range(13), repeat=len(FEW)):
+            at = dict(zip(FEW, values))
+            if all(PAIRS[form][1](at[one], at[other], number) for form, one, other, number in kept):
+                yield at
+
+
+def drawn_net(draw: random.Random) -> Net:
+    return Net(
+        tuple(
+            (draw.randrange(len(PAIRS)), *draw.sample(FEW, 2), draw.randint(1, 6))  # type: ignore
+            for _ in range(draw.randint(4, 9))
+        )
+    )
+
+
+def within(one: Held, other: Held) -> bool:
+    """Whether one value says all that another does."""
+    return both(one, other) == one
+
+
+def test_each_step_follows_from_its_premises(wide: str) -> None:
+    """By what a claim rests on alone the program says as much; and what the way of a step comes
+    from, with what is known of its inputs, says what the step says."""
+    looked = 0
+    for seed in range(12 * TIMES):
+        net = drawn_net(random.Random(seed))
+        with net.made(wide) as w:
+            if not w.settle():
+                continue
+            claims = {each: None for cell in w.cells for each in cell.how().claims()}
+        for claim in claims:
+            with net.made(wide, claim.premises) as kept:
+                assert within(span_of(kept, claim.cell), claim.value), (seed, claim)
+            for way in claim.ways:
+                names = [it.premise for it in way.sources if it.premise]
+                with net.made(wide, names) as kept:
+                    for each in way.inputs:
+                        assert isinstance(each.value, Span)
+                        kept.fix(kept.cell(each.cell), each.value.low, each.value.high)
+                    assert within(span_of(kept, claim.cell), way.value), (seed, claim, way.text)
+            steps = claim.chain
+            assert steps[0] is claim and len({each.cell for each in steps}) == len(steps)
+            for step, below in zip(steps, steps[1:]):
+                assert any(below in way.inputs for way in step.ways)
+            looked += 1
+    assert looked > 60
+
+
+def span_of(w: Workbench, name: str) -> Span:
+    answer = w.cell(name).ask()
+    assert answer.low is not None and answer.high is not None
+    return Span(answer.low, answer.high)
+
+
+def test_why_nothing_is_better(wide: str) -> None:
+    """The premises of the reason leave nothing better, by all points; and they are of those that
+    the optimum names. What needs a search says so, and has below it what follows without one."""
+    searched = followed = 0
+    for seed in range(60 * TIMES):
+        draw = random.Random(100 + seed)
+        net, sort = drawn_net(draw), draw.choice(["least", "greatest"])
+        name = draw.choice(FEW)
+        with net.made(wide) as w:
+            best = w.least(name) if sort == "least" else w.greatest(name)
+            if best.value is None:
+                with pytest.raises(ValueError, match="there is no best"):
+                    w.how(best)
+                continue
+            believed = w.believed
+            claim = w.how(best)
+            assert w.believed == believed and claim.cell == name
+        assert {*claim.premises} <= {*best.because}
+        ends = [at[name] for at in net.points(claim.premises)]
+        assert best.value == (min(ends) if sort == "least" else max(ends)), (seed, claim)
+        assert isinstance(claim.value, Span)
+        assert best.value == (claim.value.low if sort == "least" else claim.value.high)
+        is_search = "by a search" in str(claim)
+        searched, followed = searched + is_search, followed + (not is_search)
+        if is_search:
+            [[below]] = [way.inputs for way in claim.ways]
+            assert below.cell == name and not within(below.value, claim.value)
+    assert followed > 10 and searched
+
+
+def test_a_long_reason_is_folded_to_its_chain(wide: str) -> None:
+    """Each of eight numbers is two more than the one before, the first of which is five at least:
+    so the last is nineteen. By hand, but for the high ends, which depend on the order of a run."""
+    with Workbench(wide) as w:
+        cells = [w.number(f"x{at}", 0, 99) for at in range(8)]
+        aside = [w.number(f"y{at}", 0, 99) for at in range(7)]
+        w.tell("Ana", cells[0], 5, 99)
+        for at, each in enumerate(aside):
+            w.require(cells[at + 1] >= cells[at] + each, under=f"rule {at}")
+            w.tell(f"Ben {at}", each, 2, 99)
+        best = w.least(cells[7])
+        assert best.value == 19
+        claim = w.how(best)
+        assert re.sub(r"\.\.\d+", "..", str(claim)).split("\n") == [
+            "x7 = 19.., by x7 >= x6 + y6 (rule 6)",
+            "  x6 = 17.., by x6 >= x5 + y5 (rule 5)",
+            "  x5 = 15.., by x5 >= x4 + y4 (rule 4)",
+            "  x4 = 13.., by x4 >= x3 + y3 (rule 3)",
+            "  x3 = 11.., by x3 >= x2 + y2 (rule 2)",
+            "  x2 = 9.., by x2 >= x1 + y1 (rule 1)",
+            "  x1 = 7.., by x1 >= x0 + y0 (rule 0)",
+            "  x0 = 5.., told by Ana",
+            "and 7 others: 7 statements",
+        ]
+        assert len(claim.whole().split("\n")) > 12 and "told by Ben 3" in claim.whole()
+        assert [each.cell for each in claim.of("x2").chain] == ["x2", "x1", "x0"]
+        assert {*claim.of("x2").premises} >= {"rule 1", "Ben 1", "rule 0", "Ben 0", "Ana"}

@@ -230,6 +230,38 @@ def test_the_chart_has_the_days_of_the_plan(browser: Any) -> None:
         assert page.js("return document.getElementById('field-task').value") in rows
 
 
+@pytest.mark.parametrize("size", [WIDE, PHONE])
+def test_a_long_chain_is_folded(wide: str, browser: Any, size: tuple[int, int]) -> None:
+    """Ana has 14 tasks of two days in any order: one row, whose tasks show on a click; what her
+    budget has to do with it is told on another."""
+    sized(browser, size)
+    with Workbench(wide) as w:
+        p = w.project(days=60, people="ana ben")
+        for number in range(13):
+            p.task(f"t{number}", 2, who="ana", pauses=False)
+        p.task("report", who="ana", options={"long": dict(days=2), "short": dict(days=1, cost=9)})
+        w.require(p.total_cost <= 5, under="the budget")
+        with shown(browser, Page(WorkbenchWatched(w), "bench")) as page:
+            page.until(lambda: page.all("#chain li"))
+            assert page.text("plan-head") == "All is done by day 28"
+            [row] = page.all("#chain li")
+            head = row.find_element("tag name", "summary")
+            assert head.text.endswith("(14 tasks in a row) 0 to 28 (ana)")
+            buttons = row.find_elements("tag name", "button")
+            assert len(buttons) == 14 and not buttons[0].is_displayed()
+            head.click()
+            assert {each.text for each in buttons} == {*(f"t{n}" for n in range(13)), "report"}
+            left = page.one("#chain-left summary")
+            assert left.text == "and 1 other: 1 constraint" and not page.one("#chain-left dd").text
+            left.click()
+            assert page.one("#chain-left dt").text == "constraints"
+            assert page.one("#chain-left dd").text == "the budget"
+            page.keep(f"plan-folded-{size[0]}")
+            assert page.js("return document.documentElement.scrollWidth") <= size[0]
+            buttons[0].click()
+            page.until(lambda: page.text("status").startswith(buttons[0].text))
+
+
 def test_what_if_words_and_filters(browser: Any) -> None:
     sized(browser, WIDE)
     plan = planned()

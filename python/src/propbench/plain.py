@@ -55,6 +55,7 @@ if TYPE_CHECKING:
     from propbench.model.tabling import Table
     from propbench.page import Page
     from propbench.pictures import Film, Picture
+    from propbench.questions.bounding import Optimum
     from propbench.watching import Claim
 
 # What each alternative of a choice states: one constraint or several.
@@ -591,9 +592,13 @@ class PlainWorkbench(Questions, Closing):
         name = None if cell is None else self._own(cell).name
         return picture_of(WorkbenchWatched(self), name)
 
-    def how(self, cell: Cell, *, seconds: float | None = None) -> Claim:
-        """What makes up what follows for a cell, as `cell.how()` gives it. Raises ValueError over a
-        program that doesn't tell.
+    def how(self, cell: Cell | Optimum, *, seconds: float | None = None) -> Claim:
+        """What makes up what follows for a cell, as `cell.how()` gives it; or why nothing is better
+        than what `least` or `greatest` has found, by premises that it names. Raises ValueError over
+        a program that doesn't tell, and for an optimum that isn't proved.
+
+        A tree of more than 12 lines is printed by the chain that makes the value, and by how many
+        others of which kind it rests on; `.whole()` has all, `.of("x")` what is known of a cell.
 
         >>> w = Workbench()
         >>> x, y = w.number("x", 0, 9), w.number("y", 0, 9)
@@ -603,11 +608,15 @@ class PlainWorkbench(Questions, Closing):
         y = 4, by y == x + 1
           x = 3, told by Ana
         """
+        from propbench.questions.bounding import Optimum
         from propbench.watching.of_workbench import WorkbenchWatched
 
-        declared, clock = self._own(cell), Clock(seconds, None)
-        self.answer("why", declared, seconds, None)
+        clock = Clock(seconds, None)
         try:
+            if isinstance(cell, Optimum):
+                return WorkbenchWatched(self).how_best(cell, clock)
+            declared = self._own(cell)
+            self.answer("why", declared, seconds, None)
             return WorkbenchWatched(self).how(declared.name, clock.last)
         except UnknownCommand:
             raise ValueError(_UNTOLD) from None

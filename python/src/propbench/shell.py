@@ -48,7 +48,8 @@ ASIDES = {
     ":list": "[cells|premises|choices|definitions|attached]  what the session knows; all of it",
     ":undo": "takes back the last line that changed something",
     ":step": "[N]  takes one step, or N, and shows what changed; over propwide what was called",
-    ":how": "X  what makes up what is known of X, as a tree, over propwide",
+    ":how": "X [all]  what makes up what is known of X, as a tree, a long one by its chain; or all of"
+    " it; over propwide",
     ":draw": "[X] [FILE]  draws the network, or what bears on the cell X, as SVG or .dot",
     ":limit": "[N]  shows or sets how many steps a run takes at most",
     ":save": "FILE [overwrite]  writes the lines that were carried out; over what another changed"
@@ -64,6 +65,8 @@ _HELP, _END = "Write :help for help", "Write :quit to end"
 _MEANT = {"help": _HELP, "?": _HELP, "quit": _END, "exit": _END}
 # The commands that `:undo` takes for nothing that was changed.
 _KEPT = ASKING | {"limit"}
+# The word by which a tree is told in whole.
+_ALL = "all"
 # The word by which what somebody else has changed in a file is lost.
 _OVERWRITE = "overwrite"
 _REFUSED_SAVE = """\
@@ -316,10 +319,12 @@ class Shell:
         }
 
     def _how(self, words: list[str]) -> None:
-        if len(words) != 1:
-            self._write("Say of which cell: :how X")
+        cell, *more = words or [""]
+        if not cell or more not in ([], [_ALL]):
+            self._write("Say of which cell: :how X, or :how X all")
             return
-        self._write(str(SessionWatched(self.session).how(words[0])))
+        claim = SessionWatched(self.session).how(cell)
+        self._write(claim.whole() if more else str(claim))
 
     def _draw(self, words: list[str]) -> None:
         cell = words[0] if words and words[0] in self.session.known.cells else None

@@ -183,7 +183,7 @@ class ServedNetwork:
         seen = self._look()
         shown = seen.values.get(cell)
         if shown is None:
-            return {"shown": None, "bears": None, "how": ""}
+            return {"shown": None, "bears": None, "how": "", "whole": ""}
         lit = bears(self._watched, seen, shown)
         names = {
             "cells": sorted(lit.cells),
@@ -191,8 +191,10 @@ class ServedNetwork:
             "premises": sorted(lit.premises),
             "choices": sorted(lit.choices),
         }
-        how = str(lit.claim) if lit.claim and lit.claim.ways else ""
-        return {"shown": _shown(shown), "bears": names, "how": how}
+        claim = lit.claim if lit.claim and lit.claim.ways else None
+        how = {"how": str(claim) if claim else ""}
+        how["whole"] = claim.whole() if claim and claim.is_folded else ""
+        return {"shown": _shown(shown), "bears": names, **how}
 
     def _core(self, asked: Mapping[str, object]) -> dict[str, object]:
         shown = self._watched.core(self._cell_named(asked), self._progress)

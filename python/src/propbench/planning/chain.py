@@ -1,12 +1,14 @@
 """Why a plan ends no sooner: the tasks, people and absences that make its end, in order, and how
 much room the other tasks have."""
 
-from collections.abc import Callable, Iterator, Mapping, Sequence
+from collections.abc import Callable, Iterable, Iterator, Mapping, Sequence
 from dataclasses import dataclass
 from typing import TYPE_CHECKING
 
 from propbench.model.cells import NumberCell
+from propbench.model.events import Statement
 from propbench.model.network import Network
+from propbench.model.nodes import Declared
 from propbench.planning.order import SetUp
 from propbench.planning.resources import KeptWithin
 from propbench.planning.schedule import Entry, Schedule
@@ -34,10 +36,32 @@ if TYPE_CHECKING:
 
 @dataclass(frozen=True)
 class Link:
-    """A task of the chain, and what it waits for, in words."""
+    """A task of the chain, what it waits for, in words, and the tasks `after` which it begins, some
+    since somebody is `busy` with them."""
 
     entry: Entry
-    waits: str
+    words: tuple[str, ...]
+    after: tuple[str, ...] = ()
+    busy: tuple[str, ...] = ()
+
+    @property
+    def waits(self) -> str:
+        """What it waits for, in a text."""
+        return "; ".join(self.words)
+
+
+class _Waits:
+    """What a task waits for: in words, the tasks among that, and who is busy with some."""
+
+    def __init__(self) -> None:
+        self.words: list[str] = []
+        self.before: list[Entry] = []
+        self.busy: list[str] = []
+
+    def link(self, entry: Entry) -> Link:
+        """The link of the task."""
+        after = tuple(each.task for each in self.before)
+        return Link(entry, tuple(dict.fromkeys(self.words)), after, tuple(self.busy))
 
 
 @dataclass(frozen=True)
@@ -238,6 +262,15 @@ class Walk:
         self._full = {it.resource for it in self._stated if isinstance(it, KeptWithin)}
         found = [it for it in self._stated if isinstance(it, SetUp) and it.days]
         self._setups = dict.fromkeys((it.person, it.kinds, it.days) for it in found)
+        # (a task of which no premise here says how long it takes keeps nobody busy)
+        told = _lengths_in(it for stated in network.premises.statements.values() for it in stated)
+        named = self._named()
+        lengths = {name: task.days.declared for name, task in project.tasks.items()}
+        self._lasting = [
+            entry
+            for entry in schedule.entries
+            if entry.task in named or lengths.get(entry.task) not in told
+        ]
 
     def links(self) -> Iterator[Link]:
         """The tasks of the chain, by their first days."""
@@ -245,15 +278,16 @@ class Walk:
         named = self._named()
         waiting = [entry for entry in last if entry.task in named] or last[:1]
         waiting += [self._entries[task] for task in named if self._is_told_alone(task)]
-        seen: dict[str, str] = {}
+        seen: dict[str, Link] = {}
         while waiting:
             entry = waiting.pop()
             if entry.task not in seen:
-                seen[entry.task], before = self._before(entry)
-                waiting += before
+                waits = self._before(entry)
+                seen[entry.task] = waits.link(entry)
+                waiting += waits.before
         for entry in self._schedule.by_date():
             if entry.task in seen:
-                yield Link(entry, seen[entry.task])
+                yield seen[entry.task]
 
     def _named(self) -> dict[str, None]:
         """The tasks that the premises speak of."""
@@ -275,57 +309,55 @@ class Walk:
         count = [it.premise for it in self._stated]
         return any(count.count(premise) == 1 for premise in told)
 
-    def _before(self, entry: Entry) -> tuple[str, list[Entry]]:
-        """What a task waits for in words, and the tasks among that."""
-        words: list[str] = []
-        before: list[Entry] = []
+    def _before(self, entry: Entry) -> _Waits:
+        """What a task waits for."""
+        waits = _Waits()
         for each in self._stated:
             if isinstance(each, TaskOrdered) and each.later.name == entry.task:
                 other = self._entries[each.earlier.name]
                 if each.ready(other.start, other.end) == entry.start:
-                    self._take(other, "", entry, (words, before))
+                    self._take(other, "", entry, waits)
         for person in (it for it in entry.people if it in self._busy):
-            for other in self._entries.values():
+            for other in self._lasting:
                 if person in other.people and other.start < other.end == entry.start:
-                    self._take(other, person, entry, (words, before))
-        self._wait_for_room(entry, (words, before))
-        self._wait_for_setups(entry, (words, before))
+                    self._take(other, person, entry, waits)
+        self._wait_for_room(entry, waits)
+        self._wait_for_setups(entry, waits)
         for away in dict.fromkeys([*self._aways(entry), *self._breaks(entry)]):
             days = self._schedule.days_said(away.first, away.last)
-            words.append(f"{printable(away.person)}, away {days}")
+            waits.words.append(f"{printable(away.person)}, away {days}")
         for each in self._stated:
             if isinstance(each, NotYet | Wished) and each.first == entry.start:
                 if isinstance(each, NotYet) or each.speaks_of(entry.task, entry.needs):
-                    words.append(printable(str(each.premise)))
-        return "; ".join(dict.fromkeys(words)), before
+                    waits.words.append(printable(str(each.premise)))
+        return waits
 
-    def _wait_for_room(self, entry: Entry, into: tuple[list[str], list[Entry]]) -> None:
+    def _wait_for_room(self, entry: Entry, into: _Waits) -> None:
         """Takes in the tasks that leave no room for this one until it begins."""
         for resource in (name for name, _ in entry.uses if name in self._full):
-            for other in self._entries.values():
+            for other in self._lasting:
                 if resource in other.needs and other.start < other.end == entry.start:
-                    if other.task != entry.task and other not in into[1]:
-                        into[0].append(printable(f"{resource}, used by {other.task}"))
-                        into[1].append(other)
+                    if other.task != entry.task and other not in into.before:
+                        into.words.append(printable(f"{resource}, used by {other.task}"))
+                        into.before.append(other)
 
-    def _wait_for_setups(self, entry: Entry, into: tuple[list[str], list[Entry]]) -> None:
+    def _wait_for_setups(self, entry: Entry, into: _Waits) -> None:
         """Takes in the tasks behind which somebody is set up for this one."""
         tasks = self._project.tasks
         for person, kinds, days in (it for it in self._setups if it[0] in entry.needs):
-            for other in (it for it in self._entries.values() if person in it.needs):
+            for other in (it for it in self._lasting if person in it.needs):
                 is_so = (tasks[other.task].kind, tasks[entry.task].kind) == kinds
-                if is_so and other.end + days == entry.start and other not in into[1]:
-                    into[0].append(printable(f"{person}, set up behind {other.task}"))
-                    into[1].append(other)
+                if is_so and other.end + days == entry.start and other not in into.before:
+                    into.words.append(printable(f"{person}, set up behind {other.task}"))
+                    into.before.append(other)
 
-    def _take(
-        self, other: Entry, person: str, entry: Entry, into: tuple[list[str], list[Entry]]
-    ) -> None:
+    def _take(self, other: Entry, person: str, entry: Entry, into: _Waits) -> None:
         """Takes in a task that another waits for, or for its person."""
-        words, before = into
-        if other.task != entry.task and other not in before:
-            words.append(printable(f"{person}, busy with {other.task}" if person else other.task))
-            before.append(other)
+        if other.task != entry.task and other not in into.before:
+            told = f"{person}, busy with {other.task}" if person else other.task
+            into.words.append(printable(told))
+            into.before.append(other)
+            into.busy += [person] if person else []
 
     def _breaks(self, entry: Entry) -> list[Away]:
         """The absences through which a task pauses."""
@@ -336,3 +368,14 @@ class Walk:
     def _aways(self, entry: Entry) -> list[Away]:
         found = dict.fromkeys(it.away for it in self._stated if isinstance(it, KeptOff))
         return [it for it in found if it.person in entry.needs and it.last == entry.start]
+
+
+def _lengths_in(stated: Iterable[Statement]) -> set[Declared]:
+    """The cells of the lengths that these say."""
+    found: set[Declared] = set()
+    for each in stated:
+        if isinstance(each, TaskTold):
+            found.add(each.cell)
+        elif isinstance(each, TaskBy):
+            found.add(each.task.days.declared)
+    return found

@@ -888,9 +888,9 @@ class Project:
         progress: Progress | None = None,
     ) -> "FoldedChain":
         """Why all ends no sooner, in short: the chain of tasks that makes the end, by the premises
-        that the program names, and behind each task those that speak of it. Nothing more is asked
-        of a plan that is given; `critical` finds out which of the premises are needed. Raises as
-        that.
+        that the program names, or fewer, where these are enough without a search; behind each task
+        those that speak of it, and of the others how many of which kind. `whole()` names all;
+        `critical` finds out which are needed. Raises as that.
 
         >>> w = Workbench()
         >>> p = w.project(days=30, start="2026-03-02", off="sat sun", people="ana")
@@ -900,7 +900,8 @@ class Project:
         """
         from propbench.planning.folded import folded_of
 
-        return folded_of(self, self._soonest(Clock(seconds, progress)) if plan is None else plan)
+        clock = Clock(seconds, progress)
+        return folded_of(self, self._soonest(clock) if plan is None else plan, clock)
 
     def _soonest(self, clock: Clock) -> Planned:
         """A plan that ends as soon as can be. Raises NothingFits."""

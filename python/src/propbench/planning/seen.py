@@ -3,6 +3,7 @@
 from collections.abc import Iterator, Sequence
 from dataclasses import dataclass
 
+from propbench.clock import Clock
 from propbench.planning.calendar import MONTHS
 from propbench.planning.chain import Chain
 from propbench.planning.folded import FoldedChain, folded_of
@@ -11,6 +12,7 @@ from propbench.planning.planner import WeighedProject
 from propbench.planning.project import Project
 from propbench.planning.resources import KeptWithin
 from propbench.planning.schedule import Entry, Schedule
+from propbench.planning.stretches import Stretch
 from propbench.planning.tasks import (
     KeptApart,
     KeptOff,
@@ -27,8 +29,8 @@ from propbench.questions.shown import said
 from propbench.questions.trading import TradeOff
 from propbench.showing import printable
 
-# A chart has so many days behind the end.
-_BEHIND = 2
+# A chart has so many days behind the end; and which premises make that is looked for so long.
+_BEHIND, _SECONDS = 2, 5.0
 # The groups of premises, by what is stated under them, in the order in which they are shown.
 WISHES, ABSENCES, PEOPLE, PROGRESS, TASKS, OTHERS = (
     "Wishes",
@@ -77,7 +79,7 @@ def schedule_seen(
 ) -> dict[str, object]:
     """A schedule with its chain, where its end is proved, and what was agreed on."""
     gap = gap_of(found)
-    chain = folded_of(project, found) if gap.proved else None
+    chain = folded_of(project, found, Clock(_SECONDS, None)) if gap.proved else None
     agreed = project.baseline
     before = {} if agreed is None else {entry.task: entry for entry in agreed.entries}
     days = max([schedule.end, *(entry.end for entry in before.values())]) + _BEHIND
@@ -92,7 +94,8 @@ def schedule_seen(
         ],
         "people": [*schedule.people, *schedule.staff.resources],
         "does": [{"who": who, "does": does} for who, does in schedule.doings()],
-        "chain": [] if chain is None else [*chain_seen(chain)],
+        "chain": [] if chain is None else [_stretch_seen(schedule, it) for it in chain.stretches],
+        "left": None if chain is None else _left_seen(chain),
         "moved": "" if agreed is None else schedule.since(agreed).headline().rstrip(":"),
         "today": _today(project),
     }
@@ -145,7 +148,22 @@ def _row(
     }
 
 
-def chain_seen(chain: FoldedChain | Chain) -> Iterator[dict[str, object]]:
+def _stretch_seen(schedule: Schedule, stretch: Stretch) -> dict[str, object]:
+    """A row of a chain, which may have several tasks."""
+    ends = stretch.links[0].entry.start, stretch.links[-1].entry.end
+    told = {"told": stretch.told, "tasks": list(stretch.tasks), "waits": stretch.waits}
+    when = "" if stretch.is_left else schedule.days_said(*ends)
+    return {**told, "when": when, "who": "" if stretch.is_left else said(stretch.who)}
+
+
+def _left_seen(chain: FoldedChain) -> dict[str, object]:
+    """What else makes the end: how many premises of which kind, and their names."""
+    left = chain.left()
+    kinds = [[kind, list(premises)] for kind, premises in chain.by_kind.items()]
+    return {"says": f"and {left}" if left else "", "kinds": kinds}
+
+
+def chain_seen(chain: Chain) -> Iterator[dict[str, object]]:
     """The tasks of a chain, in order."""
     for link in chain.links:
         entry = link.entry

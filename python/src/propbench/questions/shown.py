@@ -1,6 +1,6 @@
 """How results are shown: as text, as a table of a notebook, as a table of pandas if it is there."""
 
-from collections.abc import Sequence
+from collections.abc import Mapping, Sequence
 from importlib import import_module
 from typing import TYPE_CHECKING, Any
 
@@ -122,6 +122,19 @@ def listed(names: Sequence[str], joint: str = "and") -> str:
     """Names in a sentence."""
     shown = [printable(name) for name in names]
     return f" {joint} ".join([*([", ".join(shown[:-1])] if shown[1:] else []), *shown[-1:]])
+
+
+def counted(kinds: Mapping[str, int]) -> str:
+    """How many others there are of which kind, as `3 others: 2 lengths and 1 wish`; "" for none."""
+    number = sum(kinds.values())
+    ordered = sorted(kinds.items(), key=lambda pair: -pair[1])
+    told = [f"{count} {kind if count == 1 else several(kind)}" for kind, count in ordered]
+    return f"{number} other{'' if number == 1 else 's'}: {listed(told)}" if told else ""
+
+
+def several(kind: str) -> str:
+    """The name of several of a kind."""
+    return f"{kind}{'es' if kind.endswith(('s', 'sh', 'ch')) else 's'}"
 
 
 def _escaped(value: object) -> str:

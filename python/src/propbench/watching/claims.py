@@ -2,23 +2,31 @@
 known of other cells on these ways.
 
 It is made of the parts that the program tells by `how`. Parts at cells that a user has no name for
-are folded into the ways that lead through them.
+are folded into the ways that lead through them. A tree that is long is told by the chain that
+makes the value, and by how many others of which kind it rests on.
 """
 
 from bisect import bisect_right
+from collections import Counter
 from functools import reduce
-from itertools import accumulate
-from collections.abc import Callable, Iterator, Sequence
-from dataclasses import dataclass
+from itertools import accumulate, islice
+from collections.abc import Callable, Iterable, Iterator, Sequence
+from dataclasses import dataclass, replace
 from html import escape
 
+from propbench.questions.shown import counted, shortened
 from propbench.replies import Called, How, Stated
 from propbench.showing import printable
-from propbench.values import Held, both
+from propbench.values import Held, Nothing, Span, both
 
 # A tree is so deep at the most, and says of what lies deeper that it is there.
 _DEEPEST = 12
 _DEEPER = "(and more behind)"
+# A tree of more lines is told by its chain. Of a chain with more steps so many are told of either
+# end; and of what a step comes from so many.
+_MOST_LINES, _FIRST, _LAST, _NAMED = 12, 6, 4, 2
+# The kind of what is found by trying all that is left.
+SEARCH = "search"
 _CUT = "What makes it up was not found within the limit."
 
 
@@ -27,7 +35,7 @@ class Source:
     """What a part comes from: a premise (`told by` is its `lead`), a call or a constraint (`by`), a
     side of a choice (`on`). The names are those of the network: of the use that was called, and of
     the premise or the choice that counts, "" for none. What is `weak` counts where a way has
-    nothing else: it only makes what a user has no name for."""
+    nothing else: it only makes what a user has no name for. By its `kind` it is counted."""
 
     lead: str
     text: str
@@ -35,39 +43,39 @@ class Source:
     premise: str = ""
     choice: str = ""
     weak: bool = False
+    kind: str = "statement"
 
 
 @dataclass(frozen=True, eq=False)
 class KnownBy:
     """A way to know something of a cell: what it says, what it comes from, and what it counts of
-    other cells."""
+    other cells; and the value that it says."""
 
     says: str
     sources: tuple[Source, ...]
     inputs: tuple["Claim", ...]
+    value: Held = Nothing()
 
     @property
     def text(self) -> str:
         """What it comes from, in words."""
-        leads: dict[str, list[str]] = {}
-        for source in self.sources:
-            leads.setdefault(source.lead, []).append(source.text)
-        return ", ".join(
-            f"{lead} {' and '.join(dict.fromkeys(texts))}" for lead, texts in leads.items()
-        )
+        return _in_words(self.sources)
 
 
 @dataclass(frozen=True, eq=False)
 class Claim:
     """What is known of a cell, as text, by all these ways together, the one that completes it in
     front; `cut` where they weren't found within the limit. A claim on which several others rest is
-    one object. Of two about a cell the one of the lower `place` says more."""
+    one object. Of two about a cell the one of the lower `place` says more. Of a number it may be
+    one `end` that is asked for, 0 for the low one."""
 
     cell: str
     says: str
     ways: tuple[KnownBy, ...]
     place: int = -1
     cut: bool = False
+    value: Held = Nothing()
+    end: int | None = None
 
     def claims(self) -> Iterator["Claim"]:
         """This claim and all that it rests on, each once."""
@@ -79,21 +87,50 @@ class Claim:
             seen.update(inputs)
             waiting += dict.fromkeys(inputs)
 
-    def __str__(self) -> str:
+    def of(self, cell: str) -> "Claim":
+        """What is known on the way of another cell; where that is told more than once, what says
+        most. Raises KeyError where it doesn't rest on the cell."""
+        found = [each for each in self.claims() if each.cell == cell]
+        if not found:
+            raise KeyError(cell)
+        return min(found, key=lambda each: each.place)
+
+    @property
+    def premises(self) -> tuple[str, ...]:
+        """The premises that it rests on."""
+        return tuple(dict.fromkeys(it.premise for it in _sources(self) if it.premise))
+
+    @property
+    def chain(self) -> tuple["Claim", ...]:
+        """The chain that makes it, or one end of a number, from this claim on: each rests on the
+        next, and on whatever else stands below it."""
+        return tuple(claim for claim, _ in _Walk(self).steps())
+
+    @property
+    def is_folded(self) -> bool:
+        """Whether it is printed by its chain: as a tree it would be long."""
+        return len(list(islice(_lines(self), _MOST_LINES + 1))) > _MOST_LINES
+
+    def whole(self) -> str:
+        """All of it, as a tree."""
         lines = [f"{'  ' * depth}{printable(text)}" for depth, text in _lines(self)]
+        return "\n".join([*lines, *([_CUT] if self.cut else [])])
+
+    def __str__(self) -> str:
+        if not self.is_folded:
+            return self.whole()
+        lines = [f"{'  ' * depth}{printable(text)}" for depth, text in _folded(self)]
         return "\n".join([*lines, *([_CUT] if self.cut else [])])
 
     def __repr__(self) -> str:
         return str(self)
 
     def _repr_html_(self) -> str:
-        parts: list[str] = []
-        before = -1
-        for depth, text in _lines(self):
-            parts.append("<ul>" * (depth - before) + "</ul>" * (before - depth))
-            parts.append(f"<li>{escape(printable(text))}</li>")
-            before = depth
-        return f"{''.join(parts)}{'</ul>' * (before + 1)}{_CUT if self.cut else ''}"
+        lines = _lines(self)
+        if not self.is_folded:
+            return f"{_as_list(lines)}{_CUT if self.cut else ''}"
+        head = "<details><summary>All of it</summary>"
+        return f"{_as_list(_folded(self))}{head}{_as_list(lines)}</details>"
 
 
 @dataclass(frozen=True)
@@ -112,7 +149,7 @@ def claim_of(how: How, wording: Wording) -> Claim:
     made = _Made(how.parts or (), wording)
     ways = made.ways_behind(how.cell, -1)
     says = wording.says(how.cell, how.value, how.because)
-    return Claim(wording.name(how.cell), says, ways, cut=how.parts is None)
+    return Claim(wording.name(how.cell), says, ways, cut=how.parts is None, value=how.value)
 
 
 class _AtCell:
@@ -185,7 +222,7 @@ class _Made:
                     inputs[self._claim(cell, behind)] = None
         says = self._wording.says(part.cell, part.value, part.because)
         strong = [source for source in sources if not source.weak] or sources
-        return KnownBy(says, tuple(dict.fromkeys(strong)), tuple(inputs))
+        return KnownBy(says, tuple(dict.fromkeys(strong)), tuple(inputs), part.value)
 
     def _inputs(self, place: int) -> Iterator[tuple[str, list[int]]]:
         """The inputs of a call of which something is known, each with the parts that say it."""
@@ -204,7 +241,8 @@ class _Made:
             because = dict.fromkeys(premise for part in parts for premise in part.because)
             says = self._wording.says(cell, value, tuple(because))
             ways = tuple(self._ways[place] for place in places)
-            self._claims[key] = Claim(self._wording.name(cell), says, ways, places[0])
+            name = self._wording.name(cell)
+            self._claims[key] = Claim(name, says, ways, places[0], value=value)
         return self._claims[key]
 
 
@@ -231,3 +269,168 @@ def _lines(root: Claim) -> Iterator[tuple[int, str]]:
             yield depth, text
             waiting += reversed(below)
         seen.add(each)
+
+
+def _in_words(sources: Iterable[Source]) -> str:
+    """What something comes from, in words."""
+    leads: dict[str, list[str]] = {}
+    for source in sources:
+        leads.setdefault(source.lead, []).append(source.text)
+    return ", ".join(
+        f"{lead} {' and '.join(dict.fromkeys(texts))}" for lead, texts in leads.items()
+    )
+
+
+def _as_list(lines: Iterable[tuple[int, str]]) -> str:
+    """Lines of these depths for a browser."""
+    parts: list[str] = []
+    before = -1
+    for depth, text in lines:
+        parts.append("<ul>" * (depth - before) + "</ul>" * (before - depth))
+        parts.append(f"<li>{escape(printable(text))}</li>")
+        before = depth
+    return f"{''.join(parts)}{'</ul>' * (before + 1)}"
+
+
+# --- the chain of a tree ---
+
+
+def _sources(root: Claim) -> dict[Source, None]:
+    """What all that a claim rests on comes from. (What is declared is no reason by itself.)"""
+    found = (it for each in root.claims() for way in each.ways for it in way.sources)
+    return dict.fromkeys(source for source in found if source.kind)
+
+
+def _depths(root: Claim) -> dict[Claim, int]:
+    """How many steps the longest chain below each claim has."""
+    found: dict[Claim, int] = {}
+    waiting = [root]
+    while waiting:
+        claim = waiting[-1]
+        below = [each for way in claim.ways for each in way.inputs]
+        fresh = [each for each in below if each not in found]
+        waiting += fresh
+        if not fresh:
+            found[waiting.pop()] = 1 + max((found[each] for each in below), default=0)
+    return found
+
+
+@dataclass(frozen=True)
+class _Step:
+    """How one end of a number comes about, or a value: by a way, and how long the chain behind it
+    is. The other end is told of where this one is only declared."""
+
+    way: KnownBy | None
+    end: int
+    depth: int
+
+
+class _Walk:
+    """The way down the chain that makes one end of a number, or a value: from each claim to that
+    on which the most rests of what makes it."""
+
+    def __init__(self, root: Claim) -> None:
+        self._root = root
+        self._found: dict[tuple[Claim, int], _Step] = {}
+        depths = _depths(root)
+        for claim in sorted(depths, key=depths.__getitem__):
+            made = [self._making(claim, end) for end in (0, 1)]
+            for end in (0, 1):
+                is_other = _is_declared(made[end]) and not _is_declared(made[1 - end])
+                self._found[claim, end] = made[1 - end if is_other else end]
+
+    def _making(self, claim: Claim, end: int) -> _Step:
+        """How a claim comes to this end: of several ways that on which the least rests."""
+        ends, ways = _ends(claim.value), claim.ways[:1]
+        if ends is not None:
+            made = [(way, _ends(way.value)) for way in claim.ways]
+            ways = tuple(way for way, its in made if its and its[end] == ends[end]) or ways
+        steps = [_Step(way, end, self._depth(way, end)) for way in ways]
+        return min(steps, key=lambda step: step.depth, default=_Step(None, end, 0))
+
+    def _depth(self, way: KnownBy, end: int) -> int:
+        return 1 + max((self._found[each, end].depth for each in way.inputs), default=0)
+
+    def steps(self) -> Iterator[tuple[Claim, tuple[Source, ...]]]:
+        """The claims of the chain, each with what leads on to it. It ends where all that is left
+        are many statements of single cells."""
+        claim: Claim | None = self._root
+        end, seen = self._first_end(), set[str]()
+        while claim:
+            seen.add(claim.cell)
+            step = self._found[claim, end]
+            yield claim, step.way.sources if step.way else ()
+            end = step.end
+            claim = self._next(step, seen) if step.way else None
+
+    def _first_end(self) -> int:
+        """The end that is asked for, or that what completes the value makes."""
+        root = self._root
+        ends, made = _ends(root.value), _ends(root.ways[0].value) if root.ways else None
+        if root.end is not None:
+            return root.end
+        return 1 if ends and made and made[0] != ends[0] else 0
+
+    def _next(self, step: _Step, seen: set[str]) -> Claim | None:
+        """The claim of which the chain tells next."""
+        assert step.way
+        is_search = any(it.kind == SEARCH for it in step.way.sources)
+        # (what a search began with is known of the same cell)
+        new = [it for it in step.way.inputs if is_search or it.cell not in seen]
+        depths = {it: self._found[it, step.end].depth for it in new if _says_more(it)}
+        longest = max(depths, key=lambda it: (depths[it], len(it.ways)), default=None)
+        is_one_of_many = longest and depths[longest] == 1 and len(depths) > _NAMED
+        return None if is_one_of_many else longest
+
+
+def _is_declared(step: _Step) -> bool:
+    """Whether nothing leads to it beside what is declared."""
+    way = step.way
+    return way is None or not (way.inputs or any(it.kind for it in way.sources))
+
+
+def _says_more(claim: Claim) -> bool:
+    """Whether something leads to a claim beside what is declared."""
+    return any(way.inputs or any(it.kind for it in way.sources) for way in claim.ways)
+
+
+def _ends(value: Held) -> tuple[int, int] | None:
+    return (value.low, value.high) if isinstance(value, Span) else None
+
+
+def _folded(root: Claim) -> Iterator[tuple[int, str]]:
+    """The lines of a chain, and of how many others of which kind there are."""
+    steps = list(_Walk(root).steps())
+    left = {_key(source): source for source in _sources(root)}
+    is_long = len(steps) > _FIRST + _LAST + 1
+    for place, (claim, sources) in enumerate(steps):
+        if is_long and place == _FIRST:
+            yield 1, f"({len(steps) - _FIRST - _LAST} steps between)"
+        named = _named(sources)
+        for source in named:
+            left.pop(_key(source), None)
+        if is_long and _FIRST <= place < len(steps) - _LAST:
+            continue
+        text, words = f"{claim.cell} = {claim.says}", _in_words(map(_briefly, named))
+        yield min(place, 1), f"{text}, {words}" if words else text
+    if told := counted(Counter(source.kind for source in left.values())):
+        yield 0, f"and {told}"
+
+
+def _named(sources: Sequence[Source]) -> list[Source]:
+    """What is named of that from which a step comes: a search alone, for it has a part in all."""
+    searches = [it for it in sources if it.kind == SEARCH]
+    counts = {_key(it): it for it in searches or sources if it.kind}
+    return list(counts.values())[:_NAMED] or list(sources[:1])
+
+
+def _key(source: Source) -> tuple[str, str]:
+    """What is counted once: a premise, or what holds always."""
+    return (source.premise, "") if source.premise else ("", f"{source.lead} {source.text}")
+
+
+def _briefly(source: Source) -> Source:
+    """The same in few letters, the premise in whole."""
+    under = f" ({source.premise})"
+    end = under if source.premise and source.text.endswith(under) else ""
+    return replace(source, text=f"{shortened(source.text.removesuffix(end))}{end}")

@@ -138,10 +138,10 @@ class SessionWatched:
         def source(part: Called | Stated) -> Source:
             if isinstance(part, Called):
                 call = self._call(part, instances)
-                return Source("by", call.text, call.use)
+                return Source("by", call.text, call.use, kind="call")
             choice, mark, _ = part.premise.partition("=")
             if mark:
-                return Source("on", self._named(part.premise), choice=choice)
+                return Source("on", self._named(part.premise), choice=choice, kind="choice")
             told = ("told by", part.premise) if part.premise else ("as", "fixed")
             return Source(*told, premise=part.premise)
 

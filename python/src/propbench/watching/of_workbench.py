@@ -1,6 +1,7 @@
 """A workbench as views see it: the user's cells, and constraints in place of procedures."""
 
-from collections.abc import Sequence
+from collections.abc import Iterator, Sequence
+from dataclasses import replace
 
 from propbench.clock import Clock
 from propbench.clock import Progress
@@ -22,15 +23,17 @@ from propbench.model.nodes import Declared, cells_in
 from propbench.model.reading import Reader
 from propbench.model.saving import saved
 from propbench.plain import PlainWorkbench
+from propbench.planning.kinds import kind_of
 from propbench.questions.asking import so_far
-from propbench.questions.bounding import Optimum
+from propbench.questions.bounding import LEAST, Optimum
 from propbench.questions.conflicts import SetSearch, find_both
+from propbench.questions.needed import believe, believing, needed_in
 from propbench.replies import Called, Contradiction, Value, Worldview
 from propbench.runs import RunProgress
 from propbench.session import Session
-from propbench.values import Nothing
+from propbench.values import Nothing, Span
 from propbench.watching import BestPlan
-from propbench.watching.claims import Claim, claim_of
+from propbench.watching.claims import SEARCH, Claim, KnownBy, Source, claim_of
 from propbench.watching.instances import Instances, how_of
 from propbench.watching.mending import FITS, Mending
 from propbench.watching.network import (
@@ -182,6 +185,32 @@ class WorkbenchWatched:
         found = how_of(made.session, names.line(cell), until)
         return claim_of(found, wording_of(made, Instances(made.session, until), found.sides))
 
+    def how_best(self, found: Optimum, clock: Clock) -> Claim:
+        """What makes up that nothing is better than an optimum, by premises that it names; as far
+        as that follows without a search. Raises ValueError where that isn't proved."""
+        if not found.proved or found.value is None:
+            raise ValueError(f"there is no best {found.cell} that is proved: {found.headline()}")
+        w = self.workbench
+        with believing(w, found.because):
+            needed = needed_in(w, found, clock.seconds_left())
+            if needed is not None:
+                believe(w, needed)
+                w.settle(seconds=clock.seconds_left())
+                return replace(self.how(found.cell, clock.last), end=_end_of(found))
+            # (where there are choices, what is known is that of one plan)
+            below = () if w.network.premises.choices else (self.how(found.cell, clock.last),)
+            value = _side_of(found)
+            sources = (Source("by", "a search", kind=SEARCH), *self._under(found.because))
+            way = KnownBy(value_text(value), sources, below, value)
+            return Claim(found.cell, value_text(value), (way,), value=value, end=_end_of(found))
+
+    def _under(self, premises: Sequence[str]) -> Iterator[Source]:
+        """What is stated under premises, as that from which something comes."""
+        stated = self.workbench.network.premises.statements
+        for name in premises:
+            kinds = [kind_of(each) for each in stated.get(name, ())]
+            yield Source("under", name, premise=name, kind=(kinds or ["statement"])[0])
+
     def steps(self) -> Steps:
         made = self.workbench.network
         names = [made.vocabulary.cells.line(cell) for cell in made.cells]
@@ -240,6 +269,18 @@ class WorkbenchWatched:
         return Reason(
             text, choice=self.workbench.network.vocabulary.premises.text(first_name(choice))
         )
+
+
+def _end_of(found: Optimum) -> int:
+    """The end of the number that an optimum is."""
+    return 0 if found.sort == LEAST else 1
+
+
+def _side_of(found: Optimum) -> Span:
+    """The values that an optimum leaves."""
+    assert found.value is not None
+    is_least = found.sort == LEAST
+    return Span(found.value, MOST_NUMBER) if is_least else Span(-MOST_NUMBER, found.value)
 
 
 def _declared(cell: Declared) -> StatedSeen:

@@ -9,6 +9,7 @@ from propbench.model.network import Network
 from propbench.model.nodes import cells_in
 from propbench.model.reading import Reader
 from propbench.model.script import Owner
+from propbench.planning.kinds import kind_of
 from propbench.replies import Called, Stated, Value
 from propbench.showing import printable
 from propbench.values import Held
@@ -57,16 +58,16 @@ class Owned:
         """What something that is owned so comes from. (Of choices the sides tell it.)"""
         if owner is None:
             return None
-        event = owner.event
+        event, kind = owner.event, kind_of(owner.event)
         if isinstance(event, CellMade):
-            return Source("as", "declared")
+            return Source("as", "declared", kind=kind)
         if isinstance(event, Told):
             told = ("told by", event.premise) if event.premise else ("as", "fixed")
-            return Source(*told, premise=event.premise or "")
+            return Source(*told, premise=event.premise or "", kind=kind)
         if isinstance(event, Required):
-            under = f" ({event.premise})" if event.premise else ""
-            text = f"{event.text}{under}"
-            return Source("by", text, self.use(event), event.premise or "", weak=owner.makes)
+            premise = event.premise or ""
+            text = f"{event.told} ({premise})" if premise else event.told
+            return Source("by", text, self.use(event), premise, weak=owner.makes, kind=kind)
         return None
 
 
@@ -86,7 +87,7 @@ def wording_of(network: Network, instances: Instances, sides: Sequence[str]) -> 
         choice, mark, _ = part.premise.partition("=")
         if mark:
             text = network.vocabulary.premises.text(first_name(choice))
-            return Source("on", reader.premise(part.premise, plan), choice=text)
+            return Source("on", reader.premise(part.premise, plan), choice=text, kind="choice")
         return owned.source(owned.of_statement(part))
 
     return Wording(says, source, lambda cell: not names.has(cell), names.text)

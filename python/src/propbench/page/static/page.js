@@ -376,15 +376,19 @@ async function look(name) {
   tell(at("cell-because"), ...(known ? ["because of ", ...reasonsOf(known)] : []));
   bears = null;
   let how = "";
+  let all = "";
   if (frame < 0 && !state.seen.clash) {
     const told = await asked({ what: "cell", cell: name });
     if (told === undefined || picked !== name) return;
     bears = told.bears;
-    how = told.how;
+    ({ how, whole: all } = told);
     if (told.shown) tell(at("cell-because"), "because of ", ...reasonsOf(told.shown));
   }
   at("how").hidden = !how;
   tell(at("cell-how"), how);
+  at("whole-how").hidden = !all;
+  at("whole-how").open = false;
+  tell(at("cell-whole"), all);
   const kind = state.network.cells.find((each) => each.name === name).kind;
   at("least").hidden = at("greatest").hidden = !["span", "a number"].includes(kind);
   drawing.light(bears);

@@ -202,15 +202,28 @@ export class PlanView {
     at("does-what").replaceChildren(...(this.found?.does ?? []).flatMap(
       (each) => [made("dt", {}, named(each.who)), made("dd", {}, each.does || "nothing")]));
     at("chain-head").hidden = at("why").hidden = !chain.length;
+    const left = this.found?.left ?? { says: "", kinds: [] };
+    at("chain-left").hidden = !left.says;
+    at("chain-left").open = false;
+    tell(at("chain-left").querySelector("summary"), left.says);
+    at("chain-left").querySelector("dl").replaceChildren(...left.kinds.flatMap(
+      ([kind, premises]) => [made("dt", {}, kind), made("dd", {}, ...joined(premises, ", "))]));
     at("agree").hidden = !this.plan.editable;
   }
 
+  // A row of the chain: a task, or several that show on a click.
   _link(each) {
-    const button = made("button", { type: "button", class: "planned" }, named(each.task));
-    button.addEventListener("click", () => this._pick(each.task));
+    const buttons = each.tasks.map((task) => {
+      const button = made("button", { type: "button", class: "planned" }, named(task));
+      button.addEventListener("click", () => this._pick(task));
+      return button;
+    });
     const who = each.who ? ` (${each.who})` : "";
     const waits = each.waits ? `, which waits for ${each.waits}` : "";
-    return made("li", {}, button, ` ${each.when}${who}${waits}`);
+    const says = `${each.when}${who}${waits}`;
+    if (buttons.length === 1) return made("li", {}, ...buttons, ` ${says}`);
+    const head = made("summary", {}, named(each.told), ` ${says}`);
+    return made("li", {}, made("details", {}, head, ...buttons));
   }
 
   async _why() {
