@@ -171,6 +171,7 @@ class Questions:
         self,
         cell: CellLike,
         *,
+        executor: Executor | None = None,
         seconds: float | None = None,
         progress: Progress | None = None,
     ) -> Optimum:
@@ -181,6 +182,7 @@ class Questions:
         self,
         cell: Cells,
         *,
+        executor: Executor | None = None,
         seconds: float | None = None,
         progress: Progress | None = None,
     ) -> Optima:
@@ -190,6 +192,7 @@ class Questions:
         self: Bench,
         cell: CellLike | Cells,
         *,
+        executor: Executor | None = None,
         seconds: float | None = None,
         progress: Progress | None = None,
     ) -> Optimum | Optima:
@@ -204,6 +207,10 @@ class Questions:
         Of several cells, `w.least([end, cost])`, it is the least of the first, then that of the
         second in the plans that have it, and so on.
 
+        An `executor`, as of `w.sweep`, has propwide ask parts side by side that cover all there may
+        be: by what is to be tried first, by which of two comes first, or by ranges of the cell.
+        `because` is what the parts name together, and the certificate has the parts.
+
         >>> w = Workbench()
         >>> days, price = w.number("days", 1, 30), w.number("price", 0, 9000)
         >>> w.require(price >= 400 * days)
@@ -215,15 +222,16 @@ class Questions:
         (3, 1200)
         """
         from propbench.questions.bounding import LEAST
-        from propbench.questions.goals import least_of
+        from propbench.questions.goals import Pursuit, least_of
 
-        return least_of(self, cell, LEAST, seconds, progress)
+        return least_of(self, cell, Pursuit(LEAST, Clock(seconds, progress), executor))
 
     @overload
     def greatest(
         self,
         cell: CellLike,
         *,
+        executor: Executor | None = None,
         seconds: float | None = None,
         progress: Progress | None = None,
     ) -> Optimum:
@@ -234,6 +242,7 @@ class Questions:
         self,
         cell: Cells,
         *,
+        executor: Executor | None = None,
         seconds: float | None = None,
         progress: Progress | None = None,
     ) -> Optima:
@@ -243,6 +252,7 @@ class Questions:
         self: Bench,
         cell: CellLike | Cells,
         *,
+        executor: Executor | None = None,
         seconds: float | None = None,
         progress: Progress | None = None,
     ) -> Optimum | Optima:
@@ -256,9 +266,9 @@ class Questions:
         22
         """
         from propbench.questions.bounding import GREATEST
-        from propbench.questions.goals import least_of
+        from propbench.questions.goals import Pursuit, least_of
 
-        return least_of(self, cell, GREATEST, seconds, progress)
+        return least_of(self, cell, Pursuit(GREATEST, Clock(seconds, progress), executor))
 
     def trade_off(
         self: Bench,

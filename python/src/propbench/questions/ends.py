@@ -3,6 +3,7 @@ them itself, or else by bounds that close in."""
 
 from collections.abc import Sequence
 from contextlib import suppress
+from typing import TYPE_CHECKING
 
 from propbench.clock import Clock, Progress
 from propbench.points import Best, NoneFits, SoFar
@@ -11,12 +12,16 @@ from propbench.questions.bounding import LEAST, Optimum, bounding_in, check_numb
 from propbench.questions.certificate import Evidence
 from propbench.questions.model import Model
 from propbench.questions.outcomes import Cannot, Fits, NothingFits, Outcome
+from propbench.questions.parting import optimum_by_parts
 from propbench.questions.searching import decided
 from propbench.questions.seeking import Claims, Seeker, Unlike, points_of, seeks
 from propbench.questions.solution import Solution, solution_of
 from propbench.questions.trial import Trial
 from propbench.replies import UNSETTLED, Reply
 from propbench.values import Span
+
+if TYPE_CHECKING:
+    from concurrent.futures import Executor
 
 
 class Ending:
@@ -119,13 +124,17 @@ class Ending:
 
 
 def find_optimum(
-    model: Model, cell: CellLike, sort: str, seconds: float | None, progress: Progress | None
+    model: Model, cell: CellLike, sort: str, clock: Clock, executor: "Executor | None" = None
 ) -> Optimum:
-    """The least or greatest value of a cell in any plan with what is believed."""
-    name, clock = whole_named(model, cell), Clock(seconds, progress)
+    """The least or greatest value of a cell in any plan with what is believed; by an executor, where
+    there is one and the program searches itself."""
+    name = whole_named(model, cell)
     if seeks(model):
         with suppress(Unlike), Seeker(model, clock) as seeker:
-            return _in_turns(Ending(seeker, name, sort), seeker, name, sort)
+            ending = Ending(seeker, name, sort)
+            if executor is not None:
+                return optimum_by_parts(seeker, name, sort, executor)
+            return _in_turns(ending, seeker, name, sort)
     return optimum_by_cases(model, name, sort, clock)
 
 

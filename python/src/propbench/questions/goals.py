@@ -4,8 +4,9 @@ another in the plans that have it."""
 from collections.abc import Iterator, Mapping, Sequence
 from contextlib import suppress
 from dataclasses import dataclass, replace
+from typing import TYPE_CHECKING
 
-from propbench.clock import Clock, Progress
+from propbench.clock import Clock
 from propbench.given import names_given
 from propbench.questions.asking import CellLike, Interrupted, tried_by, whole_named
 from propbench.questions.bench import Bench
@@ -16,6 +17,9 @@ from propbench.questions.model import Model, Plan
 from propbench.questions.planned import Planned, Scheduled
 from propbench.questions.shown import listed
 from propbench.words import MOST_NUMBER
+
+if TYPE_CHECKING:
+    from concurrent.futures import Executor
 
 
 @dataclass(frozen=True, repr=False)
@@ -166,35 +170,42 @@ def cells_of(model: Model, given: object) -> list[CellLike] | None:
     return several
 
 
-def find_optima(
-    bench: Bench, cells: Sequence[CellLike], sort: str, clock: Clock, known: Optimum | None = None
-) -> Optima:
-    """The best of each of these cells, one after the other, as far as there is time; of the first
-    it may be known."""
+@dataclass(frozen=True)
+class Pursuit:
+    """How bests are asked for: the least or the greatest, in which time, and by whom, where that is
+    not this process."""
+
+    sort: str
+    clock: Clock
+    executor: "Executor | None" = None
+
+
+def find_optima(bench: Bench, cells: Sequence[CellLike], how: Pursuit) -> Optima:
+    """The best of each of these cells, one after the other, as far as there is time."""
     names = [whole_named(bench.model, cell) for cell in cells]
-    steps = [] if known is None else [known]
+    steps: list[Optimum] = []
 
     def run() -> None:
         with bench._set_aside():
-            while len(steps) < len(names) and (not steps or _goes_on(steps[-1], clock)):
+            while len(steps) < len(names) and (not steps or _goes_on(steps[-1], how.clock)):
                 if steps:
                     told.append(told_within(bench, steps[-1]))
-                ask(bench, names[len(steps)], (sort, clock), steps)
+                ask(bench, names[len(steps)], how, steps)
 
     told: list[str] = []
-    return tried_by(clock, run, lambda: _joined(bench.model, names, sort, steps, told))
+    return tried_by(how.clock, run, lambda: _joined(bench.model, names, how.sort, steps, told))
 
 
 def _goes_on(step: Optimum, clock: Clock) -> bool:
     return step.proved and step.value is not None and not clock.is_over()
 
 
-def ask(bench: Bench, cell: str, how: tuple[str, Clock], steps: list[Optimum]) -> Optimum:
+def ask(bench: Bench, cell: str, how: Pursuit, steps: list[Optimum]) -> Optimum:
     """Adds the best of one cell to the steps, in the time that is left; also what is known of it
     where that is interrupted. Raises Interrupted."""
-    sort, clock = how
+    clock = Clock(how.clock.seconds_left(), how.clock.progress)
     try:
-        found = find_optimum(bench.model, cell, sort, clock.seconds_left(), clock.progress)
+        found = find_optimum(bench.model, cell, how.sort, clock, how.executor)
     except Interrupted as stopped:
         if isinstance(stopped.so_far, Optimum):
             steps.append(stopped.so_far)
@@ -256,15 +267,11 @@ def _is_free(model: Model, name: str, cell: str, ends: tuple[int, int]) -> bool:
     return False
 
 
-def least_of(
-    bench: Bench,
-    cell: object,
-    sort: str,
-    seconds: float | None,
-    progress: Progress | None,
-) -> Optimum | Optima:
+def least_of(bench: Bench, cell: object, how: Pursuit) -> Optimum | Optima:
     """The best of a cell, or of several one after the other."""
     several = cells_of(bench.model, cell)
     if several is None:
-        return find_optimum(bench.model, cell, sort, seconds, progress)  # type: ignore[arg-type]
-    return find_optima(bench, several, sort, Clock(seconds, progress))
+        return find_optimum(
+            bench.model, cell, how.sort, how.clock, how.executor  # type: ignore[arg-type]
+        )
+    return find_optima(bench, several, how)

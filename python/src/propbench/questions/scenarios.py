@@ -19,6 +19,7 @@ from propbench.questions.blaming import BY_SEARCH
 from propbench.questions.certificate import Certificate, Evidence
 from propbench.questions.changes import Change, resolved
 from propbench.questions.conflicts import Premises
+from propbench.questions.elsewhere import heard_from
 from propbench.questions.marks import mark_for
 from propbench.questions.model import Model
 from propbench.questions.seeking import blames
@@ -28,7 +29,7 @@ from propbench.session import Session
 from propbench.words import is_silent
 
 if TYPE_CHECKING:
-    from concurrent.futures import Executor, Future
+    from concurrent.futures import Executor
 
 Scenario = Change | Mapping[str, object]
 
@@ -182,23 +183,16 @@ class AskedTable:
         from concurrent.futures import ThreadPoolExecutor
 
         with ThreadPoolExecutor(os.cpu_count()) as threads:
-            self._by({n: _submitted(threads, self._asked, job) for n, job in self.jobs.items()})
+            self._by(threads, self._asked)
 
     def by(self, executor: "Executor") -> None:
-        """Has an executor ask all scenarios. One that it has no answer for is asked again here: so
-        a worker that dies costs the time of its scenario."""
-        self._by({name: _submitted(executor, run_job, job) for name, job in self.jobs.items()})
+        """Has an executor ask all scenarios."""
+        self._by(executor, run_job)
 
-    def _by(self, futures: "Mapping[str, Future[Heard | None] | None]") -> None:
+    def _by(self, executor: "Executor", ask: Callable[[Job], Heard | None]) -> None:
         """Hears what is asked by others, as long as there is time."""
-        try:
-            for name, future in futures.items():
-                self._hear(name, _result(future, self._clock) or self._asked(self.jobs[name]))
-        finally:
-            self._clock.end()
-            for future in futures.values():
-                if future is not None:
-                    future.cancel()
+        for name, heard in heard_from(executor, ask, self.jobs, self._asked, self._clock):
+            self._hear(name, heard)
 
     def _asked(self, job: Job) -> Heard | None:
         """What comes of a scenario, None where there is no time."""
@@ -264,26 +258,6 @@ def _replies(model: Model, columns: Sequence[str], heard: Heard) -> Iterator[Val
         reply = reply_of(["why", line], text, {line: kind})
         assert isinstance(reply, Value)
         yield reply
-
-
-def _submitted(
-    executor: "Executor", ask: Callable[[Job], Heard | None], job: Job
-) -> "Future[Heard | None] | None":
-    """A job on its way, None where the executor takes none any more."""
-    try:
-        return executor.submit(ask, job)
-    except RuntimeError:
-        return None
-
-
-def _result(future: "Future[Heard | None] | None", clock: Clock) -> Heard | None:
-    """What a job came to, None where its worker died or could not ask in time."""
-    # (What an executor raises where a worker dies is its own: so nothing is told apart here. The
-    # scenario is asked again, which raises what is wrong with it, if anything is.)
-    try:
-        return None if future is None else future.result(clock.reply_left())
-    except Exception:
-        return None
 
 
 def find_scenarios(

@@ -15,7 +15,7 @@ from propbench.questions.asking import CellLike, tried_by, whole_named
 from propbench.questions.bench import Bench
 from propbench.questions.bounding import LEAST, Optimum
 from propbench.questions.certificate import Certificate
-from propbench.questions.goals import Optima, ask, explained, told_at_most
+from propbench.questions.goals import Optima, Pursuit, ask, explained, told_at_most
 from propbench.questions.shown import NOT_REFUTED, Shown
 from propbench.showing import printable
 
@@ -199,7 +199,7 @@ class _Trading:
             if not self._is_there(own):
                 return False
             kept = self._tell(self.cells[0], own[0].value)
-            ask(self.bench, self.cells[1], (LEAST, self.clock), own)
+            ask(self.bench, self.cells[1], Pursuit(LEAST, self.clock), own)
             self.bench.kick(kept)
         finally:
             self._take(own)
@@ -215,7 +215,7 @@ class _Trading:
 
     def _is_there(self, own: list[Optimum]) -> bool:
         """Whether the least of the first cell is found, beside what was told of the second."""
-        least = ask(self.bench, self.cells[0], (LEAST, self.clock), own)
+        least = ask(self.bench, self.cells[0], Pursuit(LEAST, self.clock), own)
         self.complete = least.proved and least.value is None
         return least.proved and least.value is not None
 

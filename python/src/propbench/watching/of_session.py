@@ -123,7 +123,7 @@ class SessionWatched:
         clock = Clock(seconds, progress)
         model = SessionModel(self.session, self.lines(), self._read(clock.last).told)
         left = clock.seconds_left()
-        found = so_far(lambda: find_optimum(model, cell, sort, left, progress), Optimum)
+        found = so_far(lambda: find_optimum(model, cell, sort, Clock(left, progress)), Optimum)
         return BestPlan(
             found.headline(),
             tuple((name, point_text(value)) for name, value in (found.plan or {}).items()),
