@@ -124,6 +124,7 @@ MORE: dict[str, Ask] = {
     "sensitivity of the least": lambda b, s: b.w.sensitivity(b.p.end, "least", seconds=s),
     "sensitivity of a quantity": lambda b, s: b.w.sensitivity(b.length, seconds=s),
     "over all plans": lambda b, s: b.p.end.ask(over="all plans", seconds=s),
+    "least by others": lambda b, s: b.w.least(b.p.end, executor=Never(), seconds=s),
     "slack of a choice": lambda b, s: b.w.slack("t1 start", seconds=s),
     "a sweep by others": lambda b, s: b.w.sweep(SCENARIOS, [b.p.end], Never(), seconds=s),
     "mend": lambda b, s: WorkbenchWatched(b.w).mend(seconds=s),

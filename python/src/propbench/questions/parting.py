@@ -162,7 +162,6 @@ class Parting:
         replies = [self._heard.get(name, UNSETTLED) for name in self.parts]
         found = [points for reply in replies if (points := points_of(reply)) is not None]
         best = min(found, key=self._seen, default=None)
-        bounds = [self._bound_of(reply) for reply in replies if not isinstance(reply, NoneFits)]
         is_proved = all(isinstance(reply, Best | NoneFits) for reply in replies)
         because = {name for reply in replies for name in _because(reply)} - {f"{self._mark}part"}
         by = self._seeker.premises(because) if is_proved else ()
@@ -172,8 +171,7 @@ class Parting:
         fits = self._seeker.lowest(best, self.cell)
         value, plan = fits.plan[self.cell], self._seeker.shown(fits.plan)
         assert isinstance(value, int)
-        ends = [bound for bound in bounds if bound is not None]
-        bound = self._sign * min(ends) if len(ends) == len(bounds) else None
+        bound = value if is_proved else self._bound(replies)
         shown = self._evidence(fits, because) if is_proved else self._plan_alone(fits)
         made = Optimum(self.cell, self.sort, value, plan, bound, is_proved, shown, because=by)
         return made.seen_by(self._model, fits.plan)
@@ -187,16 +185,17 @@ class Parting:
         """The value of the cell, seen from the end that is asked for."""
         return self._sign * int(str(points.values[self._line]))
 
-    def _bound_of(self, reply: Reply) -> int | None:
-        """How far a part may go, seen from that end, None where that isn't known."""
-        bound: int | None = None
-        if isinstance(reply, Best):
-            bound = reply.value
-        elif isinstance(reply, SoFar):
-            bound = reply.bound
-        if bound is None:
-            bound = self._seeker.end_of(self.cell, self.sort)
-        return None if bound is None else self._sign * bound
+    def _bound(self, replies: Sequence[Reply]) -> int | None:
+        """How far the number may go, None where that isn't known."""
+        ends: list[int] = []
+        for reply in replies:
+            if isinstance(reply, Best):
+                ends.append(self._sign * reply.value)
+            elif isinstance(reply, SoFar) and reply.bound is not None:
+                ends.append(self._sign * reply.bound)
+            elif not isinstance(reply, NoneFits):
+                return self._seeker.end_of(self.cell, self.sort)
+        return self._sign * min(ends) if ends else None
 
     def _plan_alone(self, fits: Fits) -> Certificate | None:
         """What shows a plan of which it isn't known whether it is the best."""
