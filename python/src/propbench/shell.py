@@ -48,8 +48,8 @@ ASIDES = {
     ":list": "[cells|premises|choices|definitions|attached]  what the session knows; all of it",
     ":undo": "takes back the last line that changed something",
     ":step": "[N]  takes one step, or N, and shows what changed; over propwide what was called",
-    ":how": "X [all]  what makes up what is known of X, as a tree, a long one by its chain; or all of"
-    " it; over propwide",
+    ":how": "X [all]  what makes up what is known of X, as a tree, a long one by its chain; or all"
+    " of it; over propwide",
     ":draw": "[X] [FILE]  draws the network, or what bears on the cell X, as SVG or .dot",
     ":limit": "[N]  shows or sets how many steps a run takes at most",
     ":save": "FILE [overwrite]  writes the lines that were carried out; over what another changed"

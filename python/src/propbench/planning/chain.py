@@ -273,11 +273,26 @@ class Walk:
         ]
 
     def links(self) -> Iterator[Link]:
-        """The tasks of the chain, by their first days."""
+        """The tasks of the chain, by their first days, and those of which nothing but the length
+        has a part in it."""
+        alone = [self._entries[task] for task in self._named() if self._is_told_alone(task)]
+        yield from self._behind([*self._last(), *alone])
+
+    def path(self) -> list[Link]:
+        """The tasks by which one comes from the end to the first day, or to what a task waits for
+        beside others; or all links, where this plan has gaps."""
+        found = list(self._behind(self._last()))
+        is_whole = all(it.words or not it.entry.start for it in found)
+        return found if is_whole else list(self.links())
+
+    def _last(self) -> list[Entry]:
+        """The tasks with which all ends."""
         last = [entry for entry in self._entries.values() if entry.end == self._schedule.end]
         named = self._named()
-        waiting = [entry for entry in last if entry.task in named] or last[:1]
-        waiting += [self._entries[task] for task in named if self._is_told_alone(task)]
+        return [entry for entry in last if entry.task in named] or last[:1]
+
+    def _behind(self, waiting: list[Entry]) -> Iterator[Link]:
+        """These tasks and all that they wait for, by their first days."""
         seen: dict[str, Link] = {}
         while waiting:
             entry = waiting.pop()

@@ -164,7 +164,7 @@ def folded_of(project: "Project", plan: Planned, clock: Clock) -> FoldedChain:
     with believing(w, best.because):
         premises = needed_in(w, best, clock.seconds_left()) or best.because
     stated = w.network.premises.statements
-    links = list(Walk(w.network, project, schedule, premises).links())
+    links = Walk(w.network, project, schedule, premises).path()
     behind = {
         link.entry.task: tuple(
             name
