@@ -16,7 +16,7 @@ from xml.etree import ElementTree
 import pytest
 from drawn_plans import drawn_plan
 
-from propbench import Conflict, OutOfTime, Session, Workbench
+from propbench import Conflict, Optimum, OutOfTime, Session, Workbench
 from propbench.measuring.quantities import Quantity
 from propbench.model.answers import NotSettled
 from propbench.model.cells import Cell
@@ -124,6 +124,8 @@ MORE: dict[str, Ask] = {
     "sensitivity of the least": lambda b, s: b.w.sensitivity(b.p.end, "least", seconds=s),
     "sensitivity of a quantity": lambda b, s: b.w.sensitivity(b.length, seconds=s),
     "over all plans": lambda b, s: b.p.end.ask(over="all plans", seconds=s),
+    "how of a plan": lambda b, s: b.p.how(seconds=s),
+    "how of a best": lambda b, s: b.w.how(_best(b), seconds=s),
     "least by others": lambda b, s: b.w.least(b.p.end, executor=Never(), seconds=s),
     "slack of a choice": lambda b, s: b.w.slack("t1 start", seconds=s),
     "a sweep by others": lambda b, s: b.w.sweep(SCENARIOS, [b.p.end], Never(), seconds=s),
@@ -135,6 +137,12 @@ MORE: dict[str, Ask] = {
 }
 # (where not even the first slice of a run has come to its end by then)
 MAY_RAISE = (NothingFits, NotSettled, Conflict, OutOfTime)
+
+
+def _best(bench: Bench) -> Optimum:
+    """An end that is said to be the best, by all that is believed."""
+    end = bench.p.end.name
+    return Optimum(end, "least", 60, None, 60, True, None, because=bench.w.believed)
 
 
 def _watched(bench: Bench) -> SessionWatched:

@@ -5,6 +5,7 @@ from collections.abc import Iterator, Sequence
 from contextlib import contextmanager
 
 from propbench.model.answers import Answer, Conflict
+from propbench.program import OutOfTime
 from propbench.questions.bench import Bench
 from propbench.questions.bounding import LEAST, Optimum
 
@@ -31,7 +32,7 @@ def needed_in(bench: Bench, found: Optimum, seconds: float | None) -> tuple[str,
     believed; None where that doesn't follow without a search, or not in time."""
     try:
         answer: Answer = bench.cell(found.cell).core(seconds=seconds)
-    except Conflict:
+    except (Conflict, OutOfTime):
         return None
     bound = answer.low if found.sort == LEAST else answer.high
     # (in the plan that choices make it may be other than in all: then an alternative is named)

@@ -129,6 +129,8 @@ class Parting:
         self._mark = mark_for(self._base)
         self._line = self._model.cell_name(cell)
         self.split = split_of(self._model, cell, sort)
+        # (what is no better than a plan that is known is not looked for)
+        self._known = seeker.by_hand() if sort == LEAST else None
         ask = " ".join([sort, self._line, *seeker.first()])
         self.parts = {
             str(place): Part(
@@ -138,10 +140,19 @@ class Parting:
                 ask,
                 seeker.clock.seconds_left(),
             )
-            for place, told in enumerate(self.split.leaves())
+            for place, told in enumerate(self._told())
         }
         self._kinds = _kinds_in(self._base)
         self._heard: dict[str, Reply] = {}
+
+    def _told(self) -> Iterator[Told]:
+        """What is told in each part."""
+        if self._known is None:
+            yield from self.split.leaves()
+            return
+        below = NumberRoom(-MOST_NUMBER, self._seen(self._known) - 1)
+        for told in self.split.leaves():
+            yield (*told, (self._line, str(below)))
 
     def by(self, executor: "Executor") -> None:
         """Has an executor ask all parts."""
@@ -161,6 +172,7 @@ class Parting:
         """What is known by now. Raises Unlike."""
         replies = [self._heard.get(name, UNSETTLED) for name in self.parts]
         found = [points for reply in replies if (points := points_of(reply)) is not None]
+        found += [self._known] if self._known else []
         best = min(found, key=self._seen, default=None)
         is_proved = all(isinstance(reply, Best | NoneFits) for reply in replies)
         because = {name for reply in replies for name in _because(reply)} - {f"{self._mark}part"}
@@ -195,6 +207,7 @@ class Parting:
                 ends.append(self._sign * reply.bound)
             elif not isinstance(reply, NoneFits):
                 return self._seeker.end_of(self.cell, self.sort)
+        ends += [self._seen(self._known)] if self._known else []
         return self._sign * min(ends) if ends else None
 
     def _plan_alone(self, fits: Fits) -> Certificate | None:
