@@ -20,8 +20,9 @@ from propbench.questions.model import Model
 from propbench.questions.outcomes import Fits
 from propbench.questions.rooms import ALL_NUMBERS, NameRoom, NumberRoom, Room, values_of
 from propbench.questions.seeking import Seeker, points_of
-from propbench.replies import UNSETTLED, Reply, reply_of
+from propbench.replies import UNSETTLED, Reply, Value, reply_of
 from propbench.session import Session
+from propbench.values import Elements, Nothing, Span
 from propbench.words import MOST_NUMBER
 
 if TYPE_CHECKING:
@@ -29,6 +30,8 @@ if TYPE_CHECKING:
 
 # So many parts there are, where there is enough to part; a name with more values is parted in two.
 _PARTS, _VALUES = 8, 4
+# What decides much is looked for so many seconds.
+_SOON = 2.0
 # What is told of cells, by their names on lines.
 Told = tuple[tuple[str, str], ...]
 
@@ -78,15 +81,15 @@ def run_part(part: Part) -> str | None:
     return str(told[-1]) if told else None
 
 
-def split_of(model: Model, cell: str, sort: str) -> Split:
-    """Parts of all that may be: by what is to be tried first, by truths that decide much, or by
-    halves of the number itself."""
+def split_of(model: Model, cell: str, forks: Sequence[str]) -> Split:
+    """Parts of all that may be: by what is to be tried first, by these truths, or by ranges of the
+    number itself."""
     waiting: list[tuple[str, list[Room]]] = []
     for name in dict.fromkeys(name for each in model.first() for name in each.cells):
         if rooms := _rooms(model.candidates(name)):
             waiting.append((model.cell_name(name), rooms))
     yes_or_no: list[Room] = [NameRoom(("no",)), NameRoom(("yes",))]
-    waiting += [(truth, yes_or_no) for truth in model.forks()]
+    waiting += [(truth, yes_or_no) for truth in forks]
     number = _rooms(model.candidates(cell)) or [ALL_NUMBERS]
     if waiting:
         return _parted(waiting, 1) or Split(model.cell_name(cell), ((ALL_NUMBERS, None),))
@@ -128,9 +131,9 @@ class Parting:
         self._base = tuple(self._model.base())
         self._mark = mark_for(self._base)
         self._line = self._model.cell_name(cell)
-        self.split = split_of(self._model, cell, sort)
         # (what is no better than a plan that is known is not looked for)
         self._known = seeker.by_hand() if sort == LEAST else None
+        self.split = split_of(self._model, cell, self._forks())
         ask = " ".join([sort, self._line, *seeker.first()])
         self.parts = {
             str(place): Part(
@@ -140,19 +143,40 @@ class Parting:
                 ask,
                 seeker.clock.seconds_left(),
             )
-            for place, told in enumerate(self._told())
+            for place, told in enumerate(self.split.leaves(self._better()))
         }
         self._kinds = _kinds_in(self._base)
         self._heard: dict[str, Reply] = {}
 
-    def _told(self) -> Iterator[Told]:
-        """What is told in each part."""
+    def _better(self) -> Told:
+        """That the cell is better than in the plan that is known."""
         if self._known is None:
-            yield from self.split.leaves()
-            return
-        below = NumberRoom(-MOST_NUMBER, self._seen(self._known) - 1)
-        for told in self.split.leaves():
-            yield (*told, (self._line, str(below)))
+            return ()
+        return ((self._line, str(NumberRoom(-MOST_NUMBER, self._seen(self._known) - 1))),)
+
+    def _forks(self) -> list[str]:
+        """Truths that decide much, those in front that leave numbers the least room either way."""
+        seeker, forks = self._seeker, list(self._model.forks())
+        asks = [*forks, *seeker.lines.values()]
+        try:
+            with seeker.supposing(dict(self._better())):
+                seeker.session.send("settle", seconds=seeker.clock.turn(_SOON).seconds_left())
+                replies = seeker.session.look(f"ask {name}" for name in asks)
+        except OutOfTime:
+            return forks
+        known = [it.value if isinstance(it, Value) else Nothing() for it in replies]
+        ends = {
+            cell: (held.low, held.high)
+            for cell, held in zip(seeker.lines, known[len(forks) :])
+            if isinstance(held, Span)
+        }
+        rooms = self._model.rooms_by(forks, ends)
+        left = [
+            fork
+            for fork, held in zip(forks, known)
+            if not isinstance(held, Elements) or len(held.names) > 1
+        ]
+        return sorted(left, key=lambda fork: sum(rooms[fork]) if fork in rooms else MOST_NUMBER)
 
     def by(self, executor: "Executor") -> None:
         """Has an executor ask all parts."""
