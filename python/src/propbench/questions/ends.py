@@ -126,8 +126,8 @@ class Ending:
 def find_optimum(
     model: Model, cell: CellLike, sort: str, clock: Clock, executor: "Executor | None" = None
 ) -> Optimum:
-    """The least or greatest value of a cell in any plan with what is believed; by an executor, where
-    there is one and the program searches itself."""
+    """The least or greatest value of a cell in any plan with what is believed; by an executor,
+    where there is one and the program searches itself."""
     name = whole_named(model, cell)
     if seeks(model):
         with suppress(Unlike), Seeker(model, clock) as seeker:

@@ -33,7 +33,7 @@ _PARTS, _VALUES = 8, 4
 # What decides much is looked for so many seconds.
 _SOON = 2.0
 # What is told of cells, by their names on lines.
-Told = tuple[tuple[str, str], ...]
+ToldOnLines = tuple[tuple[str, str], ...]
 
 
 @dataclass(frozen=True)
@@ -43,7 +43,7 @@ class Split:
     cell: str
     cases: tuple[tuple[Room, "Split | None"], ...]
 
-    def leaves(self, told: Told = ()) -> Iterator[Told]:
+    def leaves(self, told: ToldOnLines = ()) -> Iterator[ToldOnLines]:
         """What is told in each part."""
         for room, below in self.cases:
             more = (*told, (self.cell, str(room)))
@@ -51,7 +51,7 @@ class Split:
 
 
 @dataclass(frozen=True)
-class Part:
+class PartJob:
     """A part as a session is told it: the program, the lines that make the network and those that
     make the part, what to ask, and the kinds of cells to read the answer by."""
 
@@ -62,7 +62,7 @@ class Part:
     seconds: float | None = None
 
 
-def run_part(part: Part) -> str | None:
+def run_part(part: PartJob) -> str | None:
     """The answer of a fresh session to a part, as text, or what was known of it when the time was
     over; None where it was not even told by then. Raises as `Session` does."""
     clock, found = Clock(part.seconds, None), list[Reply]()
@@ -136,7 +136,7 @@ class Parting:
         self.split = split_of(self._model, cell, self._forks())
         ask = " ".join([sort, self._line, *seeker.first()])
         self.parts = {
-            str(place): Part(
+            str(place): PartJob(
                 self._model.session.program,
                 self._base,
                 tuple(f"tell {self._mark}part {line} {text}" for line, text in told),
@@ -148,7 +148,7 @@ class Parting:
         self._kinds = _kinds_in(self._base)
         self._heard: dict[str, Reply] = {}
 
-    def _better(self) -> Told:
+    def _better(self) -> ToldOnLines:
         """That the cell is better than in the plan that is known."""
         if self._known is None:
             return ()
@@ -187,7 +187,7 @@ class Parting:
                 self._heard[name] = reply_of(words, text, self._kinds)
                 self._seeker.clock.tell(f"{len(self._heard)} of {len(self.parts)} parts")
 
-    def _asked(self, part: Part) -> str | None:
+    def _asked(self, part: PartJob) -> str | None:
         """What comes of a part here, None where there is no time."""
         clock = self._seeker.clock
         return None if clock.is_over() else run_part(replace(part, seconds=clock.seconds_left()))
