@@ -9,6 +9,8 @@ from propbench.session import Session
 DIFFER = "differ63"
 # How many of up to 63 truths hold is counted at once where this is.
 COUNTER = "counter63"
+# When a task may start that shares a capacity with up to 40 others is told at once where this is.
+CUMULATIVE = "cumulative40"
 # What is switched by a truth is there where this is, of relations and of what differs.
 SWITCHED = "soft_link"
 
@@ -24,6 +26,7 @@ WIDER = {
     **{f"different{number}": "all_different" for number in range(2, 9)},
     DIFFER: "all_different",
     COUNTER: "count",
+    CUMULATIVE: "what several tasks use",
     SWITCHED: "`pairs` and `all_different` under a premise",
 }
 

@@ -102,6 +102,18 @@ def _looked_up(node: Node, element: Point) -> int:
     return entry
 
 
+def _has_room(_node: Node, values: list[Point]) -> bool:
+    """Whether tasks that run at once need no more than there is. (Most is needed when one of them
+    starts.)"""
+    capacity, *rest = map(int, values)
+    tasks = list(zip(rest[::3], rest[1::3], rest[2::3]))
+    return all(
+        sum(needs for start, long, needs in tasks if start <= day < start + long) <= capacity
+        for day, length, _ in tasks
+        if length > 0
+    )
+
+
 _NUMBERS: dict[Op, Callable[[Node, list[int]], int]] = {
     Op.SUM: _sum,
     Op.DIFFERENCE: lambda node, numbers: numbers[0] - numbers[1],
@@ -121,6 +133,7 @@ _TRUTHS: dict[Op, Callable[[Node, list[Point]], bool]] = {
     Op.UNEQUAL: lambda node, values: values[0] != values[1],
     Op.ALL_DIFFERENT: lambda node, values: len(set(values)) == len(values),
     Op.AMONG: lambda node, values: values[0] in node.entries,
+    Op.ROOM: _has_room,
     Op.PAIR: lambda node, values: tuple(values) in node.entries,
 }
 

@@ -38,6 +38,8 @@ class Op(Enum):
     AT_MOST = auto()
     GREATER = auto()
     AT_LEAST = auto()
+    # a capacity, and of each task that shares it when it starts, how long it takes, how much it needs
+    ROOM = auto()
     # truths of any kind
     EQUAL = auto()
     UNEQUAL = auto()
@@ -63,7 +65,7 @@ NUMBERS = frozenset(
 ) | {Op.MAXIMUM, Op.MINIMUM, Op.BIT, Op.COUNT, Op.TABLE}
 COMPARISONS = frozenset(
     (Op.LESS, Op.AT_MOST, Op.GREATER, Op.AT_LEAST, Op.EQUAL, Op.UNEQUAL, Op.ALL_DIFFERENT)
-) | {Op.AMONG, Op.PAIR}
+) | {Op.AMONG, Op.PAIR, Op.ROOM}
 
 
 @dataclass(frozen=True, eq=False)

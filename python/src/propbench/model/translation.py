@@ -11,6 +11,7 @@ from propbench.model.harmless import is_harmless
 from propbench.model.kinds import Domain, Plain, domain_of
 from propbench.model.nodes import FALSE, TRUE, Node, Op, negated
 from propbench.model.numbers import NumberWriter
+from propbench.model.sharing import Shared
 from propbench.model.truths import Truths
 from propbench.model.vocabulary import Vocabulary
 from propbench.model.writer import YES, Writer, span_text
@@ -190,6 +191,8 @@ class Translation:
             self._is_known(core, holds, context)
         elif each.op is Op.ALL_DIFFERENT:
             self._state(different(each), holds, context)
+        elif each.op is Op.ROOM:
+            self._state_room(each, holds, context)
         elif not self._compared_with_constant(each, holds, context):
             if self._place(core, context) is not context:
                 self._narrow(core, _word(holds), context)
@@ -199,6 +202,14 @@ class Translation:
             else:
                 self._truths.compare(each, self._known(holds, context), context)
                 self._is_known(core, holds, context)
+
+    def _state_room(self, each: Node, holds: bool, context: Context) -> None:
+        """States that what tasks share is enough, or that it isn't."""
+        is_told = context is self.root or (context.outer is self.root and context.premise)
+        if holds and is_told and is_harmless(each):
+            self._truths.room_at_once(each, context)
+        else:
+            self._state(Shared.of(each).in_parts(), holds, context)
 
     def _compared_with_constant(self, each: Node, holds: bool, context: Context) -> bool:
         """States or denies `==` or `<` where one side is a constant, as a value of the other;

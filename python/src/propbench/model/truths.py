@@ -5,11 +5,13 @@ from typing import TYPE_CHECKING
 from propbench.model.context import Context
 from propbench.model.core import different, rows_of
 from propbench.model.kinds import Plain, domain_of, most_different
-from propbench.model.kit import DIFFER
-from propbench.model.nodes import FALSE, Node, Op, constant, node
+from propbench.model.kit import CUMULATIVE, DIFFER
+from propbench.model.nodes import FALSE, Node, Op, constant, node, number
 from propbench.model.relations import Relations
+from propbench.model.sharing import Shared
 from propbench.model.vocabulary import INSIDE
 from propbench.model.writer import TRUTHS
+from propbench.words import MOST_BYTES
 
 if TYPE_CHECKING:
     from propbench.model.translation import Translation
@@ -18,6 +20,8 @@ _MOST_DIFFERENT = 8
 # More than these tell more at once where they are numbers: as many as have room on a line, however
 # long their names are.
 _MOST_NUMBERS = 60
+# Beside so many others a task has its room told at once; and what a line has room for beside names.
+_MOST_BESIDE, _ROOM = 40, 100
 
 
 class Truths:
@@ -77,6 +81,36 @@ class Truths:
             others = [*cells[:at], *cells[at + 1 :]]
             self._writer.attach(f"differ{len(others)}", own, *others, own)
 
+    def room_at_once(self, each: Node, context: Context) -> None:
+        """States that what tasks share is enough: any two that need more in all are apart, and each
+        of them has room beside the others when it starts; of as many as a line has room for the
+        program tells more from all at once."""
+        shared = Shared.of(each)
+        for truth in shared.apart():
+            self._all.state(truth, context)
+        capacity = ""
+        for own, others in shared.beside():
+            is_told = 0 < len(others) <= _MOST_BESIDE and self._writer.offers(CUMULATIVE)
+            cells = self._room_cells(shared.parts_of(own, others)) if is_told else []
+            if cells and sum(len(it.encode()) + 1 for it in cells) < MOST_BYTES - _ROOM:
+                capacity = capacity or self._capacity(shared, context)
+                self._writer.attach(f"cumulative{len(others)}", capacity, *cells, cells[0])
+            else:
+                self._all.state(shared.load_fits(own, others), context)
+
+    def _room_cells(self, parts: list[Node]) -> list[str]:
+        return [self._all.cell_of(it, self._all.root) for it in parts]
+
+    def _capacity(self, shared: Shared, context: Context) -> str:
+        """A cell of how much there is while the context holds, and else of as much as is needed."""
+        if context is self._all.root:
+            return self._all.cell_of(number(shared.capacity), context)
+        since = self._writer.position
+        cell = self._writer.new_cell(Plain.NUMBER)
+        self._writer.between(cell, shared.capacity, shared.most, self._all.root)
+        self._writer.narrow(cell, str(shared.capacity), Plain.NUMBER, context)
+        return self._writer.made(cell, since)
+
     def link(self, pair: Node, holds: bool, context: Context) -> None:
         """States that two are a pair of a relation, or none."""
         first, second = (domain_of(arg.kind) for arg in pair.args)
@@ -109,6 +143,8 @@ class Truths:
     def _define_comparison(self, each: Node, cell: str, context: Context) -> None:
         if each.op is Op.ALL_DIFFERENT:
             self._all.define_as(different(each), context, cell)
+        elif each.op is Op.ROOM:
+            self._all.define_as(Shared.of(each).in_parts(), context, cell)
         elif each.op is Op.AMONG:
             self._among(each, cell, context)
         elif each.op is Op.PAIR:

@@ -32,6 +32,7 @@ _CALLED = {
     Op.IF: "if_else",
     Op.IMPLIES: "implies",
     Op.ALL_DIFFERENT: "all_different",
+    Op.ROOM: "room",
 }
 # Of a long text the middle is left out.
 _MOST = 200

@@ -71,6 +71,12 @@ def state_pauses(project: "Project", task: Task, aways: Sequence[Away]) -> None:
         _state_span(project, task)
 
 
+def span_of(events: Iterable[Event], task: Task) -> Number:
+    """How many days a task takes with its pauses."""
+    pauses = pauses_of(events, task) if task.pauses else []
+    return task.days + _pause(pauses) if pauses else task.days
+
+
 def _without_spans(events: Iterable[Event], tasks: Sequence[Task]) -> Iterator[Event]:
     """Events without what says how long these tasks take with their pauses."""
     for each in events:

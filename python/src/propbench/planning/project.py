@@ -43,8 +43,9 @@ from propbench.planning.resources import (
     rates_of,
     resources_of,
     state_resource,
-    state_uses,
+    state_rooms,
     uses_given,
+    without_rooms,
 )
 from propbench.planning.tasks import (
     Away,
@@ -334,13 +335,14 @@ class Project:
                 premise = under or f"{name} after {other.name}"
                 self.state(TaskOrdered(before, premise, self, other, task))
             self._keep_apart(task, others)
-            state_uses(self, task, others)
             state_setups(self, task, others)
             state_pauses(self, task, [away for away in aways if away.person in task.needs])
             state_wishes(self, task)
+            state_rooms(self, used)
             return task
 
-        return self.workbench.network.whole(state)
+        network = self.workbench.network
+        return network.restate(without_rooms(self, used), state) if used else network.whole(state)
 
     def away(self, person: str, first: Day, last: Day, under: str | None = None) -> str:
         """A person does nothing from the beginning of one day to the beginning of another; the
@@ -1136,12 +1138,18 @@ class Project:
             for away in aways:
                 self.state(KeptOff(TRUE, away.premise, away, self))
 
-        def bound() -> None:
+        used = {name for task in theirs if task.pauses for name in task.uses}
+
+        def then() -> None:
             if self.end_made is not None:
                 state_bounds(self, [away.person for away in aways], self.end_made)
+            if used:
+                # (they may take longer now)
+                rooms = without_rooms(self, used)
+                self.workbench.network.restate(rooms, lambda: state_rooms(self, used))
 
         if theirs:
-            keep_off(self, theirs, aways, bound)
+            keep_off(self, theirs, aways, then)
         else:
             self.workbench.network.whole(state)
 

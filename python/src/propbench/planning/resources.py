@@ -1,17 +1,19 @@
 """Resources that several tasks may use at once: a hall for two talks, a crew of four, a lift.
 
-No more of a resource is in use at once than there is. Most is in use when some task begins: so of
-each task it is stated that there is room for what runs then. What takes no day uses nothing.
+No more of a resource is in use at once than there is, which is stated of all tasks that use it at
+once. What takes no day uses nothing.
 """
 
-from collections.abc import Iterable, Mapping
+from collections.abc import Container, Iterable, Iterator, Mapping, Sequence
 from dataclasses import dataclass
 from typing import TYPE_CHECKING, SupportsIndex
 
 from propbench.model.events import Event, Required
-from propbench.model.expressions import Number, Truth, if_else
-from propbench.model.nodes import TRUE, Declared, Node, Op, cell, node
+from propbench.model.expressions import Number, if_else
+from propbench.model.nodes import TRUE, Declared, Op, cell
+from propbench.model.sharing import Shared, Use
 from propbench.nearby import near_names
+from propbench.planning.pausing import span_of
 from propbench.planning.tasks import Rate, Task
 from propbench.showing import printable
 
@@ -33,14 +35,6 @@ class KeptWithin(Required):
     def told(self) -> str:
         """What is stated, of all that uses it."""
         return f"no more than {self.holds} of {printable(self.resource)} at once"
-
-
-@dataclass(frozen=True)
-class _Load:
-    """How much of a resource is in use when a task begins, of the tasks so far."""
-
-    number: Number
-    most: int
 
 
 def holding(resource: str, holds: int) -> str:
@@ -99,19 +93,30 @@ def state_resource(project: "Project", said: KeptWithin, tasks: Iterable[Task]) 
     """States how much there is of a resource, of these tasks."""
     # (a premise under which nothing is stated yet would not be known)
     project.state(said)
-    before: list[Task] = []
-    for task in tasks:
-        if said.resource in task.uses:
-            _state_room(project, said, task, before)
-            before.append(task)
+    _state_room(project, said, [task for task in tasks if said.resource in task.uses])
 
 
-def state_uses(project: "Project", task: Task, others: Iterable[Task]) -> None:
-    """The same of a task that is being made, beside others."""
-    for said in kept_within(project, project.workbench.network.events):
-        if said.resource in task.uses:
-            there = [other for other in others if said.resource in other.uses]
-            _state_room(project, said, task, there)
+def state_rooms(project: "Project", names: Container[str]) -> None:
+    """States the same of all tasks that use these resources, where it isn't stated."""
+    network = project.workbench.network
+    tasks = list(project.tasks.values())
+    for said in kept_within(project, network.events):
+        if said.resource in names:
+            _state_room(project, said, [task for task in tasks if said.resource in task.uses])
+
+
+def without_rooms(project: "Project", names: Container[str]) -> Iterator[Event]:
+    """What is stated but that there is room for all that use these resources: it is stated anew
+    where a task more does, or one takes another time."""
+    for each in project.workbench.network.events:
+        is_room = isinstance(each, KeptWithin) and each.constraint.op is Op.ROOM
+        if not (is_room and _is_of(each, project, names)):
+            yield each
+
+
+def _is_of(each: Event, project: "Project", names: Container[str]) -> bool:
+    """Whether an event is of one of these resources of a project."""
+    return isinstance(each, KeptWithin) and each.project is project and each.resource in names
 
 
 def work_of(task: Task, resource: str) -> Number:
@@ -138,42 +143,12 @@ def paid(task: Task, rates: Mapping[str, Declared]) -> list[Number]:
     return found
 
 
-def _state_room(project: "Project", said: KeptWithin, task: Task, others: list[Task]) -> None:
-    """There is room for a task and these others, as there is for the others by themselves."""
-
-    def state(holds: Truth) -> None:
-        constraint = KeptWithin(holds.node, said.premise, said.resource, said.holds, project)
-        project.state(constraint)
-
-    for place, other in enumerate(others):
-        if task.uses[said.resource] + other.uses[said.resource] > said.holds:
-            state(_apart(task, other))
-        else:
-            load = _load_at(said, other, [*others[:place], *others[place + 1 :], task])
-            if load.most > said.holds:
-                state(load.number <= said.holds)
-    load = _load_at(said, task, others)
-    if load.most > said.holds:
-        state(load.number <= said.holds)
-
-
-def _load_at(said: KeptWithin, task: Task, others: Iterable[Task]) -> _Load:
-    """How much is in use when a task begins, of it and those others that have room beside it."""
-    own = task.uses[said.resource]
-    found, most = if_else(task.start < task.end, own, 0).node, own
-    for other in others:
-        uses = other.uses[said.resource]
-        if own + uses <= said.holds:
-            found, most = node(Op.SUM, (found, _used(task, other, uses))), most + uses
-    return _Load(Number(found), most)
-
-
-def _used(task: Task, other: Task, uses: int) -> Node:
-    """How much another task uses when a task begins."""
-    return if_else((other.start <= task.start) & (task.start < other.end), uses, 0).node
-
-
-def _apart(one: Task, other: Task) -> Truth:
-    """Two tasks share no time, where both take some."""
-    apart = (other.end <= one.start) | (one.end <= other.start)
-    return apart | (one.end <= one.start) | (other.end <= other.start)
+def _state_room(project: "Project", said: KeptWithin, tasks: Sequence[Task]) -> None:
+    """There is room for these tasks, as often as they run at once."""
+    events = project.workbench.network.events
+    uses = [
+        Use(task.start.node, span_of(events, task).node, task.uses[said.resource]) for task in tasks
+    ]
+    shared = Shared(said.holds, tuple(uses))
+    if shared.most > said.holds:
+        project.state(KeptWithin(shared.room(), said.premise, said.resource, said.holds, project))
