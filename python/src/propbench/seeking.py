@@ -15,8 +15,10 @@ from propbench.refusals import Refused
 from propbench.replies import UNSETTLED, Reply
 from propbench.runs import Question, Watch, is_settled, late_text
 
-# A slice has so many steps at the most, unless a session says another number.
+# A slice has so many steps at the most, unless a session says another number: then it has that, and
+# up to so many times that while nothing new is told.
 _STEPS = 50_000
+_MOST_TIMES = 16
 
 
 @dataclass
@@ -31,21 +33,24 @@ class Seeking:
     found: Several | None = None
     # The text that was read last, and what it says: the best plan so far is often told once more.
     last: tuple[str, Reply] = ("", UNSETTLED)
+    # Whether the last slice told something new.
+    is_news: bool = True
 
     def reply(self) -> Reply:
         """The reply, in as many slices as it needs. Raises the refusal, what ends it from outside,
         and OutOfTime where nothing is known when the time is over."""
         talk, watch = self.talk, self.watch
         parts = max(1, -(-talk.limit // (self.most_steps or _STEPS)))
-        size = talk.limit // parts
+        size = least = talk.limit // parts
         words = self.question.words
         if words[0] == "plans" and talk.sought != self._place():
             talk.begin_anew(words[2:])
         reply = self._slice(size)
         while not self._is_done(reply):
             watch.taken += size
-            if watch.taken >= size * parts or watch.is_over(reply):
+            if watch.taken >= least * parts or watch.is_over(reply):
                 break
+            size = min(self._next_size(size, least), least * parts - watch.taken)
             try:
                 reply = self._slice(size)
             except OutOfTime:
@@ -53,6 +58,12 @@ class Seeking:
                     raise
                 break
         return self._ended(reply)
+
+    def _next_size(self, size: int, least: int) -> int:
+        """How many steps the next slice has."""
+        if self.most_steps is None or self.is_news:
+            return least
+        return min(2 * size, _MOST_TIMES * least)
 
     def _place(self) -> tuple[str, int]:
         """What is asked, and behind how many lines."""
@@ -86,6 +97,7 @@ class Seeking:
     def _said(self, words: list[str], text: str) -> Reply:
         """The reply that a text is, with the plans that were told before."""
         talk, question = self.talk, self.question
+        self.is_news = text != self.last[0]
         if text == self.last[0] and isinstance(self.last[1], SoFar):
             return self.last[1]
         refused = talk.refused(question.line, text, question.number)
