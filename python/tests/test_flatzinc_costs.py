@@ -37,7 +37,9 @@ def chosen(costs: Sequence[dict[int, int]], values: Sequence[int]) -> int | None
     return None
 
 
-def least_of(costs: Sequence[dict[int, int]], made: Priced, ways: Iterator[list[int]]) -> int | None:
+def least_of(
+    costs: Sequence[dict[int, int]], made: Priced, ways: Iterator[list[int]]
+) -> int | None:
     """The least that any way costs, where none costs less than what is paid and left of it."""
     found = []
     for values in ways:

@@ -5,6 +5,7 @@ or it answers a line `ok`, but for `limit`. For plans it is held to less: asked 
 tells others; behind any other line it begins anew.
 """
 
+import time
 from dataclasses import dataclass
 
 from propbench.blamed import Blamed
@@ -15,10 +16,10 @@ from propbench.refusals import Refused
 from propbench.replies import UNSETTLED, Reply
 from propbench.runs import Question, Watch, is_settled, late_text
 
-# A slice has so many steps at the most, unless a session says another number: then it has that, and
-# up to so many times that while nothing new is told.
+# A slice has so many steps, unless a session says another number, and up to so many times as many
+# where they take fewer than so many seconds.
 _STEPS = 50_000
-_MOST_TIMES = 16
+_MOST_TIMES, _BRIEF = 16, 0.1
 
 
 @dataclass
@@ -33,8 +34,8 @@ class Seeking:
     found: Several | None = None
     # The text that was read last, and what it says: the best plan so far is often told once more.
     last: tuple[str, Reply] = ("", UNSETTLED)
-    # Whether the last slice told something new.
-    is_news: bool = True
+    # When the last slice began.
+    _began: float = 0.0
 
     def reply(self) -> Reply:
         """The reply, in as many slices as it needs. Raises the refusal, what ends it from outside,
@@ -60,10 +61,9 @@ class Seeking:
         return self._ended(reply)
 
     def _next_size(self, size: int, least: int) -> int:
-        """How many steps the next slice has."""
-        if self.most_steps is None or self.is_news:
-            return least
-        return min(2 * size, _MOST_TIMES * least)
+        """How many steps the next slice has, by how long the last one took."""
+        is_brief = time.monotonic() - self._began < _BRIEF
+        return min(2 * size, _MOST_TIMES * least) if is_brief else max(size // 2, least)
 
     def _place(self) -> tuple[str, int]:
         """What is asked, and behind how many lines."""
@@ -73,7 +73,7 @@ class Seeking:
         """What is known after so many steps more. Where the question is interrupted, and no reply
         comes soon, the program is ended, and KeyboardInterrupt raised."""
         talk, line = self.talk, self._line()
-        words = line.split()
+        words, self._began = line.split(), time.monotonic()
         try:
             talk.tell(line, steps)
             try:
@@ -97,7 +97,6 @@ class Seeking:
     def _said(self, words: list[str], text: str) -> Reply:
         """The reply that a text is, with the plans that were told before."""
         talk, question = self.talk, self.question
-        self.is_news = text != self.last[0]
         if text == self.last[0] and isinstance(self.last[1], SoFar):
             return self.last[1]
         refused = talk.refused(question.line, text, question.number)

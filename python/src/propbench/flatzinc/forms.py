@@ -84,7 +84,12 @@ _SORTS = {
     "D": "an array of constants",
 }
 # What a constraint is called that no file of a user's has by itself.
-_OWN = {BLAMED: "the mark of a constraint", "propbench_count": "a count", TABLE: "a table", TOUR: "a tour"}
+_OWN = {
+    BLAMED: "the mark of a constraint",
+    "propbench_count": "a count",
+    TABLE: "a table",
+    TOUR: "a tour",
+}
 
 
 def check(flat: Flat) -> None:
