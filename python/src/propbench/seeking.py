@@ -5,6 +5,7 @@ or it answers a line `ok`, but for `limit`. For plans it is held to less: asked 
 tells others; behind any other line it begins anew.
 """
 
+import time
 from dataclasses import dataclass
 
 from propbench.blamed import Blamed
@@ -15,8 +16,10 @@ from propbench.refusals import Refused
 from propbench.replies import UNSETTLED, Reply
 from propbench.runs import Question, Watch, is_settled, late_text
 
-# A slice has so many steps at the most, unless a session says another number.
+# A slice has so many steps, unless a session says another number, and up to so many times as many
+# where they take fewer than so many seconds.
 _STEPS = 50_000
+_MOST_TIMES, _BRIEF = 16, 0.1
 
 
 @dataclass
@@ -31,21 +34,24 @@ class Seeking:
     found: Several | None = None
     # The text that was read last, and what it says: the best plan so far is often told once more.
     last: tuple[str, Reply] = ("", UNSETTLED)
+    # When the last slice began.
+    _began: float = 0.0
 
     def reply(self) -> Reply:
         """The reply, in as many slices as it needs. Raises the refusal, what ends it from outside,
         and OutOfTime where nothing is known when the time is over."""
         talk, watch = self.talk, self.watch
         parts = max(1, -(-talk.limit // (self.most_steps or _STEPS)))
-        size = talk.limit // parts
+        size = least = talk.limit // parts
         words = self.question.words
         if words[0] == "plans" and talk.sought != self._place():
             talk.begin_anew(words[2:])
         reply = self._slice(size)
         while not self._is_done(reply):
             watch.taken += size
-            if watch.taken >= size * parts or watch.is_over(reply):
+            if watch.taken >= least * parts or watch.is_over(reply):
                 break
+            size = min(self._next_size(size, least), least * parts - watch.taken)
             try:
                 reply = self._slice(size)
             except OutOfTime:
@@ -53,6 +59,11 @@ class Seeking:
                     raise
                 break
         return self._ended(reply)
+
+    def _next_size(self, size: int, least: int) -> int:
+        """How many steps the next slice has, by how long the last one took."""
+        is_brief = time.monotonic() - self._began < _BRIEF
+        return min(2 * size, _MOST_TIMES * least) if is_brief else max(size // 2, least)
 
     def _place(self) -> tuple[str, int]:
         """What is asked, and behind how many lines."""
@@ -62,7 +73,7 @@ class Seeking:
         """What is known after so many steps more. Where the question is interrupted, and no reply
         comes soon, the program is ended, and KeyboardInterrupt raised."""
         talk, line = self.talk, self._line()
-        words = line.split()
+        words, self._began = line.split(), time.monotonic()
         try:
             talk.tell(line, steps)
             try:

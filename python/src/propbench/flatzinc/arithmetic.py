@@ -102,7 +102,9 @@ def sides_of(
         return plus, constant(bound)
     if plus.node.op is Op.CONSTANT:
         return constant(-bound), minus
-    return (plus, minus + bound) if bound >= 0 else (plus + -bound, minus)
+    if bound == 0:
+        return plus, minus
+    return (plus, minus + bound) if bound > 0 else (plus + -bound, minus)
 
 
 def within(number: Number, values: Numbers) -> Truth:

@@ -18,6 +18,7 @@ from propbench.flatzinc.arithmetic import (
     some,
     within,
 )
+from propbench.flatzinc.costs import with_costs
 from propbench.flatzinc.floats import EXACT, Floats, is_of_floats
 from propbench.flatzinc.forms import check
 from propbench.flatzinc.lookups import with_pairs
@@ -69,7 +70,7 @@ class Built:
     def __init__(self, flat: Flat, workbench: PlainWorkbench) -> None:
         """States all of the model. Raises NotSupported, and ValueError where there is no room."""
         check(flat)
-        flat = with_pairs(flat)
+        flat = with_costs(with_pairs(flat))
         self.flat, self.workbench = flat, workbench
         # What the floats are, where there are some.
         has_floats = any(each.is_float for each in flat.variables.values())
@@ -98,7 +99,8 @@ class Built:
         # How many tables have a cell for their row, and premises one that says if they hold.
         self._rows, self._blamed = 0, 0
         try:
-            self._state_all(flat)
+            # (the program is told all of it at once)
+            workbench.network.whole(lambda: self._state_all(flat))
         except RecursionError:
             raise NotSupported(0, "definitions lie too deep within one another") from None
 

@@ -11,6 +11,7 @@ from math import prod
 from propbench.flatzinc.terms import (
     BLAMED,
     TABLE,
+    TOUR,
     Array,
     Constraint,
     Flat,
@@ -53,6 +54,7 @@ _TAKES = {
     "set_in": "vm",
     BLAMED: "vs",
     TABLE: "VC",
+    TOUR: "Vc",
 }
 _TAKES |= {f"int_{each}": "vv" for each in ("eq", "ne", "le", "lt", "ge", "gt")}
 _TAKES |= {f"bool_{each}": "vv" for each in ("eq", "ne", "le", "lt")}
@@ -82,7 +84,12 @@ _SORTS = {
     "D": "an array of constants",
 }
 # What a constraint is called that no file of a user's has by itself.
-_OWN = {BLAMED: "the mark of a constraint", "propbench_count": "a count", TABLE: "a table"}
+_OWN = {
+    BLAMED: "the mark of a constraint",
+    "propbench_count": "a count",
+    TABLE: "a table",
+    TOUR: "a tour",
+}
 
 
 def check(flat: Flat) -> None:

@@ -11,7 +11,7 @@ from threading import Event, Lock
 
 from propbench.closing import Closing
 from propbench.flatzinc.asking import SolutionQuestion
-from propbench.points import Several
+from propbench.points import Several, SoFar
 from propbench.questions.clock import Clock
 from propbench.questions.model import Model
 from propbench.questions.seeking import Seeker
@@ -53,6 +53,8 @@ class _One:
     slice_of: int
     steps: int = 0
     is_still: bool = False
+    # The steps of what is asked, as far as they were counted.
+    _counted: int = 0
     _last: Reply = UNSETTLED
     _rows: int = 0
     _slices: int = 0
@@ -60,7 +62,7 @@ class _One:
 
     def run(self, seconds: float) -> None:
         """Has it search for so many seconds. Raises Unlike where what is found doesn't hold."""
-        self._rows, self._slices, self._since = 0, 0, time.monotonic()
+        self._rows, self._slices, self._counted, self._since = 0, 0, 0, time.monotonic()
         self.seeker.reply, self.seeker.heard = UNSETTLED, self._hear
         with suppress(_Ended):
             self.seeker.ask(self.asked.line(self.seeker, self.is_free), seconds)
@@ -80,9 +82,11 @@ class _One:
         now = time.monotonic()
         self._slices += 1
         is_slow = now - self._since > self._slices * self.slice_of / _FASTEST
-        self.steps += self.slice_of if is_slow else 0
+        self.steps += self.seeker.steps - self._counted if is_slow else 0
+        self._counted = self.seeker.steps
         self.is_still = self._slices >= _STILL and not is_slow
-        if reply is self._last or reply == self._last:
+        # (the best so far is told by the same object as long as it says the same)
+        if reply is self._last or not isinstance(reply, SoFar) and reply == self._last:
             return False
         self._last, self._slices, self._since = reply, 0, now
         return True

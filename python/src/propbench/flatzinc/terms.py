@@ -11,6 +11,9 @@ from typing import Union
 BLAMED = "propbench_blame"
 # That some numbers are a row of a table, which stands row by row.
 TABLE = "propbench_table"
+# That numbers are the next ones of nodes on a tour, from a first node on: a mark, which is stated
+# beside.
+TOUR = "propbench_tour"
 
 
 class NotSupported(ValueError):

@@ -99,6 +99,8 @@ class Seeker(Closing):
         # What any symbol is that may be any.
         self._other = f"{base.other}0"
         self.reply: Reply = UNSETTLED
+        # How many steps the last question took so far.
+        self.steps = 0
         # Called with what is known, slice by slice; what it raises ends the question.
         self.heard: Callable[[Reply], None] | None = None
 
@@ -119,10 +121,10 @@ class Seeker(Closing):
         left = self.clock.seconds_left()
         most = left if left is None or seconds is None else min(seconds, left)
         most = seconds if most is None else most
-        before = self.reply
+        before, self.steps = self.reply, 0
 
         def hear(steps: int, reply: Reply) -> None:
-            self.reply = _joined(before, reply)
+            self.reply, self.steps = _joined(before, reply), steps or self.steps
             self.clock.tell(_told(self.reply, line))
             if self.heard is not None:
                 self.heard(self.reply)

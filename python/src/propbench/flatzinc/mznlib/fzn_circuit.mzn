@@ -6,7 +6,8 @@ predicate fzn_circuit(array[int] of var int: x) =
         set of int: nodes = index_set(x), int: first = min(nodes), int: n = card(nodes),
         array[nodes] of var 1..n: place
     } in
-    fzn_all_different_int(x) /\ fzn_all_different_int(place) /\ place[first] = 1 /\
+    propbench_tour(x, first) /\ fzn_all_different_int(x) /\
+    fzn_all_different_int(place) /\ place[first] = 1 /\
     forall(i in nodes) (x[i] in nodes /\ x[i] != i) /\
     forall(i, j in nodes where i != j) (
         x[i] = j -> if j = first then place[i] = n else place[j] = place[i] + 1 endif
