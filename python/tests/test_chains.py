@@ -229,6 +229,8 @@ def test_what_is_behind_is_counted_by_kind() -> None:
             "and 1 other: 1 statement.",
         )
         assert [*chain.by_kind] in (["constraints"], ["statements"])
+        html = chain._repr_html_()
+        assert "<summary>and 1 other: 1 " in html and f"<dd>{chain.others[0]}</dd>" in html
 
 
 def test_a_chain_prints_what_is_waited_for() -> None:

@@ -667,4 +667,8 @@ def test_a_long_reason_is_folded_to_its_chain(wide: str) -> None:
         ]
         assert len(claim.whole().split("\n")) > 12 and "told by Ben 3" in claim.whole()
         assert [each.cell for each in claim.of("x2").chain] == ["x2", "x1", "x0"]
+        best_of_two: Any = w.least([cells[7], cells[6]])
+        with pytest.raises(TypeError, match="each goal has a reason of its own"):
+            w.how(best_of_two)
+        assert str(w.how(best_of_two.steps[0])) == str(claim)
         assert {*claim.of("x2").premises} >= {"rule 1", "Ben 1", "rule 0", "Ben 0", "Ana"}

@@ -609,9 +609,12 @@ class PlainWorkbench(Questions, Closing):
           x = 3, told by Ana
         """
         from propbench.questions.bounding import Optimum
+        from propbench.questions.goals import Optima
         from propbench.watching.of_workbench import WorkbenchWatched
 
         clock = Clock(seconds, None)
+        if isinstance(cell, Optima):
+            raise TypeError("each goal has a reason of its own: `w.how(best.steps[0])`")
         try:
             if isinstance(cell, Optimum):
                 return WorkbenchWatched(self).how_best(cell, clock)

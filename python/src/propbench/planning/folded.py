@@ -134,6 +134,16 @@ class FoldedChain(Shown):
         left = self.left()
         return "\n".join([super().__str__(), *([f"and {left}."] if left else [])])
 
+    def _repr_html_(self) -> str:
+        from html import escape
+
+        kinds = "".join(
+            f"<dt>{escape(kind)}</dt><dd>{escape(', '.join(map(printable, premises)))}</dd>"
+            for kind, premises in self.by_kind.items()
+        )
+        left = f"<details><summary>and {self.left()}</summary><dl>{kinds}</dl></details>"
+        return f"{super()._repr_html_()}{left if kinds else ''}"
+
     def whole(self) -> str:
         """All of it: each task of the chain with the premises behind it, and the others by their
         kinds.

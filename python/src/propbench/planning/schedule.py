@@ -324,7 +324,7 @@ def _chained(project: "Project", schedule: Schedule, because: Sequence[str]) -> 
     from propbench.planning.chain import Walk
 
     walk = Walk(project.workbench.network, project, schedule, because)
-    chain = {link.entry.task: link.waits for link in walk.links()}
+    chain = {link.entry.task: link.waits for link in walk.path()}
     return Schedule(schedule.entries, schedule.staff, schedule.told, chain)
 
 
