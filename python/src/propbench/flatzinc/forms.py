@@ -49,6 +49,7 @@ _TAKES = {
     "int_abs": "vv",
     "int_negate": "vv",
     "propbench_count": "Vv",
+    "propbench_room": "VVCc",
     "set_card": "mv",
     "set_in": "vm",
     BLAMED: "vs",
@@ -83,6 +84,7 @@ _SORTS = {
 }
 # What a constraint is called that no file of a user's has by itself.
 _OWN = {BLAMED: "the mark of a constraint", "propbench_count": "a count", TABLE: "a table"}
+_OWN |= {"propbench_room": "what tasks share"}
 
 
 def check(flat: Flat) -> None:
