@@ -85,8 +85,8 @@ class Shared:
             p.task(f"t{task}", long, after=after, uses=uses)
         return p
 
-    def model(self) -> str:
-        """What is the least `last`, for MiniZinc."""
+    def model(self, way: str) -> str:
+        """What is the least `last`, for MiniZinc, which is searched for in this way."""
         places, days = f"0..{len(self.long) - 1}", self.in_a_row()
         lines = [
             'include "cumulative.mzn";',
@@ -101,7 +101,7 @@ class Shared:
             parts = f"[s[i] | i in {own}], [d[i] | i in {own}], {needs}, {held}"
             lines.append(f"constraint cumulative({parts});")
         return "\n".join(
-            [*lines, "solve minimize last;", 'output ["last = \\(last) s = \\(s)\\n"];']
+            [*lines, f"solve {way} minimize last;", 'output ["last = \\(last) s = \\(s)\\n"];']
         )
 
 

@@ -7,7 +7,8 @@ Drawn are so many plans of each size (10), as `halls.py` says. Each has so many 
 processor (60), from stating it on, with all programs that are begun for it. A line tells for the
 project of a workbench (`w.least(p.end)`) and for Gecode's `cumulative` the best end that was found,
 the bound, and the seconds; `=` stands where it is proved. Gecode tells no bound: so it is the
-longest way through the order, which it knows from the start.
+longest way through the order, which it knows from the start. It searches half of the time in an
+order of its own, and half by the least start; the better of both counts.
 
 It is better to prove the shortest, or else to have the smaller gap between bound and best. Each
 plan is looked at by an evaluator of its own, and what is proved has to agree with all that is
@@ -34,6 +35,8 @@ from propbench.questions.asking import Interrupted  # noqa: E402
 from propbench.questions.bounding import Optimum  # noqa: E402
 
 TICKS = os.sysconf("SC_CLK_TCK")
+# How Gecode searches, half of the time each: in its own order, and by the least start.
+WAYS = ("", ":: int_search(s, smallest, indomain_min)")
 
 
 @dataclass(frozen=True)
@@ -104,12 +107,15 @@ def by_workbench(plan: halls.Shared, seconds: int) -> Found:
 def by_gecode(plan: halls.Shared, seconds: int) -> Found:
     """What Gecode finds."""
     words = ["minizinc", "--solver", "gecode", "-i"]
-    told = searching.printed(words, plan.model(), ".mzn", seconds)
-    is_proved, best = "==========" in told, None
-    for last, starts in re.findall(r"last = (\d+) s = \[(.*?)\]", told):
-        best = int(last)
-        assert plan.end([int(it) for it in starts.split(",")]) <= best
-    return Found(best, best if is_proved and best is not None else plan.longest(), is_proved)
+    best: int | None = None
+    for way in WAYS:
+        told = searching.printed(words, plan.model(way), ".mzn", seconds // len(WAYS))
+        for last, starts in re.findall(r"last = (\d+) s = \[(.*?)\]", told):
+            assert plan.end([int(it) for it in starts.split(",")]) <= int(last)
+            best = int(last) if best is None else min(best, int(last))
+        if "==========" in told and best is not None:
+            return Found(best, best, True)
+    return Found(best, plan.longest(), False)
 
 
 def wrong(ours: Found, theirs: Found) -> Iterator[str]:

@@ -120,3 +120,24 @@ def test_one_or_another_order_takes_a_cell_for_each_and_one_for_both(program: st
     assert attached == ["and", "less", "less", "sum", "sum"]
     right = [(x, y) for x, y in product(range(10), repeat=2) if x + 3 <= y or y + 4 <= x]
     assert found.is_complete and sorted((it["x"], it["y"]) for it in found.plans) == right
+
+
+@pytest.mark.parametrize("capacity", (1, 2, 3))
+def test_tasks_share_what_there_is(program: str, capacity: int) -> None:
+    """Of which one may need more than there is, and some may take no time, or less."""
+    names, needs = ["s", "t", "u", "d", "e"], (1, 2, 1)
+    lines = [f"var {'-1' if name in 'de' else '0'}..2: {name} :: output_var;" for name in names]
+    lines.append(f"constraint propbench_room([s,t,u],[d,e,1],[1,2,1],{capacity});")
+    text = "\n".join([*lines, "solve satisfy;", ""])
+    right = []
+    for s, t, u, d, e in product(range(3), range(3), range(3), range(-1, 3), range(-1, 3)):
+        tasks = list(zip((s, t, u), (d, e, 1), needs))
+        runs = [
+            sum(n for start, long, n in tasks if start <= day < start + long) for day in range(5)
+        ]
+        if max(runs) <= capacity:
+            right.append((s, t, u, d, e))
+    with Workbench(program) as workbench:
+        found = solve(Built(read(text), workbench), Wanted(ALL_OF_THEM))
+    assert found.is_complete
+    assert sorted(tuple(plan[name] for name in names) for plan in found.plans) == right

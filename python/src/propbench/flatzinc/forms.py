@@ -50,6 +50,7 @@ _TAKES = {
     "int_abs": "vv",
     "int_negate": "vv",
     "propbench_count": "Vv",
+    "propbench_room": "VVCc",
     "set_card": "mv",
     "set_in": "vm",
     BLAMED: "vs",
@@ -87,6 +88,7 @@ _SORTS = {
 _OWN = {
     BLAMED: "the mark of a constraint",
     "propbench_count": "a count",
+    "propbench_room": "what tasks share",
     TABLE: "a table",
     TOUR: "a tour",
 }

@@ -23,6 +23,7 @@ from propbench.model.expressions import (
     maximum,
     minimum,
 )
+from propbench.model.sharing import Shared, Use
 
 # What all differ are looked at so many at a time, beside any two of them.
 _AT_ONCE = 8
@@ -189,6 +190,14 @@ def differing(values: Sequence[Expression | str]) -> Truth:
     return every([all_different(values), *map(all_different, groups)])
 
 
+def _has_room(terms: Terms, args: Args) -> Truth:
+    """That tasks which run at once need no more than there is, all at once."""
+    parts = zip(terms.numbers(args[0]), terms.numbers(args[1]), terms.constants(args[2]))
+    uses = [Use(start.node, long.node, needs) for start, long, needs in parts]
+    [capacity] = terms.constants((args[3],))
+    return Truth(Shared(capacity, tuple(uses)).room()) if uses else arithmetic.YES
+
+
 def _is_row(terms: Terms, args: Args) -> Truth:
     """A number says which row it is: each column is looked up by it."""
     columns = terms.numbers(args[0])
@@ -297,6 +306,7 @@ _SAYS: dict[str, Says] = {
     "fzn_all_different_int": _different,
     TABLE: _is_row,
     "propbench_count": lambda terms, args: count(terms.truths(args[0])) == terms.number(args[1]),
+    "propbench_room": _has_room,
 }
 
 

@@ -1,5 +1,6 @@
 """A plan that is made task by task, as planners make one by hand: of the tasks that may begin that
-comes first which has the most work behind it, each as soon as there is room for it.
+comes first which has the most work behind it, each as soon as there is room for it. Where they only
+wait for each other and for what they share, that is done over and over.
 
 Nothing is claimed of it: a program is asked whether it fits, and tells all that is shown.
 """
@@ -7,12 +8,15 @@ Nothing is claimed of it: a program is asked whether it fits, and tells all that
 from collections.abc import Iterator, Sequence
 from dataclasses import dataclass, field
 from itertools import combinations, islice, product
+from weakref import WeakKeyDictionary
 
 from propbench.model.events import Event
 from propbench.model.kinds import Point
 from propbench.model.network import Network
 from propbench.model.nodes import Declared, cells_in
+from propbench.model.record import Record
 from propbench.planning.order import SetUp
+from propbench.planning.packing import Packing
 from propbench.planning.resources import KeptWithin
 from propbench.planning.tasks import (
     Away,
@@ -33,14 +37,26 @@ from propbench.planning.wishes import WorkWished
 _FEWEST = 12
 # So many ways to staff a task are tried.
 _STAFFINGS = 60
+# Longer plans aren't made day by day over and over.
+_MOST_DAYS = 20_000
+# What was made, by what was stated then.
+_made: "WeakKeyDictionary[Record, dict[str, Point]]" = WeakKeyDictionary()
 
 
 def made_by_hand(network: Network) -> dict[str, Point]:
     """Values of some cells at which a plan may be; none where there are few tasks, and where one
     that is made so doesn't keep to the days that there are."""
+    record = network.record
+    if record not in _made:
+        _made[record] = _made_of(network)
+    return dict(_made[record])
+
+
+def _made_of(network: Network) -> dict[str, Point]:
     found: dict[str, Point] = {}
     for known in _projects(network):
-        places = _Maker(known).places() if len(known.jobs) >= _FEWEST else []
+        is_large = len(known.jobs) >= _FEWEST
+        places = _packed(known) or _Maker(known).places() if is_large else []
         for place in places or ():
             task = place.task
             found |= {task.start.name: place.start, task.end.name: place.end}
@@ -65,6 +81,17 @@ class _Work:
     done: int | None = None
     told: dict[str, bool] = field(default_factory=dict)
 
+    @property
+    def waits(self) -> bool:
+        """Whether it only waits for others, and all who do it are known."""
+        is_open = self.task.groups or self.speeds or self.earliest
+        return not is_open and self.began is None and all(it.ready(0, 1) == 1 for it in self.after)
+
+    def needs(self, names: Sequence[str]) -> dict[int, int]:
+        """How much it needs of these, who do one thing at a time or are used, by their places."""
+        needs = {**dict.fromkeys(self.task.people, 1), **self.task.uses}
+        return {place: needs[name] for place, name in enumerate(names) if name in needs}
+
     def staffings(self) -> Iterator[frozenset[str]]:
         """Who may do it: so many of each group, and nobody for two of them, as it is told."""
         for chosen in product(*(combinations(names, number) for number, names in self.task.groups)):
@@ -88,6 +115,24 @@ class _KnownWork:
     single: set[str] = field(default_factory=set)
     holds: dict[str, int] = field(default_factory=dict)
     setups: dict[str, dict[tuple[str, str], int]] = field(default_factory=dict)
+
+    def packing(self) -> Packing | None:
+        """The tasks, where they only wait for each other and for what they share."""
+        works = list(self.jobs.values())
+        names = [*self.single, *(it for it in self.holds if it not in self.single)]
+        holds = [1 if name in self.single else self.holds[name] for name in names]
+        uses = [work.needs(names) for work in works]
+        places = {name: place for place, name in enumerate(self.jobs)}
+        fits = all(need <= holds[it] for each in uses for it, need in each.items())
+        is_plain = fits and not self.setups and not self.aways and all(it.waits for it in works)
+        if not is_plain or sum(work.days for work in works) > _MOST_DAYS:
+            return None
+        before = [
+            (places[it.earlier.name], place)
+            for place, work in enumerate(works)
+            for it in work.after
+        ]
+        return Packing([work.days for work in works], before, holds, uses)
 
     def take(self, event: Event) -> None:
         """Takes in what is stated."""
@@ -173,6 +218,19 @@ class _Place:
     start: int
     end: int
     who: frozenset[str]
+
+
+def _packed(known: _KnownWork) -> list[_Place] | None:
+    """All tasks in their places, the best of many tries; None where they wait for more than each
+    other and what they share, or there are not so many days."""
+    packing = known.packing()
+    starts = None if packing is None else packing.shortest()
+    if packing is None or starts is None or packing.end(starts) > known.days:
+        return None
+    return [
+        _Place(work.task, start, start + work.days, frozenset(work.task.people))
+        for work, start in zip(known.jobs.values(), starts)
+    ]
 
 
 class _Maker:
