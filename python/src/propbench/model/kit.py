@@ -7,8 +7,6 @@ from propbench.session import Session
 
 # What of two to 64 numbers tells that one differs from the others is there where this is.
 DIFFER = "differ63"
-# How many of up to 63 truths hold is counted at once where this is.
-COUNTER = "counter63"
 # What is switched by a truth is there where this is, of relations and of what differs.
 SWITCHED = "soft_link"
 
@@ -23,7 +21,6 @@ WIDER = {
     **{f"count{number}": "count" for number in range(1, 9)},
     **{f"different{number}": "all_different" for number in range(2, 9)},
     DIFFER: "all_different",
-    COUNTER: "count",
     SWITCHED: "`pairs` and `all_different` under a premise",
 }
 
