@@ -95,6 +95,17 @@ class Built:
             and not flat.variables[each.defined].is_float
             and each.defined not in kept
         }
+        # The sets that are made of two others, and are no truths of their own.
+        self._joined: dict[str, Members] = {}
+        self._joins = {
+            each.defined: each
+            for each in flat.constraints
+            if each.name in meaning.JOINS
+            and each.defined is not None
+            and each.args[-1] == Name(each.defined)
+            and flat.variables[each.defined].has(_INTRODUCED)
+            and each.defined not in kept
+        }
         self._done: set[int] = set()
         # How many tables have a cell for their row, and premises one that says if they hold.
         self._rows, self._blamed = 0, 0
@@ -107,7 +118,8 @@ class Built:
     def _state_all(self, flat: Flat) -> None:
         sets = [variable for variable in flat.variables.values() if variable.is_set]
         for variable in sets:
-            self._set(variable)
+            if variable.name not in self._joins:
+                self._set(variable)
         for variable in flat.variables.values():
             if not variable.is_set and variable.name not in self._definitions:
                 self._expression(variable.name)
@@ -122,6 +134,8 @@ class Built:
         for each in flat.constraints:
             if each.defined in self._definitions:
                 self._expression(str(each.defined))
+            if each.defined in self._joins:
+                self._join(str(each.defined))
             if id(each) not in self._done:
                 self._state(each)
 
@@ -347,7 +361,27 @@ class Built:
             return Members.of(values)
         found = self.flat.resolved(term)
         assert isinstance(found, Name), f"no set: {term!r}"
+        if found.text in self._joins:
+            self._join(found.text)
+        if found.text in self._joined:
+            return self._joined[found.text]
+        if found.text not in self.sets:
+            self._set(self.flat.variables[found.text])
         return Members(self.sets[found.text])
+
+    def _join(self, name: str) -> None:
+        """Has a set be what it is made of, unless that is made of it, or lies too deep."""
+        definition, values = self._joins.pop(name), self.flat.variables[name].values
+        one, other = (self.members(each) for each in definition.args[:2])
+        names = {each.text for each in _names_in(definition.args[:2], self.flat)}
+        deep = 1 + max((self._deep.get(each, 0) for each in names), default=0)
+        if name in self.sets or deep > _DEEPEST:
+            return
+        assert values is not None
+        self._joined[name] = made = meaning.JOINS[definition.name](one, other)
+        self._deep[name] = deep
+        self._done.add(id(definition))
+        self._require(every([~held for it, held in made.truths.items() if not values.has(it)]))
 
     def sets_of(self, term: FlatTerm) -> list[Members]:
         """An array of sets."""
