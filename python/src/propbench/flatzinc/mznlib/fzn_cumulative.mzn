@@ -1,8 +1,8 @@
 include "propbench_tasks.mzn";
 
 % Two tasks that need too much together share no time; and when a task begins, those under way
-% need no more than there is, which the counters of the wide kit add up. Beside that it is told how long
-% all together take at least.
+% need no more than there is, which the counters of the wide kit add up. Beside that it is told how
+% long all together take at least.
 predicate fzn_cumulative(array[int] of var int: s, array[int] of var int: d,
                          array[int] of var int: r, var int: b) =
     let {

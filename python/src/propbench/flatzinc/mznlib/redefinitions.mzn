@@ -1,6 +1,6 @@
 % What the workbench states at once, and models don't call: how many truths hold, that numbers are a
-% row of a table, that they are a tour, by which costs have a bound, and a constraint of a model with what it is called, which holds where that is
-% believed.
+% row of a table, that they are a tour, by which costs have a bound, and a constraint of a model with
+% what it is called, which holds where that is believed.
 predicate propbench_count(array[int] of var bool: truths, var int: many);
 predicate propbench_count_reif(array[int] of var bool: truths, var int: many, var bool: holds);
 predicate propbench_blame(var bool: holds, string: label);
