@@ -4,7 +4,7 @@ A variable that MiniZinc brought in and that a constraint defines is no cell: wh
 stands in its place, and the other conditions of its definition hold always.
 """
 
-from collections.abc import Callable, Iterable, Sequence
+from collections.abc import Callable, Container, Iterable, Sequence
 from fractions import Fraction
 
 from propbench.flatzinc import meaning, symbolic
@@ -86,25 +86,16 @@ class Built:
         self._domains: dict[tuple[int, ...], Domain] = {}
         kept = {each.text for each in _kept(flat)}
         self._definitions = {
-            each.defined: each
-            for each in flat.constraints
-            if each.defined is not None
-            and each.defined in flat.variables
-            and flat.variables[each.defined].has(_INTRODUCED)
-            and not flat.variables[each.defined].is_set
-            and not flat.variables[each.defined].is_float
-            and each.defined not in kept
+            name: each
+            for name, each in _introduced(flat, kept)
+            if not (flat.variables[name].is_set or flat.variables[name].is_float)
         }
         # The sets that are made of two others, and are no truths of their own.
         self._joined: dict[str, Members] = {}
         self._joins = {
-            each.defined: each
-            for each in flat.constraints
-            if each.name in meaning.JOINS
-            and each.defined is not None
-            and each.args[-1] == Name(each.defined)
-            and flat.variables[each.defined].has(_INTRODUCED)
-            and each.defined not in kept
+            name: each
+            for name, each in _introduced(flat, kept)
+            if each.name in meaning.JOINS and each.args[-1] == Name(name)
         }
         self._done: set[int] = set()
         # How many tables have a cell for their row, and premises one that says if they hold.
@@ -555,6 +546,14 @@ def _kept(flat: Flat) -> Iterable[Name]:
         yield from _names_in((flat.goal.objective,))
     for each in flat.goal.annotations:
         yield from _names_in((each,), flat)
+
+
+def _introduced(flat: Flat, kept: Container[str]) -> Iterable[tuple[str, Constraint]]:
+    """The variables that MiniZinc brought in and that needn't be cells, and what defines them."""
+    for each in flat.constraints:
+        name = each.defined
+        if name in flat.variables and flat.variables[name].has(_INTRODUCED) and name not in kept:
+            yield name, each
 
 
 def _names_in(terms: Iterable[FlatTerm], flat: Flat | None = None) -> Iterable[Name]:
