@@ -45,7 +45,7 @@ def least_of(
     for values in ways:
         cost, left = chosen(costs, values), chosen(made.left, values)
         if cost is not None:
-            assert left is not None and made.paid + left <= cost
+            assert left is not None and made.paid + left <= made.scale * cost
             found.append(cost)
     assert all(it >= 0 for each in made.left for it in each.values())
     return min(found, default=None)
@@ -68,7 +68,23 @@ def test_a_tour_pays_no_more_than_the_shortest(seed: int) -> None:
     costs = [{to: drawn.randint(0, 40) for to in nodes if to != node} for node in nodes]
     made, loose = priced(costs, nodes), priced(costs)
     least = least_of(costs, made, tours(nodes))
-    assert least is not None and loose.paid <= made.paid <= least
+    assert least is not None
+    assert loose.paid * made.scale <= made.paid <= least * made.scale
+
+
+@pytest.mark.parametrize("seed", SEEDS)
+def test_what_ways_lack_is_no_cost(seed: int) -> None:
+    """The same where some ways are not there, and others cost less the other way round."""
+    drawn = random.Random(seed)
+    nodes = range(1, 1 + drawn.randint(3, 6))
+    costs = [
+        {to: drawn.randint(-9, 20) for to in nodes if to != node and drawn.random() < 0.8}
+        for node in nodes
+    ]
+    if all(costs):
+        made = priced(costs, nodes)
+        least = least_of(costs, made, tours(nodes))
+        assert least is None or made.paid <= least * made.scale
 
 
 TOWNS = """

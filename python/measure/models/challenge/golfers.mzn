@@ -1,5 +1,5 @@
-% Nine golfers in three groups of three, four weeks: any two meet at most once.
-int: groups = 3; int: size = 3; int: weeks = 4; int: golfers = groups * size;
+% Golfers in groups of a size for some weeks: any two meet at most once.
+int: groups; int: size; int: weeks; int: golfers = groups * size;
 array[1..weeks, 1..groups] of var set of 1..golfers: group;
 constraint forall(w in 1..weeks, g in 1..groups)(card(group[w, g]) = size);
 constraint forall(w in 1..weeks)(forall(g, h in 1..groups where g < h)(group[w, g] intersect group[w, h] = {}));

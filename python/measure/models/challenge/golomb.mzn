@@ -1,6 +1,6 @@
-% Eight marks of a ruler: the distances of any two differ.
+% Marks of a ruler: the distances of any two differ.
 include "all_different.mzn";
-int: n = 8;
+int: n;
 array[1..n] of var 0..n * n: mark;
 array[1..n * (n - 1) div 2] of var 1..n * n: gap = [mark[j] - mark[i] | i, j in 1..n where i < j];
 constraint mark[1] = 0 /\ forall(i in 1..n - 1)(mark[i] < mark[i + 1]);

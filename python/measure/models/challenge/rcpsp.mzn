@@ -1,12 +1,15 @@
-% Twenty tasks, three resources, and what comes before what.
+% Tasks, some resources, and what comes before what: the last one ends as soon as can be.
 include "cumulative.mzn";
-int: n = 20;
-array[1..n] of int: takes = [1 + (i * i * 5 + 3 * i) mod 7 | i in 1..n];
-array[1..3, 1..n] of int: needs = array2d(1..3, 1..n, [(i * (r + 2) * 3 + r * r) mod 5 | r in 1..3, i in 1..n]);
-array[1..3] of int: there = [7, 8, 7];
-array[1..n] of var 0..90: start;
-var 0..90: end;
-constraint forall(r in 1..3)(cumulative(start, takes, [needs[r, i] | i in 1..n], there[r]));
+int: n; int: resources; int: days;
+array[1..n] of int: takes;
+array[1..resources, 1..n] of int: needs;
+array[1..resources] of int: there;
+% The first of two tasks ends before the other begins.
+array[int, 1..2] of int: before;
+array[1..n] of var 0..days: start;
+var 0..days: end;
+constraint forall(r in 1..resources)(cumulative(start, takes, [needs[r, i] | i in 1..n], there[r]));
 constraint forall(i in 1..n)(start[i] + takes[i] <= end);
-constraint forall(i in 1..n, j in {i + 3 + i mod 4} where j <= n)(start[i] + takes[i] <= start[j]);
+constraint forall(k in index_set_1of2(before))(
+  start[before[k, 1]] + takes[before[k, 1]] <= start[before[k, 2]]);
 solve :: int_search(start, smallest, indomain_min, complete) minimize end;

@@ -1,16 +1,15 @@
-% Ten products for eight customers: in an order in which few customers wait at any time.
+% Products for customers: in an order in which few customers wait at any time.
 include "all_different.mzn";
-int: products = 10; int: customers = 8;
-array[1..customers, 1..products] of bool: wants =
-  array2d(1..customers, 1..products, [(c * c * 3 + p * p + c * p * 5) mod 4 = 0 | c in 1..customers, p in 1..products]);
+int: products; int: customers;
+array[1..customers, 1..products] of 0..1: wants;
 array[1..products] of var 1..products: at;
 constraint all_different(at);
 array[1..customers] of var 1..products: first;
 array[1..customers] of var 1..products: last;
-constraint forall(c in 1..customers where exists(p in 1..products)(wants[c, p]))(
-  first[c] = min([at[p] | p in 1..products where wants[c, p]]) /\
-  last[c] = max([at[p] | p in 1..products where wants[c, p]]));
-constraint forall(c in 1..customers where not exists(p in 1..products)(wants[c, p]))(
+constraint forall(c in 1..customers where exists(p in 1..products)(wants[c, p] = 1))(
+  first[c] = min([at[p] | p in 1..products where wants[c, p] = 1]) /\
+  last[c] = max([at[p] | p in 1..products where wants[c, p] = 1]));
+constraint forall(c in 1..customers where not exists(p in 1..products)(wants[c, p] = 1))(
   first[c] = 1 /\ last[c] = 1);
 var 0..customers: most;
 constraint forall(t in 1..products)(

@@ -1,5 +1,5 @@
-% As many living cells as can be in a square of five by five that stays as it is.
-int: n = 5; int: m = n + 4;
+% As many living cells as can be in a square of n by n that stays as it is.
+int: n; int: m = n + 4;
 array[1..m, 1..m] of var bool: cell;
 array[1..m, 1..m] of var 0..8: around;
 constraint forall(i, j in 1..m where i <= 2 \/ j <= 2 \/ i > n + 2 \/ j > n + 2)(not cell[i, j]);

@@ -4,7 +4,7 @@ A variable that MiniZinc brought in and that a constraint defines is no cell: wh
 stands in its place, and the other conditions of its definition hold always.
 """
 
-from collections.abc import Callable, Iterable, Sequence
+from collections.abc import Callable, Container, Iterable, Sequence
 from fractions import Fraction
 
 from propbench.flatzinc import meaning, symbolic
@@ -86,14 +86,16 @@ class Built:
         self._domains: dict[tuple[int, ...], Domain] = {}
         kept = {each.text for each in _kept(flat)}
         self._definitions = {
-            each.defined: each
-            for each in flat.constraints
-            if each.defined is not None
-            and each.defined in flat.variables
-            and flat.variables[each.defined].has(_INTRODUCED)
-            and not flat.variables[each.defined].is_set
-            and not flat.variables[each.defined].is_float
-            and each.defined not in kept
+            name: each
+            for name, each in _introduced(flat, kept)
+            if not (flat.variables[name].is_set or flat.variables[name].is_float)
+        }
+        # The sets that are made of two others, and are no truths of their own.
+        self._joined: dict[str, Members] = {}
+        self._joins = {
+            name: each
+            for name, each in _introduced(flat, kept)
+            if each.name in meaning.JOINS and each.args[-1] == Name(name)
         }
         self._done: set[int] = set()
         # How many tables have a cell for their row, and premises one that says if they hold.
@@ -107,7 +109,8 @@ class Built:
     def _state_all(self, flat: Flat) -> None:
         sets = [variable for variable in flat.variables.values() if variable.is_set]
         for variable in sets:
-            self._set(variable)
+            if variable.name not in self._joins:
+                self._set(variable)
         for variable in flat.variables.values():
             if not variable.is_set and variable.name not in self._definitions:
                 self._expression(variable.name)
@@ -122,6 +125,8 @@ class Built:
         for each in flat.constraints:
             if each.defined in self._definitions:
                 self._expression(str(each.defined))
+            if each.defined in self._joins:
+                self._join(str(each.defined))
             if id(each) not in self._done:
                 self._state(each)
 
@@ -347,7 +352,27 @@ class Built:
             return Members.of(values)
         found = self.flat.resolved(term)
         assert isinstance(found, Name), f"no set: {term!r}"
+        if found.text in self._joins:
+            self._join(found.text)
+        if found.text in self._joined:
+            return self._joined[found.text]
+        if found.text not in self.sets:
+            self._set(self.flat.variables[found.text])
         return Members(self.sets[found.text])
+
+    def _join(self, name: str) -> None:
+        """Has a set be what it is made of, unless that is made of it, or lies too deep."""
+        definition, values = self._joins.pop(name), self.flat.variables[name].values
+        one, other = (self.members(each) for each in definition.args[:2])
+        names = {each.text for each in _names_in(definition.args[:2], self.flat)}
+        deep = 1 + max((self._deep.get(each, 0) for each in names), default=0)
+        if name in self.sets or deep > _DEEPEST:
+            return
+        assert values is not None
+        self._joined[name] = made = meaning.JOINS[definition.name](one, other)
+        self._deep[name] = deep
+        self._done.add(id(definition))
+        self._require(every([~held for it, held in made.truths.items() if not values.has(it)]))
 
     def sets_of(self, term: FlatTerm) -> list[Members]:
         """An array of sets."""
@@ -521,6 +546,14 @@ def _kept(flat: Flat) -> Iterable[Name]:
         yield from _names_in((flat.goal.objective,))
     for each in flat.goal.annotations:
         yield from _names_in((each,), flat)
+
+
+def _introduced(flat: Flat, kept: Container[str]) -> Iterable[tuple[str, Constraint]]:
+    """The variables that MiniZinc brought in and that needn't be cells, and what defines them."""
+    for each in flat.constraints:
+        name = each.defined
+        if name in flat.variables and flat.variables[name].has(_INTRODUCED) and name not in kept:
+            yield name, each
 
 
 def _names_in(terms: Iterable[FlatTerm], flat: Flat | None = None) -> Iterable[Name]:

@@ -5,13 +5,15 @@ that are a tour: bounds beside the sum, which ends the search sooner.
 the same, the least of all together may be more: that of an assignment. Prices of the numbers and of
 their values are taken off such that no cost gets below zero: what was taken off is always paid, and
 what is left is looked up as costs are. A tour leaves each set of its nodes, too: where all that
-leave one cost something, that much is always paid.
+leave one cost something, that much is always paid (`tours` looks at how far apart they are).
 """
 
 from collections.abc import Iterable, Iterator, Sequence
 from dataclasses import dataclass, replace
+from fractions import Fraction
 
 from propbench.flatzinc.terms import TOUR, Constraint, Flat, FlatTerm, Name, Numbers, Sort, Variable
+from propbench.flatzinc.tours import SCALE, apart
 
 _DIFFERENT, _LOOKED_UP, _SUM = "fzn_all_different_int", "array_int_element", "int_lin_eq"
 # So many numbers, with so many values, at the most.
@@ -21,10 +23,12 @@ _FAR = 10**18
 
 @dataclass(frozen=True)
 class Priced:
-    """What is always paid, and what is left of each number's costs, by its values."""
+    """What is always paid, and what is left of each number's costs, by its values; both so many
+    times as it is."""
 
     paid: int
     left: tuple[dict[int, int], ...]
+    scale: int = 1
 
 
 @dataclass(frozen=True)
@@ -59,7 +63,7 @@ def with_costs(flat: Flat) -> Flat:
     ... constraint int_lin_eq([1, 1, -1], [c, d, all], 0);
     ... solve minimize all;'''
     >>> [each.args for each in with_costs(read(text)).constraints if each.name == "int_lin_le"]
-    [((1, 1, -1), (Name(text='cost 1'), Name(text='cost 2'), Name(text='all')), -6)]
+    [((1, 1, -1), (Name(text='cost 5'), Name(text='cost 6'), Name(text='all')), -6)]
     """
     goal = _goal_of(flat)
     groups = () if goal is None else _groups(flat, goal)
@@ -68,7 +72,7 @@ def with_costs(flat: Flat) -> Flat:
     for group in groups:
         assert goal is not None
         made = priced(group.costs, group.nodes)
-        if made.paid > sum(min(each.values()) for each in group.costs):
+        if made.paid > made.scale * sum(min(each.values()) for each in group.costs):
             names = [Name(f"cost {len(variables) + at}") for at in range(len(made.left))]
             variables |= {name.text: _variable(name, it) for name, it in zip(names, made.left)}
             constraints += _stated(goal, group, made, names)
@@ -80,8 +84,18 @@ def priced(costs: Sequence[dict[int, int]], nodes: Sequence[int] = ()) -> Priced
     always, and what is left.
 
     >>> priced([{1: 1, 2: 4}, {1: 2, 2: 7}])
-    Priced(paid=6, left=({1: 0, 2: 0}, {1: 0, 2: 2}))
+    Priced(paid=6, left=({1: 0, 2: 0}, {1: 0, 2: 2}), scale=1)
     """
+    found = [_priced(costs, nodes)]
+    by_heights = apart(nodes, costs) if nodes else None
+    if by_heights is not None:
+        rest = _priced(by_heights[1], nodes)
+        found.append(Priced(by_heights[0] + rest.paid, rest.left, SCALE))
+    return max(found, key=lambda each: Fraction(each.paid, each.scale))
+
+
+def _priced(costs: Sequence[dict[int, int]], nodes: Sequence[int]) -> Priced:
+    """The same by prices of numbers and values, and by the sets that a tour leaves."""
     rows, columns = _prices(costs)
     left = [
         {value: cost - row - columns[value] for value, cost in each.items()}
@@ -297,9 +311,10 @@ def _stated(
         row = tuple(left.get(value, 0) for value in range(1, max(left) + 1))
         yield Constraint(_LOOKED_UP, (number, row, name), name.text, 0)
     rest = [at for at in range(len(goal.terms)) if at not in group.parts]
-    factors = (*(1 for _ in names), *(goal.factors[at] for at in rest), -goal.sign)
+    others = [made.scale * it for it in (*(goal.factors[at] for at in rest), -goal.sign)]
+    factors, bound = (*(1 for _ in names), *others), -made.paid - made.scale * goal.more
     terms = (*names, *(goal.terms[at] for at in rest), goal.goal)
-    yield Constraint("int_lin_le", (factors, terms, -made.paid - goal.more), None, 0)
+    yield Constraint("int_lin_le", (factors, terms, bound), None, 0)
 
 
 def _array(flat: Flat, term: FlatTerm) -> tuple[FlatTerm, ...]:

@@ -272,6 +272,13 @@ def _constant_set_at(terms: Terms, args: Args) -> Truth:
     return every([_is_index(index, len(values)), found])
 
 
+# The sets that are made of two others.
+JOINS: dict[str, Callable[[Members, Members], Members]] = {
+    "set_diff": sets.without,
+    "set_intersect": sets.both,
+    "set_symdiff": sets.one_alone,
+    "set_union": sets.either,
+}
 _SAYS: dict[str, Says] = {
     "int_eq": _compares(lambda x, y: x == y),
     "int_ne": _compares(lambda x, y: x != y),
@@ -292,10 +299,6 @@ _SAYS: dict[str, Says] = {
     "set_lt": _compares_sets(sets.is_less),
     "set_subset": _compares_sets(sets.is_within),
     "set_superset": _compares_sets(lambda x, y: sets.is_within(y, x)),
-    "set_diff": _joins_sets(sets.without),
-    "set_intersect": _joins_sets(sets.both),
-    "set_symdiff": _joins_sets(sets.one_alone),
-    "set_union": _joins_sets(sets.either),
     "array_set_element": _constant_set_at,
     "array_var_set_element": _set_at,
     "bool_eq": _logic(same_truth),
@@ -369,6 +372,7 @@ def _odd(terms: Terms, args: Args) -> Truth:
 
 
 _SAYS["array_bool_xor"] = _odd
+_SAYS |= {name: _joins_sets(join) for name, join in JOINS.items()}
 
 _FIRST = frozenset(("array_int_maximum", "array_int_minimum"))
 _GIVES: dict[str, Gives] = {

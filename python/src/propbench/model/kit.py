@@ -7,8 +7,6 @@ from propbench.session import Session
 
 # What of two to 64 numbers tells that one differs from the others is there where this is.
 DIFFER = "differ63"
-# How many of up to 63 truths hold is counted at once where this is.
-COUNTER = "counter63"
 # When a task may start that shares a capacity with up to 40 others is told at once where this is.
 CUMULATIVE = "cumulative40"
 # What is switched by a truth is there where this is, of relations and of what differs.
@@ -25,7 +23,6 @@ WIDER = {
     **{f"count{number}": "count" for number in range(1, 9)},
     **{f"different{number}": "all_different" for number in range(2, 9)},
     DIFFER: "all_different",
-    COUNTER: "count",
     CUMULATIVE: "what several tasks use",
     SWITCHED: "`pairs` and `all_different` under a premise",
 }

@@ -62,8 +62,9 @@ class Network:
         self._is_stating = False
         # The names of premises that the session knows and nothing is stated under any more.
         self._forgotten: set[str] = set()
-        # What makes the network from nothing, while that is known.
+        # What makes the network from nothing, while that is known, and whether the script does.
         self._base: Script | None = None
+        self._is_whole = True
         # What the session was told last, where the record was restated since then.
         self._before: Record | None = None
         if program is None:
@@ -183,7 +184,7 @@ class Network:
         self._session.send_all([f"bring {name}", f"forget {name}"])
         self._script.forget(premise)
         self._forgotten.add(premise)
-        self._base = None
+        self._base, self._is_whole = None, False
         self._index.forget(premise)
         self._stand(self._record.believing(premise, True))
 
@@ -257,7 +258,7 @@ class Network:
         """The script, which has the lines of the record."""
         if self._written is not self._record:
             self._written = self._told = self._base = None
-            self._script = self.new_script()
+            self._script, self._is_whole = self.new_script(), True
             for event in self._record.events[: self._record.count]:
                 self._script.lines_of(event)
             self._script.writer.taken()
@@ -353,7 +354,9 @@ class Network:
     def _based(self) -> Script:
         """A script of what is stated alone, with the names that it has."""
         script = self._writing()
-        if self._base is None:
+        if self._base is None and self._is_whole:
+            self._base = script
+        elif self._base is None:
             self._base = Script(script.vocabulary, self._offers)
             for event in self.events:
                 self._base.lines_of(event)

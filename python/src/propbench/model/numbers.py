@@ -11,7 +11,6 @@ from propbench.model.context import Context
 from propbench.model.core import among, in_core, raw
 from propbench.model.definedness import nonzero
 from propbench.model.kinds import Domain, Plain, domain_of
-from propbench.model.kit import COUNTER
 from propbench.model.nodes import (
     TRUE,
     ZERO,
@@ -33,8 +32,6 @@ if TYPE_CHECKING:
 # The greatest number whose square the program holds, and how many truths are counted at once.
 _ROOT = 10**9
 _MOST_COUNTED = 8
-# More are counted at once, as many as have room on a line, however long their names are.
-_MOST_AT_ONCE = 60
 
 
 class NumberWriter:
@@ -164,9 +161,6 @@ class NumberWriter:
             f"count{count}", each, cell, context
         ):
             return
-        if _MOST_COUNTED < count <= _MOST_AT_ONCE and self._writer.offers(COUNTER):
-            self._count_at_once(each, cell, context)
-            return
         counted: list[Node] = []
         for first in range(0, count, _MOST_COUNTED):
             truths = each.args[first : first + _MOST_COUNTED]
@@ -174,14 +168,6 @@ class NumberWriter:
             counted += [node(Op.COUNT, truths)] if is_offered else map(_bit_of, truths)
         meaning = counted[0] if len(counted) == 1 else node(Op.SUM, counted)
         self._all.define_as(meaning, context, cell)
-
-    def _count_at_once(self, each: Node, cell: str, context: Context) -> None:
-        """How many of these are `yes`, and of each whether it has to be by that."""
-        cells = self._cells(each, context)
-        self._writer.attach(f"counter{len(cells)}", *cells, cell)
-        for at, own in enumerate(cells):
-            others = [*cells[:at], *cells[at + 1 :]]
-            self._writer.attach(f"count_back{len(cells)}", cell, *others, own)
 
     def _table(self, each: Node, cell: str, context: Context) -> None:
         """A number by a table: it is below a bound exactly where the element is one of those whose

@@ -66,26 +66,19 @@ class Relations:
         row_of: dict[str, list[str]] = {element: [] for element in first.elements}
         for left, right in pairs:
             row_of[left].append(right)
+        # (the elements between are called `a1` to `a64`: five bytes of each pair, and its mark)
+        sizes = {element: self._size(element, first) + 5 for element in first.elements}
         part = _Part((), ())
         for element, row in row_of.items():
             if len(row) == len(second.elements):
                 continue
             grown = _Part((*part.rows, element), tuple(dict.fromkeys((*part.columns, *row))))
-            if part.rows and not self._has_room(grown, first, row_of):
+            if part.rows and not _has_room(grown, sizes, row_of):
                 yield part
                 grown = _Part((element,), tuple(row))
             part = grown
         if part.rows:
             yield part
-
-    def _has_room(self, part: _Part, first: Domain, row_of: dict[str, list[str]]) -> bool:
-        # (the elements between are called `a1` to `a64`: five bytes of each pair, and its mark)
-        count = {element: len(row_of[element]) for element in part.rows}
-        length = sum(
-            (self._size(element, first) + 5) * max(count.get(element, 1), 1)
-            for element in first.elements
-        )
-        return len(part.columns) < _MOST_ELEMENTS and length <= MOST_BYTES - _ROOM
 
     def _link_part(
         self, part: _Part, domains: tuple[Domain, Domain], pairs: Pairs, cells: tuple[str, str]
@@ -109,3 +102,10 @@ class Relations:
 
     def _attach(self, *cells: str, by: str) -> None:
         self._writer.attach_within(self._context, "link", *cells, by=by)
+
+
+def _has_room(part: _Part, sizes: dict[str, int], row_of: dict[str, list[str]]) -> bool:
+    """Whether a part has room on a line, where each pair of an element takes so many bytes."""
+    count = {element: len(row_of[element]) for element in part.rows}
+    length = sum(size * max(count.get(element, 1), 1) for element, size in sizes.items())
+    return len(part.columns) < _MOST_ELEMENTS and length <= MOST_BYTES - _ROOM

@@ -114,11 +114,12 @@ class Truths:
     def link(self, pair: Node, holds: bool, context: Context) -> None:
         """States that two are a pair of a relation, or none."""
         first, second = (domain_of(arg.kind) for arg in pair.args)
+        entries = frozenset(pair.entries)
         pairs = [
             (left, right)
             for left in first.elements
             for right in second.elements
-            if ((left, right) in pair.entries) is holds
+            if ((left, right) in entries) is holds
         ]
         left, right = (self._all.cell_of(arg, context) for arg in pair.args)
         Relations(self._writer, context).link((first, second), pairs, (left, right))

@@ -1,5 +1,4 @@
 % What the workbench states at once, and models don't call: how many truths hold, that numbers are a
-% What the workbench states at once, and models don't call: how many truths hold, that numbers are a
 % row of a table, that tasks share what there is, that numbers are a tour, by which costs have a
 % bound, and a constraint of a model with what it is called, which holds where that is believed.
 predicate propbench_count(array[int] of var bool: truths, var int: many);
