@@ -215,12 +215,32 @@ class Draw:
         text = f"{item.within(12)} in {{{between.join(map(str, words))}}}"
         return Part(text, 11, lambda points: truth(item.worth(points) in words))
 
+    def different(self, depth: int) -> Part:
+        """Several numbers, months or truths, of which no two are equal."""
+        chance = self.chance
+        count = chance.randint(1, 4)
+        month = self.cell("month")
+        if month and chance.random() < 0.4:
+            word = chance.choice(MONTHS)
+            parts = [month, *([Part(word, 17, lambda points: word)] if count > 1 else [])]
+            parts += [self.cell("month") or month for _ in range(count - 2)]
+        elif chance.random() < 0.2:
+            parts = [self.truth(depth - 1) for _ in range(count)]
+        else:
+            parts = [self.number(depth - 1) for _ in range(count)]
+        text = f"different({', '.join(it.within(3) for it in parts)})"
+        return Part(
+            text, 17, lambda points: truth(len({it.worth(points) for it in parts}) == len(parts))
+        )
+
     def truth(self, depth: int) -> Part:
         chance = self.chance
         if depth <= 0:
             known = chance.choice(["yes", "no"])
             return self.cell("truth") or Part(known, 17, lambda points: known)
-        shape = chance.randrange(10)
+        shape = chance.randrange(11)
+        if shape == 10:
+            return self.different(depth)
         if shape == 9:
             return self.among(self.number(depth - 1), [chance.randint(-3, 9) for _ in range(3)])
         if shape == 0:
@@ -267,7 +287,9 @@ NO_TRUTHS = {
     "(month == apr)": "error 15: not in the domain",
     "(month in {mar apr})": "error 15: not in the domain",
     "(stray == apr)": "error 9: no such cell",
-    "different(n0, far)": "error 4: wrong form",
+    "different(n0, far, sure)": "error 13: wrong kind",
+    "different(stray, n0)": "error 9: no such cell",
+    "different(apr, stray)": "error 9: no such cell",
 }
 # The cells that these parts name, beside those of the network.
 SPARE = ("cell far span", "cell sure truth", "cell month month")
@@ -453,7 +475,10 @@ REFUSED = [
     ("require under p", "error 4: wrong form"),
     ("require x < 1 under no", "error 5: not a name"),
     ("require x // x < 1", "error 6: not a number in range"),
-    ("require different(x, far)", "error 4: wrong form"),
+    ("require element(x; 1: 2, 3: 4) < 3", "error 4: wrong form"),
+    ("require different(x, t)", "error 13: wrong kind"),
+    ("require different(x, y)", "error 9: no such cell"),
+    ("require different()", "error 4: wrong form"),
     (f"require x < {'1' * 4090}", "error 1: line too long"),
     ("choose c x 1 or 2", "ok"),
     ("require x < 1 under c", "error 17: is a choice"),

@@ -38,10 +38,9 @@ impl<R: Guarded + Drop, O: Order + Drop> Blamer<R, O> {
             ≡ cond (is_without_trace result) self.old.seeker.inquiry None }
     {
         let end = self.seeker.post(cells, posting, premise);
-        if is_without_trace(&end) {
-            return end;
+        if !is_without_trace(&end) {
+            self.forget();
         }
-        self.explorer = None;
         end
     }
 }

@@ -7,8 +7,7 @@
 //!
 //! Each fresh cell is made of cells before it, and what is made of the same is one cell. Refused
 //! are a part whose value may lie beyond 10^18, a division by what may be zero (`Why::MayBeZero`),
-//! and what can't be posted yet (`Why::NotYet`): `different`, `element`, and what belongs to a
-//! relation.
+//! and what can't be posted yet (`Why::NotYet`): `element`, and what belongs to a relation.
 #![tactic(auto)]
 
 pub mod acts;
