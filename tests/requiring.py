@@ -219,13 +219,13 @@ class Draw:
         """Several numbers, months or truths, of which no two are equal."""
         chance = self.chance
         count = chance.randint(1, 4)
-        month = self.cell("month")
+        month, sure = self.cell("month"), self.cell("truth")
         if month and chance.random() < 0.4:
             word = chance.choice(MONTHS)
             parts = [month, *([Part(word, 17, lambda points: word)] if count > 1 else [])]
             parts += [self.cell("month") or month for _ in range(count - 2)]
-        elif chance.random() < 0.2:
-            parts = [self.truth(depth - 1) for _ in range(count)]
+        elif sure and chance.random() < 0.2:
+            parts = [sure, *(self.truth(depth - 1) for _ in range(count - 1))]
         else:
             parts = [self.number(depth - 1) for _ in range(count)]
         text = f"different({', '.join(it.within(3) for it in parts)})"
@@ -306,6 +306,10 @@ class Misdraw(Draw):
 
     def truth(self, depth: int) -> Part:
         return self.misdrawn(NO_TRUTHS, depth) or super().truth(depth)
+
+    def different(self, depth: int) -> Part:
+        # (of which kind its parts are to be rests on the first of them)
+        return self.compared(depth)
 
     def misdrawn(self, parts: dict[str, str], depth: int) -> Optional[Part]:
         if self.told or self.chance.random() < 0.2 + 0.2 * depth:

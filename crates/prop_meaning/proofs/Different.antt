@@ -1,6 +1,7 @@
 -- That several differ is worth what it is worth that each two of them are unequal.
 use Rattle.std.proofs.Common.{◌≡◌, ◌∙◌, ℕ, List, [], ◌∷◌, ◌++◌, Bool, true, false, cond, not, ◌&&◌, ◌||◌}
 use Rattle.std.proofs.Common.{Option, Some, None, refl, ap, sym, arith}
+use Rattle.prop_procedures.specs.declared.shape.Kinded.{Kinded}
 use Rattle.std.specs.List.{list_all, list_any}
 use Rattle.std.proofs.lemmas.List.Folds.{list_all-append, list_any-append}
 use Rattle.std.proofs.lemmas.Slice.Eq.{bytes_eq-Decides}
@@ -12,10 +13,11 @@ use Rattle.prop_terms.specs.Meaning.{truth, worth}
 use Rattle.prop_terms.specs.Terms.{Term, One, Two}
 use Rattle.prop_meaning.specs.Words.{Lexicon, names_at}
 use Rattle.prop_meaning.specs.declared.draft.Made.{Made}
-use Rattle.prop_meaning.specs.inner.Drafts.{Shows, truth_kind}
-use Rattle.prop_meaning.specs.inner.Formulas.{is_list}
+use Rattle.prop_meaning.specs.inner.Drafts.{Grown, IsSound, Makes, Shows, truth_kind}
+use Rattle.prop_meaning.specs.inner.Formulas.{formula, is_list}
 use Rattle.prop_meaning.specs.inner.Lists.{different_of, unequal_to}
-use Rattle.prop_meaning.proofs.Showing.{each_single}
+use Rattle.prop_meaning.proofs.Growing.{grown_here, shows_grows}
+use Rattle.prop_meaning.proofs.Showing.{each_single, shows_two}
 
 -- ---- two values
 
@@ -52,21 +54,22 @@ none_of false w = refl
 none_of true false = refl
 none_of true true = refl
 
-one_more : (a b c d w e : Bool) → (a && (not (b || (c || false)) && (d && (w && not e))))
-    ≡ ((a && (not b && d)) && (w && not (c || e)))
+one_more : (a b c d w e : Bool) → ((a && not (b || (c || false))) && (d && (w && not e)))
+    ≡ (((a && not b) && d) && (w && not (c || e)))
 one_more false b c d w e = refl
 one_more true true c d w e = refl
 one_more true false true d w e = none_of d w
 one_more true false false d w e = refl
 
-one_apart : (a w c : Bool) → ((a && true) && (w && not (c || false))) ≡ ((a && true) && ((a && (w && not c)) && true))
+one_apart : (a w c : Bool) → (((a && true) && true) && (w && not (c || false)))
+    ≡ (((a && true) && true) && ((a && (w && not c)) && true))
 one_apart false w c = refl
 one_apart true false c = refl
 one_apart true true false = refl
 one_apart true true true = refl
 
 more_apart : (a b c d w e l : Bool) → (d && (w && not e)) ≡ (d && l)
-    → ((a && (not b && d)) && (w && not (c || e))) ≡ ((a && (not b && d)) && ((a && (w && not c)) && l))
+    → (((a && not b) && d) && (w && not (c || e))) ≡ (((a && not b) && d) && ((a && (w && not c)) && l))
 more_apart false b c d w e l h = refl
 more_apart true true c d w e l h = refl
 more_apart true false c false w e l h = refl
@@ -74,7 +77,7 @@ more_apart true false c true false e l h = refl
 more_apart true false true true true e l h = refl
 more_apart true false false true true e l h = h
 
-alone_apart : (a x : Bool) → ((a && true) && ((a && x) && true)) ≡ ((a && x) && true)
+alone_apart : (a x : Bool) → (((a && true) && true) && ((a && x) && true)) ≡ ((a && x) && true)
 alone_apart false x = refl
 alone_apart true x = refl
 
@@ -82,10 +85,10 @@ alone_apart true x = refl
 
 different_push : (vs : List (Option Value)) (w : Option Value) → are_different (vs ++ w ∷ [])
     ≡ (are_different vs && (is_equal w w && not (list_any (λ v. is_equal v w) vs)))
-different_push [] w = refl
+different_push [] w = and_true (is_equal w w && true)
 different_push (v ∷ vs) w =
-    ap (λ b. is_equal v v && (not b && are_different (vs ++ w ∷ []))) (list_any-append (is_equal v) vs (w ∷ []))
-    ∙ (ap (λ d. is_equal v v && (not (list_any (is_equal v) vs || (is_equal v w || false)) && d)) (different_push vs w)
+    ap (λ b. (is_equal v v && not b) && are_different (vs ++ w ∷ [])) (list_any-append (is_equal v) vs (w ∷ []))
+    ∙ (ap (λ d. (is_equal v v && not (list_any (is_equal v) vs || (is_equal v w || false))) && d) (different_push vs w)
     ∙ one_more (is_equal v v) (list_any (is_equal v) vs) (is_equal v w) (are_different vs) (is_equal w w)
     (list_any (λ u. is_equal u w) vs))
 
@@ -95,11 +98,11 @@ different_apart : (vs : List (Option Value)) (w : Option Value) → (vs ≡ [] �
     ≡ (are_different vs && list_all (λ v. is_unequal v w) vs)
 different_apart [] w n = absurd (n refl)
 different_apart (v ∷ []) w n = one_apart (is_equal v v) (is_equal w w) (is_equal v w)
-    ∙ ap (λ b. (is_equal v v && true) && (b && true)) (sym (unequal_is v w))
+    ∙ ap (λ b. ((is_equal v v && true) && true) && (b && true)) (sym (unequal_is v w))
 different_apart (v ∷ (x ∷ xs)) w n =
     let rest = x ∷ xs in
     more_apart (is_equal v v) (list_any (is_equal v) rest) (is_equal v w) (are_different rest) (is_equal w w)
-    (list_any (λ u. is_equal u w) rest) (list_all (λ u. is_unequal u w) rest) (different_apart rest w (λ e. absurd (cc)))
+    (list_any (λ u. is_equal u w) rest) (list_all (λ u. is_unequal u w) rest) (different_apart (x ∷ xs) w (λ e. absurd (cc)))
     ∙ ap (λ b. are_different (v ∷ rest) && (b && list_all (λ u. is_unequal u w) rest)) (sym (unequal_is v w))
 
 -- ---- terms
@@ -121,29 +124,39 @@ unequal_worth names (Two between.Comma t s) u =
     ∙ (ap (λ b. truth (b && holds (truth (test (worth names s))))) (holds_truth (list_all test vs))
     ∙ (ap (λ b. truth (list_all test vs && b)) (holds_truth (test (worth names s)) ∙ sym (and_true _))
     ∙ ap truth (sym (list_all-append test vs (worth names s ∷ [])))))
-unequal_worth names t u = ap truth (sym (and_true _))
+unequal_worth names t u = ap truth (sym (and_true (is_unequal (worth names t) (worth names u))))
+
+list_worth : (names : Names) (t u : Term) → worth names (One Different t) ≡ worth names (different_of t)
+    → (b : Bool) → is_list t ≡ b
+    → truth (are_different (each names t (worth names t))
+    && list_all (λ v. is_unequal v (worth names u)) (each names t (worth names t)))
+    ≡ worth names (cond b (Two between.And (different_of t) (unequal_to t u)) (unequal_to t u))
+list_worth names t u h true e =
+    let vs = each names t (worth names t) in
+    let test : Option Value → Bool = λ v. is_unequal v (worth names u) in
+    sym (ap (λ v. truth (holds v && holds (worth names (unequal_to t u)))) (sym h)
+    ∙ (ap (λ v. truth (holds (truth (are_different vs)) && holds v)) (unequal_worth names t u)
+    ∙ (ap (λ b. truth (b && holds (truth (list_all test vs)))) (holds_truth (are_different vs))
+    ∙ ap (λ b. truth (are_different vs && b)) (holds_truth (list_all test vs)))))
+list_worth names t u h false e =
+    let v = worth names t in
+    let w = worth names u in
+    let test : Option Value → Bool = λ v. is_unequal v w in
+    ap truth (ap (λ vs. are_different vs && list_all test vs) (each_single names t v e)
+    ∙ (ap (λ b. ((is_equal v v && true) && true) && (b && true)) (unequal_is v w)
+    ∙ (alone_apart (is_equal v v) (is_equal w w && not (is_equal v w))
+    ∙ (ap (λ b. b && true) (sym (unequal_is v w)) ∙ ap (list_all test) (sym (each_single names t v e))))))
+    ∙ sym (unequal_worth names t u)
 
 different_worth : (names : Names) (t : Term) → worth names (One Different t) ≡ worth names (different_of t)
 different_worth names (Two between.Comma t u) =
-    ap truth (different_push vs w ∙ different_apart vs w (each_some names t (worth names t))) ∙ by (is_list t) refl
-  where
-    vs = each names t (worth names t)
-    w = worth names u
-
-    by : (b : Bool) → is_list t ≡ b → truth (are_different vs && list_all (λ v. is_unequal v w) vs)
-        ≡ worth names (cond b (Two between.And (different_of t) (unequal_to t u)) (unequal_to t u))
-    by true e = sym (ap (λ v. truth (holds v && holds (worth names (unequal_to t u)))) (sym (different_worth names t))
-        ∙ (ap (λ v. truth (holds (truth (are_different vs)) && holds v)) (unequal_worth names t u)
-        ∙ (ap (λ b. truth (b && holds (truth (list_all (λ v. is_unequal v w) vs)))) (holds_truth (are_different vs))
-        ∙ ap (λ b. truth (are_different vs && b)) (holds_truth (list_all (λ v. is_unequal v w) vs)))))
-    by false e = ap truth (ap (λ l. are_different l && list_all (λ v. is_unequal v w) l)
-        (each_single names t (worth names t) e)
-        ∙ (ap (λ b. (is_equal (worth names t) (worth names t) && true) && (b && true)) (unequal_is (worth names t) w)
-        ∙ (alone_apart (is_equal (worth names t) (worth names t)) (is_equal w w && not (is_equal (worth names t) w))
-        ∙ (ap (λ b. b && true) (sym (unequal_is (worth names t) w))
-        ∙ sym (ap (list_all (λ v. is_unequal v w)) (each_single names t (worth names t) e)))))) ∙ sym
-        (unequal_worth names t u)
-different_worth names t = ap truth (and_true _)
+    let vs = each names t (worth names t) in
+    ap truth (different_push vs (worth names u)
+    ∙ different_apart vs (worth names u) (each_some names t (worth names t)))
+    ∙ list_worth names t u (different_worth names t) (is_list t) refl
+different_worth names t =
+    let same = is_equal (worth names t) (worth names t) in
+    ap truth (and_true (same && true) ∙ and_true same)
 
 pub shows_different : (lexicon : Lexicon) (made : List Made) (t : Term) (place : ℕ)
     → Shows lexicon made truth_kind (different_of t) place → Shows lexicon made truth_kind (One Different t) place
@@ -151,3 +164,32 @@ shows_different lexicon made t place s = record {
   has = s.has;
   worth_is = λ a related r. different_worth (names_at lexicon related a) t ∙ s.worth_is a related r;
 }
+
+-- ---- cells
+
+pub shows_itself : (lexicon : Lexicon) (kinded : Kinded) (t : Term) (x place : ℕ) (first second : List Made)
+    → IsSound lexicon first → Shows lexicon first kinded t x → Grown lexicon first second
+    → Makes lexicon second truth_kind (λ a. formula between.Equal (a x) (a x)) place
+    → Shows lexicon second truth_kind (Two between.Equal t t) place
+shows_itself lexicon kinded t x place first second sound ft g m =
+    shows_two lexicon between.Equal kinded t t x x place first first second tt ft (grown_here lexicon first sound) ft g m
+
+pub shows_unequal : (lexicon : Lexicon) (kinded : Kinded) (t u : Term) (x y place : ℕ) (old first second : List Made)
+    → Shows lexicon old kinded u y → Grown lexicon old first → Shows lexicon first kinded t x
+    → Grown lexicon first second → Makes lexicon second truth_kind (λ a. formula between.Unequal (a x) (a y)) place
+    → Shows lexicon second truth_kind (Two between.Unequal t u) place
+shows_unequal lexicon kinded t u x y place old first second fu g ft h m =
+    shows_two lexicon between.Unequal kinded t u x y place first first second tt ft (grown_here lexicon first g.sound)
+    (shows_grows lexicon old first kinded u y g fu) h m
+
+pub shows_both : (lexicon : Lexicon) (t u : Term) (x y place : ℕ) (first second third : List Made)
+    → Shows lexicon first truth_kind t x → Grown lexicon first second → Shows lexicon second truth_kind u y
+    → Grown lexicon second third → Makes lexicon third truth_kind (λ a. formula between.And (a x) (a y)) place
+    → Shows lexicon third truth_kind (Two between.And t u) place
+shows_both lexicon t u x y place first second third ft g fu h m =
+    shows_two lexicon between.And truth_kind t u x y place first second third refl ft g fu h m
+
+-- one term alone is unequal by itself
+pub unequal_alone : (t u : Term) → is_list t ≡ false → unequal_to t u ≡ Two between.Unequal t u
+unequal_alone (Two between.Comma t s) u e = absurd (cc)
+unequal_alone t u e = refl

@@ -2,8 +2,10 @@
 ghost use Rattle.std.specs.Prelude.{◌≡◌, IfOk, OnOk, IsTrue};
 ghost use Rattle.prop_terms.specs.Terms as terms;
 ghost use Rattle.prop_terms.specs.Terms.{term_of};
-ghost use Rattle.prop_meaning.specs.inner.Drafts.{IsSound, Grown, Shows, number_kind, truth_kind};
+ghost use Rattle.prop_meaning.specs.inner.Drafts.{Has, IsSound, Grown, Shows, number_kind};
+ghost use Rattle.prop_meaning.specs.inner.Drafts.{truth_kind};
 ghost use Rattle.prop_meaning.specs.inner.Lists.{is_gathering, different_of, unequal_to};
+ghost use Rattle.prop_meaning.specs.inner.Lists.{ShowsWith};
 ghost use Rattle.prop_terms.specs.declared.operators.Infix.TheVariants.{Equal, Unequal};
 
 use crate::braces::among;
@@ -446,18 +448,19 @@ fn differing<'t, 'a, W: Words>(
             part: list,
         });
     };
+    let y = translated(words, made, last, both)?;
     if !is_list(others) {
-        return apart(words, made, others, last, both);
+        return apart(words, made, others, y, both);
     }
     let x = differing(words, made, others, both)?;
-    let y = apart(words, made, others, last, both)?;
-    match combined(words, made, Infix::And, x, y) {
+    let z = apart(words, made, others, y, both)?;
+    match combined(words, made, Infix::And, x, z) {
         Ok(place) => Ok(place),
         Err(why) => Err(Fault { why, part: list }),
     }
 }
 
-/// The cell of whether what a term is worth is what it is worth, so of one that has a value `yes`.
+/// The cell of whether a term is worth what it is worth: `yes`, since it has a value.
 #[cycle(translating)]
 fn itself<'t, 'a, W: Words>(
     words: &W,
@@ -478,22 +481,23 @@ fn itself<'t, 'a, W: Words>(
 }
 
 /// The cell of whether each of the terms between commas, or the one that there is, is unequal to
-/// another.
+/// what the cell at a place shows.
 #[cycle(translating)]
 fn apart<'t, 'a, W: Words>(
     words: &W,
     made: &mut Vec<Made>,
     list: &'t Term<'a>,
-    other: &'t Term<'a>,
+    y: usize,
     both: Kinded,
 ) -> Result<usize, Fault<'t, 'a>>
     requires sound { IsSound (W.lexicon words.now) made.old.items }
+    requires has { Has (W.lexicon words.now) made.old.items y both }
     ensures grown { OnOk result (Grown (W.lexicon words.now) made.old.items made.new.items) }
-    ensures shows { IfOk result (Shows (W.lexicon words.now) made.new.items truth_kind
-        (unequal_to (term_of list.now) (term_of other.now))) }
+    ensures shows { IfOk result (ShowsWith (W.lexicon words.now) made.old.items made.new.items both
+        (unequal_to (term_of list.now)) y) }
 {
     if !is_list(list) {
-        return unequal(words, made, list, other, both);
+        return unequal(words, made, list, y, both);
     }
     let Term::Two(_comma, others, last) = list else {
         return Err(Fault {
@@ -501,32 +505,32 @@ fn apart<'t, 'a, W: Words>(
             part: list,
         });
     };
-    let x = apart(words, made, others, other, both)?;
-    let y = unequal(words, made, last, other, both)?;
-    match combined(words, made, Infix::And, x, y) {
+    let x = apart(words, made, others, y, both)?;
+    let z = unequal(words, made, last, y, both)?;
+    match combined(words, made, Infix::And, x, z) {
         Ok(place) => Ok(place),
         Err(why) => Err(Fault { why, part: list }),
     }
 }
 
-/// The cell of whether two terms of a kind are unequal.
+/// The cell of whether a term is unequal to what the cell at a place shows.
 #[cycle(translating)]
 fn unequal<'t, 'a, W: Words>(
     words: &W,
     made: &mut Vec<Made>,
-    left: &'t Term<'a>,
-    right: &'t Term<'a>,
+    term: &'t Term<'a>,
+    y: usize,
     both: Kinded,
 ) -> Result<usize, Fault<'t, 'a>>
     requires sound { IsSound (W.lexicon words.now) made.old.items }
+    requires has { Has (W.lexicon words.now) made.old.items y both }
     ensures grown { OnOk result (Grown (W.lexicon words.now) made.old.items made.new.items) }
-    ensures shows { IfOk result (Shows (W.lexicon words.now) made.new.items truth_kind
-        (terms.Two Unequal (term_of left.now) (term_of right.now))) }
+    ensures shows { IfOk result (ShowsWith (W.lexicon words.now) made.old.items made.new.items both
+        (terms.Two Unequal (term_of term.now)) y) }
 {
-    let x = translated(words, made, left, both)?;
-    let y = translated(words, made, right, both)?;
+    let x = translated(words, made, term, both)?;
     match combined(words, made, Infix::Unequal, x, y) {
         Ok(place) => Ok(place),
-        Err(why) => Err(Fault { why, part: left }),
+        Err(why) => Err(Fault { why, part: term }),
     }
 }

@@ -12,7 +12,7 @@ use Rattle.prop_meaning.specs.Words.{Lexicon, value_as}
 use Rattle.prop_meaning.specs.declared.draft.Made.{Made}
 use Rattle.prop_meaning.specs.declared.steps.Pair as pairs
 use Rattle.prop_meaning.specs.declared.steps.Pair.TheVariants as two
-use Rattle.prop_meaning.specs.inner.Drafts.{Has, Runs, number_kind, truth_kind}
+use Rattle.prop_meaning.specs.inner.Drafts.{Has, Runs, Shows, number_kind, truth_kind}
 use Rattle.prop_meaning.specs.inner.Formulas.{is_list}
 use Rattle.prop_meaning.specs.inner.Steps.{of_two, chosen}
 
@@ -60,6 +60,12 @@ abbrev pub different_of : Term → Term
 different_of (Two Comma t u) =
     cond (is_list t) (Two And (different_of t) (unequal_to t u)) (unequal_to t u)
 different_of t = Two Equal t t
+
+-- the cell at the place is a truth, and it shows what f makes of any term that the cell y showed
+pub record ShowsWith (lexicon : Lexicon) (olds news : List Made) (kinded : Kinded)
+    (f : Term → Term) (y place : ℕ) : Type 0 where
+  pub has : Has lexicon news place truth_kind
+  pub of_it : (u : Term) → Shows lexicon olds kinded u y → Shows lexicon news truth_kind (f u) place
 
 -- ---- words in braces
 
