@@ -2,6 +2,7 @@
 
 ghost use Rattle.std.specs.Prelude.{◌≡◌, ◌⊎◌, map, true, IfErr, IfOk};
 ghost use Rattle.prop_terms.specs.Terms.{term_of};
+ghost use Rattle.prop_meaning.specs.Foreseeing.{IsForeseen};
 ghost use Rattle.prop_demands.specs.Refusing.{is_of_term};
 ghost use Rattle.prop_demands.specs.inner.Glossaries.{lexicon_in, seen_of};
 ghost use Rattle.prop_demands.specs.inner.Postings.{IsPostingOf, IsUnderstood, constant_of};
@@ -10,7 +11,8 @@ use crate::fitting::fits;
 use crate::forms::Numbers;
 use crate::reading::Glossary;
 use prop_lattice::Info;
-use prop_meaning::{Posted, Why, flat, post};
+use prop_meaning::{Foreseen, Posted, Why, flat, foresee, kind_of_term, post};
+use prop_procedures::fitting::span_kinded;
 use prop_refusals::Refusal;
 use prop_terms::Term;
 use prop_workbench::{Posting, Stated};
@@ -73,4 +75,24 @@ pub(crate) fn posting(
         return Err(Refusal::WrongKind);
     }
     Ok(posting_of(alloc, &posted)?)
+}
+
+/// What is foreseen of a term's value. What shows no kind of its own is looked at as a number.
+pub(crate) fn foreseen_of(
+    alloc: Global,
+    glossary: &Glossary<'_>,
+    term: &Term<'_>,
+) -> Result<Foreseen, Refusal>
+    ensures foreseen { IfOk result
+        (λ f. IsForeseen (lexicon_in (seen_of glossary.now)) (term_of term.now) f.known) }
+    ensures refused { IfErr result (λ e. (e ≡ Refusal.Memory) ⊎ (is_of_term e ≡ true)) }
+{
+    let kinded = match kind_of_term(glossary, term) {
+        Some(kinded) => kinded,
+        None => span_kinded(),
+    };
+    match foresee(alloc, glossary, term, kinded) {
+        Ok(foreseen) => Ok(foreseen),
+        Err(fault) => Err(refusal_of(fault.why)),
+    }
 }

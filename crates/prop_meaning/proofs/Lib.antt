@@ -14,3 +14,4 @@ pub mod PowerLemmas
 pub mod Goodness
 pub mod DividingLemmas
 pub mod Naming
+pub mod ForeseeLemmas
