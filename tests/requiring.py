@@ -516,6 +516,17 @@ REFUSED = [
     ("require\tt\tunder\tp \r", "ok"),
     ("ask x", "x = 2"),
     ("ask t", "t = yes"),
+    ("let y = x < 2 under p", "error 4: wrong form"),
+    ("let y = x + t", "error 13: wrong kind"),
+    ("let y = apr", "error 9: no such cell"),
+    (f"let y = x + {'1' * 4090}", "error 1: line too long"),
+    ("\tlet y = 2", "error 3: unknown command"),
+    ("let\ty=x + 1 \r", "ok"),
+    ("ask y", "y = 3"),
+    ("let kept = yes", "ok"),
+    ("let late = if t then m else feb", "ok"),
+    ("fix m jan", "ok"),
+    ("ask late", "late = jan"),
 ]
 
 

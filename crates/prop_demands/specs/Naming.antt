@@ -39,9 +39,8 @@ cell_called s w = cond (is_utf8 w) (cell_named s.names w) None
 
 -- the value of a point of this kind
 abbrev pub value_in : State → Kind → Point → Value
-value_in s kind p =
-    value_of (λ i. slice_index_or (elements_of s.words (domain_of kind)) i [])
-    (symbol_word s.words.symbols) p
+value_in s k p = value_of
+    (λ i. slice_index_or (elements_of s.words (domain_of k)) i []) (symbol_word s.words.symbols) p
 
 -- the value of a cell at these points
 abbrev pub value_at : State → (ℕ → Point) → ℕ → Value

@@ -58,10 +58,13 @@ is_definition line = begins (codes "let") line
 abbrev pub HasNoEquals : List ℕ → Type 0
 HasNoEquals bytes = list_all (λ b. not (b == 61)) bytes ≡ true
 
--- the line is not too long, and is `let`, this before its first equals sign, and this text behind
+-- the line is not too long, and is `let`, this before its first equals sign, this text behind it,
+-- and maybe spaces at the end
 pub record IsDefined (line before text : List ℕ) : Type 0 where
   pub few : length line ≤ 4_096
-  pub parts : line ≡ codes "let" ++ (before ++ 61 ∷ text)
+  pub end : List ℕ
+  pub spaces : AreSpaces end
+  pub parts : line ≡ codes "let" ++ (before ++ 61 ∷ (text ++ end))
   pub first : HasNoEquals before
 
 -- the line that declares what stands before the equals sign, as a cell of this kind

@@ -96,11 +96,6 @@ pub record Means (library : List Stored) (s : State) (before text declaring name
   pub of_kind : kind_named s.words word ≡ Some kinded
   pub known : IsKnownIn library s t kinded span
 
--- the line fixes the cell with the name to the span
-abbrev pub IsFixing : List ℕ → Span → List ℕ → Type 0
-IsFixing name span line = (word : List ℕ) × (span_value (halves word) ≡ Ok (infos.Span span))
-    × IsReading line (Ok (Some (Command.Fix name (Bare word))))
-
 -- Why a line is refused before anything is made: it is too long, or has no equals sign. Or it is
 -- refused for the text, as what stands before the equals sign would be for a cell of numbers, or
 -- since there would be too much of something.
@@ -111,14 +106,16 @@ IsUndefined line e = ((e ≡ LineTooLong) × (4_096 < length line))
     ⊎ IsReading (cell_line before (codes "span")) (Err e)
     ⊎ ((limit : Limit) × (e ≡ LimitReached limit))))
 
--- The cell is declared, as the language does it, and may be fixed. Then it is posted that it is
--- what the term is worth, or memory was refused, and no more is said of it.
+-- The cell is declared, as the language does it, and a line that fixes it to the span may be given.
+-- Then it is posted that it is what the term is worth, or memory was refused, and no more is said.
 abbrev pub Declares : {O : Type 0} → Picks O → List Stored → Sought O → List ℕ → List ℕ → Term
     → Span → Answer → Sought O → Type 0
 Declares {O = O} picks library old declaring name t span answer new =
     ((is_done answer ≡ false) × blaming picks library old declaring answer new)
     ⊎ ((declared fixed : Sought O) × blaming picks library old declaring Done declared
-    × ((fixed ≡ declared) ⊎ ((fixing : List ℕ) × (other : Answer) × IsFixing name span fixing
+    × ((fixed ≡ declared) ⊎ ((fixing word : List ℕ) × (other : Answer)
+    × (span_value (halves word) ≡ Ok (infos.Span span))
+    × IsReading fixing (Ok (Some (Command.Fix name (Bare word))))
     × blaming picks library declared fixing other fixed))
     × (((answer ≡ Refused Memory) × (new ≡ fixed))
     ⊎ ((result : Result ⊤ Refusal) × (answer ≡ cond (is_ok result) Done (Refused Memory))

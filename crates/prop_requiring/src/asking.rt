@@ -203,7 +203,10 @@ pub(crate) fn read_definition(behind: &[u8]) -> Result<Defined<'_>, Refusal>
         return Err(Refusal::LineTooLong);
     }
     match at_equals(behind) {
-        Some(parts) => Ok(parts),
+        Some(parts) => Ok(Defined {
+            before: parts.before,
+            text: trimmed(parts.text),
+        }),
         None => Err(Refusal::WrongForm),
     }
 }

@@ -12,8 +12,7 @@ ghost use Rattle.prop_vocabulary.specs.Values.{halves, span_value};
 ghost use Rattle.prop_terms.specs.Terms as terms;
 ghost use Rattle.prop_terms.specs.Terms.{term_of};
 ghost use Rattle.prop_requiring.specs.Asking.{cell_line};
-ghost use Rattle.prop_requiring.specs.Requiring.{IsFixing};
-ghost use Rattle.prop_requiring.specs.inner.Puttings.{MayFix};
+ghost use Rattle.prop_requiring.specs.inner.Puttings.{IsFixing, MayFix};
 
 use crate::asking::{Defined, bare, read_definition, term_in};
 use crate::domains::is_done;
@@ -72,6 +71,13 @@ fn cell_line(alloc: Global, before: &[u8], kind: &[u8]) -> Result<Vec<u8>, Alloc
     Ok(bytes)
 }
 
+/// Whether the bytes are the same.
+fn is_same(bytes: &[u8], other: &[u8]) -> bool
+    ensures { IsTrue result → (bytes.now ≡ other.now) }
+{
+    bytes == other
+}
+
 /// Whether the kinds are the same.
 fn is_same_kind(kinded: Kinded, other: Kinded) -> bool
     ensures { IsTrue result → (kinded ≡ other) }
@@ -96,7 +102,9 @@ fn declares(command: &Command, words: &Vocabulary, name: &[u8], kinded: Kinded) 
         × (kind_named words.now word ≡ Some kinded) }
 {
     match command {
-        Command::Cell(cell, word) => cell.as_bytes() == name && is_kind(words, *word, kinded),
+        Command::Cell(cell, word) if is_same(cell.as_bytes(), name) => {
+            is_kind(words, *word, kinded)
+        }
         _ => false,
     }
 }
@@ -163,8 +171,8 @@ fn fixes(command: &Command, words: &Vocabulary, name: &[u8], span: Span) -> bool
         × (said command.now ≡ Some (commands.Command.Fix name.now (commands.Bare word))) }
 {
     match command {
-        Command::Fix(cell, Value::Bare(word)) => {
-            cell.as_bytes() == name && says(words, word, span)
+        Command::Fix(cell, Value::Bare(word)) if is_same(cell.as_bytes(), name) => {
+            says(words, word, span)
         }
         _ => false,
     }

@@ -1,13 +1,16 @@
 -- What follows where a term is to be demanded, and where a cell is to be declared.
-use Rattle.std.specs.Prelude.{◌≡◌, ◌⊎◌, ℕ, List, Option, Some, None, Result, Err, ⊤, true}
-use Rattle.std.specs.Prelude.{codes, cond, false}
+use Rattle.std.specs.Prelude.{◌≡◌, ◌⊎◌, ℕ, List, Option, Some, None, Result, Ok, Err, ⊤}
+use Rattle.std.specs.Prelude.{codes, cond, false, true}
 use Rattle.std.specs.Result.{is_ok}
 use Rattle.std.specs.declared.vec.Vec.{Vec}
 use Rattle.prop_refusals.specs.declared.refusal.Limit.{Limit}
 use Rattle.prop_refusals.specs.declared.refusal.Refusal.{Refusal}
 use Rattle.prop_refusals.specs.declared.refusal.Refusal.TheVariants.{LimitReached, Memory}
 use Rattle.prop_language.specs.Reading.{IsReading}
+use Rattle.prop_lattice.specs.declared.info.Info.TheVariants as infos
 use Rattle.prop_lattice.specs.declared.span.Span.{Span}
+use Rattle.prop_vocabulary.specs.Values.{halves, span_value}
+use Rattle.prop_language.specs.Commands.{Bare, Command}
 use Rattle.prop_procedures.specs.Stored.{Stored}
 use Rattle.prop_engine.specs.Answers.{Answer, Done, Refused}
 use Rattle.prop_notes.specs.Notes.{is_done}
@@ -20,7 +23,7 @@ use Rattle.prop_demands.specs.Refusing.{IsRefused, is_of_term}
 use Rattle.prop_seeking.specs.Seeking.{Sought}
 use Rattle.prop_blaming.specs.Blaming.{blaming}
 use Rattle.prop_requiring.specs.Asking.{cell_line}
-use Rattle.prop_requiring.specs.Requiring.{IsFixing, Means, Puts}
+use Rattle.prop_requiring.specs.Requiring.{Means, Puts}
 
 -- it is refused for the term or for want of memory, and all stays, or it is posted
 abbrev pub MayPut : {O : Type 0} → List Stored → Sought O → Term → Option (List ℕ)
@@ -34,6 +37,11 @@ abbrev pub IsHindered : List ℕ → List ℕ → Refusal → Type 0
 IsHindered before text e = IsRefused Any text e
     ⊎ IsReading (cell_line before (codes "span")) (Err e)
     ⊎ ((limit : Limit) × (e ≡ LimitReached limit))
+
+-- the line fixes the cell with the name to the span
+abbrev pub IsFixing : List ℕ → Span → List ℕ → Type 0
+IsFixing name span line = (word : List ℕ) × (span_value (halves word) ≡ Ok (infos.Span span))
+    × IsReading line (Ok (Some (Command.Fix name (Bare word))))
 
 -- the line, if there is one, fixes the cell with the name to the span
 abbrev pub MayFix : {Z : Type 0} → List ℕ → Span → Option (Vec ℕ Z) → Type 0
