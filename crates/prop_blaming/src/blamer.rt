@@ -99,6 +99,7 @@ impl<R: Guarded + Drop, O: Order + Drop> Blamer<R, O> {
         let reply = self.seeker.command(line);
         if ends(&reply, line) {
             self.forget();
+            return reply;
         }
         reply
     }
@@ -196,8 +197,7 @@ impl<R: Guarded + Drop, O: Order + Drop> Blamer<R, O> {
 
     /// The next question goes on with this search.
     fn keep(&mut self, explorer: Explorer)
-        ensures seeker { self.new.seeker ≡ self.old.seeker }
-        ensures explorer { self.new.explorer ≡ Some explorer }
+        ensures { self.new ≡ record self.old { explorer = Some explorer } }
     {
         // One call in place of the drop of each part, which a proof would go through one by one.
         drop(self.explorer.replace(explorer));
@@ -205,8 +205,7 @@ impl<R: Guarded + Drop, O: Order + Drop> Blamer<R, O> {
 
     /// The next question begins a search.
     pub(crate) fn forget(&mut self)
-        ensures seeker { self.new.seeker ≡ self.old.seeker }
-        ensures explorer { self.new.explorer ≡ None }
+        ensures { self.new ≡ record self.old { explorer = None } }
     {
         drop(self.explorer.take());
     }

@@ -38,9 +38,10 @@ impl<R: Guarded + Drop, O: Order + Drop> Blamer<R, O> {
             ≡ cond (is_without_trace result) self.old.seeker.inquiry None }
     {
         let end = self.seeker.post(cells, posting, premise);
-        if !is_without_trace(&end) {
-            self.forget();
+        if is_without_trace(&end) {
+            return end;
         }
+        self.forget();
         end
     }
 }
